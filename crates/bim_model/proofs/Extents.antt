@@ -1,8 +1,8 @@
 -- A box widened by a point; the corners of one more triangle.
-use Rattle.std.proofs.Common.{◌≡◌, ℕ, ◌+◌, ◌<◌, ◌⊎◌, inl, inr, ℤ, ◌≤ℤ◌, List, [], ◌∷◌, ◌++◌, length, get_or, take, map, refl, sym, ap, subst, arith, append_assoc, ◌∙◌, add-one, ◌≤◌, zero, suc}
-use Rattle.std.specs.List.{All, Contains}
+use Rattle.std.proofs.Common.{◌≡◌, ℕ, ◌+◌, ◌<◌, ◌⊎◌, inl, inr, ℤ, ◌≤ℤ◌, List, [], ◌∷◌, ◌++◌, length, get_or, take, map, refl, sym, ap, subst, arith, append_assoc, ◌∙◌, add-one, zero, suc}
+use Rattle.std.specs.List.{Contains}
 use Rattle.std.specs.Int.{int_min, int_max}
-use Rattle.std.proofs.lemmas.List.Elements.{All-push, All-cons, All-weaker, All-tail, Contains-append_left, Contains-append_right, Contains-push, Contains-append_cases, Contains-get_or}
+use Rattle.std.proofs.lemmas.List.Elements.{All-push, All-weaker, All-tail, Contains-append_left, Contains-push, Contains-append_cases}
 use Rattle.std.proofs.Math.Seq.{take-length}
 use Rattle.std.proofs.lemmas.List.{map-append}
 use Rattle.bim_model.specs.declared.geometry.Point.{Point}

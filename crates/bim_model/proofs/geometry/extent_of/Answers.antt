@@ -1,4 +1,4 @@
-use Rattle.std.proofs.Common.{arith, List, ◌∷◌}
+use Rattle.std.proofs.Common.{arith}
 use Rattle.bim_model.proofs.Extents.{bounds_more, bounds_all}
 use Rattle.bim_model.proofs.geometry.extent_of.Goals as goal
 

@@ -1,4 +1,4 @@
-use Rattle.std.proofs.Common.{◌∷◌, ◌++◌, take}
+use Rattle.std.proofs.Common.{◌∷◌, take}
 use Rattle.bim_model.specs.Boxes.{Bounds, corners_of}
 use Rattle.bim_model.proofs.geometry.extent_of.Given as goal
 

@@ -1,7 +1,5 @@
-use Rattle.std.proofs.Common.{◌++◌, ◌∷◌, [], List, ◌≡◌, arith, rules, map, ℤ, subst, sym}
-use Rattle.std.proofs.lemmas.Int.{ints, clamps, to_z-of_z}
-use Rattle.bim_model.specs.declared.geometry.Point.{Point}
-use Rattle.bim_model.specs.Boxes.{Bounds}
+use Rattle.std.proofs.Common.{arith}
+use Rattle.std.proofs.lemmas.Int.{to_z-of_z}
 use Rattle.bim_model.proofs.Extents.{bounds_push}
 use Rattle.bim_model.proofs.geometry.widened.Goals as goal
 
