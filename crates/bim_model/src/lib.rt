@@ -15,7 +15,7 @@ mod topic;
 
 pub use bytes::Bytes;
 pub use element::Element;
-pub use geometry::{Extent, PER_MM, Point, Triangle};
+pub use geometry::{Extent, PER_MM, Point, Triangle, extent_of};
 pub use guid::Guid;
 pub use identifiers::{id_of, serial_of};
 pub use items::{Duplicate, Items};
@@ -24,3 +24,6 @@ pub use shared::Shared;
 pub use steps::Steps;
 pub use text::Text;
 pub use topic::{Author, Topic, TopicBody};
+
+#[cfg(test)]
+mod tests;
