@@ -6,6 +6,7 @@ use crate::geometry::{Extent, Point, Triangle, extent_of};
 use crate::guid::Guid;
 use crate::identifiers::{id_of, serial_of};
 use crate::items::{Duplicate, Items};
+use crate::moment::Moment;
 use crate::shared::Shared;
 use crate::steps::Steps;
 use crate::text::Text;
@@ -118,14 +119,15 @@ fn copies_topics_and_counts_steps(rt: HostRuntime) -> Result<(), Fail> {
         },
         created: Author {
             user: Text::of(alloc, "anna")?,
-            moment: 1_700_000_000,
+            moment: Moment::new(1_700_000_000),
         },
     };
     let second = topic.copy(alloc)?;
     assert_eq!(rt; second.serial, 3);
     assert_eq!(rt; second.body.title.as_str(), "Beam in duct");
-    assert_eq!(rt; second.created.user.as_str(), "anna");
-    assert_eq!(rt; second.created.moment, 1_700_000_000);
+    let Author { user, moment } = second.created;
+    assert_eq!(rt; user.as_str(), "anna");
+    assert_eq!(rt; moment.seconds(), 1_700_000_000);
 
     count_two_steps::<Brand>(Blank::new(1));
     assert_eq!(rt; size_of::<Steps<Brand>>(), 0);
