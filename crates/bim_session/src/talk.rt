@@ -106,10 +106,12 @@ impl Talk {
     }
 
     /// What is to be done next, at a moment in seconds since 1970. An `Err` ends the talk for want of memory.
+    #[tactic(auto, using(crate::proofs::Talks::none_of))]
     pub fn next(&mut self, moment: u64) -> Result<Want, AllocError>
         requires moment { IsMoment moment }
         requires idle { self.old.waits ≡ None }
-        ensures { IfOk result (λ want. Talks moment self.old want self.new) }
+        ensures want { IfOk result (λ want. Talks moment self.old want self.new) }
+        ensures err { OnErr result (self.old.leaving ≡ None) }
     {
         if let Some(end) = self.leaving {
             return Ok(Want::Leave(end));
