@@ -143,3 +143,23 @@ LacksFor kind old More new = ⊥
 LacksFor kind old (Call call) new = ⊥
 LacksFor kind old (Write bytes) new = IsResponse answer.Memory kind None (closes_after (old.served + 1)) bytes × (new ≡ with_answer old.rest old)
 LacksFor kind old (Leave e) new = e ≡ end.Memory old.served
+
+-- an end that a talk gives by itself: never a fault of a read or of a write
+abbrev pub IsOwnEnd : SessionEnd → Type 0
+IsOwnEnd (end.Closed n) = Unit {0}
+IsOwnEnd (end.Cut n) = Unit {0}
+IsOwnEnd (end.ReadFault n) = ⊥
+IsOwnEnd (end.WriteFault n) = ⊥
+IsOwnEnd (end.Frame n fault) = Unit {0}
+IsOwnEnd (end.Spent n) = Unit {0}
+IsOwnEnd (end.Memory n) = Unit {0}
+
+abbrev pub IsOwnLeaving : Option SessionEnd → Type 0
+IsOwnLeaving None = Unit {0}
+IsOwnLeaving (Some e) = IsOwnEnd e
+
+abbrev pub IsOwnWant : Want → Type 0
+IsOwnWant More = Unit {0}
+IsOwnWant (Write bytes) = Unit {0}
+IsOwnWant (Call call) = Unit {0}
+IsOwnWant (Leave e) = IsOwnEnd e

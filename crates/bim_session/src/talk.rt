@@ -1,8 +1,9 @@
 //! One connection as a machine without input or output.
-ghost use Rattle.std.specs.Prelude.{◌≡◌, ◌↔◌, None, Some, false, Ok, IsTrue, IsSome, IfOk, IfSome, OnOk, OnErr};
+ghost use Rattle.std.specs.Prelude.{◌≡◌, ◌↔◌, ◌<◌, None, Some, false, Ok, IsTrue, IsSome, IfOk, IfSome, OnOk, OnErr};
 ghost use Rattle.bim_model.specs.Moments.{IsMoment};
 ghost use Rattle.http_frame.specs.Requests.{IsUnfinished};
-ghost use Rattle.bim_session.specs.Talking.{fresh, with_piece, WantsFor, Talks, Replies, LacksFor, AtRest, AnswersFault, Responds, leaving_after, ChangesNothing};
+ghost use Rattle.bim_session.specs.Session.{most_requests};
+ghost use Rattle.bim_session.specs.Talking.{fresh, with_piece, WantsFor, Talks, Replies, LacksFor, AtRest, AnswersFault, Responds, IsOwnLeaving, IsOwnWant, leaving_after, ChangesNothing};
 
 use crate::end::SessionEnd;
 use crate::want::{Receipt, Want};
@@ -28,17 +29,18 @@ pub struct Talk {
 impl Model for Talk {
     ghost use Rattle.std.specs.Prelude.{◌≡◌, ◌<◌, ◌≤◌, None};
     ghost use Rattle.bim_session.specs.Session.{most_requests};
-    ghost use Rattle.bim_session.specs.Talking.{TalkState};
+    ghost use Rattle.bim_session.specs.Talking.{TalkState, IsOwnLeaving};
 
     ghost Value = { TalkState };
 
     ghost view = { λ t. record { rest = t.framer; ended = t.ended; served = t.served; waits = t.waits; leaving = t.leaving } };
 
-    ghost invariant = { λ t. (t.served ≤ most_requests) × (t.leaving ≡ None → t.served < most_requests) };
+    ghost invariant = { λ t. (t.served ≤ most_requests) × (t.leaving ≡ None → t.served < most_requests) × IsOwnLeaving t.leaving };
 }
 
 fn leaving_after(served: u64) -> Option<SessionEnd>
-    ensures { result ≡ leaving_after served }
+    ensures value { result ≡ leaving_after served }
+    ensures own { IsOwnLeaving result }
 {
     if served == MOST_REQUESTS {
         Some(SessionEnd::Spent { served })
@@ -112,6 +114,8 @@ impl Talk {
         requires idle { self.old.waits ≡ None }
         ensures want { IfOk result (λ want. Talks moment self.old want self.new) }
         ensures err { OnErr result (self.old.leaving ≡ None) }
+        ensures few { self.old.leaving ≡ None → self.old.served < most_requests }
+        ensures own { IfOk result IsOwnWant }
     {
         if let Some(end) = self.leaving {
             return Ok(Want::Leave(end));
@@ -127,7 +131,8 @@ impl Talk {
     // What is wanted where less than a request is at hand.
     fn at_rest(&self) -> Want
         requires { IsUnfinished self.now.rest }
-        ensures { AtRest self.now result }
+        ensures want { AtRest self.now result }
+        ensures own { IsOwnWant result }
     {
         let served = self.served;
         if !self.ended {
@@ -141,7 +146,8 @@ impl Talk {
     }
 
     fn refuse(&mut self, fault: FrameFault) -> Result<Want, AllocError>
-        ensures { IfOk result (λ want. AnswersFault self.old want self.new) }
+        ensures want { IfOk result (λ want. AnswersFault self.old want self.new) }
+        ensures own { IfOk result IsOwnWant }
     {
         let bytes = to_response(
             self.alloc,
@@ -165,6 +171,7 @@ impl Talk {
     ) -> Result<Want, AllocError>
         requires { self.old.leaving ≡ None }
         ensures ok { IfOk result (λ want. Responds answer.now kind turn self.old want self.new) }
+        ensures own { IfOk result IsOwnWant }
         ensures err { OnErr result (self.new ≡ self.old) }
     {
         let served = self.served + 1;
@@ -178,7 +185,8 @@ impl Talk {
     fn take(&mut self, moment: u64, request: HttpRequest) -> Result<Want, AllocError>
         requires moment { IsMoment moment }
         requires open_ { self.old.leaving ≡ None }
-        ensures { IfOk result (λ want. WantsFor moment request self.old want self.new) }
+        ensures want { IfOk result (λ want. WantsFor moment request self.old want self.new) }
+        ensures own { IfOk result IsOwnWant }
     {
         let kind = kind_of(&request);
         match to_call(self.alloc, request, moment) {

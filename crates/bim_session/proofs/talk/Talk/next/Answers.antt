@@ -11,12 +11,12 @@ pub returns-in-Ok-More-clause-want : goal.returns-in-Ok-More-clause-want
 returns-in-Ok-More-clause-want c =
     let f = rw c.in-Ok-More.field-0-is at c.in-Ok-More.ensures.step in
     let here = none_of c.self.inside.leaving c.in_default.not-Some in
-    let rest = rw f.1 at c.at_rest.ensures in
+    let rest = rw f.1 at c.at_rest.ensures.want in
     rw (← c.self.view_is, f.1) (talks_rest c.args.moment _ c.at_rest.result here f.0 rest)
 
 pub returns-in-Err-Fault-clause-want : goal.returns-in-Err-Fault-clause-want
 returns-in-Err-Fault-clause-want c =
     let f = rw c.in-Err-Fault.field-0-is at c.in-Err-Fault.ensures.step in
     let here = none_of c.self.inside.leaving c.in_default.not-Some in
-    let answers = rw f.1 at c.refuse.ensures in
+    let answers = rw f.1 at c.refuse.ensures.want in
     rw (← c.self.view_is) (talks_fault c.args.moment _ _ c.refuse.result here f.0 answers)
