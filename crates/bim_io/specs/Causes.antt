@@ -1,5 +1,5 @@
 -- What a call on the outside does to what an object holds, and when it may fail.
-use Rattle.std.specs.Prelude.{◌≡◌, ◌≤◌, ◌<◌, ◌+◌, ◌-◌, ◌^◌, ◌||◌, ◌&&◌, ◌==◌, min, ℕ, List, [], ◌++◌, length, take, Bool, true, false, nat_lt, Option, Some, None, Result, Ok, Err, OnErr, IfOk, MatchResult, ⊤}
+use Rattle.std.specs.Prelude.{◌≡◌, ◌≤◌, ◌<◌, ◌+◌, ◌-◌, ◌^◌, ◌||◌, ◌&&◌, ◌==◌, min, ℕ, List, [], ◌++◌, length, take, Bool, nat_lt, Option, Some, None, Result, Ok, Err, OnErr, IfOk, MatchResult, ⊤}
 use Rattle.std.specs.Io.KnownBytes.{Appends, Keeps}
 
 -- a count that stands still at the end of 64 bits
