@@ -44,3 +44,8 @@ WriteTells old new (Err e) piece = Grows old new []
 abbrev pub GivesMoment : Option ℕ → ℕ → Type 0
 GivesMoment None m = ⊤
 GivesMoment (Some one) m = m ≡ one
+
+-- what contracts see of a source of the system: whether it has answered the end, and how often it has failed
+pub record StreamState : Type 0 where
+  pub ended : Bool
+  pub faults : ℕ
