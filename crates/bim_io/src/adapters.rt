@@ -110,6 +110,7 @@ impl<W: Write + Drop> Sink for StdSink<W> {
 const LAST_MOMENT: u64 = 253_402_207_200;
 
 /// The system's clock. One that can't be read, or stands before 1970, gives 0.
+/// No clause says which moment it gives, since none can say what the system answers.
 #[derive(Drop)]
 pub struct SystemClock<R: rt::Clock + Drop> {
     handle: R,
