@@ -1,0 +1,5 @@
+pub mod Near
+pub mod Corners
+pub mod Rows
+pub mod Planes
+pub mod Boxes
