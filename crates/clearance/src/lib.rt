@@ -7,7 +7,9 @@ mod planes;
 mod rows;
 mod sides;
 mod solids;
+#[cfg(test)]
+mod tests;
 mod triangles;
 
-pub use solids::solids_near;
+pub use solids::{lists_near, solids_near};
 pub use triangles::near;
