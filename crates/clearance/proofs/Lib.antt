@@ -5,3 +5,4 @@ pub mod Separate
 pub mod OffBoxes
 pub mod Lists
 pub mod Words
+pub mod Parts

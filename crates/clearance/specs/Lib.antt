@@ -3,3 +3,4 @@ pub mod Corners
 pub mod Rows
 pub mod Planes
 pub mod Boxes
+pub mod Runs

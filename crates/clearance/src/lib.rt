@@ -5,6 +5,7 @@ mod boxes;
 mod corners;
 mod planes;
 mod rows;
+mod runs;
 mod sides;
 mod solids;
 #[cfg(test)]

@@ -1,6 +1,0 @@
-use Rattle.std.proofs.Common.{refl}
-use Rattle.clearance.proofs.OffBoxes.{near_along}
-use Rattle.clearance.proofs.solids.test_near.Goals as goal
-
-pub returns : goal.returns
-returns c = near_along _ _ _ _ c.args.d refl c.corners_of.ensures.value c.planes_near.ensures
