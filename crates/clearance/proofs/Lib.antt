@@ -6,3 +6,4 @@ pub mod OffBoxes
 pub mod Lists
 pub mod Words
 pub mod Parts
+pub mod Parted

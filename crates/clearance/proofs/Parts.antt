@@ -4,8 +4,10 @@ use Rattle.std.specs.Prelude.{slice_index_or, slice_set}
 use Rattle.std.proofs.lemmas.List.{drop_more, take_more_set, append_assoc, append-nil}
 use Rattle.bim_model.specs.declared.geometry.Triangle.{Triangle}
 use Rattle.bim_model.specs.declared.geometry.Extent.{Extent}
-use Rattle.clearance.specs.Near.{Near, NearAny, ListsNear}
-use Rattle.clearance.specs.Runs.{RunsIn}
+use Rattle.clearance.specs.Near.{Near, NearAny, ListsNear, shape_of}
+use Rattle.clearance.specs.Boxes.{InExtent, Wider, IsOff}
+use Rattle.clearance.specs.Runs.{RunsIn, Reaches}
+use Rattle.clearance.proofs.OffBoxes.{off_far, widened}
 use Rattle.clearance.proofs.Lists.{any_map, any_front, any_behind, any_parts, none_any}
 
 pub record HasParts (F : List Triangle → Type 0) : Type 0 where
@@ -52,9 +54,27 @@ first_parts qs d =
       none = none_any (λ (p : Triangle). NearAny p qs d);
     }
 
+-- one triangle and a list, by parts of the list
+pub any_parts_of : (p : Triangle) (d : ℕ) → HasParts (λ (qs : List Triangle). NearAny p qs d)
+any_parts_of p d =
+    record {
+      front = any_front (λ (q : Triangle). Near p q d);
+      behind = any_behind (λ (q : Triangle). Near p q d);
+      parts = any_parts (λ (q : Triangle). Near p q d);
+      none = none_any (λ (q : Triangle). Near p q d);
+    }
+
 -- ---- the next box
-pub next_run : (runs : List Extent) (i : ℕ) (k : Extent) (ts : List Triangle) → i < length runs → RunsIn (drop i runs) ts → RunsIn (slice_index_or runs i k ∷ drop (i + 1) runs) ts
-next_run runs i k ts lt r = subst (λ (ks : List Extent). RunsIn ks ts) (drop_more runs i k lt) r
+pub next_run : (around : Extent) (d : ℕ) (runs : List Extent) (i : ℕ) (k : Extent) (ts : List Triangle) → i < length runs → RunsIn around d (drop i runs) ts → RunsIn around d (slice_index_or runs i k ∷ drop (i + 1) runs) ts
+next_run around d runs i k ts lt r = subst (λ (ks : List Extent). RunsIn around d ks ts) (drop_more runs i k lt) r
+
+-- a box for one triangle more
+pub reached_more : (around : Extent) (d : ℕ) (f m : Extent) (t : Triangle) → Wider f m → Reaches around d f t → Reaches around d m t
+reached_more around d f m t w r = λ s h n. widened f m (shape_of t) w (r s h n)
+
+pub reached_next : (around : Extent) (d : ℕ) (e m : Extent) (t : Triangle) → InExtent e (shape_of t) → IsOff around e d ⊎ Wider e m → Reaches around d m t
+reached_next around d e m t h (inl o) = λ s g n. absurd (off_far around e s (shape_of t) d g h o n)
+reached_next around d e m t h (inr w) = λ s g n. widened e m (shape_of t) w h
 
 -- ---- lengths of what is left
 pub few_left : (r b k : ℕ) → b ≡ r - 16 → r + 16 * k ≤ 512 → k < 32 → b + 16 * (k + 1) ≤ 512

@@ -59,7 +59,7 @@ level_c t =
     let a = spot 0 in let b = spot 3 in let c = spot 6 in let v = crossed (b ⊟ a) (c ⊟ a) in
     ring (t.a.x ∷ t.a.y ∷ t.a.z ∷ t.b.x ∷ t.b.y ∷ t.b.z ∷ t.c.x ∷ t.c.y ∷ t.c.z ∷ []) (scalar v c) (scalar v a) refl
 
-height_apart : (v p a : Vector) → dot_of v p ≡ dot_of (minus p a) v +ℤ dot_of v a
+pub height_apart : (v p a : Vector) → dot_of v p ≡ dot_of (minus p a) v +ℤ dot_of v a
 height_apart v p a =
     ring (v.x ∷ v.y ∷ v.z ∷ p.x ∷ p.y ∷ p.z ∷ a.x ∷ a.y ∷ a.z ∷ []) (scalar (spot 0) (spot 3)) (scalar (spot 3 ⊟ spot 6) (spot 0) ⊕ scalar (spot 0) (spot 6)) refl
 

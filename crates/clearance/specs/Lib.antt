@@ -4,3 +4,4 @@ pub mod Rows
 pub mod Planes
 pub mod Boxes
 pub mod Runs
+pub mod Apart

@@ -1,6 +1,7 @@
 // Whether triangles and elements come within a distance, exactly.
 #![tactic(auto)]
 
+mod apart;
 mod boxes;
 mod corners;
 mod planes;

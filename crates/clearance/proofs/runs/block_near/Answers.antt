@@ -1,22 +1,16 @@
-use Rattle.std.proofs.Common.{List, All, subst, sym, refl}
-use Rattle.std.proofs.lemmas.List.Elements.{All-drop}
+use Rattle.std.proofs.Common.{subst}
 use Rattle.bim_model.specs.declared.geometry.Triangle.{Triangle}
-use Rattle.clearance.specs.Near.{IsInGrid, ListsNear}
-use Rattle.tri_exact.proofs.Choice.{not_both}
-use Rattle.clearance.proofs.Parts.{left_found, left_more, first_parts}
+use Rattle.clearance.specs.Near.{shape_of}
+use Rattle.clearance.specs.Boxes.{InExtent}
+use Rattle.clearance.specs.Runs.{Reaches}
+use Rattle.clearance.proofs.OffBoxes.{off_far}
 use Rattle.clearance.proofs.runs.block_near.Goals as goal
 
-pub returns-then-run_near : goal.returns-then-run_near
-returns-then-run_near c =
-    let F : List Triangle → Type 0 = λ (ts : List Triangle). ListsNear ts c.args.qs.now c.args.d in (
-      λ x. left_found F (first_parts c.args.qs.now c.args.d) 16 c.args.ps.now c.loop-rest.rest.now c.split_front.result.0.now c.split_front.ensures.front c.loop-rest.invariant.1 (c.run_near.ensures.0 c.if-run_near.true),
-      λ x. refl,
-    )
-
-pub loop-rest-preserved : goal.loop-rest-preserved
-loop-rest-preserved c =
-    let F : List Triangle → Type 0 = λ (ts : List Triangle). ListsNear ts c.args.qs.now c.args.d in
-    let b = c.split_front.ensures.behind in (
-      subst (All IsInGrid) (sym b) (All-drop IsInGrid 16 c.loop-rest.rest.now c.loop-rest.invariant.0),
-      left_more F (first_parts c.args.qs.now c.args.d) 16 c.args.ps.now c.loop-rest.rest.now c.split_front.result.0.now c.split_front.result.1.now c.split_front.ensures.front b c.loop-rest.invariant.1 (λ y. not_both c.if-run_near.false (c.run_near.ensures.1 y)),
+pub returns-then-is_off : goal.returns-then-is_off
+returns-then-is_off c =
+    let a = c.extent_of_all-around.result in let r = c.reached_extent-reached.result in (
+      λ x. absurd (cc x),
+      λ (i, p, lt, e, (j, q, lt', e', n)).
+          let h = subst (λ (y : Triangle). InExtent a (shape_of y)) e (c.extent_of_all-around.ensures.inside i p lt) in
+          absurd (off_far a r (shape_of p) (shape_of q) c.args.d h (subst (λ (y : Triangle). Reaches a c.args.d r y) e' (c.reached_extent-reached.ensures.reached j q lt') (shape_of p) h n) (c.is_off.ensures.0 c.if-is_off.true) n),
     )

@@ -5,4 +5,4 @@ use Rattle.clearance.specs.Runs.{RunsIn}
 use Rattle.clearance.proofs.runs.run_extents.Given as goal
 
 abbrev pub invariant-loop-k : goal.invariant-loop-k
-invariant-loop-k l = (length l.runs ≡ 32) × (length l.rest + 16 * l.k ≤ 512) × All IsInGrid l.rest × ((ks : List Extent) → RunsIn ks l.rest → RunsIn (take l.k l.runs ++ ks) l.qs)
+invariant-loop-k l = (length l.runs ≡ 32) × (length l.rest + 16 * l.k ≤ 512) × All IsInGrid l.rest × ((ks : List Extent) → RunsIn l.fn.around l.fn.d ks l.rest → RunsIn l.fn.around l.fn.d (take l.k l.runs ++ ks) l.qs)

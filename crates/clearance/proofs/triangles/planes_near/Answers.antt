@@ -45,3 +45,6 @@ returns c = (
     | inr z ↦ elim z [ inl y ↦ not_both c.if-side_near.false (c.side_near.ensures.1 y) | inr y ↦ not_both c.if-side_near-2.false (c.side_near-2.ensures.1 y) ]
   ],
 )
+
+pub returns-then-is_apart : goal.returns-then-is_apart
+returns-then-is_apart c = (λ x. absurd (cc x), λ x. absurd (c.is_apart.ensures c.if-is_apart.true x))

@@ -1,9 +1,0 @@
-use Rattle.std.proofs.Common.{All, List, drop}
-use Rattle.bim_model.specs.declared.geometry.Triangle.{Triangle}
-use Rattle.clearance.specs.Near.{IsInGrid, ListsNear}
-use Rattle.clearance.specs.Runs.{RunsIn}
-use Rattle.clearance.proofs.Parts.{IsLeft}
-use Rattle.clearance.proofs.runs.run_near.Given as goal
-
-abbrev pub invariant-loop-run : goal.invariant-loop-run
-invariant-loop-run l = RunsIn (drop l.run-index l.runs) l.rest × All IsInGrid l.rest × IsLeft (λ (ts : List Triangle). ListsNear l.ps ts l.fn.d) l.qs l.rest
