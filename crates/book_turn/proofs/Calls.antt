@@ -7,8 +7,9 @@ use Rattle.atomic_table.specs.Table.{Me, Step, rest}
 use Rattle.book_turn.specs.declared.object.Stamp.{Stamp}
 use Rattle.book_turn.specs.declared.rule.View.{View}
 use Rattle.book_turn.specs.declared.rule.Stage.TheVariants.{Waiting, Called}
-use Rattle.book_turn.specs.Entries.{IsAfter, has, listed, IsOneOf}
-use Rattle.book_turn.specs.Turns.{TakesTurn, drawn_view, awaited, looked, Comes, Adds, Serves, done_view, journal_in}
+use Rattle.book_turn.specs.Numbers.{has}
+use Rattle.book_turn.specs.Entries.{listed, IsOneOf}
+use Rattle.book_turn.specs.Rule.{TakesTurn, drawn_view, awaited, looked, Comes, Adds, Serves, done_view, journal_in}
 use Rattle.book_turn.proofs.Keeps.{some-inj}
 
 pub came : {O E S : Type 0} (journal : O → List E) (settings : O → S) (turn pass : E → ℕ) (st : Step (Option O)) (me0 me me' : Me (Option O) (View E S)) (t r : ℕ)
@@ -66,29 +67,6 @@ some_has x (p ∷ ps) e = omega arith
 pub served : {O E S : Type 0} (journal : O → List E) (m m2 m3 : Me (Option O) (View E S)) (p : O) → m2 ≡ (m.0, (0, Some p) ∷ []) → m3 ≡ (done_view m2.0 (journal_in journal m2.1), []) → m3 ≡ (done_view m.0 (journal p), [])
 served journal m m2 m3 p is done = done ∙ ap (λ z. (done_view z.0 (journal_in journal z.1), [])) is
 
--- a legal request is legal at the turn that has come
-pub still_legal : {E S Rq : Type 0} (is_legal : S → List E → Rq → Type 0) (s : S) (known : Option S) (h more : List E) (rq : Rq) → ((s : S) (h more : List E) (r : Rq) → is_legal s h r → is_legal s (h ++ more) r)
-    → known ≡ Some s → IfSome known (λ x. is_legal x h rq) → is_legal s (h ++ more) rq
-still_legal is_legal s known h more rq law is may = law s h more rq (subst (λ o. IfSome o (λ x. is_legal x h rq)) is may)
-
--- what `serve` asks, once the turn has come
-pub comes_to : {O E S Rq : Type 0} (journal : O → List E) (settings : O → S) (turn pass : E → ℕ) (is_legal : S → List E → Rq → Type 0) (t : ℕ) (v : View E S) (cs : List (ℕ × Option O)) (m1 m2 : Me (Option O) (View E S)) (rq : Rq)
-    → m1 ≡ (drawn_view v t, cs) → Comes journal settings turn pass t m1 m2 → ((s : S) (h more : List E) (r : Rq) → is_legal s h r → is_legal s (h ++ more) r) → IfSome v.settings (λ x. is_legal x v.seen rq)
-    → (o : O) × (m2.0.stage ≡ Called t) × (m2.1 ≡ (0, Some o) ∷ []) × (journal o ≡ m2.0.seen) × (m2.0.settings ≡ Some (settings o)) × is_legal (settings o) m2.0.seen rq × IsAfter turn t m2.0.seen × (m2.0.passes ≡ v.passes)
-comes_to {E = E} {S = S} journal settings turn pass is_legal t v cs m1 m2 rq drawn comes law may =
-    let c = subst (λ m. Comes journal settings turn pass t m m2) drawn comes in
-    let seen = v.seen ++ c.1 in let view = ap (λ m. m.0) c.2 in
-    let same_seen = ap (λ (x : View E S). x.seen) view in (
-      c.0,
-      ap (λ (x : View E S). x.stage) view,
-      ap (λ m. m.1) c.2,
-      c.3 ∙ sym same_seen,
-      ap (λ (x : View E S). x.settings) view ∙ c.4,
-      subst (λ h. is_legal (settings c.0) h rq) (sym same_seen) (still_legal is_legal (settings c.0) v.settings v.seen c.1 rq law c.4 may),
-      subst (IsAfter turn t) (sym same_seen) c.6,
-      ap (λ (x : View E S). x.passes) view,
-    )
-
 pub takes_turn : {O E S Rq Rp : Type 0} (journal : O → List E) (settings : O → S) (stamp_of : E → Stamp) (reply_of : S → List E → Stamp → Rq → Rp) (added_by : S → List E → Stamp → Rq → Option E) (t number made : ℕ) (rq : Rq) (v w : View E S) (res : Result Rp AllocError) (cs : List (ℕ × Option O)) (m1 m2 : Me (Option O) (View E S))
     → m1 ≡ (drawn_view v t, cs) → v.last < t → t < 2 ^ 47 → Comes journal settings (λ e. (stamp_of e).turn) (λ e. (stamp_of e).pass) t m1 m2 → Serves reply_of added_by (record { turn = t; pass = number; call = made }) rq m2.0 w res
     → TakesTurn stamp_of reply_of added_by t number made rq v w res
@@ -100,5 +78,6 @@ takes_turn {E = E} {S = S} journal settings stamp_of reply_of added_by t number 
       since = c.5;
       before = c.6;
       others = c.7;
+      rises = c.8;
       served = subst (λ (x : View E S). Serves reply_of added_by (record { turn = t; pass = number; call = made }) rq x w res) (ap (λ m. m.0) c.2) serves;
     }

@@ -1,5 +1,5 @@
 -- Each step keeps the rule of a turn.
-use Rattle.std.proofs.Common.{◌≡◌, ◌≢◌, ℕ, zero, suc, ◌+◌, ◌*◌, ◌%◌, ◌^◌, ◌<◌, ◌≤◌, List, [], ◌∷◌, ◌++◌, length, get_or, set, Option, Some, true, refl, sym, ap, ◌∙◌, subst, inl, inr, ⊎_elim, arith, length-append, ltb}
+use Rattle.std.proofs.Common.{◌≡◌, ◌≢◌, ℕ, zero, suc, ◌+◌, ◌-◌, ◌*◌, ◌%◌, ◌^◌, ◌<◌, ◌≤◌, List, [], ◌∷◌, ◌++◌, length, get_or, set, Option, Some, true, refl, sym, ap, ◌∙◌, subst, inl, inr, ⊎_elim, arith, length-append}
 use mathlib.Core.Option.{some, none, some-ne-none, some-injective}
 use Rattle.std.specs.Option.{unwrap_or}
 use mathlib.Core.Logic.{dite}
@@ -10,9 +10,10 @@ use Rattle.atomic_table.proofs.Lists.{at_set, at_snoc, at_longer, set_again, set
 use Rattle.book_turn.specs.declared.rule.View.{View}
 use Rattle.book_turn.specs.declared.rule.Stage.{Stage}
 use Rattle.book_turn.specs.declared.rule.Stage.TheVariants.{Free, Waiting, Called}
-use Rattle.book_turn.specs.Entries.{IsAfter, IsBefore, up_to, calls_by, has, IsOneOf, OwnUpTo}
-use Rattle.book_turn.specs.Turns.{total, same, times, staged, IsInTurn, IsCalled, first_view, drawn_view, called_view, done_view, kept_view, given_view, both_views, spent_view, compared_view, AreBeginnings, Glued, awaited, drew, looked, passed, compared, journal_in, Comes, Adds, Fits, NobodyIsCalled, Placed, Kept}
-use Rattle.book_turn.proofs.Totals.{total_set, total_snoc, times_append, cut_times, cut_length, in_first, in_others, total_only, times_empty, numbers_length, numbers_in, numbers_out, greater, has_first, has_last, picked_below, total_at, total_two, total_bounded, same_one, same_none, has_times, times_has}
+use Rattle.book_turn.specs.Entries.{IsAfter, IsBefore, up_to, calls_by, IsOneOf, OwnUpTo, Rises}
+use Rattle.book_turn.specs.Numbers.{same, times, has}
+use Rattle.book_turn.specs.Rule.{stays, total, staged, IsInTurn, IsCalled, first_view, drawn_view, called_view, done_view, kept_view, given_view, both_views, spent_view, compared_view, AreBeginnings, Glued, awaited, drew, looked, passed, compared, journal_in, Comes, Adds, Fits, NobodyIsCalled, Placed, Kept}
+use Rattle.book_turn.proofs.Totals.{total_set, total_snoc, times_append, cut_times, cut_length, in_first, in_others, total_only, times_empty, numbers_length, numbers_in, numbers_out, has_first, has_last, total_at, total_two, total_bounded, same_one, same_none, has_times, times_has}
 use Rattle.book_turn.proofs.Prefixes.{IsAfter_append, IsAfter_later, up_to_all, up_to_later, up_to_splits, own_append, own_drop, own_all, own_none, one_after, one_before, one_rises, one_known, one_other, own_fewer, own_later, own_both, begins_later, begins_of, picked, own_whole}
 use lib.Seq.{set-get_or}
 
@@ -96,7 +97,7 @@ module _ {O E S : Type 0} (journal : O → List E) (settings : O → S) (turn pa
         let c = r.counted in let d = r.numbered in let m = r.most in omega arith
 
     draws_at : (id : ℕ) (cs : List (ℕ × Option O)) (v : V) → get_elem? s.views id ≡ some v → v.stage ≡ Free → 0 < length v.passes → length v.turns < 2 ^ 40 * length v.passes
-        → Rule record { words = (r.ticket + 1) % 2 ^ 64 ∷ r.serving ∷ []; homes = s.homes; views = set s.views id (drawn_view v r.ticket) }
+        → Rule record { words = (r.ticket + 1) % 2 ^ 64 ∷ r.serving ∷ r.bells; homes = s.homes; views = set s.views id (drawn_view v r.ticket) }
     draws_at id cs v at free some_pass few =
         let t : ℕ = r.ticket in let w : V = drawn_view v t in let vs = s.views in let small = small_ticket in
         let fit = r.each id v at in let stands = fit.stands some_pass in
@@ -105,7 +106,8 @@ module _ {O E S : Type 0} (journal : O → List E) (settings : O → S) (turn pa
           history = r.history;
           ticket = t + 1;
           serving = r.serving;
-          words = ap (λ (x : ℕ). x ∷ r.serving ∷ []) (omega arith);
+          bells = r.bells;
+          words = ap (λ (x : ℕ). x ∷ r.serving ∷ r.bells) (omega arith);
           starts = r.starts;
           in_order = let o = r.in_order in omega arith;
           most = r.most;
@@ -147,9 +149,46 @@ module _ {O E S : Type 0} (journal : O → List E) (settings : O → S) (turn pa
   unmoved : (s : St) (r : Rule s) (i id : ℕ) (v : V) → get_elem? s.views id ≡ some v → Rule record { words = set s.words i (get_or s.words i 0); homes = s.homes; views = set s.views id v }
   unmoved s r i id v at = subst (λ (z : List ℕ × List V). Rule record { words = z.0; homes = s.homes; views = z.1 }) (λ k. (sym (set-get_or s.words i 0) k, sym (set_again s.views id v at) k)) r
 
+  rung : (s : St) (r : Rule s) (bells : List ℕ) → Rule record { words = r.ticket ∷ r.serving ∷ bells; homes = s.homes; views = s.views }
+  rung s r bells = record {
+    history = r.history;
+    ticket = r.ticket;
+    serving = r.serving;
+    bells = bells;
+    words = refl;
+    starts = r.starts;
+    in_order = r.in_order;
+    most = r.most;
+    counted = r.counted;
+    numbered = r.numbered;
+    numbers = r.numbers;
+    no_numbers = r.no_numbers;
+    turns = r.turns;
+    no_turns = r.no_turns;
+    stages = r.stages;
+    no_stages = r.no_stages;
+    each = r.each;
+    placed = r.placed;
+    rises = r.rises;
+    before = r.before;
+    known = r.known;
+  }
+
+  -- the words after the first two are free
+  pub rings : (slots id i x : ℕ) (me : Me (Option O) V) → 2 ≤ i → Allows Rule slots id me i (λ _. x) (λ _. stays (step slots i x 0 none) me x)
+  rings slots id i x me le s r _ at _ =
+      let k : ℕ = i - 2 in
+      let e : i ≡ suc (suc k) = omega arith in (
+        me.0,
+        keeps,
+        tt,
+        subst (λ (z : List ℕ × ℕ × List V). Rule record { words = set z.0 z.1 x; homes = s.homes; views = z.2 }) (λ j. (sym r.words j, sym e j, sym (set_again s.views id me.0 at) j)) (rung s r (set r.bells k x)),
+        refl,
+      )
+
   called_at : (s : St) (r : Rule s) (id : ℕ) (v : V) → get_elem? s.views id ≡ some v → (t : ℕ) → v.stage ≡ Waiting t → r.serving ≡ t → 0 < length v.passes
-      → (o : O) × (news : List E) × (s.homes ≡ some (Some o) ∷ []) × (journal o ≡ v.seen ++ news) × (v.settings ≡ Some (settings o)) × IsBefore turn v.last news × IsAfter turn r.serving (v.seen ++ news) × (calls_by pass v.passes news ≡ [])
-      × Rule record { words = r.ticket ∷ r.serving ∷ []; homes = none ∷ []; views = set s.views id (called_view v r.serving (v.seen ++ news)) }
+      → (o : O) × (news : List E) × (s.homes ≡ some (Some o) ∷ []) × (journal o ≡ v.seen ++ news) × (v.settings ≡ Some (settings o)) × IsBefore turn v.last news × IsAfter turn r.serving (v.seen ++ news) × (calls_by pass v.passes news ≡ []) × Rises turn (v.seen ++ news)
+      × Rule record { words = r.ticket ∷ r.serving ∷ r.bells; homes = none ∷ []; views = set s.views id (called_view v r.serving (v.seen ++ news)) }
   called_at s r id v at t is hit some_pass =
       let h = r.history in let vs = s.views in let stands = (r.each id v at).stands some_pass in
       let k = up_to_splits turn v.last h r.rises in let news : List E = k.0 in
@@ -161,10 +200,11 @@ module _ {O E S : Type 0} (journal : O → List E) (settings : O → S) (turn pa
       let nobody : NobodyIsCalled journal settings turn pass n chosen vs = λ j u e c. dite (ℕ_discrete j id)
       (λ same_seat. off (subst (λ (x : V). IsCalled x.stage) (some-injective u v (sym e ∙ ap (get_elem? vs) same_seat ∙ at)) c))
       (λ other. apart j u other e c) in
-      let rule : Rule record { words = r.ticket ∷ r.serving ∷ []; homes = none ∷ []; views = set vs id w } = record {
+      let rule : Rule record { words = r.ticket ∷ r.serving ∷ r.bells; homes = none ∷ []; views = set vs id w } = record {
         history = h;
         ticket = r.ticket;
         serving = r.serving;
+        bells = r.bells;
         words = refl;
         starts = r.starts;
         in_order = r.in_order;
@@ -205,6 +245,7 @@ module _ {O E S : Type 0} (journal : O → List E) (settings : O → S) (turn pa
         k.2,
         subst (IsAfter turn r.serving) whole r.before,
         own_none turn pass v.passes v.last news (own_drop turn pass v.passes v.last v.seen news (subst (OwnUpTo turn pass v.passes v.last) whole stands.own)) k.2,
+        subst (Rises turn) whole r.rises,
         rule,
       ))
       (λ (p : (j : ℕ) × (u : V) × (get_elem? vs j ≡ some u) × IsCalled u.stage × (s.homes ≡ none ∷ [])). absurd (nobody p.0 p.1 p.2 p.3))
@@ -221,17 +262,17 @@ module _ {O E S : Type 0} (journal : O → List E) (settings : O → S) (turn pa
         w,
         takes 0 (Some c.0),
         ap (λ hs. get_elem? hs 0) c.2,
-        subst (λ (z : List ℕ × List (mathlib.Core.Option.Option (Option O))). Rule record { words = set z.0 1 (get_or z.0 1 0); homes = set z.1 0 none; views = set s.views id w }) (λ k. (sym r.words k, sym c.2 k)) c.8,
+        subst (λ (z : List ℕ × List (mathlib.Core.Option.Option (Option O))). Rule record { words = set z.0 1 (get_or z.0 1 0); homes = set z.1 0 none; views = set s.views id w }) (λ k. (sym r.words k, sym c.2 k)) c.9,
         (
           (λ not. absurd (not (e ∙ hit ∙ sym a))),
-          λ _. subst (λ (x : ℕ). Comes journal settings turn pass x me (w, (0, Some c.0) ∷ me.1)) (sym e) (c.0, c.1, ap (λ l. (w, (0, Some c.0) ∷ l)) empty, c.3, c.4, c.5, c.6, c.7),
+          λ _. subst (λ (x : ℕ). Comes journal settings turn pass x me (w, (0, Some c.0) ∷ me.1)) (sym e) (c.0, c.1, ap (λ l. (w, (0, Some c.0) ∷ l)) empty, c.3, c.4, c.5, c.6, c.7, c.8),
         ),
       ))
       (λ miss. (v, keeps, tt, unmoved s r 1 id v at, ((λ _. refl), λ same_turn. absurd (miss (sym e ∙ same_turn ∙ a)))))
 
   done_at : (s : St) (r : Rule s) (id : ℕ) (v : V) → get_elem? s.views id ≡ some v → (t : ℕ) (o : O) → v.stage ≡ Called t → 0 < length v.passes
       → (news : List E) → journal o ≡ v.seen ++ news → IsOneOf turn pass t v.passes news → v.settings ≡ Some (settings o)
-      → (s.homes ≡ none ∷ []) × Rule record { words = r.ticket ∷ (r.serving + 1) % 2 ^ 64 ∷ []; homes = some (Some o) ∷ []; views = set s.views id (done_view v (journal o)) }
+      → (s.homes ≡ none ∷ []) × Rule record { words = r.ticket ∷ (r.serving + 1) % 2 ^ 64 ∷ r.bells; homes = some (Some o) ∷ []; views = set s.views id (done_view v (journal o)) }
   done_at s r id v at t o is some_pass news whole one chosen_is =
       let h = r.history in let vs = s.views in let stands = (r.each id v at).stands some_pass in
       let w : V = done_view v (journal o) in
@@ -269,11 +310,12 @@ module _ {O E S : Type 0} (journal : O → List E) (settings : O → S) (turn pa
           begins = begins_later turn pass u.passes u.begins u.last h news (one_before turn pass u.last r.serving v.passes news one' l.0) (λ qs b sub. one_other turn pass r.serving v.passes qs b news one' (λ x mine theirs. number_once s r id j v u other at e x mine (sub x theirs))) st.begins;
         };
       } in
-      let rule : Rule record { words = r.ticket ∷ (r.serving + 1) % 2 ^ 64 ∷ []; homes = some (Some o) ∷ []; views = set vs id w } = record {
+      let rule : Rule record { words = r.ticket ∷ (r.serving + 1) % 2 ^ 64 ∷ r.bells; homes = some (Some o) ∷ []; views = set vs id w } = record {
         history = h ++ news;
         ticket = r.ticket;
         serving = r.serving + 1;
-        words = ap (λ (x : ℕ). r.ticket ∷ x ∷ []) (omega arith);
+        bells = r.bells;
+        words = ap (λ (x : ℕ). r.ticket ∷ x ∷ r.bells) (omega arith);
         starts = omega arith;
         in_order = room;
         most = r.most;
@@ -320,6 +362,7 @@ module _ {O E S : Type 0} (journal : O → List E) (settings : O → S) (turn pa
         history = r.history;
         ticket = r.ticket;
         serving = r.serving;
+        bells = r.bells;
         words = r.words;
         starts = r.starts;
         in_order = r.in_order;
@@ -351,12 +394,13 @@ module _ {O E S : Type 0} (journal : O → List E) (settings : O → S) (turn pa
       let turns_length = length-append v.turns w.turns in let passes_length = length-append v.passes w.passes in
       let low : v.last < r.serving = subst (IsInTurn r.serving v.last) free stands.in_turn in
       let low' : w.last < r.serving = subst (IsInTurn r.serving w.last) free' stands'.in_turn in
-      let most = greater v.last w.last in
+      let most : (v.last ≤ b.last) × (w.last ≤ b.last) = (omega arith, omega arith) in
       let few = fit.few in let few' = fit'.few in
       record {
         history = r.history;
         ticket = r.ticket;
         serving = r.serving;
+        bells = r.bells;
         words = r.words;
         starts = r.starts;
         in_order = r.in_order;
@@ -377,9 +421,9 @@ module _ {O E S : Type 0} (journal : O → List E) (settings : O → S) (turn pa
               named = λ c. absurd c;
               stands = λ _. record {
                 same = stands.same;
-                seen = picked turn r.history (ltb v.last w.last) v.last w.last v.seen w.seen stands.seen stands'.seen;
+                seen = picked turn r.history v.last w.last v.seen w.seen stands.seen stands'.seen;
                 own = own_both turn pass v.passes w.passes b.last r.history (own_later turn pass v.passes v.last b.last r.history most.0 stands.own) (own_later turn pass w.passes w.last b.last r.history most.1 stands'.own);
-                in_turn = picked_below (ltb v.last w.last) v.last w.last r.serving low low';
+                in_turn = omega arith;
                 begins = ((stands.seen, most.0, has_first v.passes w.passes, stands.own), ((stands'.seen, most.1, has_last v.passes w.passes, stands'.own), tt));
               };
             }
@@ -402,6 +446,7 @@ module _ {O E S : Type 0} (journal : O → List E) (settings : O → S) (turn pa
           history = r.history;
           ticket = r.ticket;
           serving = r.serving;
+          bells = r.bells;
           words = r.words;
           starts = r.starts;
           in_order = r.in_order;
@@ -446,11 +491,12 @@ module _ {O E S : Type 0} (journal : O → List E) (settings : O → S) (turn pa
       r.placed
 
   -- the table at the start
-  pub opens : (o : O) → journal o ≡ [] → settings o ≡ chosen → 0 < n → n ≤ 64 → Rule (opening (1 ∷ 1 ∷ []) (Some o ∷ []) (first_view chosen n))
-  opens o empty known some_pass most = record {
+  pub opens : (o : O) → journal o ≡ [] → settings o ≡ chosen → 0 < n → n ≤ 64 → (bells : List ℕ) → Rule (opening (1 ∷ 1 ∷ bells) (Some o ∷ []) (first_view chosen n))
+  opens o empty known some_pass most bells = record {
     history = [];
     ticket = 1;
     serving = 1;
+    bells = bells;
     words = refl;
     starts = omega arith;
     in_order = omega arith;

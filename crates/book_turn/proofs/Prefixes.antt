@@ -1,13 +1,14 @@
 -- Histories whose turns rise, and their beginnings.
-use Rattle.std.proofs.Common.{◌≡◌, ℕ, ◌+◌, ◌<◌, ◌≤◌, ◌⊎◌, inl, inr, ⊎_elim, List, [], ◌∷◌, ◌++◌, sym, refl, ap, ◌∙◌, subst, arith, le-leb, Bool, true, false, if◌then◌else◌}
+use Rattle.std.proofs.Common.{◌≡◌, ℕ, ◌+◌, ◌<◌, ◌≤◌, ◌⊎◌, inl, inr, ⊎_elim, List, [], ◌∷◌, ◌++◌, sym, refl, ap, ◌∙◌, subst, arith, le-leb, ltb, ltb-true, ltb-false, max, Bool, true, false, if◌then◌else◌}
 use mathlib.Core.Logic.{dite}
 use native.Mathlib.Decide.{dec_le}
 use borrow.Author.Tests.{lt-leb}
 use mathlib.Core.List.{append-nil}
 use Rattle.book_turn.specs.declared.rule.Beginning.{Beginning}
-use Rattle.book_turn.specs.Turns.{AreBeginnings, longer, times}
+use Rattle.book_turn.specs.Rule.{AreBeginnings}
+use Rattle.book_turn.specs.Numbers.{times, has}
 use Rattle.book_turn.proofs.Totals.{has_times, times_has, times_append}
-use Rattle.book_turn.specs.Entries.{IsAfter, IsBefore, Rises, up_to, calls_by, has, IsOneOf, OwnUpTo}
+use Rattle.book_turn.specs.Entries.{IsAfter, IsBefore, Rises, up_to, calls_by, IsOneOf, OwnUpTo}
 
 module _ {E : Type 0} (turn : E → ℕ) where
   pub IsAfter_append : (t : ℕ) (h m : List E) → IsAfter turn t h → IsAfter turn t m → IsAfter turn t (h ++ m)
@@ -57,9 +58,13 @@ module _ {E : Type 0} (turn : E → ℕ) where
       (λ le. let k = up_to_splits t es r.1 in (k.0, ap (λ l. e ∷ l) k.1 ∙ ap (λ l. l ++ k.0) (sym (taken t e es le)), k.2))
       (λ not. let lt : t < turn e = omega arith in let b = IsBefore_earlier t (turn e) es (omega arith) r.0 in (e ∷ es, ap (λ l. l ++ e ∷ es) (sym (left_out t e es lt ∙ up_to_none t es b)), (lt, b)))
 
-  pub picked : (h : List E) (c : Bool) (a b : ℕ) (xs ys : List E) → xs ≡ up_to turn a h → ys ≡ up_to turn b h → longer c xs ys ≡ up_to turn (if c then b else a) h
-  picked h true a b xs ys e f = f
-  picked h false a b xs ys e f = e
+  -- of two beginnings the one with the later turn
+  pub picked : (h : List E) (a b : ℕ) (xs ys : List E) → xs ≡ up_to turn a h → ys ≡ up_to turn b h → (if ltb a b then ys else xs) ≡ up_to turn (max a b) h
+  picked h a b xs ys e f = go (ltb a b) refl
+    where
+      go : (c : Bool) → ltb a b ≡ c → (if c then ys else xs) ≡ up_to turn (max a b) h
+      go true is = let l = ltb-true a b is in let m : b ≡ max a b = omega arith in f ∙ ap (λ (t : ℕ). up_to turn t h) m
+      go false is = let l = ltb-false a b is in let m : a ≡ max a b = omega arith in e ∙ ap (λ (t : ℕ). up_to turn t h) m
 
 module _ {E : Type 0} (turn pass : E → ℕ) where
   has_both : (x : ℕ) (ps qs : List ℕ) → has x (ps ++ qs) ≡ true → (has x ps ≡ true) ⊎ (has x qs ≡ true)
@@ -96,6 +101,17 @@ module _ {E : Type 0} (turn pass : E → ℕ) where
       go : calls_by pass ps es ≡ [] → (c : Bool) → has (pass e) ps ≡ c → (if has (pass e) ps then e ∷ calls_by pass ps es else calls_by pass ps es) ≡ []
       go ih true h = let x : turn e ≤ t = a.0 h in let y : t < turn e = b.0 in absurd (omega arith)
       go ih false h = ap (λ c. if c then e ∷ calls_by pass ps es else calls_by pass ps es) h ∙ ih
+
+  -- of these passes, the entries up to t are all
+  pub own_calls : (ps : List ℕ) (t : ℕ) (h : List E) → OwnUpTo turn pass ps t h → calls_by pass ps (up_to turn t h) ≡ calls_by pass ps h
+  own_calls ps t [] a = refl
+  own_calls ps t (e ∷ es) a = dite (dec_le (turn e) t)
+      (λ le. ap (calls_by pass ps) (taken turn t e es le) ∙ ap (λ l. if has (pass e) ps then e ∷ l else l) (own_calls ps t es a.1))
+      (λ not. let lt : t < turn e = omega arith in ap (calls_by pass ps) (left_out turn t e es lt) ∙ own_calls ps t es a.1 ∙ skip lt (has (pass e) ps) refl)
+    where
+      skip : t < turn e → (c : Bool) → has (pass e) ps ≡ c → calls_by pass ps es ≡ (if has (pass e) ps then e ∷ calls_by pass ps es else calls_by pass ps es)
+      skip lt true is = let le : turn e ≤ t = a.0 is in absurd (omega arith)
+      skip lt false is = sym (ap (λ c. if c then e ∷ calls_by pass ps es else calls_by pass ps es) is)
 
   pub one_after : (t : ℕ) (ps : List ℕ) (m : List E) → IsOneOf turn pass t ps m → IsAfter turn (t + 1) m
   one_after t ps [] o = tt

@@ -1,11 +1,11 @@
 -- Sums over all views, and how often a number is in a list.
-use Rattle.std.proofs.Common.{◌≡◌, ℕ, zero, suc, ◌+◌, ◌*◌, ◌<◌, ◌≤◌, ◌≢◌, ◌⊎◌, inl, inr, ⊎_elim, List, [], ◌∷◌, ◌++◌, ◌||◌, length, set, sym, refl, ap, ◌∙◌, arith, eqb, eq-eqb, ne_eqb, ltb, ltb-true, ltb-false, Bool, true, false, true≢false, if◌then◌else◌}
+use Rattle.std.proofs.Common.{◌≡◌, ℕ, zero, suc, ◌+◌, ◌*◌, ◌<◌, ◌≤◌, ◌≢◌, ◌⊎◌, inl, inr, ⊎_elim, List, [], ◌∷◌, ◌++◌, ◌||◌, length, set, max, sym, refl, ap, ◌∙◌, arith, eqb, eq-eqb, ne_eqb, ltb, ltb-true, ltb-false, Bool, true, false, true≢false, if◌then◌else◌}
 use mathlib.Core.Option.{some, some-injective, some-ne-none}
 use mathlib.Core.Logic.{dite}
 use native.Mathlib.Decide.{ℕ_discrete}
 use lib.ListN.{get_elem?}
-use Rattle.book_turn.specs.Turns.{total, same, times, all_but_first, first_only, numbers_from}
-use Rattle.book_turn.specs.Entries.{has}
+use Rattle.book_turn.specs.Rule.{total}
+use Rattle.book_turn.specs.Numbers.{same, times, has, greatest, all_but_first, first_only, numbers_from}
 
 module _ {A : Type 0} (f : A → ℕ) where
   pub total_set : (l : List A) (i : ℕ) (v w : A) → get_elem? l i ≡ some v → total f (set l i w) + f v ≡ total f l + f w
@@ -86,16 +86,9 @@ in_first l x e = let k = cut_times x l in let h = has_times x (first_only l) e i
 pub in_others : (l : List ℕ) (x : ℕ) → has x (all_but_first l) ≡ true → has x l ≡ true
 in_others l x e = let k = cut_times x l in let h = has_times x (all_but_first l) e in times_has x l (omega arith)
 
-pub picked_below : (c : Bool) (a b s : ℕ) → a < s → b < s → (if c then b else a) < s
-picked_below true a b s h k = k
-picked_below false a b s h k = h
-
-pub greater : (a b : ℕ) → (a ≤ (if ltb a b then b else a)) × (b ≤ (if ltb a b then b else a))
-greater a b = go (ltb a b) refl
-  where
-    go : (c : Bool) → ltb a b ≡ c → (a ≤ (if c then b else a)) × (b ≤ (if c then b else a))
-    go true h = let l = ltb-true a b h in (omega arith, omega arith)
-    go false h = let l = ltb-false a b h in (omega arith, omega arith)
+pub greatest_append : (a b : List ℕ) → greatest (a ++ b) ≡ max (greatest a) (greatest b)
+greatest_append [] b = omega arith
+greatest_append (x ∷ xs) b = let r = greatest_append xs b in omega arith
 
 pub numbers_length : (a n : ℕ) → length (numbers_from a n) ≡ n
 numbers_length a zero = refl

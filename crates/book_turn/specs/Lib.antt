@@ -1,4 +1,5 @@
+pub mod Numbers
 pub mod Entries
-pub mod Turns
+pub mod Rule
 pub mod Passes
 pub mod Faults

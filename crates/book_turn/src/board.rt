@@ -1,7 +1,8 @@
 //! The table that the passes of a turn share, and a seat's steps on it.
-ghost use Rattle.std.specs.Prelude.{ℕ, ◌≡◌, ◌<◌, ◌≤◌, ◌^◌, ◌+◌, ◌*◌, [], ◌∷◌, ◌++◌, Some, length, true, IfSome, IfOk};
-ghost use Rattle.book_turn.specs.Turns.{drew, looked, passed, Adds, kept_view, given_view, Glued, Comes, Serves, TakesTurn, first_view};
-ghost use Rattle.book_turn.specs.Entries.{IsAfter, has};
+ghost use Rattle.std.specs.Prelude.{ℕ, ◌≡◌, ◌<◌, ◌≤◌, ◌^◌, ◌+◌, ◌*◌, [], ◌∷◌, ◌++◌, Some, length, true, replicate, IfSome, IfOk};
+ghost use Rattle.book_turn.specs.Rule.{drew, looked, passed, Adds, kept_view, given_view, Glued, Comes, Serves, TakesTurn, first_view};
+ghost use Rattle.book_turn.specs.Entries.{IsAfter};
+ghost use Rattle.book_turn.specs.Numbers.{has};
 ghost use Rattle.atomic_table.specs.Table.{step};
 ghost use Rattle.book_turn.specs.declared.rule.Stage.TheVariants.{Free, Waiting, Called};
 ghost use mathlib.Core.Option.{none};
@@ -14,16 +15,21 @@ use std::alloc::{AllocError, Global};
 use std::snapshot::Snapshot;
 use std::sync::Wait;
 
+// How many turns were drawn, and 1.
 const TICKET: usize = 0;
 
-const SERVING: usize = 1;
+// The turn that is served.
+pub(crate) const SERVING: usize = 1;
+
+// The words of the table. Behind the first two there are bells (`wait`).
+const WORDS: usize = 72;
 
 pub(crate) type Place<O: SeqObject> = Seat<Option<O>, View<O::Entry, O::Settings>>;
 
 #[derive(Drop)]
 pub struct Board<O: SeqObject> {
     pub(crate) table: Table<Option<O>, View<O::Entry, O::Settings>, Key<O>, InTurn<O>, Global>,
-    ghost sized: { (table.shared.table_id.words ≡ 2) × (table.shared.table_id.slots ≡ 1) },
+    ghost sized: { (table.shared.table_id.words ≡ 72) × (table.shared.table_id.slots ≡ 1) },
 }
 
 impl<O: SeqObject> Board<O> {
@@ -39,7 +45,7 @@ impl<O: SeqObject> Board<O> {
     }
 
     // Looks whether the turn has come.
-    fn look(&self, seat: &mut Place<O>) -> u64
+    pub(crate) fn look(&self, seat: &mut Place<O>) -> u64
         requires own { seat.old.table_id ≡ self.now.table.shared.table_id }
         requires waits { (t : ℕ) × (seat.old.me.0.stage ≡ Waiting t) × (0 < length seat.old.me.0.passes) × (seat.old.me.1 ≡ []) }
         ensures own { (seat.new.table_id ≡ seat.old.table_id) × (seat.new.id ≡ seat.old.id) }
@@ -49,7 +55,7 @@ impl<O: SeqObject> Board<O> {
     }
 
     // Puts the object back, with what it has become, and lets the next turn come.
-    fn pass_on(&self, seat: &mut Place<O>)
+    pub(crate) fn pass_on(&self, seat: &mut Place<O>)
         requires own { seat.old.table_id ≡ self.now.table.shared.table_id }
         requires called { (t : ℕ) × (o : O) × (seat.old.me.0.stage ≡ Called t) × (0 < length seat.old.me.0.passes) × (seat.old.me.1 ≡ (0, Some o) ∷ []) × Adds O.journal O.settings (λ e. (O.stamp_of e).turn) (λ e. (O.stamp_of e).pass) t o seat.old.me.0 }
         ensures own { (seat.new.table_id ≡ seat.old.table_id) × (seat.new.id ≡ seat.old.id) }
@@ -80,32 +86,6 @@ impl<O: SeqObject> Board<O> {
         self.table.shared.load::<Compare>(seat, TICKET);
     }
 
-    // Waits until the turn has come. A thread that waits sleeps until `serving` changes.
-    fn wait_for<R: Wait>(&self, rt: &R, seat: &mut Place<O>, turn: u64)
-        requires own { seat.old.table_id ≡ self.now.table.shared.table_id }
-        requires waits { (seat.old.me.0.stage ≡ Waiting turn) × (0 < length seat.old.me.0.passes) × (seat.old.me.1 ≡ []) }
-        ensures own { (seat.new.table_id ≡ seat.old.table_id) × (seat.new.id ≡ seat.old.id) }
-        ensures comes { Comes O.journal O.settings (λ e. (O.stamp_of e).turn) (λ e. (O.stamp_of e).pass) turn seat.old.me seat.new.me }
-    {
-        for _ in rt.forever() {
-            let serving = self.look(seat);
-            if serving == turn {
-                return;
-            }
-            self.table
-                .shared
-                .park(rt, SERVING, (serving & 0xffff_ffff) as u32);
-        }
-        unreachable!()
-    }
-
-    // Wakes those who sleep, if there is a turn that was drawn and not yet served.
-    fn wake(&self) {
-        if self.table.shared.peek(TICKET) != self.table.shared.peek(SERVING) {
-            self.table.shared.wake_all(SERVING);
-        }
-    }
-
     // Lets the object answer, while it is at hand, and lets the next turn come.
     fn serve(
         &self,
@@ -127,8 +107,7 @@ impl<O: SeqObject> Board<O> {
         let answer = object.act(stamp, request);
         let empty = self.table.shared.exchange(seat, 0, Some(object));
         let None = empty else { unreachable!() };
-        self.pass_on(seat);
-        self.wake();
+        self.hand_on(seat, stamp.turn);
         answer
     }
 
@@ -175,6 +154,16 @@ impl<O: SeqObject> Board<O> {
     }
 }
 
+// Turn 1 is served, and no turn was drawn. The bells are off.
+fn first_words() -> [u64; WORDS]
+    ensures { result ≡ 1 ∷ 1 ∷ replicate 70 0 }
+{
+    let mut words = [0; WORDS];
+    words[TICKET] = 1;
+    words[SERVING] = 1;
+    words
+}
+
 // The board, and the seat that has all numbers.
 pub(crate) fn board_of<O: SeqObject + Drop>(
     alloc: Global,
@@ -192,7 +181,7 @@ pub(crate) fn board_of<O: SeqObject + Drop>(
     };
     let mut slots = Vec::new(alloc);
     slots.push(Some(object))?;
-    match Table::new(alloc, &[1, 1], slots, &about) {
+    match Table::new(alloc, &first_words(), slots, &about) {
         Ok((table, seat)) => Ok((Board { table }, seat)),
         Err(_) => Err(AllocError),
     }

@@ -1,5 +1,6 @@
-//! A pass of a turn.
+//! A pass to a turn: what one caller knows of the history.
 ghost use Rattle.std.specs.Prelude.{◌≡◌};
+ghost use Rattle.book_turn.specs.Numbers.{greatest};
 ghost use Rattle.book_turn.specs.Passes.{pass_state, IsIdle};
 
 use crate::board::Place;
@@ -8,7 +9,9 @@ use crate::rule::View;
 use atomic_table::Seat;
 use std::marker::Model;
 
-/// What one caller knows of a turn.
+/// One caller's right to call the object of a turn, and what it has seen of the history.
+///
+/// It may go to another thread. A pass that is dropped takes its number with it, and its turn can't be closed.
 pub struct Pass<O: SeqObject> {
     pub(crate) seat: Seat<Option<O>, View<O::Entry, O::Settings>>,
     pub(crate) number: u32,
@@ -27,15 +30,18 @@ impl<O: SeqObject> Model for Pass<O> {
 }
 
 impl<O: SeqObject> Pass<O> {
+    /// The pass's number, which its entries carry. The passes of a turn have the numbers from 0 on.
     pub fn number(&self) -> u32
         ensures { result ≡ self.now.number }
     {
         self.number
     }
 
-    /// The greatest turn that the pass, or one that was joined into it, has taken.
+    /// The greatest turn that the pass, or a pass that was joined into it, has taken, with a reply or without
+    /// memory. 0 before the first.
     pub fn last(&self) -> u64
-        ensures { result ≡ self.now.last }
+        ensures last { result ≡ self.now.last }
+        ensures greatest { result ≡ greatest self.now.turns }
     {
         self.last
     }

@@ -1,70 +1,48 @@
-//! A turn, and what its calls answer.
-ghost use Rattle.std.specs.Prelude.{ℕ, ◌≡◌, ◌<◌, ◌≤◌, ◌+◌, ◌++◌, [], length, IfOk, IfErr, IfSome, if◌then◌else◌, ltb};
-ghost use Rattle.book_turn.specs.Passes.{new_passes, Answered, IsSamePass, Joined};
+//! A turn: an object that threads share, and the calls on it.
+ghost use Rattle.std.specs.Prelude.{ℕ, ◌≡◌, ◌<◌, ◌≤◌, [], length, IfOk, IfErr, All};
+ghost use Rattle.book_turn.specs.Passes.{BelongsTo, KeepsNumbers, new_passes, Answered, Joined};
 ghost use Rattle.book_turn.specs.Faults.{Failed};
-ghost use Rattle.book_turn.specs.Turns.{dealt_view};
+ghost use Rattle.book_turn.specs.Rule.{dealt_view};
 
 use crate::board::{Board, Place, board_of};
+use crate::fault::{CallFault, SpentPass};
 use crate::object::SeqObject;
 use crate::pass::Pass;
 use std::alloc::{AllocError, Global};
 use std::marker::Model;
 use std::sync::Wait;
 
-/// The most turns that a pass makes.
+/// The most turns that a pass takes. With at most 64 passes, no count of turns ever wraps.
 const MOST: u64 = 1 << 40;
 
-/// A pass that has made all its turns.
-#[derive(Drop)]
-pub struct SpentPass {
-    pass: u32,
-    turns: u64,
-}
-
-impl SpentPass {
-    pub fn pass(&self) -> u32
-        ensures { result ≡ self.now.pass }
-    {
-        self.pass
-    }
-
-    pub fn turns(&self) -> u64
-        ensures { result ≡ self.now.turns }
-    {
-        self.turns
-    }
-}
-
-/// Why a call got no reply.
-#[derive(Drop)]
-pub enum CallFault {
-    Memory,
-    PassSpent(SpentPass),
-}
-
-/// A call's turn, and the reply.
+/// What a call was answered, and in which turn.
 #[derive(Drop)]
 pub struct Receipt<O: SeqObject> {
+    /// From 1 on. No two calls have the same.
     pub turn: u64,
     pub reply: O::Reply,
 }
 
-/// An object whose calls take turns.
+/// An object whose calls take turns. Threads share it by reference, and each calls by a pass of its own.
 #[derive(Drop)]
 pub struct Turn<O: SeqObject> {
     board: Board<O>,
 }
 
 impl<O: SeqObject> Model for Turn<O> {
+    ghost use Rattle.std.specs.Prelude.{◌<◌};
     ghost use Rattle.book_turn.specs.Passes.{TurnState};
 
     ghost Value = { TurnState O.Settings };
 
-    ghost view = { λ t. record { table = t.board.table.shared.table_id; settings = O.settings t.board.table.shared.key.object.value; passes = t.board.table.shared.key.passes } };
+    ghost view = { λ t. record { turn_id = t.board.table.shared.table_id; settings = O.settings t.board.table.shared.key.object.value; passes = t.board.table.shared.key.passes } };
+
+    ghost invariant = { λ t. 0 < t.board.table.shared.key.passes };
 }
 
 impl<O: SeqObject> Turn<O> {
-    /// A turn over an object with an empty journal, and its passes, in the order of their numbers.
+    /// A turn over an object whose journal is empty, and its passes, in the order of their numbers from 0 on.
+    /// At an `Err` the object is dropped.
     pub fn new(alloc: Global, object: O, passes: u32) -> Result<(Turn<O>, Vec<Pass<O>>), AllocError>
     where
         O: Drop,
@@ -72,30 +50,30 @@ impl<O: SeqObject> Turn<O> {
         requires empty { O.journal object ≡ [] }
         ensures turn { IfOk result (λ r. (r.0.settings ≡ O.settings object) × (r.0.passes ≡ passes)) }
         ensures passes { IfOk result (λ r. r.1.items ≡ new_passes r.0 0 passes) }
+        ensures own { IfOk result (λ r. All (BelongsTo r.0) r.1.items) }
     {
         let (board, seat) = board_of(alloc, object, passes)?;
         let all = deal(alloc, &board, seat, passes)?;
         Ok((Turn { board }, all))
     }
 
-    /// Takes a turn, and answers the request at all entries with earlier turns.
+    /// Takes the next turn, waits until it comes, and has the object answer the request at the entries with
+    /// earlier turns. From then on the pass has seen these, and the call's own entry, if it added one.
     pub fn call<R: Wait>(
         &self,
         rt: &R,
         pass: &mut Pass<O>,
         request: O::Request,
     ) -> Result<Receipt<O>, CallFault>
-        requires own { pass.old.table ≡ self.now.table }
-        requires legal { IfSome pass.old.settings (λ s. O.is_legal s pass.old.seen request) }
-        ensures same { IsSamePass pass.old pass.new }
-        ensures answered { IfOk result (λ r. Answered O.stamp_of O.reply_of O.added_by r.turn request r.reply pass.old pass.new) }
+        requires own { BelongsTo self.now pass.old }
+        requires legal { O.is_legal self.now.settings pass.old.seen request }
+        ensures own { BelongsTo self.now pass.new }
+        ensures same { KeepsNumbers pass.old pass.new }
+        ensures answered { IfOk result (λ r. Answered O.stamp_of O.reply_of O.added_by self.now.settings r.turn request r.reply pass.old pass.new) }
         ensures failed { IfErr result (λ e. Failed O.stamp_of pass.old pass.new e) }
     {
         if pass.made >= MOST {
-            let spent = SpentPass {
-                pass: pass.number,
-                turns: pass.made,
-            };
+            let spent = SpentPass::new(pass.number, pass.made);
             return Err(CallFault::PassSpent(spent));
         }
         let (turn, answer) = self
@@ -109,20 +87,22 @@ impl<O: SeqObject> Turn<O> {
         }
     }
 
-    /// Takes in another pass. What both have seen are beginnings of one list.
+    /// Takes another pass into this one, which has then seen what both had. It keeps its own number.
     pub fn join(&self, into: &mut Pass<O>, other: Pass<O>)
-        requires own { (into.old.table ≡ self.now.table) × (other.table ≡ self.now.table) }
-        ensures { Joined (λ e. (O.stamp_of e).turn) (λ e. (O.stamp_of e).pass) into.old other into.new }
+        requires into { BelongsTo self.now into.old }
+        requires other { BelongsTo self.now other }
+        ensures own { BelongsTo self.now into.new }
+        ensures joined { Joined O.stamp_of into.old other into.new }
     {
         let (seat, last) = other.into_parts();
         self.board.glue(&mut into.seat, seat);
-        into.last = later(into.last, last);
+        into.last = into.last.max(last);
     }
 
-    /// The object back, from the pass into which every other was joined.
+    /// Gives the object back, by the pass into which every other was joined. What it has seen is the journal.
     pub fn close(self, pass: Pass<O>) -> O
-        requires own { pass.table ≡ self.table }
-        requires all { (length pass.numbers ≡ self.passes) × (0 < self.passes) }
+        requires own { BelongsTo self pass }
+        requires all { length pass.numbers ≡ self.passes }
         ensures journal { O.journal result ≡ pass.seen }
         ensures settings { O.settings result ≡ self.settings }
     {
@@ -130,12 +110,6 @@ impl<O: SeqObject> Turn<O> {
         let (seat, _) = pass.into_parts();
         board.close(seat)
     }
-}
-
-fn later(a: u64, b: u64) -> u64
-    ensures { result ≡ (if ltb a b then b else a) }
-{
-    if a < b { b } else { a }
 }
 
 // Deals the passes: each has one number.
@@ -148,7 +122,7 @@ fn deal<O: SeqObject>(
     requires passes { 0 < passes }
     requires own { seat.table_id ≡ board.now.table.shared.table_id }
     requires seat { seat.me ≡ (dealt_view (O.settings board.now.table.shared.key.object.value) 0 passes, []) }
-    ensures { IfOk result (λ all. all.items ≡ new_passes (record { table = board.entry.now.table.shared.table_id; settings = O.settings board.entry.now.table.shared.key.object.value; passes = board.entry.now.table.shared.key.passes }) 0 passes) }
+    ensures { IfOk result (λ all. all.items ≡ new_passes (record { turn_id = board.entry.now.table.shared.table_id; settings = O.settings board.entry.now.table.shared.key.object.value; passes = board.entry.now.table.shared.key.passes }) 0 passes) }
 {
     let mut all = Vec::new(alloc);
     for number in 0..passes - 1 {

@@ -1,5 +1,5 @@
 use Rattle.std.proofs.Common.{ℕ, suc, ◌≡◌, ◌-◌, ◌+◌, [], ◌∷◌, ◌++◌, refl, sym, ap, ◌∙◌, subst, arith}
-use Rattle.book_turn.specs.Turns.{dealt_view}
+use Rattle.book_turn.specs.Rule.{dealt_view}
 use Rattle.book_turn.specs.Passes.{new_pass, new_passes, pass_state}
 use Rattle.book_turn.proofs.Ends.{cut_kept, cut_given, may_cut, new_idle, new_state, new_passes_next}
 use Rattle.book_turn.proofs.turn.deal.Goals as goal
@@ -28,7 +28,7 @@ loop-number-preserved g c =
     let more : c.args.passes - n ≡ suc k = omega arith in
     let up : suc n ≡ n + 1 = omega arith in
     let given = cut_given chosen n _ k _ _ more i.1 o.cut.1 in
-    let t : Rattle.book_turn.specs.Passes.TurnState g.row.O-Settings.Denot = record { table = c.args.board.now.table.shared.table_id; settings = chosen; passes = c.args.board.now.table.shared.key.passes } in
+    let t : Rattle.book_turn.specs.Passes.TurnState g.row.O-Settings.Denot = record { turn_id = c.args.board.now.table.shared.table_id; settings = chosen; passes = c.args.board.now.table.shared.key.passes } in
     let state = new_state t n c.cut-other.result (o.own.2 ∙ i.0 ∙ c.requires.own) given in (
       o.own.0 ∙ i.0,
       cut_kept chosen n _ k _ _ more i.1 o.cut.0 ∙ ap (λ (x : ℕ). (dealt_view chosen x k, [])) up,
@@ -53,6 +53,6 @@ returns g c =
     let p = c.requires.passes in
     let one : c.args.passes - n ≡ 1 = omega arith in
     let up : suc n ≡ c.args.passes = omega arith in
-    let t : Rattle.book_turn.specs.Passes.TurnState g.row.O-Settings.Denot = record { table = c.args.board.now.table.shared.table_id; settings = chosen; passes = c.args.board.now.table.shared.key.passes } in
+    let t : Rattle.book_turn.specs.Passes.TurnState g.row.O-Settings.Denot = record { turn_id = c.args.board.now.table.shared.table_id; settings = chosen; passes = c.args.board.now.table.shared.key.passes } in
     let state = new_state t n c.loop-number.seat (i.0 ∙ c.requires.own) (i.1 ∙ ap (λ (x : ℕ). (dealt_view chosen n x, [])) one) in
     c.in_ok-push-2.ensures.items ∙ ap (λ l. l ++ pass_state c.loop-number.seat (c.args.passes - 1) 0 ∷ []) i.2 ∙ ap (λ (x : ℕ). new_passes t 0 n ++ pass_state c.loop-number.seat x 0 ∷ []) (sym last) ∙ ap (λ p. new_passes t 0 n ++ p ∷ []) state ∙ new_passes_next t n ∙ ap (λ (x : ℕ). new_passes t 0 x) up

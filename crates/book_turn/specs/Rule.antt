@@ -1,5 +1,5 @@
--- The rule of a turn: the words are ticket and serving, and the one slot has the object.
-use Rattle.std.specs.Prelude.{ℕ, zero, suc, ◌≡◌, ◌≢◌, ◌⊎◌, ◌<◌, ◌≤◌, ◌+◌, ◌*◌, ◌^◌, List, [], ◌∷◌, ◌++◌, length, Bool, true, false, Option, None, Some, if◌then◌else◌, eqb, ltb, Result, Ok, Err}
+-- The rule of a turn: the first words are ticket and serving, and the one slot has the object.
+use Rattle.std.specs.Prelude.{ℕ, zero, suc, ◌≡◌, ◌≢◌, ◌⊎◌, ◌<◌, ◌≤◌, ◌+◌, ◌*◌, ◌^◌, List, [], ◌∷◌, ◌++◌, length, Bool, true, false, Option, None, Some, if◌then◌else◌, ltb, max, Result, Ok, Err}
 use Rattle.std.specs.declared.alloc.AllocError.{AllocError}
 use Rattle.book_turn.specs.declared.object.Stamp.{Stamp}
 use mathlib.Core.Option.{some, none}
@@ -9,24 +9,12 @@ use Rattle.book_turn.specs.declared.rule.View.{View}
 use Rattle.book_turn.specs.declared.rule.Beginning.{Beginning}
 use Rattle.book_turn.specs.declared.rule.Stage.{Stage}
 use Rattle.book_turn.specs.declared.rule.Stage.TheVariants.{Free, Waiting, Called}
-use Rattle.book_turn.specs.Entries.{IsAfter, IsBefore, Rises, up_to, calls_by, has, listed, IsOneOf, OwnUpTo}
+use Rattle.book_turn.specs.Numbers.{same, times, has, numbers_from, all_but_first, first_only}
+use Rattle.book_turn.specs.Entries.{IsAfter, IsBefore, Rises, up_to, calls_by, listed, IsOneOf, OwnUpTo}
 
 abbrev pub total : {A : Type 0} → (A → ℕ) → List A → ℕ
 total f [] = 0
 total f (x ∷ xs) = f x + total f xs
-
--- 1 where the numbers are one
-abbrev pub same : ℕ → ℕ → ℕ
-same x y = if eqb x y then 1 else 0
-
-abbrev pub times : ℕ → List ℕ → ℕ
-times x [] = 0
-times x (y ∷ ys) = same x y + times x ys
-
--- the numbers a, a + 1 .., n of them
-abbrev pub numbers_from : ℕ → ℕ → List ℕ
-numbers_from a zero = []
-numbers_from a (suc n) = a ∷ numbers_from (suc a) n
 
 -- 1 where the stage has this turn
 abbrev pub staged : ℕ → Stage → ℕ
@@ -50,19 +38,6 @@ abbrev pub IsCalled : Stage → Type 0
 IsCalled Free = ⊥
 IsCalled (Waiting t) = ⊥
 IsCalled (Called t) = Unit {0}
-
--- the first pass is given away
-abbrev pub all_but_first : List ℕ → List ℕ
-all_but_first [] = []
-all_but_first (p ∷ ps) = ps
-
-abbrev pub first_only : List ℕ → List ℕ
-first_only [] = []
-first_only (p ∷ ps) = p ∷ []
-
-abbrev pub longer : {E : Type 0} → Bool → List E → List E → List E
-longer true xs ys = ys
-longer false xs ys = xs
 
 module _ {E S : Type 0} where
   -- a view with n numbers from a on, which has seen nothing
@@ -98,9 +73,13 @@ module _ {E S : Type 0} where
 
   -- what two passes know together
   abbrev pub both_views : View E S → View E S → View E S
-  both_views v w = record { settings = v.settings; passes = v.passes ++ w.passes; seen = longer (ltb v.last w.last) v.seen w.seen; last = (if ltb v.last w.last then w.last else v.last); turns = v.turns ++ w.turns; begins = begun v ∷ begun w ∷ []; stage = Free }
+  both_views v w = record { settings = v.settings; passes = v.passes ++ w.passes; seen = (if ltb v.last w.last then w.seen else v.seen); last = max v.last w.last; turns = v.turns ++ w.turns; begins = begun v ∷ begun w ∷ []; stage = Free }
 
 module _ {O E S : Type 0} where
+  -- nothing is told
+  abbrev pub stays : Step (Option O) → Me (Option O) (View E S) → ℕ → Me (Option O) (View E S) → Type 0
+  stays st m r m' = m' ≡ m
+
   abbrev pub drew : Step (Option O) → Me (Option O) (View E S) → ℕ → Me (Option O) (View E S) → Type 0
   drew st m t m' = (m' ≡ (drawn_view m.0 t, m.1)) × (m.0.last < t) × (t < 2 ^ 47)
 
@@ -146,7 +125,7 @@ module _ {O E S : Type 0} (journal : O → List E) (settings : O → S) (turn pa
       (o : O) × (news : List E)
       × (m' ≡ (called_view m.0 t (m.0.seen ++ news), (0, Some o) ∷ []))
       × (journal o ≡ m.0.seen ++ news) × (m.0.settings ≡ Some (settings o))
-      × IsBefore turn m.0.last news × IsAfter turn t (m.0.seen ++ news) × (calls_by pass m.0.passes news ≡ [])
+      × IsBefore turn m.0.last news × IsAfter turn t (m.0.seen ++ news) × (calls_by pass m.0.passes news ≡ []) × Rises turn (m.0.seen ++ news)
 
   abbrev pub looked : Step (Option O) → Me (Option O) (View E S) → ℕ → Me (Option O) (View E S) → Type 0
   looked st m r m' = (r ≢ awaited m.0.stage → m' ≡ m) × (r ≡ awaited m.0.stage → Comes r m m')
@@ -181,7 +160,8 @@ module _ {O E S : Type 0} (journal : O → List E) (settings : O → S) (turn pa
       pub history : List E
       pub ticket : ℕ
       pub serving : ℕ
-      pub words : s.words ≡ ticket ∷ serving ∷ []
+      pub bells : List ℕ
+      pub words : s.words ≡ ticket ∷ serving ∷ bells
       pub starts : 0 < serving
       pub in_order : serving ≤ ticket
       pub most : n ≤ 64
@@ -215,4 +195,5 @@ pub record TakesTurn {E S Rq Rp : Type 0} (stamp_of : E → Stamp) (reply_of : S
   pub since : IsBefore (λ e. (stamp_of e).turn) v.last news
   pub before : IsAfter (λ e. (stamp_of e).turn) t (v.seen ++ news)
   pub others : calls_by (λ e. (stamp_of e).pass) v.passes news ≡ []
+  pub rises : Rises (λ e. (stamp_of e).turn) (v.seen ++ news)
   pub served : Serves reply_of added_by (record { turn = t; pass = number; call = made }) request (called_view (drawn_view v t) t (v.seen ++ news)) w res
