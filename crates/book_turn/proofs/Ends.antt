@@ -12,7 +12,7 @@ use Rattle.book_turn.specs.declared.object.Stamp.{Stamp}
 use Rattle.book_turn.specs.Numbers.{has, greatest}
 use Rattle.book_turn.specs.Entries.{calls_by, up_to, OwnUpTo}
 use Rattle.book_turn.specs.Rule.{Glued, Kept, dealt_view, kept_view, given_view}
-use Rattle.book_turn.specs.Passes.{PassState, TurnState, pass_state, BelongsTo, IsIdle, Joined, new_pass, new_passes}
+use Rattle.book_turn.specs.Passes.{PassState, TurnState, pass_state, BelongsTo, IsSingle, IsIdle, Joined, new_pass, new_passes}
 use Rattle.book_turn.proofs.Prefixes.{own_calls}
 use Rattle.book_turn.proofs.Totals.{same_one, numbers_length, has_times, times_has, times_append, greatest_append}
 use Rattle.book_turn.proofs.Keeps.{closes}
@@ -111,6 +111,6 @@ module _ {O E S : Type 0} where
 pub new_passes_next : {E S : Type 0} (t : TurnState S) (n : ℕ) → new_passes {E = E} t 0 n ++ new_pass t n ∷ [] ≡ new_passes t 0 (suc n)
 new_passes_next {E = E} t n = let e : n ≡ 0 + n = omega arith in ap (λ (k : ℕ). new_passes {E = E} t 0 n ++ new_pass t k ∷ []) e ∙ new_passes_more {E = E} t 0 n
 
-pub new_passes_own : {E S : Type 0} (t : TurnState S) (a n : ℕ) → All (BelongsTo t) (new_passes {E = E} t a n)
-new_passes_own t a zero = All-nil (BelongsTo t)
-new_passes_own t a (suc n) = All-cons (BelongsTo t) (new_pass t a) (new_passes t (suc a) n) record { id = refl; settings = refl } (new_passes_own t (suc a) n)
+pub new_passes_single : {E S : Type 0} (t : TurnState S) (a n : ℕ) → All (IsSingle t) (new_passes {E = E} t a n)
+new_passes_single t a zero = All-nil (IsSingle t)
+new_passes_single t a (suc n) = All-cons (IsSingle t) (new_pass t a) (new_passes t (suc a) n) record { own = record { id = refl; settings = refl }; alone = refl } (new_passes_single t (suc a) n)

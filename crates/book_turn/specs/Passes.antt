@@ -39,6 +39,11 @@ module _ {E S : Type 0} where
     pub id : v.turn_id ≡ t.turn_id
     pub settings : v.settings ≡ Some t.settings
 
+  -- a pass of this turn into which no other was joined
+  pub record IsSingle (t : TurnState S) (v : PassState E S) : Type 0 where
+    pub own : BelongsTo t v
+    pub alone : v.numbers ≡ v.number ∷ []
+
   -- a pass that has seen nothing and taken no turn
   abbrev pub new_pass : TurnState S → ℕ → PassState E S
   new_pass t number = record { turn_id = t.turn_id; settings = Some t.settings; number = number; numbers = number ∷ []; seen = []; last = 0; turns = []; made = 0 }

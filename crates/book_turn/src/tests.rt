@@ -1,8 +1,7 @@
-ghost use Rattle.std.specs.Prelude.{ℕ, ◌≡◌, ◌+◌, [], length, Some, None, IfSome, All, if◌then◌else◌};
-ghost use Rattle.book_turn.specs.Passes.{BelongsTo, KeepsNumbers};
+ghost use Rattle.std.specs.Prelude.{ℕ, ◌≡◌, ◌+◌, [], length, vec_len, Some, None, IfSome, All, if◌then◌else◌};
+ghost use Rattle.book_turn.specs.Passes.{BelongsTo, IsSingle, KeepsNumbers};
 ghost use Rattle.std.proofs.Common.{arith};
 
-use crate::fault::CallFault;
 use crate::object::{SeqObject, Stamp};
 use crate::pass::Pass;
 use crate::turn::Turn;
@@ -106,7 +105,7 @@ fn count<R: Wait>(
     Some(pass)
 }
 
-fn two<R: Threads + Wait + Sync>(rt: &R, alloc: Global) -> Option<Counter> {
+fn in_two_threads<R: Threads + Wait + Sync>(rt: &R, alloc: Global) -> Option<Counter> {
     let (turn, mut passes) = Turn::new(alloc, new_counter(alloc, 7), 2).ok()?;
     let second = passes.pop()?;
     let first = passes.pop()?;
@@ -127,12 +126,130 @@ fn two<R: Threads + Wait + Sync>(rt: &R, alloc: Global) -> Option<Counter> {
     Some(turn.close(into))
 }
 
+// Adds in as many threads as there are passes.
+fn lanes<R: Threads + Wait + Sync>(rt: &R, turn: &Turn<Counter>, passes: &mut [Pass<Counter>])
+    requires { All (IsSingle turn.now) passes.old }
+    ensures { All (IsSingle turn.entry.now) passes.new }
+{
+    for_each_mut(
+        rt,
+        passes,
+        8,
+        &|_, pass: &mut Pass<Counter>|
+            requires { IsSingle turn.now pass.old }
+            ensures { IsSingle turn.entry.now pass.new }
+        { several(rt, turn, pass, 25) },
+    );
+}
+
+fn several<R: Wait>(rt: &R, turn: &Turn<Counter>, pass: &mut Pass<Counter>, times: u32)
+    requires { IsSingle turn.now pass.old }
+    ensures { IsSingle turn.now pass.new }
+{
+    for _ in 0..times {
+        let _ = turn.call(rt, pass, ADD);
+    }
+}
+
+// The last pass, into which all others were joined.
+fn join_all(turn: &Turn<Counter>, mut passes: Vec<Pass<Counter>>) -> Option<Pass<Counter>>
+    requires { All (IsSingle turn.now) passes.items }
+    ensures own { IfSome result (BelongsTo turn.now) }
+    ensures all { IfSome result (λ p. length p.numbers ≡ vec_len passes) }
+{
+    let mut into = passes.pop()?;
+    while let Some(other) = passes.pop() {
+        turn.join(&mut into, other);
+    }
+    Some(into)
+}
+
+fn in_eight_lanes<R: Threads + Wait + Sync>(rt: &R, alloc: Global) -> Option<Counter> {
+    let (turn, mut passes) = Turn::new(alloc, new_counter(alloc, 8), 8).ok()?;
+    lanes(rt, &turn, passes.as_mut_slice());
+    let all = join_all(&turn, passes)?;
+    Some(turn.close(all))
+}
+
+// How many calls each of so many passes made. None where the turns of the journal don't rise.
+fn shares(counter: &Counter, passes: u32) -> Option<usize> {
+    let mut last = 0;
+    for stamp in &counter.calls {
+        if stamp.turn <= last {
+            return None;
+        }
+        last = stamp.turn;
+    }
+    let each = counter.calls.len() / (passes.max(1) as usize);
+    for number in 0..passes {
+        let made = counter
+            .calls
+            .iter()
+            .filter(|stamp| stamp.pass == number)
+            .count();
+        if made != each {
+            return None;
+        }
+    }
+    Some(each)
+}
+
 #[test]
-fn counts_in_two_threads(rt: HostRuntime) -> Result<(), Fail> {
-    let Some(counter) = two(&rt, rt.alloc()) else {
-        panic!(rt; "no answer")
+fn threads_stand_in_one_history(rt: HostRuntime) -> Result<(), Fail> {
+    let Some(two) = in_two_threads(&rt, rt.alloc()) else {
+        panic!(rt; "no answer in two threads")
     };
-    assert_eq!(rt; counter.name, 7);
-    assert_eq!(rt; counter.calls.len(), 200);
+    assert_eq!(rt;
+        (two.name, two.calls.len(), shares(&two, 2)),
+        (7, 200, Some(100))
+    );
+    let Some(eight) = in_eight_lanes(&rt, rt.alloc()) else {
+        panic!(rt; "no answer in eight lanes")
+    };
+    assert_eq!(rt;
+        (eight.name, eight.calls.len(), shares(&eight, 8)),
+        (8, 200, Some(25))
+    );
+    Ok(())
+}
+
+// The pass's last turn after a call, and the reply.
+fn said<R: Wait>(
+    rt: &R,
+    turn: &Turn<Counter>,
+    pass: &mut Pass<Counter>,
+    ask: Ask,
+) -> (u64, Option<(u64, u64)>)
+    requires { BelongsTo turn.now pass.old }
+    ensures { BelongsTo turn.now pass.new }
+{
+    let reply = turn.call(rt, pass, ask).ok().map(|receipt| receipt.reply);
+    (pass.last(), reply)
+}
+
+#[test]
+fn answers_in_turn(rt: HostRuntime) -> Result<(), Fail> {
+    let Ok((turn, mut passes)) = Turn::new(rt.alloc(), new_counter(rt.alloc(), 9), 2) else {
+        panic!(rt; "no turn")
+    };
+    let (Some(mut second), Some(mut first)) = (passes.pop(), passes.pop()) else {
+        panic!(rt; "no passes")
+    };
+    let told = [
+        said(&rt, &turn, &mut first, ADD),
+        said(&rt, &turn, &mut second, READ),
+        said(&rt, &turn, &mut second, ADD),
+        said(&rt, &turn, &mut first, STARVE),
+        said(&rt, &turn, &mut first, READ),
+    ];
+    let expected = [
+        (1, Some((9, 1))),
+        (2, Some((9, 1))),
+        (3, Some((9, 2))),
+        (4, None),
+        (5, Some((9, 2))),
+    ];
+    assert_eq!(rt; told, expected);
+    assert_eq!(rt; (first.number(), second.number()), (0, 1));
     Ok(())
 }

@@ -1,6 +1,6 @@
 //! A turn: an object that threads share, and the calls on it.
 ghost use Rattle.std.specs.Prelude.{ℕ, ◌≡◌, ◌<◌, ◌≤◌, [], length, IfOk, IfErr, All};
-ghost use Rattle.book_turn.specs.Passes.{BelongsTo, KeepsNumbers, new_passes, Answered, Joined};
+ghost use Rattle.book_turn.specs.Passes.{BelongsTo, IsSingle, KeepsNumbers, new_passes, Answered, Joined};
 ghost use Rattle.book_turn.specs.Faults.{Failed};
 ghost use Rattle.book_turn.specs.Rule.{dealt_view};
 
@@ -50,7 +50,7 @@ impl<O: SeqObject> Turn<O> {
         requires empty { O.journal object ≡ [] }
         ensures turn { IfOk result (λ r. (r.0.settings ≡ O.settings object) × (r.0.passes ≡ passes)) }
         ensures passes { IfOk result (λ r. r.1.items ≡ new_passes r.0 0 passes) }
-        ensures own { IfOk result (λ r. All (BelongsTo r.0) r.1.items) }
+        ensures single { IfOk result (λ r. All (IsSingle r.0) r.1.items) }
     {
         let (board, seat) = board_of(alloc, object, passes)?;
         let all = deal(alloc, &board, seat, passes)?;
