@@ -1,6 +1,6 @@
 -- What the calls of a turn tell.
 use Rattle.std.proofs.Common.{◌≡◌, ℕ, ◌<◌, ◌^◌, List, [], ◌∷◌, ◌++◌, length, Option, None, Some, true, true≢false, refl, sym, ap, ◌∙◌, subst, arith}
-use Rattle.std.specs.Prelude.{Result, Ok, Err, IfSome, IfOk, OnOk, OnErr}
+use Rattle.std.specs.Prelude.{Result, Ok, Err, IfOk, OnOk, OnErr}
 use Rattle.std.specs.declared.alloc.AllocError.{AllocError}
 use mathlib.Core.List.{append-nil}
 use Rattle.atomic_table.specs.Table.{Me, Step, rest}
@@ -9,7 +9,8 @@ use Rattle.book_turn.specs.declared.rule.View.{View}
 use Rattle.book_turn.specs.declared.rule.Stage.TheVariants.{Waiting, Called}
 use Rattle.book_turn.specs.Numbers.{has}
 use Rattle.book_turn.specs.Entries.{listed, IsOneOf}
-use Rattle.book_turn.specs.Rule.{TakesTurn, drawn_view, awaited, looked, Comes, Adds, Serves, done_view, journal_in}
+use Rattle.book_turn.specs.Views.{drawn_view, awaited, done_view}
+use Rattle.book_turn.specs.Steps.{TakesTurn, looked, Comes, Adds, Serves, journal_in}
 use Rattle.book_turn.proofs.Keeps.{some-inj}
 
 pub came : {O E S : Type 0} (journal : O → List E) (settings : O → S) (turn pass : E → ℕ) (st : Step (Option O)) (me0 me me' : Me (Option O) (View E S)) (t r : ℕ)

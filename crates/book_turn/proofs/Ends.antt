@@ -11,7 +11,9 @@ use Rattle.book_turn.specs.declared.rule.Stage.TheVariants.{Free}
 use Rattle.book_turn.specs.declared.object.Stamp.{Stamp}
 use Rattle.book_turn.specs.Numbers.{has, greatest}
 use Rattle.book_turn.specs.Entries.{calls_by, up_to, OwnUpTo}
-use Rattle.book_turn.specs.Rule.{Glued, Kept, dealt_view, kept_view, given_view}
+use Rattle.book_turn.specs.Views.{dealt_view, kept_view, given_view}
+use Rattle.book_turn.specs.Steps.{Glued}
+use Rattle.book_turn.specs.Rule.{Kept}
 use Rattle.book_turn.specs.Passes.{PassState, TurnState, pass_state, BelongsTo, IsSingle, IsIdle, Joined, new_pass, new_passes}
 use Rattle.book_turn.proofs.Prefixes.{own_calls}
 use Rattle.book_turn.proofs.Totals.{same_one, numbers_length, has_times, times_has, times_append, greatest_append}

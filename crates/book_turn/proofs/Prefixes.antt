@@ -5,7 +5,7 @@ use native.Mathlib.Decide.{dec_le}
 use borrow.Author.Tests.{lt-leb}
 use mathlib.Core.List.{append-nil}
 use Rattle.book_turn.specs.declared.rule.Beginning.{Beginning}
-use Rattle.book_turn.specs.Rule.{AreBeginnings}
+use Rattle.book_turn.specs.Steps.{AreBeginnings}
 use Rattle.book_turn.specs.Numbers.{times, has}
 use Rattle.book_turn.proofs.Totals.{has_times, times_has, times_append}
 use Rattle.book_turn.specs.Entries.{IsAfter, IsBefore, Rises, up_to, calls_by, IsOneOf, OwnUpTo}

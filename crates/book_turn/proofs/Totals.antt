@@ -1,5 +1,5 @@
 -- Sums over all views, and how often a number is in a list.
-use Rattle.std.proofs.Common.{◌≡◌, ℕ, zero, suc, ◌+◌, ◌*◌, ◌<◌, ◌≤◌, ◌≢◌, ◌⊎◌, inl, inr, ⊎_elim, List, [], ◌∷◌, ◌++◌, ◌||◌, length, set, max, sym, refl, ap, ◌∙◌, arith, eqb, eq-eqb, ne_eqb, ltb, ltb-true, ltb-false, Bool, true, false, true≢false, if◌then◌else◌}
+use Rattle.std.proofs.Common.{◌≡◌, ℕ, zero, suc, ◌+◌, ◌*◌, ◌<◌, ◌≤◌, ◌≢◌, ◌⊎◌, inl, inr, ⊎_elim, List, [], ◌∷◌, ◌++◌, ◌||◌, length, set, max, sym, refl, ap, ◌∙◌, arith, eqb, eq-eqb, ne_eqb, Bool, true, false, true≢false, if◌then◌else◌}
 use mathlib.Core.Option.{some, some-injective, some-ne-none}
 use mathlib.Core.Logic.{dite}
 use native.Mathlib.Decide.{ℕ_discrete}

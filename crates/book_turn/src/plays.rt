@@ -1,5 +1,6 @@
 //! What each step tells.
-ghost use Rattle.book_turn.specs.Rule.{stays, drew, looked, passed, compared, kept_view, given_view, both_views, spent_view};
+ghost use Rattle.book_turn.specs.Views.{kept_view, given_view, both_views, spent_view};
+ghost use Rattle.book_turn.specs.Steps.{stays, drew, looked, passed, compared};
 
 use crate::object::SeqObject;
 use crate::rule::View;

@@ -2,7 +2,7 @@
 ghost use Rattle.std.specs.Prelude.{ℕ, ◌≡◌, ◌<◌, ◌≤◌, [], length, IfOk, IfErr, All};
 ghost use Rattle.book_turn.specs.Passes.{BelongsTo, IsSingle, KeepsNumbers, new_passes, Answered, Joined};
 ghost use Rattle.book_turn.specs.Faults.{Failed};
-ghost use Rattle.book_turn.specs.Rule.{dealt_view};
+ghost use Rattle.book_turn.specs.Views.{dealt_view};
 
 use crate::board::{Board, Place, board_of};
 use crate::fault::{CallFault, SpentPass};

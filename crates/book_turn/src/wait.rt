@@ -1,7 +1,7 @@
 //! How a thread waits for its turn, and wakes the next. No contract speaks of it: the bells are words of the
 //! table that its rule leaves free, and a thread that is woken for no reason looks and waits on.
 ghost use Rattle.std.specs.Prelude.{ℕ, ◌≡◌, ◌<◌, ◌≤◌, [], ◌∷◌, Some, length};
-ghost use Rattle.book_turn.specs.Rule.{passed, Adds, Comes};
+ghost use Rattle.book_turn.specs.Steps.{passed, Adds, Comes};
 ghost use Rattle.atomic_table.specs.Table.{step};
 ghost use Rattle.book_turn.specs.declared.rule.Stage.TheVariants.{Waiting, Called};
 ghost use mathlib.Core.Option.{none};
