@@ -66,6 +66,15 @@ module _ {E : Type 0} (turn : E → ℕ) where
       go true is = let l = ltb-true a b is in let m : b ≡ max a b = omega arith in f ∙ ap (λ (t : ℕ). up_to turn t h) m
       go false is = let l = ltb-false a b is in let m : a ≡ max a b = omega arith in e ∙ ap (λ (t : ℕ). up_to turn t h) m
 
+module _ {E : Type 0} (pass : E → ℕ) where
+  pub calls_by-append : (ps : List ℕ) (a b : List E) → calls_by pass ps (a ++ b) ≡ calls_by pass ps a ++ calls_by pass ps b
+  calls_by-append ps [] b = refl
+  calls_by-append ps (e ∷ es) b = go (calls_by-append ps es b) (has (pass e) ps)
+    where
+      go : calls_by pass ps (es ++ b) ≡ calls_by pass ps es ++ calls_by pass ps b → (c : Bool) → (if c then e ∷ calls_by pass ps (es ++ b) else calls_by pass ps (es ++ b)) ≡ (if c then e ∷ calls_by pass ps es else calls_by pass ps es) ++ calls_by pass ps b
+      go ih true = ap (λ l. e ∷ l) ih
+      go ih false = ih
+
 module _ {E : Type 0} (turn pass : E → ℕ) where
   has_both : (x : ℕ) (ps qs : List ℕ) → has x (ps ++ qs) ≡ true → (has x ps ≡ true) ⊎ (has x qs ≡ true)
   has_both x ps qs e = let a = has_times x (ps ++ qs) e in let k = times_append x ps qs in dite (dec_le 1 (times x ps)) (λ l. inl (times_has x ps l)) (λ not. inr (times_has x qs (omega arith)))

@@ -5,3 +5,4 @@ pub mod Steps
 pub mod Rule
 pub mod Passes
 pub mod Faults
+pub mod Counts

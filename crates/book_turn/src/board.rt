@@ -16,17 +16,18 @@ use std::alloc::{AllocError, Global};
 use std::snapshot::Snapshot;
 use std::sync::Wait;
 
-// How many turns were drawn, and 1.
+// The turn that is drawn next.
 const TICKET: usize = 0;
 
 // The turn that is served.
-pub(crate) const SERVING: usize = 1;
+const SERVING: usize = 1;
 
 // The words of the table. Behind the first two there are bells (`wait`).
 const WORDS: usize = 72;
 
 pub(crate) type Place<O: SeqObject> = Seat<Option<O>, View<O::Entry, O::Settings>>;
 
+/// The table, with two counters, the bells and the place of the object.
 #[derive(Drop)]
 pub struct Board<O: SeqObject> {
     pub(crate) table: Table<Option<O>, View<O::Entry, O::Settings>, Key<O>, InTurn<O>, Global>,
@@ -139,6 +140,7 @@ impl<O: SeqObject> Board<O> {
         (turn, answer)
     }
 
+    // The object, by the seat that has all numbers.
     pub(crate) fn close(self, seat: Place<O>) -> O
         requires own { seat.table_id ≡ self.table.shared.table_id }
         requires free { seat.me.0.stage ≡ Free }

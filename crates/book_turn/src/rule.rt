@@ -5,9 +5,13 @@ use std::collections::LinkedList;
 use std::marker::PhantomData;
 use std::snapshot::Snapshot;
 
+/// Where a pass is in its call.
 pub enum Stage {
+    /// In none.
     Free,
+    /// It waits for its turn.
     Waiting(u64),
+    /// Its turn has come.
     Called(u64),
 }
 
@@ -15,9 +19,12 @@ pub enum Stage {
 pub struct View<E, S> {
     /// `None` once it was joined away.
     pub settings: Option<S>,
+    /// The numbers that it stands for.
     pub passes: LinkedList<u64>,
+    /// The entries of the history up to `last`.
     pub seen: LinkedList<E>,
     pub last: u64,
+    /// The turns that it has drawn.
     pub turns: LinkedList<u64>,
     /// Earlier knowledge of passes that were joined, until it was compared.
     pub begins: LinkedList<Beginning<E>>,
@@ -38,6 +45,7 @@ pub struct Key<O> {
     pub passes: u64,
 }
 
+/// The rule of a turn over such an object.
 pub struct InTurn<O> {
     object: PhantomData<O>,
 }

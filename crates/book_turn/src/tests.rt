@@ -1,7 +1,10 @@
-ghost use Rattle.std.specs.Prelude.{ℕ, ◌≡◌, ◌+◌, [], length, vec_len, Some, None, IfSome, All, if◌then◌else◌};
+ghost use Rattle.std.specs.Prelude.{ℕ, ◌≡◌, ◌+◌, [], ◌∷◌, length, vec_len, Some, None, IfSome, All, if◌then◌else◌};
+ghost use Rattle.book_turn.specs.Entries.{calls_by};
 ghost use Rattle.book_turn.specs.Passes.{BelongsTo, IsSingle, KeepsNumbers};
+ghost use Rattle.book_turn.specs.Counts.{own_count};
 ghost use Rattle.std.proofs.Common.{arith};
 
+use crate::fault::{CallFault, SpentPass};
 use crate::object::{SeqObject, Stamp};
 use crate::pass::Pass;
 use crate::turn::Turn;
@@ -84,19 +87,23 @@ fn new_counter(alloc: Global, name: u64) -> Counter
     }
 }
 
-// Adds so many times. None where a receipt's turn is not above the one before.
+// Adds so many times, which is how many entries more the history has of this pass. None where a call isn't answered, or
+// its turn isn't above the one before.
 fn count<R: Wait>(
     rt: &R,
     turn: &Turn<Counter>,
     mut pass: Pass<Counter>,
     times: u32,
 ) -> Option<Pass<Counter>>
-    requires { BelongsTo turn.now pass }
-    ensures { IfSome result (λ p. BelongsTo turn.now p × KeepsNumbers pass p) }
+    requires { IsSingle turn.now pass }
+    ensures own { IfSome result (λ p. BelongsTo turn.now p × KeepsNumbers pass p) }
+    ensures once { IfSome result (λ p. own_count p ≡ own_count pass + times) }
 {
     let mut last = 0;
-    for _ in 0..times {
-        let receipt = turn.call(rt, &mut pass, ADD).ok()?;
+    for done in 0..times {
+        let Ok(receipt) = turn.call(rt, &mut pass, ADD) else {
+            return None;
+        };
         if receipt.turn <= last || receipt.turn != pass.last() {
             return None;
         }
@@ -105,7 +112,10 @@ fn count<R: Wait>(
     Some(pass)
 }
 
-fn in_two_threads<R: Threads + Wait + Sync>(rt: &R, alloc: Global) -> Option<Counter> {
+fn in_two_threads<R: Threads + Wait + Sync>(rt: &R, alloc: Global) -> Option<Counter>
+    ensures first { IfSome result (λ c. length (calls_by (λ e. e.pass) (0 ∷ []) c.calls.items) ≡ 100) }
+    ensures second { IfSome result (λ c. length (calls_by (λ e. e.pass) (1 ∷ []) c.calls.items) ≡ 100) }
+{
     let (turn, mut passes) = Turn::new(alloc, new_counter(alloc, 7), 2).ok()?;
     let second = passes.pop()?;
     let first = passes.pop()?;
@@ -113,12 +123,12 @@ fn in_two_threads<R: Threads + Wait + Sync>(rt: &R, alloc: Global) -> Option<Cou
     let (a, b) = join(
         rt,
         move || -> Option<Pass<Counter>>
-            requires { BelongsTo shared.now first }
-            ensures { IfSome result (λ p. BelongsTo shared.entry.now p × KeepsNumbers first p) }
+            requires { IsSingle shared.now first }
+            ensures { IfSome result (λ p. BelongsTo shared.entry.now p × KeepsNumbers first p × (own_count p ≡ own_count first + 100)) }
         { count(rt, shared, first, 100) },
         move || -> Option<Pass<Counter>>
-            requires { BelongsTo shared.now second }
-            ensures { IfSome result (λ p. BelongsTo shared.entry.now p × KeepsNumbers second p) }
+            requires { IsSingle shared.now second }
+            ensures { IfSome result (λ p. BelongsTo shared.entry.now p × KeepsNumbers second p × (own_count p ≡ own_count second + 100)) }
         { count(rt, shared, second, 100) },
     );
     let mut into = a?;
@@ -251,5 +261,22 @@ fn answers_in_turn(rt: HostRuntime) -> Result<(), Fail> {
     ];
     assert_eq!(rt; told, expected);
     assert_eq!(rt; (first.number(), second.number()), (0, 1));
+    Ok(())
+}
+
+#[test]
+fn tells_faults(rt: HostRuntime) -> Result<(), Fail> {
+    let spent = SpentPass::new(3, 1 << 40);
+    assert_eq!(rt; (spent.pass(), spent.turns()), (3, 1099511627776));
+    let cases = [
+        (CallFault::Memory, "memory ran out"),
+        (
+            CallFault::PassSpent(spent),
+            "pass 3 has made all its 1099511627776 turns",
+        ),
+    ];
+    for (fault, text) in cases {
+        assert_eq!(rt; format!(in rt.alloc(); "{fault}")?.as_str(), text);
+    }
     Ok(())
 }
