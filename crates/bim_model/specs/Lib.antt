@@ -1,0 +1,5 @@
+pub mod Kept
+pub mod Guids
+pub mod Moments
+pub mod Identifiers
+pub mod Boxes
