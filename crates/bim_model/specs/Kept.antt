@@ -1,0 +1,8 @@
+-- The bytes that a `Bytes` keeps, in place or beside.
+use Rattle.std.specs.Prelude.{ℕ, List, take}
+use Rattle.bim_model.specs.declared.bytes.Kept.{Kept}
+use Rattle.bim_model.specs.declared.bytes.Kept.TheVariants.{Short, Long}
+
+abbrev pub kept_bytes : Kept → List ℕ
+kept_bytes (Short few) = take few.count few.room
+kept_bytes (Long many) = many.value.items

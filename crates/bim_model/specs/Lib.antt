@@ -1,0 +1,4 @@
+pub mod Kept
+pub mod Guids
+pub mod Moments
+pub mod Identifiers

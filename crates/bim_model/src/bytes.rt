@@ -1,0 +1,88 @@
+//! Owned bytes, which contracts see as their list.
+ghost use Rattle.std.specs.Prelude.{◌≡◌, ◌≤◌, length, take, IfOk};
+
+use crate::items::Duplicate;
+use std::alloc::{AllocError, Global};
+use std::marker::Model;
+
+/// Up to fifteen bytes, in place.
+#[derive(Drop)]
+struct Few {
+    room: [u8; 15],
+    count: u8,
+    ghost fits: { count ≤ 15 },
+}
+
+#[derive(Drop)]
+enum Kept {
+    Short(Few),
+    Long(Box<Vec<u8>>),
+}
+
+/// Bytes that it owns, in 24 bytes of its own: up to fifteen lie in place and take no memory beside.
+#[derive(Drop)]
+pub struct Bytes {
+    kept: Kept,
+}
+
+impl Model for Bytes {
+    ghost use Rattle.std.specs.Prelude.{List, ℕ};
+
+    ghost Value = { List ℕ };
+
+    ghost use Rattle.bim_model.specs.Kept.{kept_bytes};
+
+    ghost view = { λ b. kept_bytes b.kept };
+}
+
+impl Bytes {
+    /// A copy of the bytes.
+    pub fn of(alloc: Global, bytes: &[u8]) -> Result<Bytes, AllocError>
+        ensures { IfOk result (λ made. made ≡ bytes.now) }
+    {
+        if bytes.len() <= 15 {
+            Ok(Bytes {
+                kept: Kept::Short(few_of(bytes)),
+            })
+        } else {
+            Bytes::from_vec(alloc, bytes.to_vec(alloc)?)
+        }
+    }
+
+    /// The bytes of a vector, without a copy of them.
+    pub fn from_vec(alloc: Global, bytes: Vec<u8>) -> Result<Bytes, AllocError>
+        ensures { IfOk result (λ made. made ≡ bytes.items) }
+    {
+        Ok(Bytes {
+            kept: Kept::Long(Box::new(alloc, bytes)?),
+        })
+    }
+
+    /// The bytes, lent.
+    pub fn as_slice(&self) -> &[u8]
+        ensures { result.now ≡ self.now }
+    {
+        match &self.kept {
+            Kept::Short(few) => &few.room[..few.count as usize],
+            Kept::Long(many) => many.as_slice(),
+        }
+    }
+}
+
+fn few_of(bytes: &[u8]) -> Few
+    requires { length bytes.now ≤ 15 }
+    ensures { take result.count result.room ≡ bytes.now }
+{
+    let mut room = [0; 15];
+    room[..bytes.len()].copy_from_slice(bytes);
+    Few {
+        room,
+        count: bytes.len() as u8,
+    }
+}
+
+impl Duplicate for Bytes {
+    fn copy(&self, alloc: Global) -> Result<Bytes, AllocError> {
+        Bytes::of(alloc, self.as_slice())
+    }
+}

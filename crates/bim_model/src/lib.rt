@@ -1,0 +1,24 @@
+//! The data of building models and of topics that the other crates share.
+#![tactic(auto)]
+
+mod bytes;
+mod element;
+mod geometry;
+mod guid;
+mod identifiers;
+mod items;
+mod shared;
+mod steps;
+mod text;
+mod topic;
+
+pub use bytes::Bytes;
+pub use element::Element;
+pub use geometry::{Extent, PER_MM, Point, Triangle};
+pub use guid::Guid;
+pub use identifiers::{id_of, serial_of};
+pub use items::{Duplicate, Items};
+pub use shared::Shared;
+pub use steps::Steps;
+pub use text::Text;
+pub use topic::{Author, Topic, TopicBody};
