@@ -1,7 +1,5 @@
 -- What a talk wants, once done, is the next of the session.
-use Rattle.std.proofs.Common.{◌≡◌, ◌≢◌, ◌⊎◌, ℕ, ◌+◌, ◌<◌, ◌≤◌, List, [], ◌∷◌, ◌++◌, length, Bool, true, false, Option, Some, None, Result, Ok, Err, IsTrue, inl, inr, sym, ◌∙◌, ap, subst, refl, append-nil, length-append, arith}
-use Rattle.std.specs.declared.alloc.AllocError.{AllocError}
-use Rattle.bim_io.specs.Causes.{Grows}
+use Rattle.std.proofs.Common.{◌≡◌, ◌⊎◌, ℕ, ◌+◌, ◌≤◌, List, [], ◌∷◌, ◌++◌, length, Bool, Option, Some, None, Ok, Err, inl, inr, sym, ◌∙◌, ap, subst, refl, length-append, arith}
 use Rattle.http_frame.specs.declared.framer.HttpRequest.{HttpRequest}
 use Rattle.http_frame.specs.Requests.{Begins, IsRefused}
 use Rattle.bim_model.specs.declared.topic.TopicBody.{TopicBody}
@@ -11,19 +9,18 @@ use Rattle.federation_book.specs.declared.types.Entry.{Entry}
 use Rattle.federation_book.specs.declared.types.BookReply.{BookReply}
 use Rattle.federation_book.specs.declared.types.BookRequest.{BookRequest}
 use Rattle.federation_book.specs.declared.types.BookRequest.TheVariants.{ListTopics, PostTopic}
-use Rattle.federation_book.specs.History.{reply_of, added_by, body_of, topic_made, entry_made, project_of, at_turn, of_turn, IsBefore}
+use Rattle.federation_book.specs.History.{reply_of, added_by, body_of, topic_made, entry_made, project_of, at_turn, IsBefore}
 use Rattle.federation_book.specs.Runs.{Step, IsRun, IsOneThread}
-use Rattle.federation_book.proofs.Histories.{AreAbove, AreOf, added_of, above_of, at_turn-new, of_turn-new, Runs_push, follows_one, one_push}
-use Rattle.bcf_http.specs.declared.calls.ReplyKind.{ReplyKind}
+use Rattle.federation_book.proofs.Histories.{AreOf, added_of, above_of, at_turn-new, of_turn-new, Runs_push, follows_one, one_push}
 use Rattle.bcf_http.specs.declared.calls.RequestFault.TheVariants.{NotBuilt}
 use Rattle.bcf_http.specs.declared.answers.Answer.TheVariants as answer
 use Rattle.bcf_http.specs.Calls.{asked_by, kind_of}
 use Rattle.bcf_http.specs.Answers.{IsResponse}
 use Rattle.bim_session.specs.declared.want.Receipt.{Receipt}
-use Rattle.bim_session.specs.Session.{Answers, Answered, Faults, IsFaultResponse, IsNext, Takes, last_turn, closes_after, most_requests}
+use Rattle.bim_session.specs.Session.{Answers, Answered, Faults, Takes, last_turn}
 use Rattle.bim_session.specs.Talking.{TalkState, AnswersAlone, AnswersCall, ChangesNothing}
 use Rattle.bim_session.proofs.Sessions.{Takes_new, Answered_grown, answered_last}
-use Rattle.bim_server.specs.Loop.{ServerState, SoFar, Calls, with_turn, stamp_of}
+use Rattle.bim_server.specs.Loop.{ServerState, SoFar, with_turn, stamp_of}
 
 -- an answer without a turn
 pub alone_answers : (may : ℕ → Type 0) (h : List Entry) (last top moment : ℕ) (request : HttpRequest) (close : Bool) (bytes : List ℕ) → may moment
@@ -37,7 +34,7 @@ alone_answers may h last top moment request close bytes may_be (inl refuses) = i
   response = refuses.response;
   none = refl;
 })
-alone_answers may h last top moment request close bytes may_be (inr lacks) = inr (inr (record { response = lacks; idle = inl refl; }))
+alone_answers may h last top moment request close bytes may_be (inr lacks) = inr (inr (record { response = lacks; idle = inl refl }))
 
 -- a fault that ends the session
 pub fault_is : (may : ℕ → Type 0) (moment : ℕ) (rest later : List ℕ) → may moment

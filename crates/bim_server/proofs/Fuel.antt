@@ -1,10 +1,9 @@
 -- Each step of a session leaves less to do.
-use Rattle.std.proofs.Common.{◌≡◌, ◌⊎◌, ℕ, ◌+◌, ◌-◌, ◌*◌, ◌^◌, ◌<◌, ◌≤◌, List, [], ◌∷◌, ◌++◌, length, Bool, true, false, Option, Some, None, inl, inr, sym, ◌∙◌, ap, subst, refl, length-append, arith}
-use Rattle.http_frame.specs.Requests.{IsUnfinished}
+use Rattle.std.proofs.Common.{◌≡◌, ℕ, ◌+◌, ◌^◌, ◌<◌, ◌≤◌, List, [], ◌∷◌, ◌++◌, length, Bool, true, false, Option, Some, None, inl, inr, sym, ◌∙◌, ap, subst, refl, length-append, arith}
 use Rattle.http_frame.proofs.OneReading.{unfinished_short}
 use Rattle.federation_book.specs.declared.types.BookRequest.{BookRequest}
 use Rattle.bim_session.specs.declared.end.SessionEnd.{SessionEnd}
-use Rattle.bim_session.specs.declared.want.Want.TheVariants.{More, Write, Call, Leave}
+use Rattle.bim_session.specs.declared.want.Want.TheVariants.{More, Write, Call}
 use Rattle.bim_session.specs.Session.{most_requests}
 use Rattle.bim_session.specs.Talking.{TalkState, Talks, with_piece}
 use Rattle.bim_server.specs.declared.session.Progress.{Progress}

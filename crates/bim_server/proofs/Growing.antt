@@ -1,5 +1,5 @@
 -- A session so far goes on by one more event.
-use Rattle.std.proofs.Common.{◌≡◌, ◌≢◌, ◌⊎◌, ℕ, ◌+◌, ◌<◌, ◌≤◌, ◌==◌, List, [], ◌∷◌, ◌++◌, length, Bool, true, false, Option, Some, None, Result, Ok, Err, IsTrue, inl, inr, sym, ◌∙◌, ap, subst, refl, append_assoc, append-nil, length-append, arith}
+use Rattle.std.proofs.Common.{◌≡◌, ◌≢◌, ◌⊎◌, ℕ, ◌+◌, ◌<◌, ◌≤◌, ◌==◌, List, [], ◌∷◌, ◌++◌, length, Bool, true, false, Option, Some, None, IsTrue, inl, inr, sym, ◌∙◌, ap, subst, refl, append-nil, length-append, arith}
 use Rattle.std.specs.Io.KnownBytes.{Appends}
 use Rattle.std.proofs.lemmas.Bool.Decides.{eqb_tells}
 use Rattle.bim_io.specs.Causes.{Grows}
@@ -10,7 +10,6 @@ use Rattle.federation_book.specs.History.{IsBefore}
 use Rattle.federation_book.specs.Runs.{Step, IsRun, IsOneThread}
 use Rattle.federation_book.proofs.Histories.{none_before, one_none}
 use Rattle.bim_session.specs.declared.end.SessionEnd.{SessionEnd}
-use Rattle.bim_session.specs.declared.end.SessionEnd.TheVariants as end
 use Rattle.bim_session.specs.Session.{Answers, Answered, Ends, last_turn, most_requests, closes_after}
 use Rattle.bim_session.specs.Talking.{TalkState, fresh, with_piece, leaving_after}
 use Rattle.bim_session.proofs.Sessions.{Reads_more, Reads_push, Answered_push}

@@ -1,14 +1,12 @@
 -- Where a session stands after one step.
-use Rattle.std.proofs.Common.{◌≡◌, ◌≢◌, ◌⊎◌, ℕ, ◌+◌, ◌-◌, ◌*◌, ◌^◌, ◌<◌, ◌≤◌, List, [], ◌∷◌, ◌++◌, length, Bool, true, false, Option, Some, None, Result, Ok, Err, IsTrue, inl, inr, sym, ◌∙◌, ap, subst, refl, append-nil, arith}
+use Rattle.std.proofs.Common.{◌≡◌, ◌⊎◌, ℕ, ◌+◌, List, [], ◌∷◌, ◌++◌, length, Bool, true, Option, Some, None, Result, Ok, Err, inl, inr, sym, ◌∙◌, ap, subst, refl, append-nil, arith}
 use Rattle.std.specs.declared.alloc.AllocError.{AllocError}
 use Rattle.std.specs.Io.KnownBytes.{Appends}
 use Rattle.bim_io.specs.Causes.{Grows}
 use Rattle.http_frame.specs.declared.framer.HttpRequest.{HttpRequest}
-use Rattle.http_frame.specs.declared.framer.FrameFault.TheVariants as frame
-use Rattle.http_frame.specs.Requests.{Begins, Reads, IsRefused, IsUnfinished}
+use Rattle.http_frame.specs.Requests.{Begins, Reads, IsRefused}
 use Rattle.federation_book.specs.declared.types.BookRequest.{BookRequest}
-use Rattle.federation_book.specs.History.{reply_of, IsBefore}
-use Rattle.federation_book.specs.Runs.{Step}
+use Rattle.federation_book.specs.History.{IsBefore}
 use Rattle.bcf_http.specs.declared.calls.ReplyKind.{ReplyKind}
 use Rattle.bcf_http.specs.declared.calls.RequestFault.TheVariants.{NotBuilt}
 use Rattle.bcf_http.specs.declared.answers.Answer.TheVariants as answer
@@ -18,13 +16,13 @@ use Rattle.bim_session.specs.declared.end.SessionEnd.{SessionEnd}
 use Rattle.bim_session.specs.declared.end.SessionEnd.TheVariants as end
 use Rattle.bim_session.specs.declared.want.Receipt.{Receipt}
 use Rattle.bim_session.specs.declared.want.Want.TheVariants.{More, Write, Call, Leave}
-use Rattle.bim_session.specs.Session.{Answers, Answered, Ends, IsNext, IsFaultResponse, Faults, last_turn, closes_after, most_requests}
+use Rattle.bim_session.specs.Session.{Answers, IsNext, IsFaultResponse, Faults, last_turn, closes_after}
 use Rattle.bim_session.specs.Replay.{Replays}
 use Rattle.bim_session.specs.Talking.{TalkState, Talks, MeetsEnd, AnswersAlone, AnswersCall, with_piece, with_answer, with_call, with_fault, leaving_after}
 use Rattle.bim_server.specs.declared.session.Progress.{Progress}
 use Rattle.bim_server.specs.declared.session.Progress.TheVariants.{Again, End}
-use Rattle.bim_server.specs.Loop.{ServerState, SoFar, Goes, Reading, Writing, EndsReading, EndsWriting, Called, Calls, with_turn}
-use Rattle.bim_server.proofs.Known.{Appends_empty, Appends_trans, Grows_empty, Grows_trans}
+use Rattle.bim_server.specs.Loop.{ServerState, SoFar, Goes, Reading, Writing, EndsWriting, Called, Calls, with_turn}
+use Rattle.bim_server.proofs.Known.{Appends_empty, Grows_empty, Grows_trans}
 use Rattle.bim_server.proofs.Growing.{leaves_none, so_far_fed, so_far_push}
 use Rattle.bim_server.proofs.Events.{alone_answers, fault_is, step_of, called_answers, takes_next, answered_next, run_next, one_next, count_next, last_of}
 use Rattle.bim_server.proofs.Ending.{finish, finish_same, finish_leaving, finish_met, finish_memory, room_of}
@@ -117,12 +115,17 @@ next_alone may given a ended held x moment old new server bytes so may_be talks 
   where
     served : closes_after (old.served + 1) ≡ closes_after (length so.requests + 1)
     served = ap (λ n. closes_after (n + 1)) so.served
+
     of_kind : ((request : HttpRequest) × Begins old.rest request new.rest × AnswersAlone moment request (closes_after (old.served + 1)) bytes × (new ≡ with_answer new.rest old))
         ⊎ ((IsRefused old.rest ⊎ ((request : HttpRequest) × Begins old.rest request new.rest × (asked_by moment request ≡ Err NotBuilt))) × IsFaultResponse bytes × (new ≡ with_fault new.rest old))
         → IsNext may 1 server.history (last_turn 0 so.steps) server.turns old.rest (length so.requests) bytes []
-    of_kind (inl one) = inl (one.0, new.rest, one.1,
-        subst (λ (c : Bool). Answers may 1 server.history (last_turn 0 so.steps) server.turns one.0 c bytes []) served
-        (alone_answers may server.history (last_turn 0 so.steps) server.turns moment one.0 (closes_after (old.served + 1)) bytes may_be one.2))
+    of_kind (inl one) = inl (
+      one.0,
+      new.rest,
+      one.1,
+      subst (λ (c : Bool). Answers may 1 server.history (last_turn 0 so.steps) server.turns one.0 c bytes []) served
+          (alone_answers may server.history (last_turn 0 so.steps) server.turns moment one.0 (closes_after (old.served + 1)) bytes may_be one.2),
+    )
     of_kind (inr fault) = inr (fault_is may moment old.rest new.rest may_be fault.0, fault.1, refl)
 
 -- after what a talk wrote by itself
@@ -172,7 +175,7 @@ wrote_called may given a ended held x y moment old mid new server server' reques
     so_far_push may given a ended held x y old new server (with_turn call server) so request bytes (step_of server call ∷ []) here
     (subst (λ (r : List ℕ). Begins old.rest request r) (sym rest) begins)
     (called_answers may server (last_turn 0 so.steps) request (closes_after (old.served + 1)) bytes call moment receipt may_be asked so.before
-        (last_of may given a ended held x old server so) calls.0 calls.1 close)
+    (last_of may given a ended held x old server so) calls.0 calls.1 close)
     (run_next may given a ended held x old server call so) (one_next may given a ended held x old server call so) (count_next may given a ended held x old server call so)
     (subst (λ (s : ServerState). IsBefore (s.turns + 1) s.history) state before)
     (answered_next may given a ended held x old server call so)
@@ -216,17 +219,20 @@ ended_called may given a ended held x y moment old mid server server' request ca
     let whole : Replays may 1 given a ended held y (end.Memory mid.served) =
     finish may given a a ended ended held x y old server (with_turn call server) so [] [] (end.Memory mid.served) (step_of server call ∷ []) here (Appends_empty a) memory.1
     (run_next may given a ended held x old server call so) (one_next may given a ended held x old server call so) (count_next may given a ended held x old server call so)
-    (answered_next may given a ended held x old server call so)
-    (number ∙ so.served, refl, inr (record {
-      request = request;
-      later = mid.rest;
-      next = begins;
-      step = step_of server call;
-      one = refl;
-      above = omega arith;
-      within = omega arith;
-      takes = takes_next may server request call moment may_be asked so.before;
-    })) in
+    (answered_next may given a ended held x old server call so) (
+      number ∙ so.served,
+      refl,
+      inr (record {
+        request = request;
+        later = mid.rest;
+        next = begins;
+        step = step_of server call;
+        one = refl;
+        above = omega arith;
+        within = omega arith;
+        takes = takes_next may server request call moment may_be asked so.before;
+      }),
+    ) in
     subst (λ (z : SessionEnd). Replays may 1 given a ended held y z) (sym memory.0) whole
 ended_called may given a ended held x y moment old mid server server' request call receipt (end.Closed n) may_be so here begins asked is calls (inr cut) = absurd cut.2
 ended_called may given a ended held x y moment old mid server server' request call receipt (end.Cut n) may_be so here begins asked is calls (inr cut) = absurd cut.2
@@ -243,9 +249,12 @@ ended_called may given a ended held x y moment old mid server server' request ca
     inl (request, mid.rest, begins, answers) in
     finish may given a a ended ended held x y old server (with_turn call server) so [] cut.3.0 (end.WriteFault n) (step_of server call ∷ []) here (Appends_empty a) cut.3.3
     (run_next may given a ended held x old server call so) (one_next may given a ended held x old server call so) (count_next may given a ended held x old server call so)
-    (answered_next may given a ended held x old server call so)
-    (cut.2 ∙ number, room_of may given a ended held x old server so here, refl,
-        (cut.3.1, subst (λ (b : List ℕ). IsNext may 1 (with_turn call server).history (last_turn 0 so.steps) (server.turns + 1) old.rest (length so.requests) b (step_of server call ∷ [])) cut.3.2 next))
+    (answered_next may given a ended held x old server call so) (
+      cut.2 ∙ number,
+      room_of may given a ended held x old server so here,
+      refl,
+      (cut.3.1, subst (λ (b : List ℕ). IsNext may 1 (with_turn call server).history (last_turn 0 so.steps) (server.turns + 1) old.rest (length so.requests) b (step_of server call ∷ [])) cut.3.2 next),
+    )
 ended_called may given a ended held x y moment old mid server server' request call (Err error) (end.WriteFault n) may_be so here begins asked is calls (inr cut) =
     let number : mid.served ≡ length so.requests = ap (λ (s : TalkState). s.served) is ∙ so.served in
     let close : IsResponse answer.Memory (kind_of request) None (closes_after (length so.requests + 1)) cut.0 = subst (λ (k : ℕ). IsResponse answer.Memory (kind_of request) None (closes_after (k + 1)) cut.0) number cut.1 in

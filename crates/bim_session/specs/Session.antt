@@ -1,7 +1,6 @@
 -- A session: what is written for the bytes that one connection gives, at the turns of one history.
-use Rattle.std.specs.Prelude.{◌≡◌, ◌≢◌, ◌⊎◌, ℕ, ◌+◌, ◌<◌, ◌≤◌, ◌==◌, ◌++◌, List, [], ◌∷◌, length, Bool, true, Option, Some, None, Result, Ok, Err, IsTrue}
+use Rattle.std.specs.Prelude.{◌≡◌, ◌≢◌, ◌⊎◌, ℕ, ◌+◌, ◌<◌, ◌≤◌, ◌==◌, ◌++◌, List, [], ◌∷◌, length, Bool, true, Some, None, Ok, Err, IsTrue}
 use Rattle.http_frame.specs.declared.framer.HttpRequest.{HttpRequest}
-use Rattle.http_frame.specs.declared.framer.FrameFault.{FrameFault}
 use Rattle.http_frame.specs.declared.framer.FrameFault.TheVariants as frame
 use Rattle.http_frame.specs.Requests.{Begins, Reads, IsRefused, IsUnfinished}
 use Rattle.federation_book.specs.declared.types.Entry.{Entry}
@@ -9,7 +8,6 @@ use Rattle.federation_book.specs.History.{reply_of, added_by, at_turn, of_turn}
 use Rattle.federation_book.specs.Runs.{Step}
 use Rattle.bcf_http.specs.declared.calls.RequestFault.{RequestFault}
 use Rattle.bcf_http.specs.declared.calls.RequestFault.TheVariants.{NotBuilt}
-use Rattle.bcf_http.specs.declared.answers.Answer.{Answer}
 use Rattle.bcf_http.specs.declared.answers.Answer.TheVariants as answer
 use Rattle.bcf_http.specs.Calls.{asked_by, kind_of, no_kind}
 use Rattle.bcf_http.specs.Answers.{IsResponse}

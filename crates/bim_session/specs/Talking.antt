@@ -1,10 +1,9 @@
 -- One connection as a machine: what each of its calls does.
-use Rattle.std.specs.Prelude.{◌≡◌, ◌≢◌, ◌⊎◌, ℕ, ◌+◌, ◌<◌, ◌==◌, ◌++◌, List, [], ◌∷◌, Bool, true, false, if◌then◌else◌, Option, Some, None, Result, Ok, Err}
+use Rattle.std.specs.Prelude.{◌≡◌, ◌≢◌, ◌⊎◌, ℕ, ◌+◌, ◌++◌, List, [], ◌∷◌, Bool, true, false, if◌then◌else◌, Option, Some, None, Result, Ok, Err}
 use Rattle.std.specs.declared.alloc.AllocError.{AllocError}
 use Rattle.http_frame.specs.declared.framer.HttpRequest.{HttpRequest}
 use Rattle.http_frame.specs.declared.framer.FrameFault.TheVariants as frame
 use Rattle.http_frame.specs.Requests.{Begins, IsRefused, IsUnfinished}
-use Rattle.federation_book.specs.declared.types.BookRequest.{BookRequest}
 use Rattle.federation_book.specs.declared.types.ReplyBody.{ReplyBody}
 use Rattle.federation_book.specs.declared.types.ReplyBody.TheVariants as reply
 use Rattle.bcf_http.specs.declared.calls.ReplyKind.{ReplyKind}

@@ -1,4 +1,3 @@
-use Rattle.std.proofs.Common.{◌≡◌, ◌∙◌, refl}
 use Rattle.bim_session.specs.Replay.{MayGive}
 use Rattle.bim_server.proofs.Stepping.{goes_read, goes_write, goes_call, goes_leave, goes_memory}
 use Rattle.bim_server.proofs.Fuel.{smaller_read, smaller_write, smaller_call}

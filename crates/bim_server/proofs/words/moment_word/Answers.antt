@@ -1,4 +1,4 @@
-use Rattle.std.proofs.Common.{arith, ◌^◌, ◌≤◌, ◌<◌}
+use Rattle.std.proofs.Common.{arith}
 use Rattle.bim_server.proofs.Times.{small_power}
 use Rattle.bim_server.proofs.words.moment_word.Goals as goal
 

@@ -1,4 +1,3 @@
-use Rattle.std.proofs.Common.{◌≡◌, ◌∙◌, refl}
 use Rattle.bim_session.proofs.Talks.{none_of, talks_rest, talks_fault}
 use Rattle.bim_session.proofs.talk.Talk.next.Goals as goal
 
