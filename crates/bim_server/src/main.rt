@@ -5,6 +5,8 @@ mod commands;
 mod one_thread;
 mod session;
 mod sinks;
+#[cfg(test)]
+mod tests;
 mod words;
 
 use bim_io::{StdSink, StdSource, SystemClock};
