@@ -1,0 +1,10 @@
+use Rattle.std.proofs.Common.{◌≡◌, ◌+◌, ◌-◌, ◌≤◌, length, drop}
+use Rattle.p21_lexer.specs.Scanning.{run}
+use Rattle.p21_lexer.specs.Spelling.{is_letter_or_digit}
+use Rattle.p21_lexer.proofs.runs.enumeration_bytes_end.Given as goal
+
+abbrev pub invariant-loop-at : goal.invariant-loop-at
+invariant-loop-at l = (l.at ≤ length l.bytes) × (l.fn.from + run is_letter_or_digit (drop l.fn.from l.bytes) ≡ l.at + run is_letter_or_digit (drop l.at l.bytes))
+
+abbrev pub decreases-loop-at : goal.decreases-loop-at
+decreases-loop-at l = length l.initial.bytes - l.at

@@ -1,0 +1,5 @@
+pub mod Cutting
+pub mod Gaps
+pub mod Kinds
+pub mod Scanning
+pub mod Spelling

@@ -1,0 +1,21 @@
+//! Tokens of the clear text encoding of the exchange structure (ISO 10303-21, sections 5 and 6), with their spans.
+//!
+//! The bytes are cut from the left, the longest spelling each time. Blanks and comments may stand between tokens. Nothing is copied
+//! and no memory is taken: a token says where its bytes begin and end.
+#![tactic(auto)]
+
+mod class;
+mod cutting;
+mod gaps;
+mod laws;
+mod lexer;
+mod runs;
+mod spelling;
+#[cfg(test)]
+mod tests;
+mod token;
+
+pub use cutting::cut;
+pub use laws::one_cut;
+pub use lexer::Lexer;
+pub use token::{LexFault, Token, TokenKind};
