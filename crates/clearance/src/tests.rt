@@ -1,9 +1,13 @@
 ghost use Rattle.std.specs.Prelude.{◌≤◌, unsigned_abs};
-ghost use Rattle.clearance.specs.Near.{IsGridPoint, IsInGrid};
+ghost use Rattle.std.specs.Prelude.{◌≡◌, ◌<◌, All, IfOk};
+ghost use Rattle.clearance.specs.Near.{IsGridPoint, IsInGrid, ElementInGrid};
 
 use super::*;
-use bim_model::{Point, Triangle};
+use bim_model::{Element, Guid, Items, Point, Steps, Text, Triangle};
+use std::alloc::{AllocError, Global};
+use std::marker::Brand;
 use std::process::Abort;
+use std::sync::ledger::{Blank, Ledger};
 use std::test::Fail;
 
 /// A coordinate of the grid; each table holds such.
@@ -140,6 +144,47 @@ fn by_another_program(rt: HostRuntime) {
     for row in PAIRS.chunks(19) {
         row_from(&rt, row);
     }
+}
+
+fn element(alloc: Global, guid: Guid, triangles: Vec<Triangle>) -> Result<Element, AllocError>
+    requires { All IsInGrid triangles.items }
+    ensures { IfOk result ElementInGrid }
+{
+    Ok(Element {
+        guid,
+        class: Text::of(alloc, "IFCBEAM")?,
+        name: Text::of(alloc, "")?,
+        storey: None,
+        triangles: Items::from_vec(triangles),
+    })
+}
+
+fn elements_near<L: Ledger>(blank: Blank, first: &Element, second: &Element, d: u32) -> bool
+    requires name { blank.name ≡ L.name }
+    requires parts { blank.parts ≡ L.parts }
+    requires some { 0 < blank.parts }
+    requires first_in { ElementInGrid first.now }
+    requires second_in { ElementInGrid second.now }
+    requires d_in { d ≤ 10000 }
+{
+    let mut steps = Steps::<L>::new(blank);
+    solids_near(first, second, d, &mut steps)
+}
+
+/// The second triangle of the one element is 30 from the only one of the other.
+#[test]
+fn two_elements(rt: HostRuntime) -> Result<(), Fail> {
+    let alloc = rt.alloc();
+    let guid = Guid::read(b"0000000000000000000001").ok_or("a guid")?;
+    let far = triangle([[0, 0, 9000], [1000, 0, 9000], [0, 1000, 9000]]);
+    let close = triangle([[0, 0, 30], [1000, 0, 30], [0, 1000, 30]]);
+    let floor = triangle([[0, 0, 0], [1000, 0, 0], [0, 1000, 0]]);
+    let first = element(alloc, guid, vec![in alloc; far, close]?)?;
+    let second = element(alloc, guid, vec![in alloc; floor]?)?;
+    assert!(rt; elements_near::<Brand>(Blank::new(1), &first, &second, 30));
+    assert!(rt; !elements_near::<Brand>(Blank::new(1), &first, &second, 29));
+    assert!(rt; elements_near::<Brand>(Blank::new(1), &second, &first, 30));
+    Ok(())
 }
 
 /// The corners of two triangles and the least whole distance, 10,001 where it is above 10,000.
