@@ -123,7 +123,8 @@ pub finish_memory : (may : ℕ → Type 0) (given a b : Option (List ℕ)) (ende
     (so : SoFar may given a ended held x old server) (extra : List ℕ) (n : ℕ) → old.leaving ≡ None → Appends a b extra → n ≡ old.served
     → Replays may 1 given b ended' held x (end.Memory n)
 finish_memory may given a b ended ended' held x old server so extra n here took is =
-    finish_same may given a b ended ended' held x x old server so extra [] (end.Memory n) here took (Grows_empty x) (is ∙ so.served, refl, inl refl)
+    finish_same may given a b ended ended' held x x old server so extra [] (end.Memory n) here took (Grows_empty x)
+    (is ∙ so.served, room_of may given a ended held x old server so here, refl, inl refl)
 
 -- nothing was done
 pub nothing_done : (may : ℕ → Type 0) (given held : Option (List ℕ)) (ended : Bool) → Replays may 1 given given ended held held (end.Memory 0)

@@ -1,5 +1,5 @@
 -- Where a session stands after one step.
-use Rattle.std.proofs.Common.{◌≡◌, ◌⊎◌, ℕ, ◌+◌, List, [], ◌∷◌, ◌++◌, length, Bool, true, Option, Some, None, Result, Ok, Err, inl, inr, sym, ◌∙◌, ap, subst, refl, append-nil, arith}
+use Rattle.std.proofs.Common.{◌≡◌, ◌≢◌, ◌⊎◌, ℕ, ◌+◌, List, [], ◌∷◌, ◌++◌, length, Bool, true, Option, Some, None, Result, Ok, Err, inl, inr, sym, ◌∙◌, ap, subst, refl, append-nil, arith}
 use Rattle.std.specs.declared.alloc.AllocError.{AllocError}
 use Rattle.std.specs.Io.KnownBytes.{Appends}
 use Rattle.bim_io.specs.Causes.{Grows}
@@ -40,7 +40,7 @@ goes_read may given a b ended ended' held x moment old mid new server (End (end.
     let nothing : Appends a b [] = subst (λ (e : List ℕ). Appends a b e) reading.2.1 reading.1 in
     let served : n ≡ old.served = reading.2.0 ∙ ap (λ (s : TalkState). s.served) talks.3 in
     finish_same may given a b ended ended' held x x old server so [] [] (end.ReadFault n) talks.0 nothing (Grows_empty x)
-    (served ∙ so.served, room_of may given a ended held x old server so talks.0, refl, refl, refl)
+    (served ∙ so.served, room_of may given a ended held x old server so talks.0, talks.2, refl, refl, refl)
 goes_read may given a b ended ended' held x moment old mid new server (End (end.WriteFault n)) so talks reading = absurd reading.2
 goes_read may given a b ended ended' held x moment old mid new server (End (end.Frame n fault)) so talks reading = absurd reading.2
 goes_read may given a b ended ended' held x moment old mid new server (End (end.Spent n)) so talks reading = absurd reading.2
@@ -95,17 +95,17 @@ wrote_fault may given a ended held x y old new server bytes so here faults respo
 -- a front of what comes next is written
 wrote_front : (may : ℕ → Type 0) (given a : Option (List ℕ)) (ended : Bool) (held x y : Option (List ℕ)) (old : TalkState) (server : ServerState)
     (so : SoFar may given a ended held x old server) (e : SessionEnd) (bytes front more : List ℕ)
-    → old.leaving ≡ None → EndsWriting old.served e → bytes ≡ front ++ more → Grows x y front
+    → old.leaving ≡ None → EndsWriting old.served e → bytes ≡ front ++ more → more ≢ [] → Grows x y front
     → IsNext may 1 server.history (last_turn 0 so.steps) server.turns old.rest (length so.requests) bytes [] → Replays may 1 given a ended held y e
-wrote_front may given a ended held x y old server so (end.Closed n) bytes front more here ends is wrote next = absurd ends
-wrote_front may given a ended held x y old server so (end.Cut n) bytes front more here ends is wrote next = absurd ends
-wrote_front may given a ended held x y old server so (end.ReadFault n) bytes front more here ends is wrote next = absurd ends
-wrote_front may given a ended held x y old server so (end.WriteFault n) bytes front more here ends is wrote next =
+wrote_front may given a ended held x y old server so (end.Closed n) bytes front more here ends is left wrote next = absurd ends
+wrote_front may given a ended held x y old server so (end.Cut n) bytes front more here ends is left wrote next = absurd ends
+wrote_front may given a ended held x y old server so (end.ReadFault n) bytes front more here ends is left wrote next = absurd ends
+wrote_front may given a ended held x y old server so (end.WriteFault n) bytes front more here ends is left wrote next =
     finish_same may given a a ended ended held x y old server so [] front (end.WriteFault n) here (Appends_empty a) wrote
-    (ends ∙ so.served, room_of may given a ended held x old server so here, refl, (more, subst (λ (b : List ℕ). IsNext may 1 server.history (last_turn 0 so.steps) server.turns old.rest (length so.requests) b []) is next))
-wrote_front may given a ended held x y old server so (end.Frame n fault) bytes front more here ends is wrote next = absurd ends
-wrote_front may given a ended held x y old server so (end.Spent n) bytes front more here ends is wrote next = absurd ends
-wrote_front may given a ended held x y old server so (end.Memory n) bytes front more here ends is wrote next = absurd ends
+    (ends ∙ so.served, room_of may given a ended held x old server so here, refl, (more, left, subst (λ (b : List ℕ). IsNext may 1 server.history (last_turn 0 so.steps) server.turns old.rest (length so.requests) b []) is next))
+wrote_front may given a ended held x y old server so (end.Frame n fault) bytes front more here ends is left wrote next = absurd ends
+wrote_front may given a ended held x y old server so (end.Spent n) bytes front more here ends is left wrote next = absurd ends
+wrote_front may given a ended held x y old server so (end.Memory n) bytes front more here ends is left wrote next = absurd ends
 
 -- what comes next where the talk wrote it by itself
 next_alone : (may : ℕ → Type 0) (given a : Option (List ℕ)) (ended : Bool) (held x : Option (List ℕ)) (moment : ℕ) (old new : TalkState) (server : ServerState) (bytes : List ℕ)
@@ -139,7 +139,7 @@ goes_write may given a ended held x y moment old new server bytes Again may_be s
     of_kind (inl one) = wrote_alone may given a ended held x y moment old new server one.0 bytes may_be so talks.0 one.1 one.2 one.3 wrote
     of_kind (inr fault) = wrote_fault may given a ended held x y old new server bytes so talks.0 (fault_is may moment old.rest new.rest may_be fault.0) fault.1 fault.2 wrote
 goes_write may given a ended held x y moment old new server bytes (End e) may_be so talks writing =
-    wrote_front may given a ended held x y old server so e bytes writing.1.0 writing.1.1 talks.0 writing.0 writing.1.2 writing.1.3
+    wrote_front may given a ended held x y old server so e bytes writing.1.0 writing.1.1 talks.0 writing.0 writing.1.2 writing.1.3 writing.1.4
     (next_alone may given a ended held x moment old new server bytes so may_be talks)
 
 -- after the end of a talk
@@ -206,12 +206,13 @@ ended_called : (may : ℕ → Type 0) (given a : Option (List ℕ)) (ended : Boo
     → Calls call server receipt server'
     → ((e ≡ end.Memory mid.served) × Grows x y [])
     ⊎ ((bytes : List ℕ) × AnswersCall receipt (kind_of request) (closes_after (mid.served + 1)) bytes × EndsWriting mid.served e
-    × ((front : List ℕ) × (more : List ℕ) × (bytes ≡ front ++ more) × Grows x y front))
+    × ((front : List ℕ) × (more : List ℕ) × (bytes ≡ front ++ more) × (more ≢ []) × Grows x y front))
     → Replays may 1 given a ended held y e
 ended_called may given a ended held x y moment old mid server server' request call (Err error) e may_be so here begins asked is calls (inl memory) =
     let number : mid.served ≡ old.served = ap (λ (s : TalkState). s.served) is in
     let whole : Replays may 1 given a ended held y (end.Memory mid.served) =
-    finish_same may given a a ended ended held x y old server so [] [] (end.Memory mid.served) here (Appends_empty a) memory.1 (number ∙ so.served, refl, inl refl) in
+    finish_same may given a a ended ended held x y old server so [] [] (end.Memory mid.served) here (Appends_empty a) memory.1
+    (number ∙ so.served, room_of may given a ended held x old server so here, refl, inl refl) in
     subst (λ (z : SessionEnd). Replays may 1 given a ended held y z) (sym memory.0) whole
 ended_called may given a ended held x y moment old mid server server' request call (Ok receipt) e may_be so here begins asked is calls (inl memory) =
     let number : mid.served ≡ old.served = ap (λ (s : TalkState). s.served) is in
@@ -221,6 +222,7 @@ ended_called may given a ended held x y moment old mid server server' request ca
     (run_next may given a ended held x old server call so) (one_next may given a ended held x old server call so) (count_next may given a ended held x old server call so)
     (answered_next may given a ended held x old server call so) (
       number ∙ so.served,
+      room_of may given a ended held x old server so here,
       refl,
       inr (record {
         request = request;
@@ -247,20 +249,20 @@ ended_called may given a ended held x y moment old mid server server' request ca
     (last_of may given a ended held x old server so) calls.0 calls.1 (subst (λ (k : ℕ). AnswersCall (Ok receipt) (kind_of request) (closes_after (k + 1)) cut.0) number cut.1) in
     let next : IsNext may 1 (with_turn call server).history (last_turn 0 so.steps) (server.turns + 1) old.rest (length so.requests) cut.0 (step_of server call ∷ []) =
     inl (request, mid.rest, begins, answers) in
-    finish may given a a ended ended held x y old server (with_turn call server) so [] cut.3.0 (end.WriteFault n) (step_of server call ∷ []) here (Appends_empty a) cut.3.3
+    finish may given a a ended ended held x y old server (with_turn call server) so [] cut.3.0 (end.WriteFault n) (step_of server call ∷ []) here (Appends_empty a) cut.3.4
     (run_next may given a ended held x old server call so) (one_next may given a ended held x old server call so) (count_next may given a ended held x old server call so)
     (answered_next may given a ended held x old server call so) (
       cut.2 ∙ number,
       room_of may given a ended held x old server so here,
       refl,
-      (cut.3.1, subst (λ (b : List ℕ). IsNext may 1 (with_turn call server).history (last_turn 0 so.steps) (server.turns + 1) old.rest (length so.requests) b (step_of server call ∷ [])) cut.3.2 next),
+      (cut.3.1, cut.3.3, subst (λ (b : List ℕ). IsNext may 1 (with_turn call server).history (last_turn 0 so.steps) (server.turns + 1) old.rest (length so.requests) b (step_of server call ∷ [])) cut.3.2 next),
     )
 ended_called may given a ended held x y moment old mid server server' request call (Err error) (end.WriteFault n) may_be so here begins asked is calls (inr cut) =
     let number : mid.served ≡ length so.requests = ap (λ (s : TalkState). s.served) is ∙ so.served in
     let close : IsResponse answer.Memory (kind_of request) None (closes_after (length so.requests + 1)) cut.0 = subst (λ (k : ℕ). IsResponse answer.Memory (kind_of request) None (closes_after (k + 1)) cut.0) number cut.1 in
     let next : IsNext may 1 server.history (last_turn 0 so.steps) server.turns old.rest (length so.requests) cut.0 [] =
     inl (request, mid.rest, begins, alone_answers may server.history (last_turn 0 so.steps) server.turns moment request (closes_after (length so.requests + 1)) cut.0 may_be (inr close)) in
-    wrote_front may given a ended held x y old server so (end.WriteFault n) cut.0 cut.3.0 cut.3.1 here (cut.2 ∙ ap (λ (s : TalkState). s.served) is) cut.3.2 cut.3.3 next
+    wrote_front may given a ended held x y old server so (end.WriteFault n) cut.0 cut.3.0 cut.3.1 here (cut.2 ∙ ap (λ (s : TalkState). s.served) is) cut.3.2 cut.3.3 cut.3.4 next
 
 -- after a call of the book
 pub goes_call : (may : ℕ → Type 0) (given a : Option (List ℕ)) (ended : Bool) (held x y : Option (List ℕ)) (moment : ℕ) (old mid new : TalkState) (server server' : ServerState) (call : BookRequest) (result : Progress)
@@ -277,4 +279,4 @@ goes_call may given a ended held x y moment old mid new server server' call (End
     ended_called may given a ended held x y moment old mid server server' one.0 call called.2 e may_be so talks.0 one.1 one.2 one.3 called.3
     (subst (λ (k : ReplyKind). ((e ≡ end.Memory mid.served) × Grows x y [])
     ⊎ ((bytes : List ℕ) × AnswersCall called.2 k (closes_after (mid.served + 1)) bytes × EndsWriting mid.served e
-    × ((front : List ℕ) × (more : List ℕ) × (bytes ≡ front ++ more) × Grows x y front))) kind called.4)
+    × ((front : List ℕ) × (more : List ℕ) × (bytes ≡ front ++ more) × (more ≢ []) × Grows x y front))) kind called.4)

@@ -28,8 +28,8 @@ pub record ReplaysTo (told : Option ℕ) (given given' : Option (List ℕ)) (end
   pub status_is : status ≡ status_of end
   pub replays : Replays (MayGive told) 1 given given' ended held held' end
 
--- What `replay` does by its words: outside its grammar it prints the usage line and leaves the source alone, else it
--- replays a session.
+-- What `replay` does by its words: outside its grammar it prints the usage line, and the source has given nothing; else
+-- it replays a session.
 abbrev pub Does : Option Time → Option ℕ → Option (List ℕ) → Option (List ℕ) → Bool → Option (List ℕ) → Option (List ℕ) → ℕ → ℕ → ℕ → Type 0
 Does None told given given' ended held held' faults faults' status = PrintsUsage held held' faults faults' status × (given' ≡ given)
 Does (Some time) told given given' ended held held' faults faults' status = ReplaysTo (told_by time told) given given' ended held held' status

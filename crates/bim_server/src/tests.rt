@@ -54,32 +54,59 @@ fn fails_at(alloc: Global, call: u64) -> Result<Items<u64>, Fail> {
     Ok(fails)
 }
 
-// Where a read or a write of this number fails (0: none), the status is this one and a front of the answers is written.
-fn assert_fails(
+// The status where a read or a write of this number fails (0: none), in pieces of at most so many bytes. What is
+// written is a front of the answers, and all of them where nothing fails.
+fn failing(rt: &impl Abort, alloc: Global, most: u64, read: u64, write: u64) -> Result<u8, Fail>
+    requires { 1 ≤ most }
+{
+    let contents = Bytes::of(alloc, MADE_AND_LISTED)?;
+    let mut source = MemSource::new(contents, most, fails_at(alloc, read)?)?;
+    let mut sink = MemSink::new(alloc, most, fails_at(alloc, write)?)?;
+    let mut clock = MemClock::new(1_714_564_800);
+    let status = run_replay(alloc, &[], &mut source, &mut sink, &mut clock);
+    assert!(rt; MADE_AND_LISTED_ANSWERS.starts_with(sink.bytes()));
+    if status == 0 {
+        assert_eq!(rt; sink.bytes(), MADE_AND_LISTED_ANSWERS);
+    }
+    Ok(status)
+}
+
+// Each of so many reads fails in turn, and each of so many writes; one more of either is not made.
+fn assert_each_fails(
     rt: &impl Abort,
     alloc: Global,
-    read: u64,
-    write: u64,
-    status: u8,
-) -> Result<(), Fail> {
-    let contents = Bytes::of(alloc, MADE_AND_LISTED)?;
-    let mut source = MemSource::new(contents, 50, fails_at(alloc, read)?)?;
-    let mut sink = MemSink::new(alloc, 50, fails_at(alloc, write)?)?;
-    let mut clock = MemClock::new(1_714_564_800);
-    let answered = run_replay(alloc, &[], &mut source, &mut sink, &mut clock);
-    assert_eq!(rt; answered, status);
-    assert!(rt; MADE_AND_LISTED_ANSWERS.starts_with(sink.bytes()));
+    most: u64,
+    reads: u64,
+    writes: u64,
+) -> Result<(), Fail>
+    requires { 1 ≤ most }
+{
+    for call in 1..=reads {
+        assert_eq!(rt; failing(rt, alloc, most, call, 0)?, 4, "read {call}");
+    }
+    for call in 1..=writes {
+        assert_eq!(rt; failing(rt, alloc, most, 0, call)?, 5, "write {call}");
+    }
+    assert_eq!(rt;
+        failing(
+            rt,
+            alloc,
+            most,
+            reads.saturating_add(1),
+            writes.saturating_add(1)
+        )?,
+        0
+    );
     Ok(())
 }
 
 #[test]
-fn a_fault_of_the_outside_has_its_status(rt: HostRuntime) -> Result<(), Fail> {
+fn each_fault_of_the_outside_has_its_status(rt: HostRuntime) -> Result<(), Fail> {
     let alloc = rt.alloc();
-    assert_fails(&rt, alloc, 0, 0, 0)?;
-    assert_fails(&rt, alloc, 1, 0, 4)?;
-    assert_fails(&rt, alloc, 4, 0, 4)?;
-    assert_fails(&rt, alloc, 0, 1, 5)?;
-    assert_fails(&rt, alloc, 0, 9, 5)
+    // 211 bytes come in, and the two answers of 249 and 246 bytes go out; one read more meets the end.
+    assert_each_fails(&rt, alloc, 1, 212, 495)?;
+    assert_each_fails(&rt, alloc, 2, 107, 248)?;
+    assert_each_fails(&rt, alloc, 1_000_000, 2, 2)
 }
 
 fn words_of(alloc: Global, words: &[&str]) -> Result<Vec<Text>, Fail> {

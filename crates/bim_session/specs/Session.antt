@@ -117,15 +117,15 @@ Ends may projects history last top ended rest served (Closed n) extra tail steps
 Ends may projects history last top ended rest served (Cut n) extra tail steps =
     (n ≡ served) × (served < most_requests) × IsTrue ended × (rest ≢ []) × IsUnfinished rest × (extra ≡ []) × (tail ≡ []) × (steps ≡ [])
 Ends may projects history last top ended rest served (ReadFault n) extra tail steps =
-    (n ≡ served) × (served < most_requests) × (extra ≡ []) × (tail ≡ []) × (steps ≡ [])
+    (n ≡ served) × (served < most_requests) × IsUnfinished rest × (extra ≡ []) × (tail ≡ []) × (steps ≡ [])
 Ends may projects history last top ended rest served (WriteFault n) extra tail steps =
-    (n ≡ served) × (served < most_requests) × (extra ≡ []) × ((more : List ℕ) × IsNext may projects history last top rest served (tail ++ more) steps)
+    (n ≡ served) × (served < most_requests) × (extra ≡ []) × ((more : List ℕ) × (more ≢ []) × IsNext may projects history last top rest served (tail ++ more) steps)
 Ends may projects history last top ended rest served (Frame n fault) extra tail steps =
     (n ≡ served) × (served < most_requests) × Faults may rest × (extra ≡ []) × IsFaultResponse tail × (steps ≡ [])
 Ends may projects history last top ended rest served (Spent n) extra tail steps =
     (n ≡ served) × (served ≡ most_requests) × (extra ≡ []) × (tail ≡ []) × (steps ≡ [])
 Ends may projects history last top ended rest served (Memory n) extra tail steps =
-    (n ≡ served) × (tail ≡ []) × ((steps ≡ []) ⊎ TakesUnanswered may projects history last top rest steps)
+    (n ≡ served) × (served < most_requests) × (tail ≡ []) × ((steps ≡ []) ⊎ TakesUnanswered may projects history last top rest steps)
 
 -- a session that took this input and wrote this output, by these steps at turns above `last` and up to `top`
 pub record Session (may : ℕ → Type 0) (projects : ℕ) (history : List Entry) (last top : ℕ) (ended : Bool) (input output : List ℕ) (steps : List Step) (end : SessionEnd) : Type 0 where

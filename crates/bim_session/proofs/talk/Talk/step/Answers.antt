@@ -1,5 +1,5 @@
 use Rattle.bim_session.proofs.Talks.{none_of, talks_rest, talks_fault}
-use Rattle.bim_session.proofs.talk.Talk.next.Goals as goal
+use Rattle.bim_session.proofs.talk.Talk.step.Goals as goal
 
 pub at_rest-requires : goal.at_rest-requires
 at_rest-requires c =
