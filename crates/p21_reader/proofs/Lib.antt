@@ -1,6 +1,9 @@
+pub mod Bodies
 pub mod Contents
+pub mod Headers
 pub mod Lists
 pub mod Prints
 pub mod Seen
 pub mod Steps
 pub mod Viable
+pub mod Words

@@ -1,6 +1,7 @@
-use Rattle.std.proofs.Common.{◌≡◌, ℕ, ◌+◌, ◌-◌, ◌<◌, ◌≤◌, ◌⊎◌, inl, inr, List, [], ◌∷◌, ◌++◌, length, get_or, map, take, drop, Option, Some, None, option_map, Result, Ok, Err, zero, suc, add-one, arith, refl, sym, ap, subst, ◌∙◌, append_assoc, drop-cons, slice_range}
+use Rattle.std.proofs.Common.{◌≡◌, ℕ, ◌+◌, ◌-◌, ◌<◌, ◌≤◌, ◌⊎◌, inl, inr, List, [], ◌∷◌, ◌++◌, length, get_or, map, take, drop, Option, Some, None, option_map, Result, Ok, Err, zero, suc, add-one, arith, refl, sym, ap, subst, ◌∙◌, append_assoc, drop-cons, slice_range, length-append, length-drop}
 use Rattle.p21_lexer.specs.declared.token.Token.{Token}
-use Rattle.p21_lexer.specs.Cutting.{CutsFrom}
+use Rattle.p21_lexer.specs.Cutting.{CutsFrom, StopsAt, IsFirst}
+use Rattle.p21_lexer.specs.Gaps.{Passes}
 use Rattle.p21_reader.specs.declared.fault.ReadFault.{ReadFault}
 use Rattle.p21_reader.specs.declared.fault.ReadFault.TheVariants as faults
 use Rattle.p21_reader.specs.Grammar.{Class, Sign, T}
@@ -115,3 +116,24 @@ expected w bytes at t s h e =
 pub ok_on : (a b : ℕ) (r : Result ℕ ReadFault) → a ≤ b → IfOk r (λ n. b ≤ n) → IfOk r (λ n. a ≤ n)
 ok_on a b (Ok n) h k = omega (arith, h, k)
 ok_on a b (Err f) h k = tt
+
+-- Places rise.
+
+passes_size : (ps : List (List ℕ)) (a b : List ℕ) → Passes ps a b → length b ≤ length a
+passes_size [] a b h = let e = ap length h in omega (arith, e)
+passes_size (p ∷ ps) a b h = let r = passes_size ps h.0 b h.3 in let e = ap length h.2 in omega (arith, r, e, length-append p h.0)
+
+stop_on : (bytes : List ℕ) (from at : ℕ) → from ≤ length bytes → StopsAt bytes from at → from ≤ at
+stop_on bytes from at h k =
+    let n = passes_size k.1.pieces (drop from bytes) (drop at bytes) k.1.passed in
+    omega (arith, n, k.0, length-drop from bytes, length-drop at bytes)
+
+token_within : (bytes : List ℕ) (t : Token) → t.start < t.end → IsFirst (drop t.start bytes) t.kind (t.end - t.start) → t.end ≤ length bytes
+token_within bytes t lt h = omega (arith, h.within, length-drop t.start bytes, lt)
+
+pub cuts_on : (bytes : List ℕ) (at end : ℕ) (ls : List Lexeme) → at ≤ length bytes → Cuts bytes at ls end → at ≤ end
+cuts_on bytes at end [] h k = omega (arith, k)
+cuts_on bytes at end (l ∷ ls) h k =
+    let s = stop_on bytes at k.0.start h k.1.0 in
+    let r = cuts_on bytes k.0.end end ls (token_within bytes k.0 k.1.1 k.1.2) k.3 in
+    omega (arith, s, r, k.1.1)

@@ -1,4 +1,6 @@
 pub mod Grammar
+pub mod Heading
+pub mod Instances
 pub mod Lexemes
 pub mod Machine
 pub mod Printing

@@ -2,11 +2,14 @@
 #![tactic(auto)]
 
 mod fault;
+mod header;
+mod instance;
 mod law;
 mod piece;
 mod simple;
 mod value;
 mod values;
+mod word;
 
 pub use fault::ReadFault;
 pub use value::{Instance, Value21};
