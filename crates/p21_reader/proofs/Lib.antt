@@ -1,5 +1,6 @@
 pub mod Bodies
 pub mod Contents
+pub mod FileLemmas
 pub mod Headers
 pub mod Lists
 pub mod Prints

@@ -27,18 +27,6 @@ abbrev pub SpellsAll : List Instance → List Lexeme → Type 0
 SpellsAll [] ls = ls ≡ []
 SpellsAll (i ∷ more) ls = (front rest : List Lexeme) × SpellsInstance i front × (ls ≡ front ++ rest) × SpellsAll more rest
 
--- ENDSEC ; END-ISO-10303-21 ;
-abbrev pub closing : List Lexeme
-closing = KeywordOf (codes "ENDSEC") ∷ Ending ∷ KeywordOf (codes "END-ISO-10303-21") ∷ Ending ∷ []
-
--- These tokens are a file with these instances in its DATA section, in this order.
-pub record SpellsFile (instances : List Instance) (ls : List Lexeme) : Type 0 where
-  pub heading : List Lexeme
-  pub data_section : List Lexeme
-  pub whole : ls ≡ heading ++ (data_section ++ closing)
-  pub is_heading : Derives header (classes heading)
-  pub is_file : IsFile (classes ls)
-  pub spelled : SpellsAll instances data_section
 
 -- What the functions answer.
 
