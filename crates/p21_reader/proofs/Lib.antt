@@ -1,6 +1,7 @@
 pub mod Bodies
 pub mod Contents
 pub mod FileLemmas
+pub mod Finding
 pub mod Headers
 pub mod Lists
 pub mod Prints

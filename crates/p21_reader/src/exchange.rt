@@ -14,8 +14,13 @@ pub struct Exchange {
 }
 
 impl Model for Exchange {
-    ghost use Rattle.std.specs.Prelude.{List, nat_cmp, IsSortedByKey};
+    ghost use Rattle.std.specs.Prelude.{List, IsSortedByKey};
+    ghost use Rattle.std.specs.Ordering.{nat_cmp};
     ghost use Rattle.p21_reader.specs.declared.value.Instance.{Instance};
+    ghost use Rattle.p21_reader.specs.contracts.value.Value21 as value;
+    ghost use Rattle.std.specs.Coded.{codes};
+
+    ghost coded = { Prim.hlevel (codes, value.the_row.coded) };
 
     ghost Value = { List Instance };
 
@@ -37,7 +42,8 @@ pub fn read(alloc: Global, bytes: &[u8]) -> Result<Exchange, ReadFault>
 }
 
 impl Exchange {
-    ghost use Rattle.std.specs.Prelude.{◌≡◌, ◌≢◌, nat_cmp, IsSortedByKey, IfSome, IfNone, All, Contains};
+    ghost use Rattle.std.specs.Prelude.{◌≡◌, ◌≢◌, IsSortedByKey, IfSome, IfNone, All, Contains};
+    ghost use Rattle.std.specs.Ordering.{nat_cmp};
 
     /// All instances, rising by their numbers. Those of one number stand in the order of the file.
     pub fn instances(&self) -> &[Instance]

@@ -10,6 +10,8 @@ mod law;
 mod piece;
 mod section;
 mod simple;
+#[cfg(test)]
+mod tests;
 mod value;
 mod values;
 mod word;
