@@ -116,7 +116,7 @@ pub round_one : (bytes : List ℕ) (at : ℕ) (t : Token) (f : ReadFault) → Cu
     → Passes (T Open ∷ Inside (Some 30) ∷ []) bytes t.end (Err f) → Fails (Ones ∷ []) bytes at f
 round_one bytes at t f h n p =
     fails_after (Ones ∷ []) (T Open ∷ Inside (Some 30) ∷ Ones ∷ []) bytes at t.end (lexeme_of bytes t ∷ []) f (goes_one Ones (T Open ∷ Inside (Some 30) ∷ Ones ∷ []) bytes at t h n)
-      (fails_under (T Open ∷ Inside (Some 30) ∷ []) (Ones ∷ []) bytes t.end f p)
+    (fails_under (T Open ∷ Inside (Some 30) ∷ []) (Ones ∷ []) bytes t.end f p)
 
 any_goes : (bytes : List ℕ) (at : ℕ) (t : Token) → CutsFrom bytes at (Ok (Some t)) → next AnyWord (class_of (lexeme_of bytes t)) ≡ Some []
     → Goes (AnyWord ∷ T Open ∷ Inside (Some 30) ∷ Ones ∷ []) (T Open ∷ Inside (Some 30) ∷ Ones ∷ []) bytes at t.end (lexeme_of bytes t ∷ [])
@@ -126,13 +126,13 @@ first_goes : (bytes : List ℕ) (at mid : ℕ) (t : Token) (p : Passes (T Open �
     → Goes (AnyWord ∷ T Open ∷ Inside (Some 30) ∷ Ones ∷ []) (Ones ∷ []) bytes at mid (lexeme_of bytes t ∷ p.0)
 first_goes bytes at mid t p h n =
     goes_trans (AnyWord ∷ T Open ∷ Inside (Some 30) ∷ Ones ∷ []) (T Open ∷ Inside (Some 30) ∷ Ones ∷ []) (Ones ∷ []) bytes at t.end mid (lexeme_of bytes t ∷ []) p.0 (any_goes bytes at t h n)
-      (goes_under (T Open ∷ Inside (Some 30) ∷ []) [] (Ones ∷ []) bytes t.end mid p.0 p.1)
+    (goes_under (T Open ∷ Inside (Some 30) ∷ []) [] (Ones ∷ []) bytes t.end mid p.0 p.1)
 
 pub complex_one : (bytes : List ℕ) (at : ℕ) (t : Token) (f : ReadFault) → CutsFrom bytes at (Ok (Some t)) → next AnyWord (class_of (lexeme_of bytes t)) ≡ Some []
     → Passes (T Open ∷ Inside (Some 30) ∷ []) bytes t.end (Err f) → Fails (AnyWord ∷ T Open ∷ Inside (Some 30) ∷ Ones ∷ []) bytes at f
 complex_one bytes at t f h n p =
     fails_after (AnyWord ∷ T Open ∷ Inside (Some 30) ∷ Ones ∷ []) (T Open ∷ Inside (Some 30) ∷ Ones ∷ []) bytes at t.end (lexeme_of bytes t ∷ []) f (any_goes bytes at t h n)
-      (fails_under (T Open ∷ Inside (Some 30) ∷ []) (Ones ∷ []) bytes t.end f p)
+    (fails_under (T Open ∷ Inside (Some 30) ∷ []) (Ones ∷ []) bytes t.end f p)
 
 pub complex_passes : (bytes : List ℕ) (at mid : ℕ) (t : Token) (r : Result ℕ ReadFault) → CutsFrom bytes at (Ok (Some t)) → next AnyWord (class_of (lexeme_of bytes t)) ≡ Some []
     → Passes (T Open ∷ Inside (Some 30) ∷ []) bytes t.end (Ok mid) → Passes (Ones ∷ []) bytes mid r → Passes (AnyWord ∷ T Open ∷ Inside (Some 30) ∷ Ones ∷ []) bytes at r
@@ -154,10 +154,14 @@ body_derives l σ ls n h = sound (Body ∷ []) (classes (l ∷ ls)) (rw n h)
 pub body_complex : (id : ℕ) (bytes : List ℕ) (t : Token) (made : Made) → made.instance.id ≡ id → made.instance.keyword ≡ None → made.instance.values ≡ [] → lexeme_of bytes t ≡ Opening
     → next Body (class_of (lexeme_of bytes t)) ≡ Some (AnyWord ∷ T Open ∷ Inside (Some 30) ∷ Ones ∷ []) → Passes (AnyWord ∷ T Open ∷ Inside (Some 30) ∷ Ones ∷ []) bytes t.end (Ok made.end)
     → StartsBody id bytes t (Ok made)
-body_complex id bytes t made i k v l n p =
-    (i, AnyWord ∷ T Open ∷ Inside (Some 30) ∷ Ones ∷ [], p.0, n,
-      rw k (v, p.0, ap (λ x. x ∷ p.0) l, body_derives (lexeme_of bytes t) (AnyWord ∷ T Open ∷ Inside (Some 30) ∷ Ones ∷ []) p.0 n (p.1.leads [])),
-      p.1)
+body_complex id bytes t made i k v l n p = (
+  i,
+  AnyWord ∷ T Open ∷ Inside (Some 30) ∷ Ones ∷ [],
+  p.0,
+  n,
+  rw k (v, p.0, ap (λ x. x ∷ p.0) l, body_derives (lexeme_of bytes t) (AnyWord ∷ T Open ∷ Inside (Some 30) ∷ Ones ∷ []) p.0 n (p.1.leads [])),
+  p.1,
+)
 
 -- A whole instance.
 
@@ -167,7 +171,7 @@ whole = T Equals ∷ Body ∷ T Semi ∷ []
 pub instance_first : (bytes : List ℕ) (at opened : ℕ) (f : ReadFault) → Goes (T Equals ∷ []) [] bytes at opened (Assigning ∷ []) → Fails (Body ∷ []) bytes opened f → Fails (T Equals ∷ Body ∷ T Semi ∷ []) bytes at f
 instance_first bytes at opened f h k =
     fails_after (T Equals ∷ Body ∷ T Semi ∷ []) (Body ∷ T Semi ∷ []) bytes at opened (Assigning ∷ []) f (goes_under (T Equals ∷ []) [] (Body ∷ T Semi ∷ []) bytes at opened (Assigning ∷ []) h)
-      (fails_under (Body ∷ []) (T Semi ∷ []) bytes opened f k)
+    (fails_under (Body ∷ []) (T Semi ∷ []) bytes opened f k)
 
 body_goes : (bytes : List ℕ) (opened : ℕ) (id : ℕ) (t : Token) (made : Made) (s : StartsBody id bytes t (Ok made)) → CutsFrom bytes opened (Ok (Some t)) → Goes (Body ∷ []) [] bytes opened made.end (lexeme_of bytes t ∷ s.2)
 body_goes bytes opened id t made s h = goes_trans (Body ∷ []) s.1 [] bytes opened t.end made.end (lexeme_of bytes t ∷ []) s.2 (goes_one Body s.1 bytes opened t h s.3) s.5
@@ -176,19 +180,20 @@ pub instance_end : (bytes : List ℕ) (at opened : ℕ) (id : ℕ) (t : Token) (
     → StartsBody id bytes t (Ok made) → Fails (T Semi ∷ []) bytes made.end f → Fails (T Equals ∷ Body ∷ T Semi ∷ []) bytes at f
 instance_end bytes at opened id t made f h k s x =
     fails_after (T Equals ∷ Body ∷ T Semi ∷ []) (Body ∷ T Semi ∷ []) bytes at opened (Assigning ∷ []) f (goes_under (T Equals ∷ []) [] (Body ∷ T Semi ∷ []) bytes at opened (Assigning ∷ []) h)
-      (fails_after (Body ∷ T Semi ∷ []) (T Semi ∷ []) bytes opened made.end (lexeme_of bytes t ∷ s.2) f
-        (goes_under (Body ∷ []) [] (T Semi ∷ []) bytes opened made.end (lexeme_of bytes t ∷ s.2) (body_goes bytes opened id t made s k)) x)
+    (fails_after (Body ∷ T Semi ∷ []) (T Semi ∷ []) bytes opened made.end (lexeme_of bytes t ∷ s.2) f
+    (goes_under (Body ∷ []) [] (T Semi ∷ []) bytes opened made.end (lexeme_of bytes t ∷ s.2) (body_goes bytes opened id t made s k)) x)
 
 pub instance_made : (bytes : List ℕ) (name : Lexeme) (at opened end : ℕ) (id : ℕ) (t : Token) (made : Made) → ReferenceTo id ≡ name → Goes (T Equals ∷ []) [] bytes at opened (Assigning ∷ []) → CutsFrom bytes opened (Ok (Some t))
     → StartsBody id bytes t (Ok made) → Goes (T Semi ∷ []) [] bytes made.end end (Ending ∷ []) → MakesInstance name bytes at (Ok (record { instance = made.instance; end = end }))
-instance_made bytes name at opened end id t made e h k s x =
-    (Assigning ∷ ((lexeme_of bytes t ∷ s.2) ++ Ending ∷ []),
-      record {
-        body = lexeme_of bytes t ∷ s.2;
-        whole = ap (λ l. l ∷ Assigning ∷ ((lexeme_of bytes t ∷ s.2) ++ Ending ∷ [])) (sym e ∙ ap ReferenceTo (sym s.0));
-        is_body = s.4
-      },
-      goes_trans (T Equals ∷ Body ∷ T Semi ∷ []) (Body ∷ T Semi ∷ []) [] bytes at opened end (Assigning ∷ []) ((lexeme_of bytes t ∷ s.2) ++ Ending ∷ [])
-        (goes_under (T Equals ∷ []) [] (Body ∷ T Semi ∷ []) bytes at opened (Assigning ∷ []) h)
-        (goes_trans (Body ∷ T Semi ∷ []) (T Semi ∷ []) [] bytes opened made.end end (lexeme_of bytes t ∷ s.2) (Ending ∷ [])
-          (goes_under (Body ∷ []) [] (T Semi ∷ []) bytes opened made.end (lexeme_of bytes t ∷ s.2) (body_goes bytes opened id t made s k)) x))
+instance_made bytes name at opened end id t made e h k s x = (
+  Assigning ∷ ((lexeme_of bytes t ∷ s.2) ++ Ending ∷ []),
+  record {
+    body = lexeme_of bytes t ∷ s.2;
+    whole = ap (λ l. l ∷ Assigning ∷ ((lexeme_of bytes t ∷ s.2) ++ Ending ∷ [])) (sym e ∙ ap ReferenceTo (sym s.0));
+    is_body = s.4;
+  },
+  goes_trans (T Equals ∷ Body ∷ T Semi ∷ []) (Body ∷ T Semi ∷ []) [] bytes at opened end (Assigning ∷ []) ((lexeme_of bytes t ∷ s.2) ++ Ending ∷ [])
+      (goes_under (T Equals ∷ []) [] (Body ∷ T Semi ∷ []) bytes at opened (Assigning ∷ []) h)
+      (goes_trans (Body ∷ T Semi ∷ []) (T Semi ∷ []) [] bytes opened made.end end (lexeme_of bytes t ∷ s.2) (Ending ∷ [])
+      (goes_under (Body ∷ []) [] (T Semi ∷ []) bytes opened made.end (lexeme_of bytes t ∷ s.2) (body_goes bytes opened id t made s k)) x),
+)

@@ -35,12 +35,27 @@ digit_bound v most ds i d h k =
 -- Kinds.
 
 single_is : (b : ℕ) → (kind_of (class_of (single_says b)) ≡ kinds.Name → ⊥) × (kind_of (class_of (single_says b)) ≡ kinds.Word → ⊥)
-single_is b = elim (tells (b == 40)) [ inl k ↦ rw k ((λ h. cc), (λ h. cc)) | inr k ↦
-    elim (tells (b == 41)) [ inl l ↦ rw (k, l) ((λ h. cc), (λ h. cc)) | inr l ↦
-    elim (tells (b == 44)) [ inl m ↦ rw (k, l, m) ((λ h. cc), (λ h. cc)) | inr m ↦
-    elim (tells (b == 59)) [ inl n ↦ rw (k, l, m, n) ((λ h. cc), (λ h. cc)) | inr n ↦
-    elim (tells (b == 61)) [ inl o ↦ rw (k, l, m, n, o) ((λ h. cc), (λ h. cc)) | inr o ↦
-    elim (tells (b == 42)) [ inl p ↦ rw (k, l, m, n, o, p) ((λ h. cc), (λ h. cc)) | inr p ↦ rw (k, l, m, n, o, p) ((λ h. cc), (λ h. cc)) ] ] ] ] ] ]
+single_is b = elim (tells (b == 40)) [
+  | inl k ↦ rw k ((λ h. cc), (λ h. cc))
+  | inr k ↦
+      elim (tells (b == 41)) [
+        | inl l ↦ rw (k, l) ((λ h. cc), (λ h. cc))
+        | inr l ↦
+            elim (tells (b == 44)) [
+              | inl m ↦ rw (k, l, m) ((λ h. cc), (λ h. cc))
+              | inr m ↦
+                  elim (tells (b == 59)) [
+                    | inl n ↦ rw (k, l, m, n) ((λ h. cc), (λ h. cc))
+                    | inr n ↦
+                        elim (tells (b == 61)) [
+                          | inl o ↦ rw (k, l, m, n, o) ((λ h. cc), (λ h. cc))
+                          | inr o ↦
+                              elim (tells (b == 42)) [ inl p ↦ rw (k, l, m, n, o, p) ((λ h. cc), (λ h. cc)) | inr p ↦ rw (k, l, m, n, o, p) ((λ h. cc), (λ h. cc)) ]
+                        ]
+                  ]
+            ]
+      ]
+]
 
 pub name_kind : (k : TokenKind) (bs : List ℕ) → kind_of (class_of (says k bs)) ≡ kinds.Name → k ≡ tokens.Name
 name_kind tokens.Name bs h = refl
@@ -107,8 +122,9 @@ word_below : (bs : List ℕ) → IsWord bs → AreBelow bs
 word_below bs w =
     let rest : AreBelow (w.first ∷ w.others) = (below_letter w.first w.is_first, below_all is_word_byte w.others below_byte w.are_others) in
     elim w.is_bang [
-        inl e ↦ along bs (w.first ∷ w.others) (w.whole ∙ ap (λ x. x ++ w.first ∷ w.others) e) rest
-      | inr e ↦ along bs (33 ∷ w.first ∷ w.others) (w.whole ∙ ap (λ x. x ++ w.first ∷ w.others) e) (omega arith, rest) ]
+      | inl e ↦ along bs (w.first ∷ w.others) (w.whole ∙ ap (λ x. x ++ w.first ∷ w.others) e) rest
+      | inr e ↦ along bs (33 ∷ w.first ∷ w.others) (w.whole ∙ ap (λ x. x ++ w.first ∷ w.others) e) (omega arith, rest)
+    ]
 
 pub keyword_ascii : (k : TokenKind) (bs : List ℕ) → Spells k bs → k ≡ tokens.Word → IsAscii (map to_ascii_uppercase bs)
 keyword_ascii tokens.Word bs w h = below_ascii (map to_ascii_uppercase bs) (uppers_below bs (word_below bs w))

@@ -64,7 +64,7 @@ many_step bytes from at t found now made m h n i e =
     record {
       said = m.said ++ lexeme_of bytes t ∷ i.0;
       spelled = rw e (spells_more found made.instance m.said (lexeme_of bytes t ∷ i.0) m.spelled i.1);
-      goes = goes_trans (Instances ∷ []) (Instances ∷ []) (Instances ∷ []) bytes from at made.end m.said (lexeme_of bytes t ∷ i.0) m.goes both
+      goes = goes_trans (Instances ∷ []) (Instances ∷ []) (Instances ∷ []) bytes from at made.end m.said (lexeme_of bytes t ∷ i.0) m.goes both;
     }
 
 pub many_fails : (bytes : List ℕ) (from at : ℕ) (found : List Instance) (f : ReadFault) → Many bytes from at found → Fails (Instances ∷ []) bytes at f → Fails (Instances ∷ []) bytes from f
@@ -74,7 +74,7 @@ pub many_instance : (bytes : List ℕ) (at : ℕ) (t : Token) (f : ReadFault) �
     → Fails (T Equals ∷ Body ∷ T Semi ∷ []) bytes t.end f → Fails (Instances ∷ []) bytes at f
 many_instance bytes at t f h n k =
     fails_after (Instances ∷ []) (T Equals ∷ Body ∷ T Semi ∷ Instances ∷ []) bytes at t.end (lexeme_of bytes t ∷ []) f (goes_one Instances (T Equals ∷ Body ∷ T Semi ∷ Instances ∷ []) bytes at t h n)
-      (fails_under (T Equals ∷ Body ∷ T Semi ∷ []) (Instances ∷ []) bytes t.end f k)
+    (fails_under (T Equals ∷ Body ∷ T Semi ∷ []) (Instances ∷ []) bytes t.end f k)
 
 head_same : (c d : Class) (cs ds : List Class) → c ∷ cs ≡ d ∷ ds → c ≡ d
 head_same c d cs ds e = cc
@@ -117,12 +117,14 @@ last_read bytes at u h e = (lexeme_of bytes u, e, goes_one (T (Word EndIso)) [] 
 pub closing_made : (bytes : List ℕ) (mid last : ℕ) (t : Token) (r : Result ℕ ReadFault) → class_of (lexeme_of bytes t) ≡ Word EndSec → Goes (T Semi ∷ []) [] bytes t.end mid (Ending ∷ []) → ReadsLast bytes mid (Ok last)
     → Expects kinds.Semicolon bytes last r → ReadsClosing bytes t r
 closing_made bytes mid last t (Ok end) e h k x =
-    let two = goes_trans (T (Word EndIso) ∷ T Semi ∷ []) (T Semi ∷ []) [] bytes mid last end (k.0 ∷ []) (Ending ∷ []) (goes_under (T (Word EndIso) ∷ []) [] (T Semi ∷ []) bytes mid last (k.0 ∷ []) k.2) x in
-    (Ending ∷ k.0 ∷ Ending ∷ [], ap (λ y. y ∷ Semi ∷ class_of k.0 ∷ Semi ∷ []) e ∙ ap (λ y. Word EndSec ∷ Semi ∷ y ∷ Semi ∷ []) k.1,
-      goes_trans (T Semi ∷ T (Word EndIso) ∷ T Semi ∷ []) (T (Word EndIso) ∷ T Semi ∷ []) [] bytes t.end mid end (Ending ∷ []) (k.0 ∷ Ending ∷ []) (goes_under (T Semi ∷ []) [] (T (Word EndIso) ∷ T Semi ∷ []) bytes t.end mid (Ending ∷ []) h) two)
+    let two = goes_trans (T (Word EndIso) ∷ T Semi ∷ []) (T Semi ∷ []) [] bytes mid last end (k.0 ∷ []) (Ending ∷ []) (goes_under (T (Word EndIso) ∷ []) [] (T Semi ∷ []) bytes mid last (k.0 ∷ []) k.2) x in (
+      Ending ∷ k.0 ∷ Ending ∷ [],
+      ap (λ y. y ∷ Semi ∷ class_of k.0 ∷ Semi ∷ []) e ∙ ap (λ y. Word EndSec ∷ Semi ∷ y ∷ Semi ∷ []) k.1,
+      goes_trans (T Semi ∷ T (Word EndIso) ∷ T Semi ∷ []) (T (Word EndIso) ∷ T Semi ∷ []) [] bytes t.end mid end (Ending ∷ []) (k.0 ∷ Ending ∷ []) (goes_under (T Semi ∷ []) [] (T (Word EndIso) ∷ T Semi ∷ []) bytes t.end mid (Ending ∷ []) h) two,
+    )
 closing_made bytes mid last t (Err f) e h k x =
     fails_past Instances (T Semi ∷ T (Word EndIso) ∷ T Semi ∷ []) bytes t f (instances_end (lexeme_of bytes t) e)
-      (closing_last bytes t.end mid f h (fails_after (T (Word EndIso) ∷ T Semi ∷ []) (T Semi ∷ []) bytes mid last (k.0 ∷ []) f (goes_under (T (Word EndIso) ∷ []) [] (T Semi ∷ []) bytes mid last (k.0 ∷ []) k.2) x))
+    (closing_last bytes t.end mid f h (fails_after (T (Word EndIso) ∷ T Semi ∷ []) (T Semi ∷ []) bytes mid last (k.0 ∷ []) f (goes_under (T (Word EndIso) ∷ []) [] (T Semi ∷ []) bytes mid last (k.0 ∷ []) k.2) x))
 
 pub closing_semi : (bytes : List ℕ) (t : Token) (f : ReadFault) → class_of (lexeme_of bytes t) ≡ Word EndSec → Fails (T Semi ∷ []) bytes t.end f → ReadsClosing bytes t (Err f)
 closing_semi bytes t f e k = fails_past Instances (T Semi ∷ T (Word EndIso) ∷ T Semi ∷ []) bytes t f (instances_end (lexeme_of bytes t) e) (fails_under (T Semi ∷ []) (T (Word EndIso) ∷ T Semi ∷ []) bytes t.end f k)
@@ -158,8 +160,8 @@ file_holds bytes mid end found ls h s =
         is_file = sound file (classes (ls ++ (s.0 ++ s.1))) (g.leads []);
         is_heading = sound header (classes ls) (h.leads []);
         spelled = s.2;
-        is_closing = s.3
-      }
+        is_closing = s.3;
+      };
     }
 
 some : {A : Type 0} (o : Option A) (x : A) → o ≡ Some x → IsSome o
@@ -170,10 +172,10 @@ none_some o e h = let k = rw e at h in cc
 
 reached : (bytes : List ℕ) (before : List Lexeme) (place : ℕ) (s : Sign) (σ : List Sign) → Goes file (s ∷ σ) bytes (start_of bytes) place before → Reaches bytes before place
 reached bytes before place s σ g = record {
-    cuts = g.cuts;
-    viable = (viable_iff (classes before)).1 (some (run file (classes before)) (s ∷ (σ ++ [])) (g.leads []));
-    none = λ h. (let e = (file_iff (classes before)).0 h in let k : Some [] ≡ Some (s ∷ (σ ++ [])) = sym e ∙ g.leads [] in cc)
-  }
+  cuts = g.cuts;
+  viable = (viable_iff (classes before)).1 (some (run file (classes before)) (s ∷ (σ ++ [])) (g.leads []));
+  none = λ h. (let e = (file_iff (classes before)).0 h in let k : Some [] ≡ Some (s ∷ (σ ++ [])) = sym e ∙ g.leads [] in cc);
+}
 
 stuck_run : (bytes : List ℕ) (before : List Lexeme) (place : ℕ) (s : Sign) (σ : List Sign) (l : Lexeme) → Goes file (s ∷ σ) bytes (start_of bytes) place before → next s (class_of l) ≡ None
     → run file (classes (before ++ l ∷ [])) ≡ None
@@ -187,9 +189,12 @@ stuck_none bytes before place s σ l g n v =
 
 pub fault_at : (bytes : List ℕ) (f : ReadFault) → Fails file bytes (start_of bytes) f → FaultAt bytes f
 fault_at bytes (faults.BadToken p) k = (k.before, k.place, reached bytes k.before k.place k.sign k.later k.goes, k.stuck)
-fault_at bytes (faults.BadStatement p) k =
-    (k.before, k.place, reached bytes k.before k.place k.sign k.later k.goes,
-      elim k.stuck [ inl e ↦ inl e | inr r ↦ inr (r.0, r.1, r.2, stuck_none bytes k.before k.place k.sign k.later (lexeme_of bytes r.0) k.goes r.3) ])
+fault_at bytes (faults.BadStatement p) k = (
+  k.before,
+  k.place,
+  reached bytes k.before k.place k.sign k.later k.goes,
+  elim k.stuck [ inl e ↦ inl e | inr r ↦ inr (r.0, r.1, r.2, stuck_none bytes k.before k.place k.sign k.later (lexeme_of bytes r.0) k.goes r.3) ],
+)
 fault_at bytes faults.Memory k = tt
 
 pub header_from : (bytes : List ℕ) (at : ℕ) (r : Result ℕ ReadFault) → at ≡ start_of bytes → ReadsHeader bytes at r → ReadsHeader bytes (start_of bytes) r
@@ -243,18 +248,20 @@ no_more ls rest l s σ h n k =
 stuck_there : (bytes : List ℕ) (place : ℕ) (s : Sign) (f : ReadFault) (t : Token) → (f ≡ faults.Memory → ⊥) → IsStuck s bytes place f → CutsFrom bytes place (Ok (Some t)) → next s (class_of (lexeme_of bytes t)) ≡ None
 stuck_there bytes place s (faults.BadToken p) t m h k = absurd (let e = one_answer bytes place (Err (lex.BadToken p)) (Ok (Some t)) h k in cc)
 stuck_there bytes place s (faults.BadStatement p) t m h k = elim h [
-    inl r ↦ absurd (let e = one_answer bytes place (Ok None) (Ok (Some t)) r.0 k in cc)
-  | inr r ↦ (let e : r.0 ≡ t = one_token bytes place r.0 t r.1 k in let P : Token → Type 0 = λ u. next s (class_of (lexeme_of bytes u)) ≡ None in subst P e r.3) ]
+  | inl r ↦ absurd (let e = one_answer bytes place (Ok None) (Ok (Some t)) r.0 k in cc)
+  | inr r ↦ (let e : r.0 ≡ t = one_token bytes place r.0 t r.1 k in let P : Token → Type 0 = λ u. next s (class_of (lexeme_of bytes u)) ≡ None in subst P e r.3)
+]
 stuck_there bytes place s faults.Memory t m h k = absurd (m refl)
 
 stops_file : (bytes : List ℕ) (f : ReadFault) → (f ≡ faults.Memory → ⊥) → Stops file bytes (start_of bytes) f → HasFile bytes → ⊥
 stops_file bytes f m k h =
     let done : run file (classes h.said) ≡ Some [] = (file_iff (classes h.said)).0 h.is_file in
     elim (fronts bytes (start_of bytes) k.place h.end k.before h.said k.goes.cuts h.cuts) [
-        longer l rest e t c same ↦
+      | longer l rest e t c same ↦
           (let n : next k.sign (class_of l) ≡ None = (let P : Lexeme → Type 0 = λ x. next k.sign (class_of x) ≡ None in subst P same (stuck_there bytes k.place k.sign f t m k.stuck c)) in
-           no_more k.before rest l k.sign (k.later ++ []) (k.goes.leads []) n (ap (λ x. run file (classes x)) (sym e) ∙ done))
-      | shorter rest e ↦ not_shorter h.said rest k.sign (k.later ++ []) done (ap (λ x. run file (classes x)) (sym e) ∙ k.goes.leads []) ]
+          no_more k.before rest l k.sign (k.later ++ []) (k.goes.leads []) n (ap (λ x. run file (classes x)) (sym e) ∙ done))
+      | shorter rest e ↦ not_shorter h.said rest k.sign (k.later ++ []) done (ap (λ x. run file (classes x)) (sym e) ∙ k.goes.leads [])
+    ]
 
 pub no_file : (bytes : List ℕ) (f : ReadFault) → Fails file bytes (start_of bytes) f → (f ≡ faults.Memory) ⊎ (HasFile bytes → ⊥)
 no_file bytes (faults.BadToken p) k = inr (stops_file bytes (faults.BadToken p) (λ e. cc) k)

@@ -37,7 +37,7 @@ heads_step bytes from at old left new want t h e k f =
     let so_far : Goes header (sign_of want ∷ signs_of left) bytes from at h.said = rw (← popped old left want e) h.goes in
     record {
       said = h.said ++ lexeme_of bytes t ∷ [];
-      goes = rw f.2 (goes_trans header (sign_of want ∷ signs_of left) (f.0 ++ signs_of left) bytes from at t.end h.said (lexeme_of bytes t ∷ []) so_far one)
+      goes = rw f.2 (goes_trans header (sign_of want ∷ signs_of left) (f.0 ++ signs_of left) bytes from at t.end h.said (lexeme_of bytes t ∷ []) so_far one);
     }
 
 pub heads_fail : (bytes : List ℕ) (from at : ℕ) (old left : List Want) (want : Want) (f : ReadFault) → Heads bytes from at old → old ≡ left ++ want ∷ [] → Fails (sign_of want ∷ signs_of left) bytes at f → Fails header bytes from f
@@ -47,8 +47,9 @@ heads_fail bytes from at old left want f h e k =
 
 pub follow_fail : (s : Sign) (σ : List Sign) (bytes : List ℕ) (at : ℕ) (t : Token) (f : ReadFault) → CutsFrom bytes at (Ok (Some t)) → FollowsNot s bytes t f → Fails (s ∷ σ) bytes at f
 follow_fail s σ bytes at t f h k = elim k [
-    inl e ↦ rw e tt
-  | inr e ↦ rw e.0 (fails_refused s σ bytes at t.start t h e.1 refl) ]
+  | inl e ↦ rw e tt
+  | inr e ↦ rw e.0 (fails_refused s σ bytes at t.start t h e.1 refl)
+]
 
 pub heads_done : (bytes : List ℕ) (from at : ℕ) (wants : List Want) → Heads bytes from at wants → wants ≡ [] → (ls : List Lexeme) × Goes header [] bytes from at ls
 heads_done bytes from at wants h e =

@@ -43,11 +43,11 @@ behind_value d bytes from at end comma item old now new v b h l k e r =
     let one = goes_one (After (Some d)) (Value (Some d) ∷ After (Some d) ∷ []) bytes at comma h (rw l refl) in
     let two = goes_under (Value (Some d) ∷ []) [] (After (Some d) ∷ []) bytes comma.end end (print v) (value_goes d bytes comma.end end item v k r) in
     let both : Goes (After (Some d) ∷ []) (After (Some d) ∷ []) bytes at end (Separator ∷ print v) =
-        rw l at (goes_trans (After (Some d) ∷ []) (Value (Some d) ∷ After (Some d) ∷ []) (After (Some d) ∷ []) bytes at comma.end end (lexeme_of bytes comma ∷ []) (print v) one two) in
+    rw l at (goes_trans (After (Some d) ∷ []) (Value (Some d) ∷ After (Some d) ∷ []) (After (Some d) ∷ []) bytes at comma.end end (lexeme_of bytes comma ∷ []) (print v) one two) in
     record {
       values = b.values ++ v ∷ [];
       stack = e ∙ ap (λ x. x ++ v ∷ []) b.stack ∙ append_assoc old b.values (v ∷ []);
-      goes = rw (behind_more b.values v) (goes_trans (After (Some d) ∷ []) (After (Some d) ∷ []) (After (Some d) ∷ []) bytes from at end (behind (map print b.values)) (Separator ∷ print v) b.goes both)
+      goes = rw (behind_more b.values v) (goes_trans (After (Some d) ∷ []) (After (Some d) ∷ []) (After (Some d) ∷ []) bytes from at end (behind (map print b.values)) (Separator ∷ print v) b.goes both);
     }
 
 pub behind_close : (d : ℕ) (bytes : List ℕ) (from at : ℕ) (close : Token) (old now : List Value21) → Behind (Some d) bytes from at old now
@@ -64,7 +64,7 @@ pub comma_fails : (d : ℕ) (bytes : List ℕ) (at : ℕ) (comma : Token) (f : R
     → Fails (After (Some d) ∷ []) bytes at f
 comma_fails d bytes at comma f h l k =
     fails_after (After (Some d) ∷ []) (Value (Some d) ∷ After (Some d) ∷ []) bytes at comma.end (lexeme_of bytes comma ∷ []) f
-      (goes_one (After (Some d)) (Value (Some d) ∷ After (Some d) ∷ []) bytes at comma h (rw l refl)) (fails_under (Value (Some d) ∷ []) (After (Some d) ∷ []) bytes comma.end f k)
+    (goes_one (After (Some d)) (Value (Some d) ∷ After (Some d) ∷ []) bytes at comma h (rw l refl)) (fails_under (Value (Some d) ∷ []) (After (Some d) ∷ []) bytes comma.end f k)
 
 -- Behind an opening parenthesis.
 
@@ -81,14 +81,15 @@ inside_value d bytes at end t k v h e n r =
     let i = inside_next (Some d) (class_of (lexeme_of bytes t)) (class_not_close (lexeme_of bytes t) k e n) in
     let j : next (Inside (Some d)) (class_of (lexeme_of bytes t)) ≡ Some (r.wanted ++ After (Some d) ∷ []) = i ∙ ap (λ o. option_map (λ r. r ++ After (Some d) ∷ []) o) r.begins in
     rw r.spelled (goes_trans (Inside (Some d) ∷ []) (r.wanted ++ After (Some d) ∷ []) (After (Some d) ∷ []) bytes at t.end end (lexeme_of bytes t ∷ []) r.rest
-      (goes_one (Inside (Some d)) (r.wanted ++ After (Some d) ∷ []) bytes at t h j) (goes_under r.wanted [] (After (Some d) ∷ []) bytes t.end end r.rest r.goes))
+    (goes_one (Inside (Some d)) (r.wanted ++ After (Some d) ∷ []) bytes at t h j) (goes_under r.wanted [] (After (Some d) ∷ []) bytes t.end end r.rest r.goes))
 
 inside_stops : (d : ℕ) (bytes : List ℕ) (t : Token) (f : ReadFault) → (class_of (lexeme_of bytes t) ≡ Close → ⊥) → StopsAfter (Value (Some d)) bytes t f → StopsAfter (Inside (Some d)) bytes t f
 inside_stops d bytes t f n k =
     let i = inside_next (Some d) (class_of (lexeme_of bytes t)) n in
     elim k [
-        inl r ↦ inl (r.0, i ∙ ap (λ o. option_map (λ r. r ++ After (Some d) ∷ []) o) r.1)
-      | inr r ↦ inr (r.0 ++ After (Some d) ∷ [], i ∙ ap (λ o. option_map (λ r. r ++ After (Some d) ∷ []) o) r.1, stops_under r.0 (After (Some d) ∷ []) bytes t.end f r.2) ]
+      | inl r ↦ inl (r.0, i ∙ ap (λ o. option_map (λ r. r ++ After (Some d) ∷ []) o) r.1)
+      | inr r ↦ inr (r.0 ++ After (Some d) ∷ [], i ∙ ap (λ o. option_map (λ r. r ++ After (Some d) ∷ []) o) r.1, stops_under r.0 (After (Some d) ∷ []) bytes t.end f r.2)
+    ]
 
 inside_after : (d : ℕ) (bytes : List ℕ) (t : Token) (f : ReadFault) → (class_of (lexeme_of bytes t) ≡ Close → ⊥) → FailsAfter (Value (Some d)) bytes t f → FailsAfter (Inside (Some d)) bytes t f
 inside_after d bytes t (faults.BadToken p) n k = inside_stops d bytes t (faults.BadToken p) n k
@@ -102,9 +103,11 @@ inside_fails d bytes at t k f h e n x = after_fails (Inside (Some d)) [] bytes a
 -- the first value, and what more answers
 pub inside_more : (d : ℕ) (bytes : List ℕ) (at mid : ℕ) (t : Token) (k : Kind) (old now new : List Value21) (v : Value21) (r : Result ℕ ReadFault) → CutsFrom bytes at (Ok (Some t))
     → k ≡ kind_of (class_of (lexeme_of bytes t)) → (k ≡ kinds.Close → ⊥) → now ≡ old ++ v ∷ [] → ReadsValue d bytes t mid v → PushesMore d bytes mid now new r → PushesInside d bytes at old new r
-inside_more d bytes at mid t k old now new v (Ok end) h e n s x m =
-    (v ∷ m.0, m.1 ∙ ap (λ y. y ++ m.0) s ∙ append_assoc old (v ∷ []) m.0,
-      rw (append_assoc (print v) (behind (map print m.0)) (Closing ∷ [])) (goes_trans (Inside (Some d) ∷ []) (After (Some d) ∷ []) [] bytes at mid end (print v) (behind (map print m.0) ++ Closing ∷ []) (inside_value d bytes at mid t k v h e n x) m.2))
+inside_more d bytes at mid t k old now new v (Ok end) h e n s x m = (
+  v ∷ m.0,
+  m.1 ∙ ap (λ y. y ++ m.0) s ∙ append_assoc old (v ∷ []) m.0,
+  rw (append_assoc (print v) (behind (map print m.0)) (Closing ∷ [])) (goes_trans (Inside (Some d) ∷ []) (After (Some d) ∷ []) [] bytes at mid end (print v) (behind (map print m.0) ++ Closing ∷ []) (inside_value d bytes at mid t k v h e n x) m.2),
+)
 inside_more d bytes at mid t k old now new v (Err f) h e n s x m =
     fails_after (Inside (Some d) ∷ []) (After (Some d) ∷ []) bytes at mid (print v) f (inside_value d bytes at mid t k v h e n x) m
 
@@ -181,19 +184,19 @@ pub typed_goes : (d : ℕ) (bytes : List ℕ) (at opened inner end : ℕ) (t : T
     → Goes (T Close ∷ []) [] bytes inner end (Closing ∷ []) → Goes (T Open ∷ Value (Some d) ∷ T Close ∷ []) [] bytes at end (Opening ∷ (print v ++ Closing ∷ []))
 typed_goes d bytes at opened inner end t v o h r c =
     goes_trans (T Open ∷ Value (Some d) ∷ T Close ∷ []) (Value (Some d) ∷ T Close ∷ []) [] bytes at opened end (Opening ∷ []) (print v ++ Closing ∷ [])
-      (goes_under (T Open ∷ []) [] (Value (Some d) ∷ T Close ∷ []) bytes at opened (Opening ∷ []) o)
-      (goes_trans (Value (Some d) ∷ T Close ∷ []) (T Close ∷ []) [] bytes opened inner end (print v) (Closing ∷ [])
-        (goes_under (Value (Some d) ∷ []) [] (T Close ∷ []) bytes opened inner (print v) (value_goes d bytes opened inner t v h r)) c)
+    (goes_under (T Open ∷ []) [] (Value (Some d) ∷ T Close ∷ []) bytes at opened (Opening ∷ []) o)
+    (goes_trans (Value (Some d) ∷ T Close ∷ []) (T Close ∷ []) [] bytes opened inner end (print v) (Closing ∷ [])
+    (goes_under (Value (Some d) ∷ []) [] (T Close ∷ []) bytes opened inner (print v) (value_goes d bytes opened inner t v h r)) c)
 
 pub typed_open : (d : ℕ) (bytes : List ℕ) (at opened : ℕ) (f : ReadFault) → Goes (T Open ∷ []) [] bytes at opened (Opening ∷ []) → Fails (Value (Some d) ∷ []) bytes opened f → Fails (T Open ∷ Value (Some d) ∷ T Close ∷ []) bytes at f
 typed_open d bytes at opened f o k =
     fails_after (T Open ∷ Value (Some d) ∷ T Close ∷ []) (Value (Some d) ∷ T Close ∷ []) bytes at opened (Opening ∷ []) f
-      (goes_under (T Open ∷ []) [] (Value (Some d) ∷ T Close ∷ []) bytes at opened (Opening ∷ []) o) (fails_under (Value (Some d) ∷ []) (T Close ∷ []) bytes opened f k)
+    (goes_under (T Open ∷ []) [] (Value (Some d) ∷ T Close ∷ []) bytes at opened (Opening ∷ []) o) (fails_under (Value (Some d) ∷ []) (T Close ∷ []) bytes opened f k)
 
 pub typed_close : (d : ℕ) (bytes : List ℕ) (at opened inner : ℕ) (t : Token) (v : Value21) (f : ReadFault) → Goes (T Open ∷ []) [] bytes at opened (Opening ∷ []) → CutsFrom bytes opened (Ok (Some t))
     → ReadsValue d bytes t inner v → Fails (T Close ∷ []) bytes inner f → Fails (T Open ∷ Value (Some d) ∷ T Close ∷ []) bytes at f
 typed_close d bytes at opened inner t v f o h r k =
     fails_after (T Open ∷ Value (Some d) ∷ T Close ∷ []) (Value (Some d) ∷ T Close ∷ []) bytes at opened (Opening ∷ []) f
-      (goes_under (T Open ∷ []) [] (Value (Some d) ∷ T Close ∷ []) bytes at opened (Opening ∷ []) o)
-      (fails_after (Value (Some d) ∷ T Close ∷ []) (T Close ∷ []) bytes opened inner (print v) f
-        (goes_under (Value (Some d) ∷ []) [] (T Close ∷ []) bytes opened inner (print v) (value_goes d bytes opened inner t v h r)) k)
+    (goes_under (T Open ∷ []) [] (Value (Some d) ∷ T Close ∷ []) bytes at opened (Opening ∷ []) o)
+    (fails_after (Value (Some d) ∷ T Close ∷ []) (T Close ∷ []) bytes opened inner (print v) f
+    (goes_under (Value (Some d) ∷ []) [] (T Close ∷ []) bytes opened inner (print v) (value_goes d bytes opened inner t v h r)) k)

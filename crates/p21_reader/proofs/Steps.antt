@@ -31,31 +31,37 @@ goes_one s σ bytes at t h n = record { cuts = (t, h, refl, refl); leads = λ α
 
 pub goes_trans : (σ τ ρ : List Sign) (bytes : List ℕ) (a b c : ℕ) (ls ms : List Lexeme) → Goes σ τ bytes a b ls → Goes τ ρ bytes b c ms → Goes σ ρ bytes a c (ls ++ ms)
 goes_trans σ τ ρ bytes a b c ls ms h k = record {
-    cuts = cuts_append bytes a b c ls ms h.cuts k.cuts;
-    leads = λ α. ap (λ x. run (σ ++ α) x) (classes_append ls ms) ∙ run_append (σ ++ α) (classes ls) (classes ms)
-      ∙ ap (λ o. bind o (λ β. run β (classes ms))) (h.leads α) ∙ k.leads α
-  }
+  cuts = cuts_append bytes a b c ls ms h.cuts k.cuts;
+  leads = λ α. ap (λ x. run (σ ++ α) x) (classes_append ls ms) ∙ run_append (σ ++ α) (classes ls) (classes ms)
+      ∙ ap (λ o. bind o (λ β. run β (classes ms))) (h.leads α) ∙ k.leads α;
+}
 
 -- the same, with more wanted behind
 pub goes_under : (σ τ ρ : List Sign) (bytes : List ℕ) (a b : ℕ) (ls : List Lexeme) → Goes σ τ bytes a b ls → Goes (σ ++ ρ) (τ ++ ρ) bytes a b ls
 goes_under σ τ ρ bytes a b ls h = record {
-    cuts = h.cuts;
-    leads = λ α. ap (λ x. run x (classes ls)) (append_assoc σ ρ α) ∙ h.leads (ρ ++ α) ∙ ap (λ (x : List Sign). Some x) (sym (append_assoc τ ρ α))
-  }
+  cuts = h.cuts;
+  leads = λ α. ap (λ x. run x (classes ls)) (append_assoc σ ρ α) ∙ h.leads (ρ ++ α) ∙ ap (λ (x : List Sign). Some x) (sym (append_assoc τ ρ α));
+}
 
 pub stops_after : (σ τ : List Sign) (bytes : List ℕ) (a b : ℕ) (ls : List Lexeme) (f : ReadFault) → Goes σ τ bytes a b ls → Stops τ bytes b f → Stops σ bytes a f
 stops_after σ τ bytes a b ls f h k = record {
-    before = ls ++ k.before; place = k.place; sign = k.sign; later = k.later;
-    goes = goes_trans σ τ (k.sign ∷ k.later) bytes a b k.place ls k.before h k.goes;
-    stuck = k.stuck
-  }
+  before = ls ++ k.before;
+  place = k.place;
+  sign = k.sign;
+  later = k.later;
+  goes = goes_trans σ τ (k.sign ∷ k.later) bytes a b k.place ls k.before h k.goes;
+  stuck = k.stuck;
+}
 
 pub stops_under : (σ ρ : List Sign) (bytes : List ℕ) (a : ℕ) (f : ReadFault) → Stops σ bytes a f → Stops (σ ++ ρ) bytes a f
 stops_under σ ρ bytes a f k = record {
-    before = k.before; place = k.place; sign = k.sign; later = k.later ++ ρ;
-    goes = goes_under σ (k.sign ∷ k.later) ρ bytes a k.place k.before k.goes;
-    stuck = k.stuck
-  }
+  before = k.before;
+  place = k.place;
+  sign = k.sign;
+  later = k.later ++ ρ;
+  goes = goes_under σ (k.sign ∷ k.later) ρ bytes a k.place k.before k.goes;
+  stuck = k.stuck;
+}
 
 pub fails_after : (σ τ : List Sign) (bytes : List ℕ) (a b : ℕ) (ls : List Lexeme) (f : ReadFault) → Goes σ τ bytes a b ls → Fails τ bytes b f → Fails σ bytes a f
 fails_after σ τ bytes a b ls (faults.BadToken p) h k = stops_after σ τ bytes a b ls (faults.BadToken p) h k
@@ -82,13 +88,15 @@ fails_refused s σ bytes at p t h n e = record { before = []; place = at; sign =
 after_stops : (s : Sign) (σ : List Sign) (bytes : List ℕ) (at p : ℕ) (t : Token) (f : ReadFault) → CutsFrom bytes at (Ok (Some t)) → f ≡ faults.BadStatement p
     → StopsAfter s bytes t f → Stops (s ∷ σ) bytes at f
 after_stops s σ bytes at p t f h e k = elim k [
-    inl r ↦ (let P : ReadFault → Type 0 = λ x. Stops (s ∷ σ) bytes at x in subst P (sym r.0) (fails_refused s σ bytes at t.start t h r.1 refl))
-  | inr r ↦ stops_under (s ∷ []) σ bytes at f (stops_after (s ∷ []) r.0 bytes at t.end (lexeme_of bytes t ∷ []) f (goes_one s r.0 bytes at t h r.1) r.2) ]
+  | inl r ↦ (let P : ReadFault → Type 0 = λ x. Stops (s ∷ σ) bytes at x in subst P (sym r.0) (fails_refused s σ bytes at t.start t h r.1 refl))
+  | inr r ↦ stops_under (s ∷ []) σ bytes at f (stops_after (s ∷ []) r.0 bytes at t.end (lexeme_of bytes t ∷ []) f (goes_one s r.0 bytes at t h r.1) r.2)
+]
 
 bad_token : (s : Sign) (σ : List Sign) (bytes : List ℕ) (at p : ℕ) (t : Token) → CutsFrom bytes at (Ok (Some t)) → StopsAfter s bytes t (faults.BadToken p) → Stops (s ∷ σ) bytes at (faults.BadToken p)
 bad_token s σ bytes at p t h k = elim k [
-    inl r ↦ absurd (let e = r.0 in cc)
-  | inr r ↦ stops_under (s ∷ []) σ bytes at (faults.BadToken p) (stops_after (s ∷ []) r.0 bytes at t.end (lexeme_of bytes t ∷ []) (faults.BadToken p) (goes_one s r.0 bytes at t h r.1) r.2) ]
+  | inl r ↦ absurd (let e = r.0 in cc)
+  | inr r ↦ stops_under (s ∷ []) σ bytes at (faults.BadToken p) (stops_after (s ∷ []) r.0 bytes at t.end (lexeme_of bytes t ∷ []) (faults.BadToken p) (goes_one s r.0 bytes at t h r.1) r.2)
+]
 
 pub after_fails : (s : Sign) (σ : List Sign) (bytes : List ℕ) (at : ℕ) (t : Token) (f : ReadFault) → CutsFrom bytes at (Ok (Some t)) → FailsAfter s bytes t f → Fails (s ∷ σ) bytes at f
 after_fails s σ bytes at t (faults.BadToken p) h k = bad_token s σ bytes at p t h k

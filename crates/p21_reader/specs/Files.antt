@@ -56,7 +56,7 @@ NoneThere bytes p = (said : List Lexeme) × (at : ℕ) × Reaches bytes said at 
 abbrev pub WrongThere : List ℕ → ℕ → Type 0
 WrongThere bytes p = (said : List Lexeme) × (at : ℕ) × Reaches bytes said at
     × ((CutsFrom bytes at (Ok None) × (p ≡ length bytes))
-      ⊎ ((t : Token) × CutsFrom bytes at (Ok (Some t)) × (p ≡ t.start) × (IsViable (classes (said ++ lexeme_of bytes t ∷ [])) → ⊥)))
+    ⊎ ((t : Token) × CutsFrom bytes at (Ok (Some t)) × (p ≡ t.start) × (IsViable (classes (said ++ lexeme_of bytes t ∷ [])) → ⊥)))
 
 -- where and why these bytes can't go on to a file
 abbrev pub FaultAt : List ℕ → ReadFault → Type 0

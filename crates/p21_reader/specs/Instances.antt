@@ -27,7 +27,6 @@ abbrev pub SpellsAll : List Instance → List Lexeme → Type 0
 SpellsAll [] ls = ls ≡ []
 SpellsAll (i ∷ more) ls = (front rest : List Lexeme) × SpellsInstance i front × (ls ≡ front ++ rest) × SpellsAll more rest
 
-
 -- What the functions answer.
 
 abbrev pub ReadsBody : List Sign → Lexeme → List ℕ → ℕ → Option (List ℕ) → List Value21 → ℕ → Type 0

@@ -1,10 +1,11 @@
-use Rattle.std.specs.Prelude.{ℕ, ◌-◌, List, [], ◌∷◌, length, take, drop, map, ◌==◌, if◌then◌else◌, codes, slice_range}
+use Rattle.std.specs.Prelude.{ℕ, ◌-◌, List, [], ◌∷◌, length, take, drop, map, ◌==◌, if◌then◌else◌, codes, slice_range, Option, Some, Result, Ok, ◌≡◌}
 use Rattle.std.specs.Str.{bytes_eq}
 use Rattle.std.specs.Char.{to_ascii_uppercase}
 use Rattle.p21_lexer.specs.declared.token.TokenKind.{TokenKind}
 use Rattle.p21_lexer.specs.declared.token.TokenKind.TheVariants as kinds
 use Rattle.p21_lexer.specs.declared.token.Token.{Token}
 use Rattle.p21_lexer.specs.Spelling.{value_after}
+use Rattle.p21_lexer.specs.Cutting.{CutsFrom}
 use Rattle.p21_reader.specs.Grammar.{Mark, Iso, Header, Data, EndSec, EndIso, Other, Class, Simple, Name, Open, Close, Comma, Semi, Equals, Word}
 
 -- What a token says: $, *, the five signs of the grammar, and the other kinds with what is between their marks. A keyword is in upper
@@ -65,3 +66,11 @@ class_of Assigning = Equals
 class_of (ReferenceTo n) = Name
 class_of (KeywordOf word) = Word (mark_of word)
 class_of _ = Simple
+
+-- tokens that say this are cut one after another, from this place on up to that one
+abbrev pub Cuts : List ℕ → ℕ → List Lexeme → ℕ → Type 0
+Cuts bytes at [] end = at ≡ end
+Cuts bytes at (l ∷ ls) end = (t : Token) × CutsFrom bytes at (Ok (Some t)) × (lexeme_of bytes t ≡ l) × Cuts bytes t.end ls end
+
+abbrev pub classes : List Lexeme → List Class
+classes ls = map class_of ls

@@ -12,15 +12,10 @@ use Rattle.p21_reader.specs.declared.value.Value21.{Value21}
 use Rattle.p21_reader.specs.Grammar.{Class, Simple, Name, Open, Close, Comma, Semi, Equals, Word, Sign, T, Value, Inside, After}
 use Rattle.p21_reader.specs.Machine.{run, next}
 use Rattle.p21_reader.specs.Lexemes.{Lexeme, Absence, Opening, Closing, Separator, Ending, Assigning, lexeme_of, class_of}
+pub use Rattle.p21_reader.specs.Lexemes.{Cuts, classes}
 use Rattle.p21_reader.specs.Printing.{print, print_all, behind}
 
--- tokens that say this are cut one after another, from this place on up to that one
-abbrev pub Cuts : List ℕ → ℕ → List Lexeme → ℕ → Type 0
-Cuts bytes at [] end = at ≡ end
-Cuts bytes at (l ∷ ls) end = (t : Token) × CutsFrom bytes at (Ok (Some t)) × (lexeme_of bytes t ≡ l) × Cuts bytes t.end ls end
-
-abbrev pub classes : List Lexeme → List Class
-classes ls = map class_of ls
+-- What the functions promise one another. Public contracts speak of Files alone.
 
 -- These tokens stand there, and lead from what was wanted to what is wanted then, whatever is wanted after that.
 pub record Goes (σ τ : List Sign) (bytes : List ℕ) (at end : ℕ) (ls : List Lexeme) : Type 0 where

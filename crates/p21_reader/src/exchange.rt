@@ -59,7 +59,11 @@ impl Exchange {
         ensures found { IfSome result (λ instance. Contains self.now instance.now) }
         ensures none { IfNone result (All (λ instance. instance.id ≢ id) self.now) }
     {
-        match self.instances.as_slice().binary_search_by_key(&id, |instance| instance.id) {
+        match self
+            .instances
+            .as_slice()
+            .binary_search_by_key(&id, |instance| instance.id)
+        {
             Ok(at) => Some(&self.instances[at]),
             Err(_) => None,
         }

@@ -119,7 +119,16 @@ fn header_wants(alloc: Global) -> Result<Vec<Want>, ReadFault>
     ensures wants { IfOk result (λ wants. signs_of wants.items ≡ header) }
     ensures fault { IfErr result (λ fault. fault ≡ ReadFault.Memory) }
 {
-    let made = Vec::from_slice(alloc, &[Want::Statements, Want::Semicolon, Want::Header, Want::Semicolon, Want::Iso])?;
+    let made = Vec::from_slice(
+        alloc,
+        &[
+            Want::Statements,
+            Want::Semicolon,
+            Want::Header,
+            Want::Semicolon,
+            Want::Iso,
+        ],
+    )?;
     Ok(made)
 }
 

@@ -20,7 +20,13 @@ pub struct Made {
 }
 
 /// Reads the values of an instance, from its keyword on.
-fn plain_body(alloc: Global, bytes: &[u8], id: u64, word: Piece, stack: &mut Vec<Value21>) -> Result<Made, ReadFault>
+fn plain_body(
+    alloc: Global,
+    bytes: &[u8],
+    id: u64,
+    word: Piece,
+    stack: &mut Vec<Value21>,
+) -> Result<Made, ReadFault>
     requires piece { IsPiece bytes.now word }
     requires word { word.kind ≡ Kind.Word }
     requires empty { stack.old.items ≡ [] }
@@ -33,7 +39,11 @@ fn plain_body(alloc: Global, bytes: &[u8], id: u64, word: Piece, stack: &mut Vec
     let keyword = keyword_of(alloc, bytes, word)?;
     let found = stack.split_off(0)?;
     Ok(Made {
-        instance: Instance { id, keyword: Some(keyword), values: Items::from_vec(found) },
+        instance: Instance {
+            id,
+            keyword: Some(keyword),
+            values: Items::from_vec(found),
+        },
         end,
     })
 }
@@ -53,7 +63,12 @@ fn one(alloc: Global, bytes: &[u8], at: usize, stack: &mut Vec<Value21>) -> Resu
 }
 
 /// Passes over the further keywords of a complex instance, up to and with the closing parenthesis.
-fn ones(alloc: Global, bytes: &[u8], at: usize, stack: &mut Vec<Value21>) -> Result<usize, ReadFault>
+fn ones(
+    alloc: Global,
+    bytes: &[u8],
+    at: usize,
+    stack: &mut Vec<Value21>,
+) -> Result<usize, ReadFault>
     requires at { at ≤ length bytes.now }
     requires empty { stack.old.items ≡ [] }
     ensures passes { Passes (Ones ∷ []) bytes.now at result }
@@ -72,7 +87,12 @@ fn ones(alloc: Global, bytes: &[u8], at: usize, stack: &mut Vec<Value21>) -> Res
 }
 
 /// Passes over a complex instance, from behind its opening parenthesis.
-fn complex(alloc: Global, bytes: &[u8], at: usize, stack: &mut Vec<Value21>) -> Result<usize, ReadFault>
+fn complex(
+    alloc: Global,
+    bytes: &[u8],
+    at: usize,
+    stack: &mut Vec<Value21>,
+) -> Result<usize, ReadFault>
     requires { at ≤ length bytes.now }
     ensures passes { Passes (AnyWord ∷ T Open ∷ Inside (Some 30) ∷ Ones ∷ []) bytes.now at result }
     ensures empty { OnOk result (stack.new.items ≡ []) }
@@ -89,7 +109,13 @@ fn complex(alloc: Global, bytes: &[u8], at: usize, stack: &mut Vec<Value21>) -> 
 }
 
 /// Reads what stands between the equals sign and the semicolon, whose first token is given.
-fn body(alloc: Global, bytes: &[u8], id: u64, first: Piece, stack: &mut Vec<Value21>) -> Result<Made, ReadFault>
+fn body(
+    alloc: Global,
+    bytes: &[u8],
+    id: u64,
+    first: Piece,
+    stack: &mut Vec<Value21>,
+) -> Result<Made, ReadFault>
     requires piece { IsPiece bytes.now first }
     requires empty { stack.old.items ≡ [] }
     ensures made { StartsBody id bytes.now first.token result }
@@ -101,7 +127,11 @@ fn body(alloc: Global, bytes: &[u8], id: u64, first: Piece, stack: &mut Vec<Valu
         Kind::Open => {
             let end = complex(alloc, bytes, first.token.end, stack)?;
             Ok(Made {
-                instance: Instance { id, keyword: None, values: Items::new(alloc) },
+                instance: Instance {
+                    id,
+                    keyword: None,
+                    values: Items::new(alloc),
+                },
                 end,
             })
         }
@@ -110,7 +140,12 @@ fn body(alloc: Global, bytes: &[u8], id: u64, first: Piece, stack: &mut Vec<Valu
 }
 
 /// Reads an instance whose name is given.
-pub fn instance(alloc: Global, bytes: &[u8], name: Piece, stack: &mut Vec<Value21>) -> Result<Made, ReadFault>
+pub fn instance(
+    alloc: Global,
+    bytes: &[u8],
+    name: Piece,
+    stack: &mut Vec<Value21>,
+) -> Result<Made, ReadFault>
     requires piece { IsPiece bytes.now name }
     requires name { name.kind ≡ Kind.Name }
     requires empty { stack.old.items ≡ [] }
@@ -123,5 +158,8 @@ pub fn instance(alloc: Global, bytes: &[u8], name: Piece, stack: &mut Vec<Value2
     let first = take(bytes, at)?;
     let made = body(alloc, bytes, name_of(bytes, name), first, stack)?;
     let end = expect(bytes, made.end, Kind::Semicolon)?;
-    Ok(Made { instance: made.instance, end })
+    Ok(Made {
+        instance: made.instance,
+        end,
+    })
 }

@@ -7,5 +7,4 @@ ghost use Rattle.p21_reader.specs.Lexemes.{Lexeme};
 pub fn table_is_grammar()
     ensures file { (ts : List Class) → IsFile ts ↔ (run file ts ≡ Some []) }
     ensures viable { (ts : List Class) → IsViable ts ↔ IsSome (run file ts) }
-{
-}
+{}

@@ -63,8 +63,13 @@ pub fn take(bytes: &[u8], at: usize) -> Result<Piece, ReadFault>
     ensures fault { IfErr result (λ fault. NoToken bytes.now at fault) }
 {
     match cut(bytes, at) {
-        Ok(Some(token)) => Ok(Piece { kind: kind_at(bytes, token), token }),
-        Ok(None) => Err(ReadFault::BadStatement { at: bytes.len() as u64 }),
+        Ok(Some(token)) => Ok(Piece {
+            kind: kind_at(bytes, token),
+            token,
+        }),
+        Ok(None) => Err(ReadFault::BadStatement {
+            at: bytes.len() as u64,
+        }),
         Err(LexFault::BadToken { at }) => Err(ReadFault::BadToken { at }),
     }
 }
@@ -73,7 +78,9 @@ pub fn take(bytes: &[u8], at: usize) -> Result<Piece, ReadFault>
 pub fn refused(piece: Piece) -> ReadFault
     ensures { result ≡ ReadFault.BadStatement piece.token.start }
 {
-    ReadFault::BadStatement { at: piece.token.start as u64 }
+    ReadFault::BadStatement {
+        at: piece.token.start as u64,
+    }
 }
 
 /// The end of a sign that is wanted.
@@ -85,5 +92,9 @@ pub fn expect(bytes: &[u8], at: usize, wanted: Kind) -> Result<usize, ReadFault>
     ensures within { IfOk result (λ end. end ≤ length bytes.now) }
 {
     let piece = take(bytes, at)?;
-    if piece.kind == wanted { Ok(piece.token.end) } else { Err(refused(piece)) }
+    if piece.kind == wanted {
+        Ok(piece.token.end)
+    } else {
+        Err(refused(piece))
+    }
 }

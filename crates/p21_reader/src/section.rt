@@ -39,7 +39,12 @@ fn last_word(bytes: &[u8], at: usize) -> Result<usize, ReadFault>
 }
 
 /// Reads the instances of a DATA section and the end of the file.
-pub fn section(alloc: Global, bytes: &[u8], at: usize, found: &mut Vec<Instance>) -> Result<usize, ReadFault>
+pub fn section(
+    alloc: Global,
+    bytes: &[u8],
+    at: usize,
+    found: &mut Vec<Instance>,
+) -> Result<usize, ReadFault>
     requires at { at ≤ length bytes.now }
     requires empty { found.old.items ≡ [] }
     ensures section { ReadsSection bytes.now at found.new.items result }

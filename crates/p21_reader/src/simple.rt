@@ -93,5 +93,9 @@ fn single(byte: u8) -> Value21
     requires { IsPlain (kind_of (class_of (single_says byte))) }
     ensures { print result ≡ single_says byte ∷ [] }
 {
-    if byte == b'*' { Value21::Derived } else { Value21::Absent }
+    if byte == b'*' {
+        Value21::Derived
+    } else {
+        Value21::Absent
+    }
 }

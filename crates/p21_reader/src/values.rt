@@ -11,7 +11,12 @@ use crate::value::Value21;
 use std::alloc::Global;
 
 /// Reads a value of one token.
-fn plain(alloc: Global, bytes: &[u8], piece: Piece, stack: &mut Vec<Value21>) -> Result<usize, ReadFault>
+fn plain(
+    alloc: Global,
+    bytes: &[u8],
+    piece: Piece,
+    stack: &mut Vec<Value21>,
+) -> Result<usize, ReadFault>
     requires piece { IsPiece bytes.now piece }
     requires plain { IsPlain piece.kind }
     ensures made { PushesMade [] (lexeme_of bytes.now piece.token) bytes.now piece.token.end stack.old.items stack.new.items result }
@@ -50,7 +55,13 @@ fn wrap(alloc: Global, bytes: &[u8], word: Piece, stack: &mut Vec<Value21>) -> R
 
 /// Reads the value whose first token is given, with that many parentheses that may still be opened, and puts it on the stack.
 #[cycle(values)]
-fn value(alloc: Global, bytes: &[u8], piece: Piece, depth: u32, stack: &mut Vec<Value21>) -> Result<usize, ReadFault>
+fn value(
+    alloc: Global,
+    bytes: &[u8],
+    piece: Piece,
+    depth: u32,
+    stack: &mut Vec<Value21>,
+) -> Result<usize, ReadFault>
     requires { IsPiece bytes.now piece }
     ensures value { PushesValue depth bytes.now piece.token stack.old.items stack.new.items result }
     ensures on { IfOk result (λ end. piece.token.end ≤ end) }
@@ -77,7 +88,13 @@ fn value(alloc: Global, bytes: &[u8], piece: Piece, depth: u32, stack: &mut Vec<
 
 /// Reads a list, from behind its opening parenthesis.
 #[cycle(values)]
-fn list(alloc: Global, bytes: &[u8], at: usize, depth: u32, stack: &mut Vec<Value21>) -> Result<usize, ReadFault>
+fn list(
+    alloc: Global,
+    bytes: &[u8],
+    at: usize,
+    depth: u32,
+    stack: &mut Vec<Value21>,
+) -> Result<usize, ReadFault>
     requires { at ≤ length bytes.now }
     ensures made { PushesMade (Inside (Some depth) ∷ []) Opening bytes.now at stack.old.items stack.new.items result }
     ensures on { IfOk result (λ end. at ≤ end) }
@@ -92,13 +109,17 @@ fn list(alloc: Global, bytes: &[u8], at: usize, depth: u32, stack: &mut Vec<Valu
 /// Reads a typed value, from its word on.
 #[cycle(values)]
 #[inline(never)]
-fn typed(alloc: Global, bytes: &[u8], word: Piece, depth: u32, stack: &mut Vec<Value21>) -> Result<usize, ReadFault>
+fn typed(
+    alloc: Global,
+    bytes: &[u8],
+    word: Piece,
+    depth: u32,
+    stack: &mut Vec<Value21>,
+) -> Result<usize, ReadFault>
     requires piece { IsPiece bytes.now word }
     requires word { word.kind ≡ Kind.Word }
-    ensures made {
-        PushesMade (T Open ∷ Value (Some depth) ∷ T Close ∷ []) (lexeme_of bytes.now word.token) bytes.now word.token.end
-            stack.old.items stack.new.items result
-    }
+    ensures made { PushesMade (T Open ∷ Value (Some depth) ∷ T Close ∷ []) (lexeme_of bytes.now word.token) bytes.now word.token.end
+        stack.old.items stack.new.items result }
     ensures on { IfOk result (λ end. word.token.end ≤ end) }
     ensures within { IfOk result (λ end. end ≤ length bytes.now) }
 {
@@ -112,7 +133,13 @@ fn typed(alloc: Global, bytes: &[u8], word: Piece, depth: u32, stack: &mut Vec<V
 
 /// Reads values, from behind the opening parenthesis up to and with the closing one, and puts them on the stack.
 #[cycle(values)]
-pub fn values(alloc: Global, bytes: &[u8], at: usize, depth: u32, stack: &mut Vec<Value21>) -> Result<usize, ReadFault>
+pub fn values(
+    alloc: Global,
+    bytes: &[u8],
+    at: usize,
+    depth: u32,
+    stack: &mut Vec<Value21>,
+) -> Result<usize, ReadFault>
     requires { at ≤ length bytes.now }
     ensures values { PushesInside depth bytes.now at stack.old.items stack.new.items result }
     ensures on { IfOk result (λ end. at ≤ end) }
@@ -128,7 +155,13 @@ pub fn values(alloc: Global, bytes: &[u8], at: usize, depth: u32, stack: &mut Ve
 
 /// The same from behind the first of them.
 #[cycle(values)]
-fn more(alloc: Global, bytes: &[u8], at: usize, depth: u32, stack: &mut Vec<Value21>) -> Result<usize, ReadFault>
+fn more(
+    alloc: Global,
+    bytes: &[u8],
+    at: usize,
+    depth: u32,
+    stack: &mut Vec<Value21>,
+) -> Result<usize, ReadFault>
     requires { at ≤ length bytes.now }
     ensures values { PushesMore depth bytes.now at stack.old.items stack.new.items result }
     ensures on { IfOk result (λ end. at ≤ end) }

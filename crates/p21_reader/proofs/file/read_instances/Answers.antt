@@ -18,7 +18,7 @@ returns-in_err-section-clause-fault c =
     let f = c.in_err-section.field-0.0 in
     let h = header_from c.args.bytes.now c.start.result (Ok c.in_ok-data.data) c.start.ensures.start c.in_ok-data.ensures.header in
     rw (residual _ _ c.from_residual-in_err-section.ensures.1)
-      (fault_at c.args.bytes.now f (file_section c.args.bytes.now (start_of c.args.bytes.now) c.in_ok-data.data f h.0 h.1 c.in_err-section.ensures.section))
+    (fault_at c.args.bytes.now f (file_section c.args.bytes.now (start_of c.args.bytes.now) c.in_ok-data.data f h.0 h.1 c.in_err-section.ensures.section))
 
 pub returns-clause-file : goal.returns-clause-file
 returns-clause-file c =
@@ -36,4 +36,4 @@ returns-in_err-section-clause-refused c =
     let f = c.in_err-section.field-0.0 in
     let h = header_from c.args.bytes.now c.start.result (Ok c.in_ok-data.data) c.start.ensures.start c.in_ok-data.ensures.header in
     rw (residual _ _ c.from_residual-in_err-section.ensures.1)
-      (no_file c.args.bytes.now f (file_section c.args.bytes.now (start_of c.args.bytes.now) c.in_ok-data.data f h.0 h.1 c.in_err-section.ensures.section))
+    (no_file c.args.bytes.now f (file_section c.args.bytes.now (start_of c.args.bytes.now) c.in_ok-data.data f h.0 h.1 c.in_err-section.ensures.section))

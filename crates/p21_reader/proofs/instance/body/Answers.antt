@@ -10,5 +10,5 @@ pub returns-in_ok-end-in-Open-clause-made : goal.returns-in_ok-end-in-Open-claus
 returns-in_ok-end-in-Open-clause-made c =
     let made : Made = record { instance = record { id = c.args.id; keyword = None; values = c.new.result }; end = c.in_ok-end-in-Open.end } in
     body_complex c.args.id c.args.bytes.now c.args.first.token made refl refl c.new.ensures
-      (said (lexeme_of c.args.bytes.now c.args.first.token) kinds.Open tt (sym c.in-Open.is ∙ c.requires.piece.seen))
-      (body_open (lexeme_of c.args.bytes.now c.args.first.token) (sym c.in-Open.is ∙ c.requires.piece.seen)) c.in_ok-end-in-Open.ensures.passes
+    (said (lexeme_of c.args.bytes.now c.args.first.token) kinds.Open tt (sym c.in-Open.is ∙ c.requires.piece.seen))
+    (body_open (lexeme_of c.args.bytes.now c.args.first.token) (sym c.in-Open.is ∙ c.requires.piece.seen)) c.in_ok-end-in-Open.ensures.passes

@@ -14,7 +14,11 @@ returns-in_err-end-clause-made c = rw (residual _ _ c.from_residual-in_err-end.e
 
 pub returns-clause-made : goal.returns-clause-made
 returns-clause-made c =
-    let v = c.in_ok-end.ensures.values in
-    (refl, (Opening ∷ (print_all v.0 ++ Closing ∷ []),
-      plain_is (lexeme_of c.args.bytes.now c.args.word.token) c.in_ok-keyword.keyword v.0 c.args.stack.now.items c.values.new.stack.items c.from_vec.result c.in_ok-keyword.ensures c.requires.empty v.1 (c.from_vec.ensures ∙ c.in_ok-found.ensures.tail),
-      opens_goes 31 c.args.bytes.now c.args.word.token.end c.in_ok-open.open c.in_ok-end.end (print_all v.0 ++ Closing ∷ []) c.in_ok-open.ensures.expects v.2))
+    let v = c.in_ok-end.ensures.values in (
+      refl,
+      (
+        Opening ∷ (print_all v.0 ++ Closing ∷ []),
+        plain_is (lexeme_of c.args.bytes.now c.args.word.token) c.in_ok-keyword.keyword v.0 c.args.stack.now.items c.values.new.stack.items c.from_vec.result c.in_ok-keyword.ensures c.requires.empty v.1 (c.from_vec.ensures ∙ c.in_ok-found.ensures.tail),
+        opens_goes 31 c.args.bytes.now c.args.word.token.end c.in_ok-open.open c.in_ok-end.end (print_all v.0 ++ Closing ∷ []) c.in_ok-open.ensures.expects v.2,
+      ),
+    )

@@ -20,4 +20,4 @@ returns-then-eq-clause-expects c =
 pub returns-else-eq-clause-expects : goal.returns-else-eq-clause-expects
 returns-else-eq-clause-expects c =
     rw c.refused.ensures (fails_refused (T (sign_class c.args.wanted)) [] c.args.bytes.now c.args.at c.in_ok-piece.piece.token.start c.in_ok-piece.piece.token c.in_ok-piece.ensures.cuts
-      (sign_refused c.args.wanted (class_of (lexeme_of c.args.bytes.now c.in_ok-piece.piece.token)) c.requires.sign (λ e. let g : c.in_ok-piece.piece.kind ≡ c.args.wanted = c.in_ok-piece.ensures.piece.seen ∙ e in search rules)) refl)
+    (sign_refused c.args.wanted (class_of (lexeme_of c.args.bytes.now c.in_ok-piece.piece.token)) c.requires.sign (λ e. let g : c.in_ok-piece.piece.kind ≡ c.args.wanted = c.in_ok-piece.ensures.piece.seen ∙ e in search rules)) refl)

@@ -19,10 +19,10 @@ decreases-list l = 4 * l.depth + 3
 
 abbrev pub invariant-more-loop-next : goal.invariant-more-loop-next
 invariant-more-loop-next l = record {
-    within : l.end ≤ length l.bytes;
-    on : l.fn.at ≤ l.end;
-    read : Behind (Some l.fn.depth) l.bytes l.fn.at l.end l.fn.stack.items l.stack.items
-  }
+  within : l.end ≤ length l.bytes;
+  on : l.fn.at ≤ l.end;
+  read : Behind (Some l.fn.depth) l.bytes l.fn.at l.end l.fn.stack.items l.stack.items;
+}
 
 abbrev pub decreases-more-loop-next : goal.decreases-more-loop-next
 decreases-more-loop-next l = length l.initial.bytes - l.end
