@@ -2,3 +2,4 @@ pub mod Kept
 pub mod Guids
 pub mod Moments
 pub mod Identifiers
+pub mod Boxes

@@ -1,4 +1,7 @@
 //! Points, triangles and boxes in whole numbers.
+ghost use Rattle.std.specs.Prelude.{◌<◌, ◌++◌, ◌∷◌, [], List, length};
+ghost use Rattle.bim_model.specs.declared.geometry.Point.{Point};
+ghost use Rattle.bim_model.specs.Boxes.{Bounds, IsExtentOf};
 
 /// Grid numbers in a millimetre. Lengths are whole grid numbers.
 pub const PER_MM: i32 = 1;
@@ -24,4 +27,40 @@ pub struct Triangle {
 pub struct Extent {
     pub low: Point,
     pub high: Point,
+}
+
+/// The smallest box round the triangles.
+pub fn extent_of(triangles: &[Triangle]) -> Extent
+    requires { 0 < length triangles.now }
+    ensures { IsExtentOf triangles.now result }
+{
+    let first = triangles[0].a;
+    let mut extent = Extent {
+        low: first,
+        high: first,
+    };
+    for triangle in triangles {
+        extent = widened(extent, triangle.a);
+        extent = widened(extent, triangle.b);
+        extent = widened(extent, triangle.c);
+    }
+    extent
+}
+
+/// The smallest box round a box and a point.
+fn widened(extent: Extent, point: Point) -> Extent
+    ensures { (points : List Point) → Bounds points extent → Bounds (points ++ point ∷ []) result }
+{
+    Extent {
+        low: Point {
+            x: extent.low.x.min(point.x),
+            y: extent.low.y.min(point.y),
+            z: extent.low.z.min(point.z),
+        },
+        high: Point {
+            x: extent.high.x.max(point.x),
+            y: extent.high.y.max(point.y),
+            z: extent.high.z.max(point.z),
+        },
+    }
 }

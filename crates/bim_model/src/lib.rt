@@ -7,6 +7,7 @@ mod geometry;
 mod guid;
 mod identifiers;
 mod items;
+mod moment;
 mod shared;
 mod steps;
 mod text;
@@ -14,11 +15,15 @@ mod topic;
 
 pub use bytes::Bytes;
 pub use element::Element;
-pub use geometry::{Extent, PER_MM, Point, Triangle};
+pub use geometry::{Extent, PER_MM, Point, Triangle, extent_of};
 pub use guid::Guid;
 pub use identifiers::{id_of, serial_of};
 pub use items::{Duplicate, Items};
+pub use moment::Moment;
 pub use shared::Shared;
 pub use steps::Steps;
 pub use text::Text;
 pub use topic::{Author, Topic, TopicBody};
+
+#[cfg(test)]
+mod tests;

@@ -2,6 +2,7 @@
 ghost use Rattle.std.specs.Prelude.{◌≡◌, IfOk};
 
 use crate::items::Duplicate;
+use crate::moment::Moment;
 use crate::text::Text;
 use std::alloc::{AllocError, Global};
 
@@ -25,8 +26,7 @@ impl Duplicate for TopicBody {
 pub struct Author {
     /// The user's name, as the front of the server gives it.
     pub user: Text,
-    /// Seconds since 1970 in UTC.
-    pub moment: u64,
+    pub moment: Moment,
 }
 
 impl Duplicate for Author {

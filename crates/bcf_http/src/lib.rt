@@ -1,0 +1,10 @@
+//! From requests to calls of the book, and from its replies to responses (BCF API 3.0 over RFC 9112).
+#![tactic(auto)]
+
+mod answers;
+mod calls;
+mod responses;
+mod trees;
+
+pub use answers::{Answer, to_response};
+pub use calls::{HttpCall, Refusal, ReplyKind, RequestFault, kind_of, to_call};

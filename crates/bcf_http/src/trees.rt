@@ -1,0 +1,56 @@
+//! Answers as JSON values.
+ghost use Rattle.std.specs.Prelude.{◌≡◌, IfOk};
+ghost use Rattle.serde_json.specs.View.{view};
+ghost use Rattle.bcf_http.specs.Answers.{error_tree, request_fault_tree, IsReplyTree, IsAnswerTree};
+
+use crate::answers::Answer;
+use crate::calls::RequestFault;
+use bcf_json::{BodyFault, topic_out, topics_out};
+use federation_book::{BookFault, ReplyBody};
+use serde_json::{Value, json};
+use std::alloc::{AllocError, Global};
+
+#[tactic(auto, unfolding(crate::specs::Answers::error_tree))]
+fn error_out(alloc: Global, code: &str, name: &str) -> Result<Value, AllocError>
+    ensures { IfOk result (λ v. view v ≡ error_tree code.now name.now) }
+{
+    let mut message = String::from_str(alloc, code)?;
+    message.push_str(" ")?;
+    message.push_str(name)?;
+    json!(in alloc; {"code": code, "message": message.as_str()})
+}
+
+fn fault_out(alloc: Global, fault: RequestFault) -> Result<Value, AllocError>
+    ensures { IfOk result (λ v. view v ≡ request_fault_tree fault) }
+{
+    match fault {
+        RequestFault::NotBuilt => error_out(alloc, "H0", "NotBuilt"),
+        RequestFault::BadJson => error_out(alloc, "H9", "BadJson"),
+        RequestFault::Body(BodyFault::Title) => error_out(alloc, "B3", "Title"),
+    }
+}
+
+fn reply_out(alloc: Global, project: u32, reply: &ReplyBody) -> Result<Value, AllocError>
+    ensures { IfOk result (λ v. IsReplyTree project reply.now (view v)) }
+{
+    match reply {
+        ReplyBody::TopicIs(topic) => topic_out(alloc, project, topic),
+        ReplyBody::TopicList(topics) => {
+            let trees = topics_out(alloc, project, topics.as_slice())?;
+            Ok(Value::Array(trees))
+        }
+        ReplyBody::Refused(BookFault::NoProject) => error_out(alloc, "K1", "NoProject"),
+    }
+}
+
+/// The tree of an answer, for a project.
+pub fn answer_out(alloc: Global, project: u32, answer: &Answer) -> Result<Value, AllocError>
+    ensures { IfOk result (λ v. IsAnswerTree project answer.now (view v)) }
+{
+    match answer {
+        Answer::Book(reply) => reply_out(alloc, project, &reply.body),
+        Answer::Refused(fault) => fault_out(alloc, *fault),
+        Answer::Frame(_) => error_out(alloc, "H0", "NotBuilt"),
+        Answer::Memory => error_out(alloc, "M1", "Memory"),
+    }
+}

@@ -1,0 +1,96 @@
+//! The bodies that come in.
+ghost use Rattle.std.specs.Prelude.{◌≡◌, codes, Option, option_map};
+ghost use Rattle.serde_json.specs.View.{view};
+ghost use Rattle.bcf_json.specs.Bodies.{is_there, title_of, asks_unbuilt, topic_body, IsReadAs};
+
+use bim_model::{Text, TopicBody};
+use serde_json::Value;
+use std::alloc::Global;
+
+/// What is wrong with a body.
+#[derive(Clone, Copy, Debug, PartialEq, Eq)]
+pub enum BodyFault {
+    /// B3: the title is absent, null, no text, empty or longer than 1,024 bytes.
+    Title,
+}
+
+/// Why a body is not read.
+#[derive(Clone, Copy, Debug, PartialEq, Eq)]
+pub enum BodyError {
+    Fault(BodyFault),
+    Memory,
+}
+
+#[tactic(auto, unfolding(crate::specs::Bodies::is_there))]
+fn is_there(tree: &Value, name: &str) -> bool
+    ensures { result ≡ is_there name.now (view tree.now) }
+{
+    match tree.get(name) {
+        Some(value) => !value.is_null(),
+        None => false,
+    }
+}
+
+/// Whether a member of a topic is there, and not null, that is not served yet: any but the title.
+#[tactic(auto, unfolding(crate::specs::Bodies::asks_unbuilt))]
+pub fn asks_unbuilt(tree: &Value) -> bool
+    ensures { result ≡ asks_unbuilt (view tree.now) }
+{
+    if is_there(tree, "topic_type") {
+        return true;
+    }
+    if is_there(tree, "topic_status") {
+        return true;
+    }
+    if is_there(tree, "priority") {
+        return true;
+    }
+    if is_there(tree, "assigned_to") {
+        return true;
+    }
+    if is_there(tree, "stage") {
+        return true;
+    }
+    if is_there(tree, "description") {
+        return true;
+    }
+    if is_there(tree, "index") {
+        return true;
+    }
+    if is_there(tree, "labels") {
+        return true;
+    }
+    is_there(tree, "due_date")
+}
+
+#[tactic(auto, unfolding(crate::specs::Bodies::title_of))]
+fn title_of(tree: &Value) -> Option<&str>
+    ensures { option_map (λ s. s.now) result ≡ title_of (view tree.now) }
+{
+    match tree.get("title") {
+        Some(value) => match value.as_str() {
+            Some(title) => {
+                if title.is_empty() || title.len() > 1024 {
+                    None
+                } else {
+                    Some(title)
+                }
+            }
+            None => None,
+        },
+        None => None,
+    }
+}
+
+/// The topic that a body asks for, or the body's first fault.
+pub fn topic_in(alloc: Global, tree: &Value) -> Result<TopicBody, BodyError>
+    ensures { IsReadAs result (topic_body (view tree.now)) }
+{
+    match title_of(tree) {
+        Some(title) => match Text::of(alloc, title) {
+            Ok(title) => Ok(TopicBody { title }),
+            Err(_) => Err(BodyError::Memory),
+        },
+        None => Err(BodyError::Fault(BodyFault::Title)),
+    }
+}

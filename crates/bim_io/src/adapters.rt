@@ -1,0 +1,113 @@
+//! The real streams and the real clock.
+ghost use Rattle.std.specs.Prelude.{None};
+
+use crate::traits::{Clock, Failed, Sink, Source};
+use std::io::{Read, Write};
+use std::rt;
+use std::time::SystemTime;
+
+/// A source over a reader of the system, which tells no contents.
+#[derive(Drop)]
+pub struct StdSource<R: Read + Drop> {
+    inner: R,
+    ended: bool,
+    faults: u64,
+}
+
+impl<R: Read + Drop> StdSource<R> {
+    pub fn new(inner: R) -> Self {
+        StdSource {
+            inner,
+            ended: false,
+            faults: 0,
+        }
+    }
+}
+
+impl<R: Read + Drop> Source for StdSource<R> {
+    ghost left = { λ s. None };
+
+    ghost given = { λ s. None };
+
+    ghost ended = { λ s. s.ended };
+
+    ghost faults = { λ s. s.faults };
+
+    fn read(&mut self, room: &mut [u8]) -> Result<usize, Failed> {
+        match self.inner.read(room) {
+            Ok(count) => {
+                if count == 0 && room.len() > 0 {
+                    self.ended = true;
+                }
+                Ok(count)
+            }
+            Err(_) => {
+                self.faults = self.faults.saturating_add(1);
+                Err(Failed)
+            }
+        }
+    }
+}
+
+/// A sink over a writer of the system, which tells no contents.
+#[derive(Drop)]
+pub struct StdSink<W: Write + Drop> {
+    inner: W,
+    faults: u64,
+}
+
+impl<W: Write + Drop> StdSink<W> {
+    pub fn new(inner: W) -> Self {
+        StdSink { inner, faults: 0 }
+    }
+}
+
+impl<W: Write + Drop> Sink for StdSink<W> {
+    ghost held = { λ s. None };
+
+    ghost faults = { λ s. s.faults };
+
+    fn write(&mut self, piece: &[u8]) -> Result<usize, Failed> {
+        match self.inner.write(piece) {
+            Ok(count) => {
+                if count == 0 && piece.len() > 0 {
+                    self.faults = self.faults.saturating_add(1);
+                    return Err(Failed);
+                }
+                Ok(count)
+            }
+            Err(_) => {
+                self.faults = self.faults.saturating_add(1);
+                Err(Failed)
+            }
+        }
+    }
+}
+
+const LAST_MOMENT: u64 = 253_402_207_200;
+
+/// The system's clock. One that can't be read, or stands before 1970, gives 0.
+#[derive(Drop)]
+pub struct SystemClock<R: rt::Clock + Drop> {
+    handle: R,
+}
+
+impl<R: rt::Clock + Drop> SystemClock<R> {
+    pub fn new(handle: R) -> Self {
+        SystemClock { handle }
+    }
+}
+
+impl<R: rt::Clock + Drop> Clock for SystemClock<R> {
+    ghost moment = { λ s. None };
+
+    fn now(&mut self) -> u64 {
+        match SystemTime::now(&self.handle) {
+            Ok(time) => match time.duration_since(SystemTime::UNIX_EPOCH) {
+                Ok(since) => since.as_secs().min(LAST_MOMENT),
+                Err(_) => 0,
+            },
+            Err(_) => 0,
+        }
+    }
+}

@@ -1,0 +1,12 @@
+//! The outside, as traits with a meaning: where bytes come from and go to, and what time it is.
+#![tactic(auto)]
+
+mod adapters;
+mod memory;
+mod sure;
+mod traits;
+
+pub use adapters::{StdSink, StdSource, SystemClock};
+pub use memory::{MemSink, MemSource};
+pub use sure::{MemClock, SureSink, SureSource};
+pub use traits::{Clock, Failed, Sink, Source};

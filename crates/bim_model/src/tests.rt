@@ -1,0 +1,157 @@
+//! Each public call once, with memory at hand.
+ghost use Rattle.std.specs.Prelude.{◌≡◌, ◌<◌};
+
+use crate::bytes::Bytes;
+use crate::geometry::{Extent, Point, Triangle, extent_of};
+use crate::guid::Guid;
+use crate::identifiers::{id_of, serial_of};
+use crate::items::{Duplicate, Items};
+use crate::moment::Moment;
+use crate::shared::Shared;
+use crate::steps::Steps;
+use crate::text::Text;
+use crate::topic::{Author, Topic, TopicBody};
+use std::alloc::{AllocError, Global};
+use std::marker::Brand;
+use std::process::Abort;
+use std::sync::ledger::{Blank, Ledger};
+use std::test::Fail;
+
+#[test]
+fn keeps_texts_and_bytes(rt: HostRuntime) -> Result<(), Fail> {
+    let cases = [
+        "",
+        "a",
+        "exactly fifteen",
+        "sixteen letters!",
+        "a name of forty bytes that lies outside.",
+    ];
+    for given in cases {
+        try_text(&rt, rt.alloc(), given)?;
+        try_bytes(&rt, rt.alloc(), given.as_bytes())?;
+    }
+    Ok(())
+}
+
+fn try_text(rt: &impl Abort, alloc: Global, given: &str) -> Result<(), AllocError> {
+    let text = Text::of(alloc, given)?;
+    assert_eq!(rt; text.as_str(), given);
+    let second = text.copy(alloc)?;
+    assert_eq!(rt; second.as_str(), given);
+    Ok(())
+}
+
+fn try_bytes(rt: &impl Abort, alloc: Global, given: &[u8]) -> Result<(), AllocError> {
+    let bytes = Bytes::of(alloc, given)?;
+    assert_eq!(rt; bytes.as_slice(), given);
+    let second = bytes.copy(alloc)?;
+    assert_eq!(rt; second.as_slice(), given);
+    let moved = Bytes::from_vec(alloc, given.to_vec(alloc)?)?;
+    assert_eq!(rt; moved.as_slice(), given);
+    Ok(())
+}
+
+#[test]
+fn reads_guids(rt: HostRuntime) {
+    let cases = [
+        ("2O2Fr$t4X7Zf8NOew3FLOH", true),
+        ("0123456789_ABCXYZabcyz", true),
+        ("2O2Fr$t4X7Zf8NOew3FLO", false),
+        ("2O2Fr$t4X7Zf8NOew3FLOHH", false),
+        ("2O2Fr-t4X7Zf8NOew3FLOH", false),
+        ("", false),
+    ];
+    for (text, wanted) in cases {
+        let guid = Guid::read(text.as_bytes());
+        assert_eq!(rt; guid.is_some(), wanted, "at {text}");
+    }
+}
+
+#[test]
+fn numbers_objects(rt: HostRuntime) {
+    let first = 0x00000001_0000_8000_8000_000000000001;
+    assert_eq!(rt; id_of(1, 1), first);
+    assert_eq!(rt; serial_of(1, first), Some(1));
+    assert_eq!(rt; serial_of(2, first), None);
+    let past = 0x00000001_0000_8000_8001_000000000000;
+    assert_eq!(rt; serial_of(1, past - 1), Some(0xffff_ffff_ffff));
+    assert_eq!(rt; serial_of(1, past), None);
+}
+
+#[test]
+fn keeps_items(rt: HostRuntime) -> Result<(), Fail> {
+    let alloc = rt.alloc();
+    let mut names = Items::new(alloc);
+    for name in ["slab", "a beam of the upper storey"] {
+        names.push(Text::of(alloc, name)?)?;
+    }
+    let shared = Shared::new(alloc, names.copy(alloc)?)?;
+    let second = shared.share()?;
+    assert_eq!(rt; second.get().len(), 2);
+    let names = names.into_vec();
+    for (name, copied) in names.iter().zip(second.get().as_slice()) {
+        assert_eq!(rt; name.as_str(), copied.as_str());
+    }
+    assert_eq!(rt; Items::from_vec(names).len(), 2);
+    Ok(())
+}
+
+#[test]
+fn finds_a_box(rt: HostRuntime) {
+    let triangles = [
+        triangle((0, 0, 0), (4, -1, 2), (3, 5, 1)),
+        triangle((-7, 2, 2), (1, 1, 9), (2, 2, 2)),
+    ];
+    let wanted = Extent {
+        low: point((-7, -1, 0)),
+        high: point((4, 5, 9)),
+    };
+    assert_eq!(rt; extent_of(&triangles), wanted);
+}
+
+#[test]
+fn copies_topics_and_counts_steps(rt: HostRuntime) -> Result<(), Fail> {
+    let alloc = rt.alloc();
+    let topic = Topic {
+        serial: 3,
+        body: TopicBody {
+            title: Text::of(alloc, "Beam in duct")?,
+        },
+        created: Author {
+            user: Text::of(alloc, "anna")?,
+            moment: Moment::new(1_700_000_000),
+        },
+    };
+    let second = topic.copy(alloc)?;
+    assert_eq!(rt; second.serial, 3);
+    assert_eq!(rt; second.body.title.as_str(), "Beam in duct");
+    let Author { user, moment } = second.created;
+    assert_eq!(rt; user.as_str(), "anna");
+    assert_eq!(rt; moment.seconds(), 1_700_000_000);
+
+    count_two_steps::<Brand>(Blank::new(1));
+    assert_eq!(rt; size_of::<Steps<Brand>>(), 0);
+    Ok(())
+}
+
+fn count_two_steps<L: Ledger>(blank: Blank)
+    requires name { blank.name ≡ L.name }
+    requires parts { blank.parts ≡ L.parts }
+    requires some { 0 < blank.parts }
+{
+    let mut steps = Steps::<L>::new(blank);
+    steps.tick();
+    steps.tick();
+}
+
+fn triangle(a: (i32, i32, i32), b: (i32, i32, i32), c: (i32, i32, i32)) -> Triangle {
+    Triangle {
+        a: point(a),
+        b: point(b),
+        c: point(c),
+    }
+}
+
+fn point((x, y, z): (i32, i32, i32)) -> Point {
+    Point { x, y, z }
+}

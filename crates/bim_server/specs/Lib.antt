@@ -1,0 +1,4 @@
+pub mod Writes
+pub mod Loop
+pub mod Words
+pub mod Commands

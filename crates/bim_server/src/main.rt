@@ -1,0 +1,8 @@
+//! The coordination server for building models.
+#![tactic(auto)]
+
+mod one_thread;
+mod session;
+mod sinks;
+
+fn main() {}

@@ -1,0 +1,124 @@
+//! One session over one source and one sink, with a one-thread book.
+ghost use Rattle.std.specs.Prelude.{◌≡◌, ◌<◌, ◌≤◌, ◌^◌, ◌+◌, false, None, IsTrue, IsSome, List, ℕ, Option};
+ghost use Rattle.bim_io.specs.Causes.{Rose};
+ghost use Rattle.federation_book.specs.History.{IsBefore};
+ghost use Rattle.bim_session.specs.Replay.{Replays, MayGive, status_of};
+ghost use Rattle.bim_server.specs.Loop.{SoFar, Goes, Reading, Writing, Called, IsReadFault, IsWriteFault, fuel};
+
+use crate::one_thread::OneThread;
+use crate::sinks::write_whole;
+use bim_io::{Clock, Sink, Source};
+use bim_session::{SessionEnd, Talk, Want};
+use federation_book::BookRequest;
+use std::alloc::Global;
+
+/// Whether a session goes on after a step.
+#[derive(Clone, Copy, Debug, PartialEq, Eq)]
+pub enum Progress {
+    Again,
+    End(SessionEnd),
+}
+
+/// The exit status of a session's end.
+pub fn status_of(end: SessionEnd) -> u8
+    ensures { result ≡ status_of end }
+{
+    match end {
+        SessionEnd::Closed { .. } => 0,
+        SessionEnd::ReadFault { .. } => 4,
+        SessionEnd::WriteFault { .. } => 5,
+        SessionEnd::Memory { .. } => 6,
+        SessionEnd::Cut { .. } => 7,
+        SessionEnd::Frame { .. } => 7,
+        SessionEnd::Spent { .. } => 7,
+    }
+}
+
+fn read_more<S: Source>(talk: &mut Talk, source: &mut S) -> Progress
+    requires { talk.old.ended ≡ false }
+    ensures step { Reading (S.given source.old) (S.given source.new) (S.ended source.new) talk.old result talk.new }
+    ensures later { S.faults source.old ≤ S.faults source.new }
+    ensures read { IsReadFault result → Rose (S.faults source.old) (S.faults source.new) }
+    ensures other { IsWriteFault result → ⊥ }
+{
+    let mut room = [0u8; 16384];
+    match source.read(&mut room) {
+        Ok(count) => match talk.feed(&room[..count]) {
+            Ok(()) => Progress::Again,
+            Err(_) => Progress::End(SessionEnd::Memory {
+                served: talk.served(),
+            }),
+        },
+        Err(_) => Progress::End(SessionEnd::ReadFault {
+            served: talk.served(),
+        }),
+    }
+}
+
+fn write_bytes<K: Sink>(served: u64, sink: &mut K, bytes: &[u8]) -> Progress
+    ensures step { Writing served (K.held sink.old) (K.held sink.new) bytes.now result }
+    ensures later { K.faults sink.old ≤ K.faults sink.new }
+    ensures write { IsWriteFault result → Rose (K.faults sink.old) (K.faults sink.new) }
+    ensures other { IsReadFault result → ⊥ }
+{
+    match write_whole(sink, bytes) {
+        Ok(()) => Progress::Again,
+        Err(_) => Progress::End(SessionEnd::WriteFault { served }),
+    }
+}
+
+// Calls the book for the request that waits, and writes the response.
+#[tactic(auto, using(crate::proofs::Known::Grows_empty))]
+fn call_book<K: Sink>(
+    talk: &mut Talk,
+    server: &mut OneThread,
+    sink: &mut K,
+    call: BookRequest,
+) -> Progress
+    requires waits { IsSome talk.old.waits }
+    requires leaving { talk.old.leaving ≡ None }
+    requires turns { server.old.turns < 2 ^ 63 }
+    ensures step { Called call (K.held sink.old) (K.held sink.new) talk.old server.old result talk.new server.new }
+    ensures before { IsBefore (server.new.turns + 1) server.new.history }
+    ensures later { K.faults sink.old ≤ K.faults sink.new }
+    ensures write { IsWriteFault result → Rose (K.faults sink.old) (K.faults sink.new) }
+    ensures other { IsReadFault result → ⊥ }
+{
+    let served = talk.served();
+    let receipt = server.call(call);
+    match talk.answer(receipt) {
+        Ok(Want::Write(bytes)) => write_bytes(served, sink, bytes.as_slice()),
+        Ok(Want::Leave(end)) => Progress::End(end),
+        Ok(Want::More) => unreachable!(),
+        Ok(Want::Call(_)) => unreachable!(),
+        Err(_) => Progress::End(SessionEnd::Memory { served }),
+    }
+}
+
+fn take_step<S: Source, K: Sink, C: Clock>(
+    talk: &mut Talk,
+    server: &mut OneThread,
+    source: &mut S,
+    sink: &mut K,
+    clock: &mut C,
+) -> Progress
+    requires idle { talk.old.waits ≡ None }
+    requires turns { server.old.turns < 2 ^ 63 }
+    ensures step { (given held : Option (List ℕ)) → SoFar (MayGive (C.moment clock.old)) given (S.given source.old) (S.ended source.old) held (K.held sink.old) talk.old server.old
+        → Goes (MayGive (C.moment clock.old)) given (S.given source.new) (S.ended source.new) held (K.held sink.new) result talk.new server.new }
+    ensures smaller { result ≡ Progress.Again → fuel talk.new < fuel talk.old }
+    ensures clock { C.moment clock.new ≡ C.moment clock.old }
+    ensures sources { S.faults source.old ≤ S.faults source.new }
+    ensures sinks { K.faults sink.old ≤ K.faults sink.new }
+    ensures read { IsReadFault result → Rose (S.faults source.old) (S.faults source.new) }
+    ensures write { IsWriteFault result → Rose (K.faults sink.old) (K.faults sink.new) }
+{
+    let served = talk.served();
+    match talk.next(clock.now()) {
+        Ok(Want::More) => read_more(talk, source),
+        Ok(Want::Write(bytes)) => write_bytes(served, sink, bytes.as_slice()),
+        Ok(Want::Call(call)) => call_book(talk, server, sink, call),
+        Ok(Want::Leave(end)) => Progress::End(end),
+        Err(_) => Progress::End(SessionEnd::Memory { served }),
+    }
+}

@@ -1,0 +1,29 @@
+//! Writing a whole piece.
+ghost use Rattle.std.specs.Prelude.{◌≡◌, ◌≤◌, length, drop};
+ghost use Rattle.bim_io.specs.Causes.{HasCause};
+ghost use Rattle.bim_server.specs.Writes.{WritesWhole};
+
+use bim_io::{Failed, Sink};
+
+fn tail(bytes: &[u8], at: usize) -> &[u8]
+    requires { at ≤ length bytes.now }
+    ensures { result.now ≡ drop at bytes.now }
+{
+    &bytes[at..]
+}
+
+/// Writes all the bytes, or a front of them where the sink fails.
+#[tactic(auto, using(crate::proofs::Known::Grows_empty))]
+pub fn write_whole<K: Sink>(sink: &mut K, bytes: &[u8]) -> Result<(), Failed>
+    ensures bytes { WritesWhole (K.held sink.old) (K.held sink.new) bytes.now result }
+    ensures cause { HasCause (K.faults sink.old) (K.faults sink.new) result }
+{
+    let mut at = 0;
+    while at < bytes.len() {
+        match sink.write(tail(bytes, at)) {
+            Ok(count) => at += count,
+            Err(failed) => return Err(failed),
+        }
+    }
+    Ok(())
+}

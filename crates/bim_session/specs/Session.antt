@@ -1,0 +1,147 @@
+-- A session: what is written for the bytes that one connection gives, at the turns of one history.
+use Rattle.std.specs.Prelude.{◌≡◌, ◌≢◌, ◌⊎◌, ℕ, ◌+◌, ◌<◌, ◌≤◌, ◌==◌, ◌++◌, List, [], ◌∷◌, length, Bool, true, Option, Some, None, Result, Ok, Err, IsTrue}
+use Rattle.http_frame.specs.declared.framer.HttpRequest.{HttpRequest}
+use Rattle.http_frame.specs.declared.framer.FrameFault.{FrameFault}
+use Rattle.http_frame.specs.declared.framer.FrameFault.TheVariants as frame
+use Rattle.http_frame.specs.Requests.{Begins, Reads, IsRefused, IsUnfinished}
+use Rattle.federation_book.specs.declared.types.Entry.{Entry}
+use Rattle.federation_book.specs.History.{reply_of, added_by, at_turn, of_turn}
+use Rattle.federation_book.specs.Runs.{Step}
+use Rattle.bcf_http.specs.declared.calls.RequestFault.{RequestFault}
+use Rattle.bcf_http.specs.declared.calls.RequestFault.TheVariants.{NotBuilt}
+use Rattle.bcf_http.specs.declared.answers.Answer.{Answer}
+use Rattle.bcf_http.specs.declared.answers.Answer.TheVariants as answer
+use Rattle.bcf_http.specs.Calls.{asked_by, kind_of, no_kind}
+use Rattle.bcf_http.specs.Answers.{IsResponse}
+use Rattle.bim_session.specs.declared.end.SessionEnd.{SessionEnd}
+use Rattle.bim_session.specs.declared.end.SessionEnd.TheVariants.{Closed, Cut, ReadFault, WriteFault, Frame, Spent, Memory}
+
+-- the most requests of a session
+abbrev pub most_requests : ℕ
+most_requests = 10000
+
+-- the connection is closed behind the answer to the request of this number, counted from 1
+abbrev pub closes_after : ℕ → Bool
+closes_after n = n == most_requests
+
+-- a request asks this step of the book, at a moment that may be given; the step's entry is what the change adds
+pub record Takes (may : ℕ → Type 0) (projects : ℕ) (history : List Entry) (request : HttpRequest) (step : Step) : Type 0 where
+  pub moment : ℕ
+  pub may_be : may moment
+  pub asked : asked_by moment request ≡ Ok step.request
+  pub entry : of_turn step.stamp.turn history ≡ added_by projects (at_turn step.stamp.turn history) step.stamp step.request
+
+-- the request alone decides the answer, which prints no turn
+pub record IsPlain (may : ℕ → Type 0) (request : HttpRequest) (close : Bool) (bytes : List ℕ) (steps : List Step) : Type 0 where
+  pub moment : ℕ
+  pub may_be : may moment
+  pub fault : RequestFault
+  pub refused : asked_by moment request ≡ Err fault
+  pub served : fault ≢ NotBuilt
+  pub response : IsResponse (answer.Refused fault) (kind_of request) None close bytes
+  pub none : steps ≡ []
+
+-- the answer is the book's at the entries below the turn that it prints; that turn is above those before
+pub record IsBooked (may : ℕ → Type 0) (projects : ℕ) (history : List Entry) (last top : ℕ) (request : HttpRequest) (close : Bool) (bytes : List ℕ) (steps : List Step) : Type 0 where
+  pub step : Step
+  pub one : steps ≡ step ∷ []
+  pub above : last < step.stamp.turn
+  pub within : step.stamp.turn ≤ top
+  pub takes : Takes may projects history request step
+  pub response : IsResponse (answer.Book (reply_of projects (at_turn step.stamp.turn history) step.request)) (kind_of request) (Some step.stamp.turn) close bytes
+
+-- the step of the request, where it took one, changes nothing
+pub record TakesIdly (may : ℕ → Type 0) (projects : ℕ) (history : List Entry) (last top : ℕ) (request : HttpRequest) (steps : List Step) : Type 0 where
+  pub step : Step
+  pub one : steps ≡ step ∷ []
+  pub above : last < step.stamp.turn
+  pub within : step.stamp.turn ≤ top
+  pub takes : Takes may projects history request step
+  pub idle : of_turn step.stamp.turn history ≡ []
+
+-- memory is wanting for the answer: none changes anything, and no turn is printed
+pub record LacksMemory (may : ℕ → Type 0) (projects : ℕ) (history : List Entry) (last top : ℕ) (request : HttpRequest) (close : Bool) (bytes : List ℕ) (steps : List Step) : Type 0 where
+  pub response : IsResponse answer.Memory (kind_of request) None close bytes
+  pub idle : (steps ≡ []) ⊎ TakesIdly may projects history last top request steps
+
+-- the answer to one request, which is of one of three kinds, with the steps that it took
+abbrev pub Answers : (ℕ → Type 0) → ℕ → List Entry → ℕ → ℕ → HttpRequest → Bool → List ℕ → List Step → Type 0
+Answers may projects history last top request close bytes steps =
+    IsPlain may request close bytes steps
+    ⊎ (IsBooked may projects history last top request close bytes steps ⊎ LacksMemory may projects history last top request close bytes steps)
+
+-- the last turn of the steps, or the one before them
+abbrev pub last_turn : ℕ → List Step → ℕ
+last_turn last [] = last
+last_turn last (s ∷ ss) = last_turn s.stamp.turn ss
+
+-- the requests, of which `count` came before, are answered in their order, each once; what is written is the answers
+abbrev pub Answered : (ℕ → Type 0) → ℕ → List Entry → ℕ → ℕ → ℕ → List HttpRequest → List ℕ → List Step → Type 0
+Answered may projects history top last count [] out steps = (out ≡ []) × (steps ≡ [])
+Answered may projects history top last count (r ∷ rs) out steps =
+    (piece : List ℕ) × (later : List ℕ) × (first : List Step) × (others : List Step)
+    × Answers may projects history last top r (closes_after (count + 1)) piece first
+    × (out ≡ piece ++ later) × (steps ≡ first ++ others)
+    × Answered may projects history top (last_turn last first) (count + 1) rs later others
+
+-- the bytes begin with what is refused: no served head, or a body that is not served yet
+abbrev pub Faults : (ℕ → Type 0) → List ℕ → Type 0
+Faults may rest = IsRefused rest
+    ⊎ ((moment : ℕ) × may moment × (request : HttpRequest) × (later : List ℕ) × Begins rest request later × (asked_by moment request ≡ Err NotBuilt))
+
+-- the response to a fault of the bytes, which closes the connection
+abbrev pub IsFaultResponse : List ℕ → Type 0
+IsFaultResponse bytes = IsResponse (answer.Frame frame.NotBuilt) no_kind None true bytes
+
+-- these bytes are the next that a session writes: the answer to the next request, or the fault's response
+abbrev pub IsNext : (ℕ → Type 0) → ℕ → List Entry → ℕ → ℕ → List ℕ → ℕ → List ℕ → List Step → Type 0
+IsNext may projects history last top rest served bytes steps =
+    ((request : HttpRequest) × (later : List ℕ) × Begins rest request later × Answers may projects history last top request (closes_after (served + 1)) bytes steps)
+    ⊎ (Faults may rest × IsFaultResponse bytes × (steps ≡ []))
+
+-- a step that the next request took although no answer to it was written
+pub record TakesUnanswered (may : ℕ → Type 0) (projects : ℕ) (history : List Entry) (last top : ℕ) (rest : List ℕ) (steps : List Step) : Type 0 where
+  pub request : HttpRequest
+  pub later : List ℕ
+  pub next : Begins rest request later
+  pub step : Step
+  pub one : steps ≡ step ∷ []
+  pub above : last < step.stamp.turn
+  pub within : step.stamp.turn ≤ top
+  pub takes : Takes may projects history request step
+
+-- How a session ends, after so many requests were answered whole and where these bytes are left; what it took of the
+-- input beyond them, what it wrote behind the answers, and the step that it took without a whole answer. `ended` says
+-- whether the input has answered its end.
+abbrev pub Ends : (ℕ → Type 0) → ℕ → List Entry → ℕ → ℕ → Bool → List ℕ → ℕ → SessionEnd → List ℕ → List ℕ → List Step → Type 0
+Ends may projects history last top ended rest served (Closed n) extra tail steps =
+    (n ≡ served) × (served < most_requests) × IsTrue ended × (rest ≡ []) × (extra ≡ []) × (tail ≡ []) × (steps ≡ [])
+Ends may projects history last top ended rest served (Cut n) extra tail steps =
+    (n ≡ served) × (served < most_requests) × IsTrue ended × (rest ≢ []) × IsUnfinished rest × (extra ≡ []) × (tail ≡ []) × (steps ≡ [])
+Ends may projects history last top ended rest served (ReadFault n) extra tail steps =
+    (n ≡ served) × (served < most_requests) × (extra ≡ []) × (tail ≡ []) × (steps ≡ [])
+Ends may projects history last top ended rest served (WriteFault n) extra tail steps =
+    (n ≡ served) × (served < most_requests) × (extra ≡ []) × ((more : List ℕ) × IsNext may projects history last top rest served (tail ++ more) steps)
+Ends may projects history last top ended rest served (Frame n fault) extra tail steps =
+    (n ≡ served) × (served < most_requests) × Faults may rest × (extra ≡ []) × IsFaultResponse tail × (steps ≡ [])
+Ends may projects history last top ended rest served (Spent n) extra tail steps =
+    (n ≡ served) × (served ≡ most_requests) × (extra ≡ []) × (tail ≡ []) × (steps ≡ [])
+Ends may projects history last top ended rest served (Memory n) extra tail steps =
+    (n ≡ served) × (tail ≡ []) × ((steps ≡ []) ⊎ TakesUnanswered may projects history last top rest steps)
+
+-- a session that took this input and wrote this output, by these steps at turns above `last` and up to `top`
+pub record Session (may : ℕ → Type 0) (projects : ℕ) (history : List Entry) (last top : ℕ) (ended : Bool) (input output : List ℕ) (steps : List Step) (end : SessionEnd) : Type 0 where
+  pub taken : List ℕ
+  pub extra : List ℕ
+  pub requests : List HttpRequest
+  pub rest : List ℕ
+  pub out : List ℕ
+  pub tail : List ℕ
+  pub done : List Step
+  pub more : List Step
+  pub input_is : input ≡ taken ++ extra
+  pub output_is : output ≡ out ++ tail
+  pub steps_are : steps ≡ done ++ more
+  pub reads : Reads taken requests rest
+  pub answered : Answered may projects history top last 0 requests out done
+  pub ends : Ends may projects history (last_turn last done) top ended rest (length requests) end extra tail more

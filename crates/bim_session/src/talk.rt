@@ -1,0 +1,255 @@
+//! One connection as a machine without input or output.
+ghost use Rattle.std.specs.Prelude.{◌≡◌, ◌↔◌, ◌<◌, None, Some, false, Ok, IsTrue, IsSome, IfOk, IfSome, OnOk, OnErr};
+ghost use Rattle.bim_model.specs.Moments.{IsMoment};
+ghost use Rattle.http_frame.specs.Requests.{IsUnfinished};
+ghost use Rattle.bim_session.specs.Session.{most_requests};
+ghost use Rattle.bim_session.specs.Talking.{fresh, with_piece, WantsFor, Talks, Replies, LacksFor, AtRest, AnswersFault, Responds, IsOwnLeaving, IsOwnWant, leaving_after, ChangesNothing};
+
+use crate::end::SessionEnd;
+use crate::want::{Receipt, Want};
+use bcf_http::{Answer, HttpCall, Refusal, ReplyKind, RequestFault, kind_of, to_call, to_response};
+use federation_book::ReplyBody;
+use http_frame::{FrameError, FrameFault, FrameStep, Framer, HttpRequest};
+use std::alloc::{AllocError, Global};
+use std::marker::Model;
+
+const MOST_REQUESTS: u64 = 10_000;
+
+/// One connection. It stands for the bytes fed that follow the last request that it took.
+#[derive(Drop)]
+pub struct Talk {
+    alloc: Global,
+    framer: Framer,
+    ended: bool,
+    served: u64,
+    waits: Option<ReplyKind>,
+    leaving: Option<SessionEnd>,
+}
+
+impl Model for Talk {
+    ghost use Rattle.std.specs.Prelude.{◌≡◌, ◌<◌, ◌≤◌, None};
+    ghost use Rattle.bim_session.specs.Session.{most_requests};
+    ghost use Rattle.bim_session.specs.Talking.{TalkState, IsOwnLeaving};
+
+    ghost Value = { TalkState };
+
+    ghost view = { λ t. record { rest = t.framer; ended = t.ended; served = t.served; waits = t.waits; leaving = t.leaving } };
+
+    ghost invariant = { λ t. (t.served ≤ most_requests) × (t.leaving ≡ None → t.served < most_requests) × IsOwnLeaving t.leaving };
+}
+
+fn leaving_after(served: u64) -> Option<SessionEnd>
+    ensures value { result ≡ leaving_after served }
+    ensures own { IsOwnLeaving result }
+{
+    if served == MOST_REQUESTS {
+        Some(SessionEnd::Spent { served })
+    } else {
+        None
+    }
+}
+
+fn is_unserved(fault: RequestFault) -> bool
+    ensures { IsTrue result ↔ (fault ≡ RequestFault.NotBuilt) }
+{
+    match fault {
+        RequestFault::NotBuilt => true,
+        RequestFault::BadJson => false,
+        RequestFault::Body(_) => false,
+    }
+}
+
+fn changes_nothing(reply: &ReplyBody) -> bool
+    ensures { IsTrue result ↔ ChangesNothing reply.now }
+{
+    match reply {
+        ReplyBody::TopicIs(_) => false,
+        ReplyBody::TopicList(_) => true,
+        ReplyBody::Refused(_) => true,
+    }
+}
+
+impl Talk {
+    /// A talk that has been fed nothing.
+    pub fn new(alloc: Global) -> Result<Talk, AllocError>
+        ensures { IfOk result (λ talk. talk ≡ fresh) }
+    {
+        Ok(Talk {
+            alloc,
+            framer: Framer::new(alloc)?,
+            ended: false,
+            served: 0,
+            waits: None,
+            leaving: None,
+        })
+    }
+
+    /// How many requests were answered.
+    pub fn served(&self) -> u64
+        ensures { result ≡ self.now.served }
+    {
+        self.served
+    }
+
+    /// Appends the piece to the bytes fed. An empty piece says that the input has ended; nothing is fed after it. An
+    /// `Err` leaves the talk as it was.
+    pub fn feed(&mut self, piece: &[u8]) -> Result<(), AllocError>
+        requires { self.old.ended ≡ false }
+        ensures ok { OnOk result (self.new ≡ with_piece piece.now self.old) }
+        ensures err { OnErr result (self.new ≡ self.old) }
+    {
+        match piece {
+            [] => {
+                self.ended = true;
+                Ok(())
+            }
+            [..] => self.framer.feed(piece),
+        }
+    }
+
+    /// What is to be done next, at a moment in seconds since 1970. An `Err` ends the talk for want of memory.
+    #[tactic(auto, using(crate::proofs::Talks::none_of))]
+    pub fn next(&mut self, moment: u64) -> Result<Want, AllocError>
+        requires moment { IsMoment moment }
+        requires idle { self.old.waits ≡ None }
+        ensures want { IfOk result (λ want. Talks moment self.old want self.new) }
+        ensures err { OnErr result (self.old.leaving ≡ None) }
+        ensures few { self.old.leaving ≡ None → self.old.served < most_requests }
+        ensures own { IfOk result IsOwnWant }
+    {
+        if let Some(end) = self.leaving {
+            return Ok(Want::Leave(end));
+        }
+        match self.framer.next() {
+            Ok(FrameStep::More) => Ok(self.at_rest()),
+            Ok(FrameStep::Request(request)) => self.take(moment, request),
+            Err(FrameError::Fault(fault)) => self.refuse(fault),
+            Err(FrameError::Memory) => Err(AllocError),
+        }
+    }
+
+    // What is wanted where less than a request is at hand.
+    fn at_rest(&self) -> Want
+        requires { IsUnfinished self.now.rest }
+        ensures want { AtRest self.now result }
+        ensures own { IsOwnWant result }
+    {
+        let served = self.served;
+        if !self.ended {
+            return Want::More;
+        }
+        if self.framer.is_empty() {
+            Want::Leave(SessionEnd::Closed { served })
+        } else {
+            Want::Leave(SessionEnd::Cut { served })
+        }
+    }
+
+    fn refuse(&mut self, fault: FrameFault) -> Result<Want, AllocError>
+        ensures want { IfOk result (λ want. AnswersFault self.old want self.new) }
+        ensures own { IfOk result IsOwnWant }
+    {
+        let bytes = to_response(
+            self.alloc,
+            &Answer::Frame(fault),
+            ReplyKind::none(),
+            None,
+            true,
+        )?;
+        self.leaving = Some(SessionEnd::Frame {
+            served: self.served,
+            fault,
+        });
+        Ok(Want::Write(bytes))
+    }
+
+    fn respond(
+        &mut self,
+        answer: &Answer,
+        kind: ReplyKind,
+        turn: Option<u64>,
+    ) -> Result<Want, AllocError>
+        requires { self.old.leaving ≡ None }
+        ensures ok { IfOk result (λ want. Responds answer.now kind turn self.old want self.new) }
+        ensures own { IfOk result IsOwnWant }
+        ensures err { OnErr result (self.new ≡ self.old) }
+    {
+        let served = self.served + 1;
+        let bytes = to_response(self.alloc, answer, kind, turn, served == MOST_REQUESTS)?;
+        self.served = served;
+        self.waits = None;
+        self.leaving = leaving_after(served);
+        Ok(Want::Write(bytes))
+    }
+
+    fn take(&mut self, moment: u64, request: HttpRequest) -> Result<Want, AllocError>
+        requires moment { IsMoment moment }
+        requires open_ { self.old.leaving ≡ None }
+        ensures want { IfOk result (λ want. WantsFor moment request self.old want self.new) }
+        ensures own { IfOk result IsOwnWant }
+    {
+        let kind = kind_of(&request);
+        match to_call(self.alloc, request, moment) {
+            Ok(HttpCall::Ask(call)) => {
+                self.waits = Some(kind);
+                Ok(Want::Call(call))
+            }
+            Err(Refusal::Fault(fault)) => {
+                if is_unserved(fault) {
+                    return self.refuse(FrameFault::NotBuilt);
+                }
+                self.respond(&Answer::Refused(fault), kind, None)
+            }
+            Err(Refusal::Memory) => self.respond(&Answer::Memory, kind, None),
+        }
+    }
+
+    /// Takes the book's answer to the call that waits, or want of memory for it, and says what is to be done next: the
+    /// response is written, or the talk ends for want of memory. An `Err` does not come.
+    pub fn answer(&mut self, receipt: Result<Receipt, AllocError>) -> Result<Want, AllocError>
+        requires waits { IsSome self.old.waits }
+        requires open_ { self.old.leaving ≡ None }
+        ensures { IfOk result (λ want. IfSome self.old.waits (λ kind. Replies receipt kind self.old want self.new)) }
+    {
+        let Some(kind) = self.waits else {
+            unreachable!()
+        };
+        match receipt {
+            Ok(receipt) => self.answer_receipt(kind, receipt),
+            Err(_) => self.answer_memory(kind),
+        }
+    }
+
+    // The response to a call for which memory was wanting.
+    fn answer_memory(&mut self, kind: ReplyKind) -> Result<Want, AllocError>
+        requires { self.old.leaving ≡ None }
+        ensures { IfOk result (λ want. LacksFor kind self.old want self.new) }
+    {
+        match self.respond(&Answer::Memory, kind, None) {
+            Ok(want) => Ok(want),
+            Err(_) => Ok(Want::Leave(SessionEnd::Memory {
+                served: self.served,
+            })),
+        }
+    }
+
+    // The response to a call that the book answered.
+    fn answer_receipt(&mut self, kind: ReplyKind, receipt: Receipt) -> Result<Want, AllocError>
+        requires { self.old.leaving ≡ None }
+        ensures { IfOk result (λ want. Replies (Ok receipt) kind self.old want self.new) }
+    {
+        let Receipt { turn, reply } = receipt;
+        let changes_nothing = changes_nothing(&reply.body);
+        match self.respond(&Answer::Book(reply), kind, Some(turn)) {
+            Ok(want) => Ok(want),
+            Err(_) => {
+                if changes_nothing {
+                    return self.answer_memory(kind);
+                }
+                Ok(Want::Leave(SessionEnd::Memory {
+                    served: self.served,
+                }))
+            }
+        }
+    }
+}

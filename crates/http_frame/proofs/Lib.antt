@@ -1,0 +1,4 @@
+pub mod Digits
+pub mod Simple
+pub mod Framing
+pub mod OneReading

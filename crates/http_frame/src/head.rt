@@ -1,0 +1,172 @@
+//! The request heads that are served so far.
+ghost use Rattle.std.specs.Prelude.{◌≡◌, ◌≤◌, ℕ, List, length, take, map, All, Option, None, Some, IfSome, IfNone};
+ghost use Rattle.std.specs.List.{list_all};
+ghost use Rattle.std.specs.Char.{is_ascii_digit};
+ghost use Rattle.std.specs.Str.{bytes_eq};
+ghost use Rattle.httparse.specs.Grammar.{RequestHead};
+ghost use Rattle.httparse.specs.Spans.{IsHeaderWithin, IsWithin, header_bytes, span_bytes};
+ghost use Rattle.http_frame.specs.Heads.{small_number, is_named, get_length, post_length, length_of_two, method_length, simple_length, begins_blank, IsSimple, Finds};
+
+use httparse::Status;
+use httparse::spans::{EMPTY_HEADER_SPAN, HeaderSpan, RequestSpans, Span, parse_request};
+
+/// A served head: where its method and its target stand in its block, and how many bytes its body has.
+#[derive(Clone, Copy, Debug, PartialEq, Eq)]
+pub struct SimpleHead {
+    pub method: Span,
+    pub target: Span,
+    pub length: usize,
+}
+
+const TOPICS_TARGET: &[u8] = b"/bcf/3.0/projects/00000001-0000-8000-8000-000000000000/topics";
+
+fn is_same(bytes: &[u8], wanted: &[u8]) -> bool
+    ensures { result ≡ bytes_eq bytes.now wanted.now }
+{
+    bytes == wanted
+}
+
+fn are_digits(text: &[u8]) -> bool
+    ensures { result ≡ list_all is_ascii_digit text.now }
+{
+    text.iter().all(|b| b.is_ascii_digit())
+}
+
+// The number that 1 to 5 digits write, at most 65,536.
+#[tactic(auto, using(crate::proofs::Digits::one_more), unfolding(crate::specs::Heads::small_number))]
+fn small_number(text: &[u8]) -> Option<usize>
+    ensures { result ≡ small_number text.now }
+{
+    if text.is_empty() || text.len() > 5 || !are_digits(text) {
+        return None;
+    }
+    let mut value = 0;
+    for b in text {
+        value = value * 10 + (*b - b'0') as usize;
+    }
+    if value <= 65_536 { Some(value) } else { None }
+}
+
+#[tactic(auto, unfolding(crate::specs::Heads::is_named))]
+fn is_named(wanted: &[u8], block: &[u8], header: &HeaderSpan) -> bool
+    requires { IsHeaderWithin (length block.now) header.now }
+    ensures { result ≡ is_named wanted.now (header_bytes block.now header.now) }
+{
+    header.name.of(block).eq_ignore_ascii_case(wanted)
+}
+
+fn length_of_two(block: &[u8], first: &HeaderSpan, second: &HeaderSpan) -> Option<usize>
+    requires first { IsHeaderWithin (length block.now) first.now }
+    requires second { IsHeaderWithin (length block.now) second.now }
+    ensures { result ≡ length_of_two (header_bytes block.now first.now) (header_bytes block.now second.now) }
+{
+    if is_named(b"host", block, first) && is_named(b"content-length", block, second) {
+        return small_number(second.value.of(block));
+    }
+    if is_named(b"content-length", block, first) && is_named(b"host", block, second) {
+        return small_number(first.value.of(block));
+    }
+    None
+}
+
+fn get_length(block: &[u8], headers: &[HeaderSpan]) -> Option<usize>
+    requires { All (IsHeaderWithin (length block.now)) headers.now }
+    ensures { result ≡ get_length (map (header_bytes block.now) headers.now) }
+{
+    match headers {
+        [only] => {
+            if is_named(b"host", block, only) {
+                Some(0)
+            } else {
+                None
+            }
+        }
+        _ => None,
+    }
+}
+
+fn post_length(block: &[u8], headers: &[HeaderSpan]) -> Option<usize>
+    requires { All (IsHeaderWithin (length block.now)) headers.now }
+    ensures { result ≡ post_length (map (header_bytes block.now) headers.now) }
+{
+    match headers {
+        [first, second] => length_of_two(block, first, second),
+        _ => None,
+    }
+}
+
+fn method_length(method: &[u8], block: &[u8], headers: &[HeaderSpan]) -> Option<usize>
+    requires { All (IsHeaderWithin (length block.now)) headers.now }
+    ensures { result ≡ method_length method.now (map (header_bytes block.now) headers.now) }
+{
+    if is_same(method, b"GET") {
+        return get_length(block, headers);
+    }
+    if is_same(method, b"POST") {
+        return post_length(block, headers);
+    }
+    None
+}
+
+#[tactic(auto, unfolding(crate::specs::Heads::simple_length))]
+fn simple_length(block: &[u8], spans: &RequestSpans, headers: &[HeaderSpan]) -> Option<usize>
+    requires method { IsWithin (length block.now) spans.now.method }
+    requires target { IsWithin (length block.now) spans.now.path }
+    requires headers { All (IsHeaderWithin (length block.now)) headers.now }
+    ensures { result ≡ simple_length (span_bytes block.now spans.now.method) (span_bytes block.now spans.now.path) spans.now.version (map (header_bytes block.now) headers.now) }
+{
+    if is_same(spans.path.of(block), TOPICS_TARGET) && spans.version == 1 {
+        method_length(spans.method.of(block), block, headers)
+    } else {
+        None
+    }
+}
+
+fn begins_blank(block: &[u8]) -> bool
+    ensures { result ≡ begins_blank block.now }
+{
+    match block {
+        [] => false,
+        [first, ..] => *first == b'\r' || *first == b'\n',
+    }
+}
+
+/// The head that a block is, if it is exactly one that is served.
+pub fn simple_head(block: &[u8]) -> Option<SimpleHead>
+    ensures some { IfSome result (λ found. (head : RequestHead) × Finds block.now found head) }
+    ensures none { IfNone result ((head : RequestHead) (length : ℕ) → IsSimple block.now head length → ⊥) }
+{
+    if begins_blank(block) {
+        return None;
+    }
+    let mut headers = [EMPTY_HEADER_SPAN; 4];
+    match parse_request(block, &mut headers) {
+        Ok(Status::Complete(spans)) => {
+            if spans.len == block.len() {
+                found_in(block, &spans, &headers[..spans.headers])
+            } else {
+                None
+            }
+        }
+        Ok(Status::Partial) => None,
+        Err(_) => None,
+    }
+}
+
+fn found_in(block: &[u8], spans: &RequestSpans, headers: &[HeaderSpan]) -> Option<SimpleHead>
+    requires method { IsWithin (length block.now) spans.now.method }
+    requires target { IsWithin (length block.now) spans.now.path }
+    requires headers { All (IsHeaderWithin (length block.now)) headers.now }
+    ensures some { IfSome result (λ found. (found.method ≡ spans.now.method) × (found.target ≡ spans.now.path)
+        × (simple_length (span_bytes block.now spans.now.method) (span_bytes block.now spans.now.path) spans.now.version (map (header_bytes block.now) headers.now) ≡ Some found.length)) }
+    ensures none { IfNone result (simple_length (span_bytes block.now spans.now.method) (span_bytes block.now spans.now.path) spans.now.version (map (header_bytes block.now) headers.now) ≡ None) }
+{
+    match simple_length(block, spans, headers) {
+        Some(length) => Some(SimpleHead {
+            method: spans.method,
+            target: spans.path,
+            length,
+        }),
+        None => None,
+    }
+}
