@@ -177,42 +177,70 @@ fn assert_instance(rt: &impl Abort, exchange: &Exchange, id: u64, keyword: &str,
     }
 }
 
+/// The mark of a value's kind.
+fn mark(value: &Value21) -> u8 {
+    match value {
+        Value21::Absent => b'$',
+        Value21::Derived => b'*',
+        Value21::Number(_) => b'1',
+        Value21::Words(_) => b'\'',
+        Value21::Enumeration(_) => b'.',
+        Value21::Bits(_) => b'"',
+        Value21::Reference(_) => b'#',
+        Value21::List(_) => b'(',
+        Value21::Typed(_, _) => b'!',
+    }
+}
+
+/// What a value keeps of its spelling.
+fn spelling(value: &Value21) -> &[u8] {
+    match value {
+        Value21::Number(bytes) => bytes.as_slice(),
+        Value21::Words(bytes) => bytes.as_slice(),
+        Value21::Enumeration(text) => text.as_str().as_bytes(),
+        Value21::Bits(bytes) => bytes.as_slice(),
+        Value21::Typed(keyword, _) => keyword.as_str().as_bytes(),
+        _ => b"",
+    }
+}
+
+const DATA: &[u8] =
+    b"#7=B($,*,-1.E5,'it''s',.T.,\"0F\",#12,(),(1,(2)),ifcLabel('x'));/*c*/#3=(A()b(1,2));\n#12=a(((((((((((((((((((((((((((((((()))))))))))))))))))))))))))))))) ; ";
+
+const MARKS: &[u8] = b"$*1'.\"#((!";
+
+const SPELLINGS: [&[u8]; 10] = [
+    b"",
+    b"",
+    b"-1.E5",
+    b"it''s",
+    b"T",
+    b"0F",
+    b"",
+    b"",
+    b"",
+    b"IFCLABEL",
+];
+
+fn assert_values(rt: &impl Abort, values: &[Value21]) {
+    assert_eq!(rt; values.len(), MARKS.len());
+    let mut at = 0;
+    while at < values.len() && at < MARKS.len() && at < SPELLINGS.len() {
+        assert_eq!(rt; mark(&values[at]), MARKS[at]);
+        assert_eq!(rt; spelling(&values[at]), SPELLINGS[at]);
+        at += 1;
+    }
+}
+
 #[test]
 fn instances(rt: HostRuntime) -> Result<(), Fail> {
-    let data =
-        b"#7=B($,*,-1.E5,'it''s',.T.,\"0F\",#12,(),(1,(2)),ifcLabel('x'));/*c*/#3=(A()b(1,2));\n#12=a(((((((((((((((((((((((((((((((()))))))))))))))))))))))))))))))) ; ";
-    let bytes = joined(rt.alloc(), [HEAD, data.as_slice(), TAIL])?;
+    let bytes = joined(rt.alloc(), [HEAD, DATA, TAIL])?;
     let exchange = read(rt.alloc(), bytes.as_slice()).ok().ok_or("refused")?;
     assert_eq!(rt; exchange.instances().len(), 3);
     assert_instance(&rt, &exchange, 3, "-", 0);
     assert_instance(&rt, &exchange, 7, "B", 10);
     assert_instance(&rt, &exchange, 12, "A", 1);
     assert!(rt; exchange.find(4).is_none());
-    let instance = exchange.find(7).ok_or("missing")?;
-    match instance.values.as_slice() {
-        [
-            Value21::Absent,
-            Value21::Derived,
-            Value21::Number(number),
-            Value21::Words(words),
-            Value21::Enumeration(word),
-            Value21::Bits(bits),
-            Value21::Reference(to),
-            Value21::List(none),
-            Value21::List(two),
-            Value21::Typed(keyword, inner),
-        ] => {
-            assert_eq!(rt; number.as_slice(), b"-1.E5".as_slice());
-            assert_eq!(rt; words.as_slice(), b"it''s".as_slice());
-            assert_eq!(rt; word.as_str(), "T");
-            assert_eq!(rt; bits.as_slice(), b"0F".as_slice());
-            assert_eq!(rt; *to, 12);
-            assert_eq!(rt; none.len(), 0);
-            assert_eq!(rt; two.len(), 2);
-            assert_eq!(rt; keyword.as_str(), "IFCLABEL");
-            assert!(rt; matches!(**inner, Value21::Words(_)));
-        }
-        _ => assert!(rt; false, "other values"),
-    }
+    assert_values(&rt, exchange.find(7).ok_or("missing")?.values.as_slice());
     Ok(())
 }
