@@ -1,8 +1,12 @@
 #!/bin/sh
 # Megabytes per second of cutting and of reading files of the clear text encoding, and bytes of memory per byte of a file.
-#   bench/p21.sh OUT FILE..     from the top of the repository; OUT is a folder for the program and the inputs that it makes
-# Each FILE is measured, and four inputs of 8 MiB that would show a scan that falls back too often: an unclosed comment, slashes,
-# an unclosed text of doubled apostrophes, and digits without end. Every figure is the least of five runs.
+#   bench/p21.sh OUT [FILE..]   from the top of the repository; OUT is a folder for the program and the inputs that it makes
+# Builds a program over copies of the crates, and runs it over each FILE and over four inputs of 8 MiB that would show a scan that
+# falls back too often: an unclosed comment, slashes, an unclosed text of doubled apostrophes, and a number sign with digits
+# without end. Prints a line for each: its bytes, tokens, and instances (or the place where reading stopped), and then, each the
+# best of five runs, the speed of cutting and of reading in millions of bytes per second with the milliseconds of each, and the
+# peak memory of the process less the file's bytes, divided by the file's bytes. Cutting or reading may stop at a fault: its speed
+# is over the whole input all the same, and so the milliseconds say more there.
 set -e
 out=$1
 shift
@@ -58,4 +62,51 @@ fn main(rt: HostRuntime) -> io::Result<()> {
 }
 MAIN
 (cd "$speed" && rt run -- /dev/null > "$out/build.log" 2>&1) || { tail -20 "$out/build.log"; exit 1; }
-echo "built"
+python3 - "$out" "$speed/out/p21_speed" "$@" <<'MEASURE'
+import os
+import subprocess
+import sys
+
+out, program, files = sys.argv[1], sys.argv[2], sys.argv[3:]
+SIZE = 8 << 20
+INPUTS = {
+    "comment": b"A/*" + b"x " * (SIZE // 2),
+    "slashes": b"A " + b"/" * SIZE,
+    "text": b"'" + b"a''" * (SIZE // 3),
+    "digits": b"#" + b"9" * SIZE,
+}
+
+
+def run(path):
+    """The fields of the line that the program prints for a file, and its peak memory in bytes."""
+    child = subprocess.Popen([program, path], stdout=subprocess.PIPE)
+    words = child.stdout.read().decode()[len(path):].split()
+    _, status, used = os.wait4(child.pid, 0)
+    child.returncode = os.waitstatus_to_exitcode(status)
+    if child.returncode != 0:
+        sys.exit(f"{program} {path}: status {child.returncode}")
+    line = {name: int(count) for name, count in zip(words[0::2], words[1::2])}
+    return line, used.ru_maxrss * 1024
+
+
+def speed(size, micros):
+    return f"{size / max(micros, 1):.0f} MB/s ({micros / 1000:.1f} ms)"
+
+
+for name, content in INPUTS.items():
+    path = os.path.join(out, name + ".p21")
+    with open(path, "wb") as file:
+        file.write(content)
+    files.append(path)
+for path in files:
+    runs = [run(path) for _ in range(5)]
+    line = runs[0][0]
+    size = line["bytes"]
+    cut = min(found["cut_us"] for found, _ in runs)
+    read = min(found["read_us"] for found, _ in runs)
+    peak = min(used for _, used in runs)
+    print(
+        f"{path}: {size} bytes, {line['tokens']} tokens, {line['instances_or_place']} instances or place, "
+        f"cut {speed(size, cut)}, read {speed(size, read)}, memory {(peak - size) / max(size, 1):.1f} bytes a byte"
+    )
+MEASURE

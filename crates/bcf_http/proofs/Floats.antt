@@ -2,7 +2,7 @@
 use Rattle.std.proofs.Common.{◌≡◌, ℕ, List, [], ◌∷◌, Result, Ok, Err, IfOk, false, string_bytes, String, refl, ◌∙◌, ap}
 use Rattle.std.specs.declared.alloc.Global.{Global}
 use Rattle.std.specs.declared.alloc.AllocError.{AllocError}
-use Rattle.serde_json.specs.Data.{Data, Items, no_items, item, array}
+use Rattle.serde_json.specs.Data.{Data, Items, no_items, item}
 use Rattle.serde_json.specs.Written.{has_float, items_have_float, compact_text}
 use Rattle.bim_model.specs.declared.topic.Topic.{Topic}
 use Rattle.federation_book.specs.declared.types.ReplyBody.{ReplyBody}

@@ -2,8 +2,6 @@
 use Rattle.std.specs.Prelude.{◌≡◌, ℕ, ◌++◌, List, [], Bool, if◌then◌else◌, Option, codes}
 use Rattle.serde_json.specs.Written.{compact_text}
 use Rattle.serde_json.specs.Data.{Data, string, array, object, Items, member, no_members}
-use Rattle.http_frame.specs.declared.framer.FrameFault.{FrameFault}
-use Rattle.federation_book.specs.declared.types.BookFault.{BookFault}
 use Rattle.federation_book.specs.declared.types.BookFault.TheVariants.{NoProject}
 use Rattle.federation_book.specs.declared.types.ReplyBody.{ReplyBody}
 use Rattle.federation_book.specs.declared.types.ReplyBody.TheVariants as reply

@@ -26,7 +26,13 @@ fn reply_status(created: bool, reply: &ReplyBody) -> StatusCode
     ensures other { result ≢ 405 }
 {
     match reply {
-        ReplyBody::TopicIs(_) => { if created { StatusCode::CREATED } else { StatusCode::OK } }
+        ReplyBody::TopicIs(_) => {
+            if created {
+                StatusCode::CREATED
+            } else {
+                StatusCode::OK
+            }
+        }
         ReplyBody::TopicList(_) => StatusCode::OK,
         ReplyBody::Refused(BookFault::NoProject) => StatusCode::NOT_FOUND,
     }

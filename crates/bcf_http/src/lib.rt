@@ -8,3 +8,6 @@ mod trees;
 
 pub use answers::{Answer, to_response};
 pub use calls::{HttpCall, Refusal, ReplyKind, RequestFault, kind_of, to_call};
+
+#[cfg(test)]
+mod tests;

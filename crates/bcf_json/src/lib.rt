@@ -8,3 +8,6 @@ mod tree;
 pub use body::{BodyError, BodyFault, asks_unbuilt, topic_in};
 pub use date::date_out;
 pub use tree::{identifier_out, topic_out, topics_out};
+
+#[cfg(test)]
+mod tests;

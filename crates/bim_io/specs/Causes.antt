@@ -1,5 +1,5 @@
 -- What a call on the outside does to what an object holds, and when it may fail.
-use Rattle.std.specs.Prelude.{◌≡◌, ◌≤◌, ◌<◌, ◌+◌, ◌-◌, ◌^◌, ◌||◌, ◌&&◌, ◌==◌, min, ℕ, List, [], ◌++◌, length, take, Bool, true, false, nat_lt, Option, Some, None, Result, Ok, Err, OnErr, IfOk, MatchResult, ⊤}
+use Rattle.std.specs.Prelude.{◌≡◌, ◌≤◌, ◌<◌, ◌+◌, ◌-◌, ◌^◌, ◌||◌, ◌&&◌, ◌==◌, min, ℕ, List, [], ◌++◌, length, take, Bool, nat_lt, Option, Some, None, Result, Ok, Err, OnErr, IfOk, MatchResult, ⊤}
 use Rattle.std.specs.Io.KnownBytes.{Appends, Keeps}
 
 -- a count that stands still at the end of 64 bits
@@ -44,3 +44,8 @@ WriteTells old new (Err e) piece = Grows old new []
 abbrev pub GivesMoment : Option ℕ → ℕ → Type 0
 GivesMoment None m = ⊤
 GivesMoment (Some one) m = m ≡ one
+
+-- what contracts see of a source of the system: whether it has answered the end, and how often it has failed
+pub record StreamState : Type 0 where
+  pub ended : Bool
+  pub faults : ℕ

@@ -1,6 +1,5 @@
 -- What contracts see of the sources and sinks in memory.
-use Rattle.std.specs.Prelude.{◌≡◌, ◌↔◌, ◌+◌, ℕ, List, Bool, length, min, Contains, Result, IsErr, IfOk, Option, Some, None, if◌then◌else◌}
-use Rattle.bim_io.specs.Causes.{counted}
+use Rattle.std.specs.Prelude.{ℕ, List, Bool, min, Option}
 
 -- how many bytes a call that doesn't fail moves: as many as the limit, the room and what is there allow
 abbrev pub moved : ℕ → ℕ → ℕ → ℕ

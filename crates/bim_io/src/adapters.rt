@@ -1,8 +1,9 @@
 //! The real streams and the real clock.
-ghost use Rattle.std.specs.Prelude.{None};
+ghost use Rattle.std.specs.Prelude.{◌≡◌, false, None};
 
 use crate::traits::{Clock, Failed, Sink, Source};
 use std::io::{Read, Write};
+use std::marker::Model;
 use std::rt;
 use std::time::SystemTime;
 
@@ -14,8 +15,19 @@ pub struct StdSource<R: Read + Drop> {
     faults: u64,
 }
 
+impl<R: Read + Drop> Model for StdSource<R> {
+    ghost use Rattle.bim_io.specs.Causes.{StreamState};
+
+    ghost Value = { StreamState };
+
+    ghost view = { λ s. record { ended = s.ended; faults = s.faults } };
+}
+
 impl<R: Read + Drop> StdSource<R> {
-    pub fn new(inner: R) -> Self {
+    /// A source over the reader that has not failed yet, nor answered the end.
+    pub fn new(inner: R) -> Self
+        ensures { result ≡ record { ended = false; faults = 0 } }
+    {
         StdSource {
             inner,
             ended: false,
@@ -56,8 +68,19 @@ pub struct StdSink<W: Write + Drop> {
     faults: u64,
 }
 
+impl<W: Write + Drop> Model for StdSink<W> {
+    ghost use Rattle.std.specs.Prelude.{ℕ};
+
+    ghost Value = { ℕ };
+
+    ghost view = { λ s. s.faults };
+}
+
 impl<W: Write + Drop> StdSink<W> {
-    pub fn new(inner: W) -> Self {
+    /// A sink over the writer that has not failed yet.
+    pub fn new(inner: W) -> Self
+        ensures { result ≡ 0 }
+    {
         StdSink { inner, faults: 0 }
     }
 }
@@ -65,7 +88,7 @@ impl<W: Write + Drop> StdSink<W> {
 impl<W: Write + Drop> Sink for StdSink<W> {
     ghost held = { λ s. None };
 
-    ghost faults = { λ s. s.faults };
+    ghost faults = { λ faults. faults };
 
     fn write(&mut self, piece: &[u8]) -> Result<usize, Failed> {
         match self.inner.write(piece) {
@@ -87,6 +110,7 @@ impl<W: Write + Drop> Sink for StdSink<W> {
 const LAST_MOMENT: u64 = 253_402_207_200;
 
 /// The system's clock. One that can't be read, or stands before 1970, gives 0.
+/// No clause says which moment it gives, since none can say what the system answers.
 #[derive(Drop)]
 pub struct SystemClock<R: rt::Clock + Drop> {
     handle: R,

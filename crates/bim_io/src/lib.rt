@@ -10,3 +10,6 @@ pub use adapters::{StdSink, StdSource, SystemClock};
 pub use memory::{MemSink, MemSource};
 pub use sure::{MemClock, SureSink, SureSource};
 pub use traits::{Clock, Failed, Sink, Source};
+
+#[cfg(test)]
+mod tests;

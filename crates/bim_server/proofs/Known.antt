@@ -1,5 +1,5 @@
 -- What objects hold over several calls.
-use Rattle.std.proofs.Common.{◌≡◌, ◌+◌, ◌≤◌, ℕ, List, [], ◌++◌, length, take, drop, Option, Some, None, sym, ◌∙◌, ap, append-nil, append_assoc, subst}
+use Rattle.std.proofs.Common.{◌≡◌, ◌+◌, ◌<◌, length, arith, length-drop, ℕ, List, [], ◌++◌, take, drop, Option, Some, None, sym, ◌∙◌, ap, append-nil, append_assoc, subst}
 use Rattle.std.proofs.Math.Seq.{take-add}
 use Rattle.std.specs.Io.KnownBytes.{Appends}
 use Rattle.bim_io.specs.Causes.{Grows}
@@ -35,5 +35,11 @@ Grows_more a b c bytes at n p q = rw (take-add at n bytes) (Grows_trans a b c (t
 pub Grows_none : (a b c : Option (List ℕ)) (x : List ℕ) → Grows a b x → Grows b c [] → Grows a c x
 Grows_none a b c x p q = let P : List ℕ → Type 0 = λ b. Grows a c b in subst P (append-nil x) (Grows_trans a b c x [] p q)
 
-pub wrote_front : (a b c : Option (List ℕ)) (bytes : List ℕ) (at : ℕ) → Grows a b (take at bytes) → Grows b c [] → WritesFront a c bytes
-wrote_front a b c bytes at p q = (take at bytes, drop at bytes, sym (take-append-drop at bytes), Grows_none a b c (take at bytes) p q)
+pub wrote_front : (a b c : Option (List ℕ)) (bytes : List ℕ) (at : ℕ) → at < length bytes → Grows a b (take at bytes) → Grows b c [] → WritesFront a c bytes
+wrote_front a b c bytes at lt p q = (
+  take at bytes,
+  drop at bytes,
+  sym (take-append-drop at bytes),
+  λ e. omega (arith, length-drop at bytes, ap length e),
+  Grows_none a b c (take at bytes) p q,
+)

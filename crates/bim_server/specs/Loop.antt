@@ -1,5 +1,5 @@
 -- What holds between two steps of a session over a one-thread book.
-use Rattle.std.specs.Prelude.{◌≡◌, ◌⊎◌, ◌<◌, ◌≤◌, ℕ, ◌+◌, ◌-◌, ◌*◌, ◌^◌, ◌++◌, List, [], ◌∷◌, length, Bool, true, false, Option, Some, None, Result, Ok, Err, IsTrue}
+use Rattle.std.specs.Prelude.{◌≡◌, ◌≢◌, ◌⊎◌, ◌<◌, ◌≤◌, ℕ, ◌+◌, ◌-◌, ◌*◌, ◌^◌, ◌++◌, List, [], length, Bool, true, false, Option, Some, None, Result, Ok, Err, IsTrue}
 use Rattle.std.specs.declared.alloc.AllocError.{AllocError}
 use Rattle.std.specs.Io.KnownBytes.{Appends}
 use Rattle.bim_io.specs.Causes.{Grows}
@@ -99,7 +99,7 @@ EndsWriting served (end.Memory n) = ⊥
 
 abbrev pub Writing : ℕ → Option (List ℕ) → Option (List ℕ) → List ℕ → Progress → Type 0
 Writing served held held' bytes Again = Grows held held' bytes
-Writing served held held' bytes (End e) = EndsWriting served e × ((front : List ℕ) × (more : List ℕ) × (bytes ≡ front ++ more) × Grows held held' front)
+Writing served held held' bytes (End e) = EndsWriting served e × ((front : List ℕ) × (more : List ℕ) × (bytes ≡ front ++ more) × (more ≢ []) × Grows held held' front)
 
 abbrev pub IsReadFault : Progress → Type 0
 IsReadFault Again = ⊥
@@ -131,7 +131,7 @@ Called call held held' talk server (End e) talk' server' =
     (kind : ReplyKind) × (talk.waits ≡ Some kind) × (receipt : Result Receipt AllocError) × Calls call server receipt server'
     × (((e ≡ end.Memory talk.served) × Grows held held' [])
     ⊎ ((bytes : List ℕ) × AnswersCall receipt kind (closes_after (talk.served + 1)) bytes × EndsWriting talk.served e
-    × ((front : List ℕ) × (more : List ℕ) × (bytes ≡ front ++ more) × Grows held held' front)))
+    × ((front : List ℕ) × (more : List ℕ) × (bytes ≡ front ++ more) × (more ≢ []) × Grows held held' front)))
 
 abbrev pub leaving_fuel : Option SessionEnd → ℕ
 leaving_fuel None = 2 ^ 36

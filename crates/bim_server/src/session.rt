@@ -122,3 +122,29 @@ fn take_step<S: Source, K: Sink, C: Clock>(
         Err(_) => Progress::End(SessionEnd::Memory { served }),
     }
 }
+
+/// Reads requests, and answers them, until the session ends.
+pub fn run_session<S: Source, K: Sink, C: Clock>(
+    alloc: Global,
+    source: &mut S,
+    sink: &mut K,
+    clock: &mut C,
+) -> SessionEnd
+    ensures session { Replays (MayGive (C.moment clock.old)) 1 (S.given source.old) (S.given source.new) (S.ended source.new)
+        (K.held sink.old) (K.held sink.new) result }
+    ensures read { IsReadFault (Progress.End result) → Rose (S.faults source.old) (S.faults source.new) }
+    ensures write { IsWriteFault (Progress.End result) → Rose (K.faults sink.old) (K.faults sink.new) }
+{
+    let Ok(mut talk) = Talk::new(alloc) else {
+        return SessionEnd::Memory { served: 0 };
+    };
+    let Ok(mut server) = OneThread::new(alloc) else {
+        return SessionEnd::Memory { served: 0 };
+    };
+    'steps: loop {
+        match take_step(&mut talk, &mut server, source, sink, clock) {
+            Progress::Again => {}
+            Progress::End(end) => return end,
+        }
+    }
+}

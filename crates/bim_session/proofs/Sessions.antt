@@ -1,17 +1,15 @@
 -- How a session grows by one more request, and its history by one more step.
-use Rattle.std.proofs.Common.{◌≡◌, ◌≢◌, ◌⊎◌, ℕ, ◌+◌, ◌<◌, ◌≤◌, List, [], ◌∷◌, ◌++◌, length, Bool, Option, Some, None, Result, Ok, Err, inl, inr, sym, ◌∙◌, ap, subst, refl, append_assoc, append-nil, arith}
+use Rattle.std.proofs.Common.{◌≡◌, ◌⊎◌, ℕ, ◌+◌, ◌≤◌, List, [], ◌∷◌, ◌++◌, length, Bool, Some, Ok, inl, inr, sym, ◌∙◌, ap, subst, refl, append_assoc, append-nil, arith}
 use Rattle.http_frame.specs.declared.framer.HttpRequest.{HttpRequest}
 use Rattle.http_frame.specs.Requests.{Begins, Reads}
-use Rattle.federation_book.specs.declared.types.Stamp.{Stamp}
 use Rattle.federation_book.specs.declared.types.Entry.{Entry}
-use Rattle.federation_book.specs.declared.types.BookRequest.{BookRequest}
-use Rattle.federation_book.specs.History.{reply_of, added_by, at_turn, of_turn, IsBefore}
+use Rattle.federation_book.specs.History.{reply_of, added_by, IsBefore}
 use Rattle.federation_book.specs.Runs.{Step}
-use Rattle.federation_book.proofs.Histories.{AreAbove, AreOf, added_of, above_of, at_turn-grown, of_turn-grown, at_turn-new, of_turn-new}
+use Rattle.federation_book.proofs.Histories.{AreAbove, AreOf, added_of, at_turn-grown, of_turn-grown, at_turn-new, of_turn-new}
 use Rattle.bcf_http.specs.declared.answers.Answer.TheVariants as answer
 use Rattle.bcf_http.specs.Calls.{asked_by, kind_of}
 use Rattle.bcf_http.specs.Answers.{IsResponse}
-use Rattle.bim_session.specs.Session.{Takes, IsPlain, IsBooked, TakesIdly, LacksMemory, Answers, Answered, last_turn, closes_after}
+use Rattle.bim_session.specs.Session.{Takes, IsBooked, TakesIdly, Answers, Answered, last_turn, closes_after}
 
 pub Begins_more : (bytes : List ℕ) (r : HttpRequest) (rest piece : List ℕ) → Begins bytes r rest → Begins (bytes ++ piece) r (rest ++ piece)
 Begins_more bytes r rest piece begins = (begins.0, begins.1, ap (λ b. b ++ piece) begins.2 ∙ append_assoc begins.0 rest piece)

@@ -1,5 +1,5 @@
 -- From what the framer and the parts of a talk answer to what a talk wants.
-use Rattle.std.proofs.Common.{◌≡◌, ◌⊎◌, ℕ, List, Option, Some, None, Result, Ok, Err, IfOk, inl, inr, refl, sym, ap, ◌∙◌}
+use Rattle.std.proofs.Common.{◌≡◌, ℕ, Option, Some, None, Result, Ok, Err, IfOk, inl, inr, refl, sym, ap, ◌∙◌}
 use Rattle.std.specs.declared.alloc.AllocError.{AllocError}
 use Rattle.http_frame.specs.Requests.{IsRefused, IsUnfinished}
 use Rattle.bim_session.specs.declared.end.SessionEnd.{SessionEnd}

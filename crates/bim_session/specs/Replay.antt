@@ -1,5 +1,5 @@
 -- A session over a one-thread book, as a run with one actor.
-use Rattle.std.specs.Prelude.{◌≡◌, ℕ, List, length, Bool, Option}
+use Rattle.std.specs.Prelude.{ℕ, List, length, Bool, Option}
 use Rattle.std.specs.Io.KnownBytes.{Appends}
 use Rattle.bim_model.specs.Moments.{IsMoment}
 use Rattle.bim_io.specs.Causes.{Grows, GivesMoment}

@@ -1,7 +1,6 @@
 -- A session: what is written for the bytes that one connection gives, at the turns of one history.
-use Rattle.std.specs.Prelude.{◌≡◌, ◌≢◌, ◌⊎◌, ℕ, ◌+◌, ◌<◌, ◌≤◌, ◌==◌, ◌++◌, List, [], ◌∷◌, length, Bool, true, Option, Some, None, Result, Ok, Err, IsTrue}
+use Rattle.std.specs.Prelude.{◌≡◌, ◌≢◌, ◌⊎◌, ℕ, ◌+◌, ◌<◌, ◌≤◌, ◌==◌, ◌++◌, List, [], ◌∷◌, length, Bool, true, Some, None, Ok, Err, IsTrue}
 use Rattle.http_frame.specs.declared.framer.HttpRequest.{HttpRequest}
-use Rattle.http_frame.specs.declared.framer.FrameFault.{FrameFault}
 use Rattle.http_frame.specs.declared.framer.FrameFault.TheVariants as frame
 use Rattle.http_frame.specs.Requests.{Begins, Reads, IsRefused, IsUnfinished}
 use Rattle.federation_book.specs.declared.types.Entry.{Entry}
@@ -9,7 +8,6 @@ use Rattle.federation_book.specs.History.{reply_of, added_by, at_turn, of_turn}
 use Rattle.federation_book.specs.Runs.{Step}
 use Rattle.bcf_http.specs.declared.calls.RequestFault.{RequestFault}
 use Rattle.bcf_http.specs.declared.calls.RequestFault.TheVariants.{NotBuilt}
-use Rattle.bcf_http.specs.declared.answers.Answer.{Answer}
 use Rattle.bcf_http.specs.declared.answers.Answer.TheVariants as answer
 use Rattle.bcf_http.specs.Calls.{asked_by, kind_of, no_kind}
 use Rattle.bcf_http.specs.Answers.{IsResponse}
@@ -119,15 +117,15 @@ Ends may projects history last top ended rest served (Closed n) extra tail steps
 Ends may projects history last top ended rest served (Cut n) extra tail steps =
     (n ≡ served) × (served < most_requests) × IsTrue ended × (rest ≢ []) × IsUnfinished rest × (extra ≡ []) × (tail ≡ []) × (steps ≡ [])
 Ends may projects history last top ended rest served (ReadFault n) extra tail steps =
-    (n ≡ served) × (served < most_requests) × (extra ≡ []) × (tail ≡ []) × (steps ≡ [])
+    (n ≡ served) × (served < most_requests) × IsUnfinished rest × (extra ≡ []) × (tail ≡ []) × (steps ≡ [])
 Ends may projects history last top ended rest served (WriteFault n) extra tail steps =
-    (n ≡ served) × (served < most_requests) × (extra ≡ []) × ((more : List ℕ) × IsNext may projects history last top rest served (tail ++ more) steps)
+    (n ≡ served) × (served < most_requests) × (extra ≡ []) × ((more : List ℕ) × (more ≢ []) × IsNext may projects history last top rest served (tail ++ more) steps)
 Ends may projects history last top ended rest served (Frame n fault) extra tail steps =
     (n ≡ served) × (served < most_requests) × Faults may rest × (extra ≡ []) × IsFaultResponse tail × (steps ≡ [])
 Ends may projects history last top ended rest served (Spent n) extra tail steps =
     (n ≡ served) × (served ≡ most_requests) × (extra ≡ []) × (tail ≡ []) × (steps ≡ [])
 Ends may projects history last top ended rest served (Memory n) extra tail steps =
-    (n ≡ served) × (tail ≡ []) × ((steps ≡ []) ⊎ TakesUnanswered may projects history last top rest steps)
+    (n ≡ served) × (served < most_requests) × (tail ≡ []) × ((steps ≡ []) ⊎ TakesUnanswered may projects history last top rest steps)
 
 -- a session that took this input and wrote this output, by these steps at turns above `last` and up to `top`
 pub record Session (may : ℕ → Type 0) (projects : ℕ) (history : List Entry) (last top : ℕ) (ended : Bool) (input output : List ℕ) (steps : List Step) (end : SessionEnd) : Type 0 where

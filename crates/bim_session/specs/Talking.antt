@@ -1,10 +1,9 @@
 -- One connection as a machine: what each of its calls does.
-use Rattle.std.specs.Prelude.{◌≡◌, ◌≢◌, ◌⊎◌, ℕ, ◌+◌, ◌<◌, ◌==◌, ◌++◌, List, [], ◌∷◌, Bool, true, false, if◌then◌else◌, Option, Some, None, Result, Ok, Err}
+use Rattle.std.specs.Prelude.{◌≡◌, ◌≢◌, ◌⊎◌, ℕ, ◌+◌, ◌++◌, List, [], ◌∷◌, Bool, true, false, if◌then◌else◌, Option, Some, None, Result, Ok, Err}
 use Rattle.std.specs.declared.alloc.AllocError.{AllocError}
 use Rattle.http_frame.specs.declared.framer.HttpRequest.{HttpRequest}
 use Rattle.http_frame.specs.declared.framer.FrameFault.TheVariants as frame
 use Rattle.http_frame.specs.Requests.{Begins, IsRefused, IsUnfinished}
-use Rattle.federation_book.specs.declared.types.BookRequest.{BookRequest}
 use Rattle.federation_book.specs.declared.types.ReplyBody.{ReplyBody}
 use Rattle.federation_book.specs.declared.types.ReplyBody.TheVariants as reply
 use Rattle.bcf_http.specs.declared.calls.ReplyKind.{ReplyKind}
@@ -54,13 +53,14 @@ with_call rest kind s = record { rest = rest; ended = s.ended; served = s.served
 abbrev pub with_fault : List ℕ → TalkState → TalkState
 with_fault rest s = record { rest = rest; ended = s.ended; served = s.served; waits = s.waits; leaving = Some (end.Frame s.served frame.NotBuilt) }
 
--- the answer to a request without a turn: the first fault that the request alone decides, or want of memory
+-- the answer to a request by the first fault that the request alone decides
 pub record Refuses (moment : ℕ) (request : HttpRequest) (close : Bool) (bytes : List ℕ) : Type 0 where
   pub fault : RequestFault
   pub refused : asked_by moment request ≡ Err fault
   pub served : fault ≢ NotBuilt
   pub response : IsResponse (answer.Refused fault) (kind_of request) None close bytes
 
+-- the answer to a request without a turn: its first fault, or want of memory
 abbrev pub AnswersAlone : ℕ → HttpRequest → Bool → List ℕ → Type 0
 AnswersAlone moment request close bytes = Refuses moment request close bytes ⊎ IsResponse answer.Memory (kind_of request) None close bytes
 
@@ -135,14 +135,14 @@ abbrev pub Replies : Result Receipt AllocError → ReplyKind → TalkState → W
 Replies receipt kind old More new = ⊥
 Replies receipt kind old (Call call) new = ⊥
 Replies receipt kind old (Write bytes) new = AnswersCall receipt kind (closes_after (old.served + 1)) bytes × (new ≡ with_answer old.rest old)
-Replies receipt kind old (Leave e) new = e ≡ end.Memory old.served
+Replies receipt kind old (Leave e) new = (e ≡ end.Memory old.served) × (new.waits ≡ None)
 
 -- what a talk wants where memory was wanting for its call of this kind
 abbrev pub LacksFor : ReplyKind → TalkState → Want → TalkState → Type 0
 LacksFor kind old More new = ⊥
 LacksFor kind old (Call call) new = ⊥
 LacksFor kind old (Write bytes) new = IsResponse answer.Memory kind None (closes_after (old.served + 1)) bytes × (new ≡ with_answer old.rest old)
-LacksFor kind old (Leave e) new = e ≡ end.Memory old.served
+LacksFor kind old (Leave e) new = (e ≡ end.Memory old.served) × (new.waits ≡ None)
 
 -- an end that a talk gives by itself: never a fault of a read or of a write
 abbrev pub IsOwnEnd : SessionEnd → Type 0

@@ -1,5 +1,5 @@
 //! One connection as a machine without input or output.
-ghost use Rattle.std.specs.Prelude.{◌≡◌, ◌↔◌, ◌<◌, None, Some, false, Ok, IsTrue, IsSome, IfOk, IfSome, OnOk, OnErr};
+ghost use Rattle.std.specs.Prelude.{◌≡◌, ◌↔◌, ◌<◌, None, Some, false, Ok, IsTrue, IsSome, IsOk, IfOk, IfSome, OnOk, OnErr};
 ghost use Rattle.bim_model.specs.Moments.{IsMoment};
 ghost use Rattle.http_frame.specs.Requests.{IsUnfinished};
 ghost use Rattle.bim_session.specs.Session.{most_requests};
@@ -107,9 +107,29 @@ impl Talk {
         }
     }
 
-    /// What is to be done next, at a moment in seconds since 1970. An `Err` ends the talk for want of memory.
-    #[tactic(auto, using(crate::proofs::Talks::none_of))]
+    /// What is to be done next, at a moment in seconds since 1970. An `Err` ends the talk for want of memory: each later
+    /// call says so.
     pub fn next(&mut self, moment: u64) -> Result<Want, AllocError>
+        requires moment { IsMoment moment }
+        requires idle { self.old.waits ≡ None }
+        ensures want { IfOk result (λ want. Talks moment self.old want self.new) }
+        ensures err { OnErr result (self.old.leaving ≡ None) }
+        ensures gone { OnErr result (self.new.leaving ≡ Some (SessionEnd.Memory self.old.served)) }
+        ensures few { self.old.leaving ≡ None → self.old.served < most_requests }
+        ensures own { IfOk result IsOwnWant }
+    {
+        let served = self.served;
+        match self.step(moment) {
+            Ok(want) => Ok(want),
+            Err(error) => {
+                self.leaving = Some(SessionEnd::Memory { served });
+                Err(error)
+            }
+        }
+    }
+
+    #[tactic(auto, using(crate::proofs::Talks::none_of))]
+    fn step(&mut self, moment: u64) -> Result<Want, AllocError>
         requires moment { IsMoment moment }
         requires idle { self.old.waits ≡ None }
         ensures want { IfOk result (λ want. Talks moment self.old want self.new) }
@@ -209,7 +229,8 @@ impl Talk {
     pub fn answer(&mut self, receipt: Result<Receipt, AllocError>) -> Result<Want, AllocError>
         requires waits { IsSome self.old.waits }
         requires open_ { self.old.leaving ≡ None }
-        ensures { IfOk result (λ want. IfSome self.old.waits (λ kind. Replies receipt kind self.old want self.new)) }
+        ensures want { IfOk result (λ want. IfSome self.old.waits (λ kind. Replies receipt kind self.old want self.new)) }
+        ensures ok { IsOk result }
     {
         let Some(kind) = self.waits else {
             unreachable!()
@@ -223,20 +244,25 @@ impl Talk {
     // The response to a call for which memory was wanting.
     fn answer_memory(&mut self, kind: ReplyKind) -> Result<Want, AllocError>
         requires { self.old.leaving ≡ None }
-        ensures { IfOk result (λ want. LacksFor kind self.old want self.new) }
+        ensures want { IfOk result (λ want. LacksFor kind self.old want self.new) }
+        ensures ok { IsOk result }
     {
         match self.respond(&Answer::Memory, kind, None) {
             Ok(want) => Ok(want),
-            Err(_) => Ok(Want::Leave(SessionEnd::Memory {
-                served: self.served,
-            })),
+            Err(_) => {
+                self.waits = None;
+                Ok(Want::Leave(SessionEnd::Memory {
+                    served: self.served,
+                }))
+            }
         }
     }
 
     // The response to a call that the book answered.
     fn answer_receipt(&mut self, kind: ReplyKind, receipt: Receipt) -> Result<Want, AllocError>
         requires { self.old.leaving ≡ None }
-        ensures { IfOk result (λ want. Replies (Ok receipt) kind self.old want self.new) }
+        ensures want { IfOk result (λ want. Replies (Ok receipt) kind self.old want self.new) }
+        ensures ok { IsOk result }
     {
         let Receipt { turn, reply } = receipt;
         let changes_nothing = changes_nothing(&reply.body);
@@ -246,6 +272,7 @@ impl Talk {
                 if changes_nothing {
                     return self.answer_memory(kind);
                 }
+                self.waits = None;
                 Ok(Want::Leave(SessionEnd::Memory {
                     served: self.served,
                 }))

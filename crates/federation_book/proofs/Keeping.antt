@@ -1,5 +1,5 @@
 -- The topics that the book keeps of each project are those after its journal.
-use Rattle.std.proofs.Common.{◌≡◌, ◌≢◌, ◌+◌, ◌-◌, ◌<◌, ◌≤◌, ◌==◌, ℕ, zero, suc, List, [], ◌∷◌, ◌++◌, length, get_or, slice_set, fold, All, AllPairs, ◌⊎◌, inl, inr, refl, sym, ◌∙◌, ap, arith}
+use Rattle.std.proofs.Common.{◌≡◌, ◌≢◌, ◌+◌, ◌-◌, ◌<◌, ◌≤◌, ℕ, zero, suc, List, [], ◌∷◌, ◌++◌, length, get_or, slice_set, inl, inr, refl, sym, ◌∙◌, ap, arith}
 use Rattle.std.proofs.lemmas.List.Quantifiers.{all_pairs_push}
 use Rattle.std.proofs.lemmas.Bool.Decides.{eqb_tells}
 use Rattle.std.proofs.lemmas.Grind.{common_steps}
@@ -9,7 +9,7 @@ use Rattle.federation_book.specs.declared.types.Entry.{Entry}
 use Rattle.federation_book.specs.declared.types.Change.{Change}
 use Rattle.federation_book.specs.declared.types.Change.TheVariants.{PostTopic}
 use Rattle.federation_book.specs.declared.book.Project.{Project}
-use Rattle.federation_book.specs.History.{topics_of, with_entry, with_change, topic_of_change, IsBefore, IsHistory}
+use Rattle.federation_book.specs.History.{topics_of, with_entry, with_change, topic_of_change, IsBefore}
 use Rattle.federation_book.specs.Kept.{KeepTopics, IsKept}
 
 pub kept_at : (n : ℕ) (ps : List Project) (j : List Entry) (k : ℕ) (d : Project) → KeepTopics n ps j → k < length ps → (get_or ps k d).topics ≡ topics_of (n + k) j

@@ -1,5 +1,5 @@
 -- What the book keeps beside its journal, so that it need not go over it.
-use Rattle.std.specs.Prelude.{◌≡◌, ◌≤◌, ◌<◌, ℕ, ◌+◌, List, [], ◌∷◌, length}
+use Rattle.std.specs.Prelude.{◌≡◌, ◌≤◌, ℕ, ◌+◌, List, [], ◌∷◌, length}
 use Rattle.federation_book.specs.declared.types.Entry.{Entry}
 use Rattle.federation_book.specs.declared.book.Project.{Project}
 use Rattle.federation_book.specs.History.{topics_of, IsHistory}

@@ -6,3 +6,6 @@ mod types;
 
 pub use book::{Book, Project};
 pub use types::{BookFault, BookReply, BookRequest, Change, Entry, ReplyBody, Stamp};
+
+#[cfg(test)]
+mod tests;

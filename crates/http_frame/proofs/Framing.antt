@@ -1,15 +1,15 @@
 -- From where the code stands in the bytes to the requests that they spell.
-use Rattle.std.proofs.Common.{◌≡◌, ◌⊎◌, ◌+◌, ◌-◌, ◌<◌, ◌≤◌, ◌++◌, min, ℕ, List, [], ◌∷◌, length, take, drop, slice_index, Some, None, sym, ◌∙◌, ap, subst, refl, arith, inl, inr, length-append, length-drop, length-take, codes}
+use Rattle.std.proofs.Common.{◌≡◌, ◌+◌, ◌-◌, ◌<◌, ◌≤◌, ◌++◌, min, ℕ, List, length, take, drop, Some, sym, ◌∙◌, ap, subst, arith, inl, inr, length-drop, codes}
 use Rattle.std.proofs.Math.Seq.{take-add, take-length}
 use Rattle.std.proofs.lemmas.List.{take-append-drop, get_or-take}
 use Rattle.std.proofs.lemmas.Grind.{common_steps}
-use Rattle.memchr.specs.Find.{FindsNeedle, OccursAt, NoneBefore}
+use Rattle.memchr.specs.Find.{FindsNeedle, OccursAt}
 use Rattle.httparse.specs.Grammar.{RequestHead}
 use Rattle.httparse.specs.Spans.{span_bytes}
 use Rattle.http_frame.specs.declared.head.SimpleHead.{SimpleHead}
 use Rattle.http_frame.specs.declared.framer.HttpRequest.{HttpRequest}
 use Rattle.http_frame.specs.Heads.{IsSimple, Finds}
-use Rattle.http_frame.specs.Requests.{IsBlock, IsRefused, IsUnfinished, IsWhole, IsRequest, Begins, HasNoBlock, blank_line, most_head}
+use Rattle.http_frame.specs.Requests.{IsBlock, IsRefused, IsUnfinished, IsWhole, Begins, HasNoBlock, blank_line, most_head}
 
 pub bad_block : (bytes : List ℕ) (block : ℕ) → IsBlock (take block bytes)
     → ((head : RequestHead) (length : ℕ) → IsSimple (take block bytes) head length → ⊥) → IsRefused bytes
@@ -45,8 +45,12 @@ whole_head bytes block found is fits finds enough = record {
 
 -- the request that was found at the front of the bytes
 pub begins : (bytes : List ℕ) (block : ℕ) (found : SimpleHead) (request : HttpRequest) → IsWhole bytes block found
-    → request ≡ record { method = span_bytes (take block bytes) found.method; target = span_bytes (take block bytes) found.target;
-      user = codes "anonymous"; body = take found.length (drop block bytes) }
+    → request ≡ record {
+      method = span_bytes (take block bytes) found.method;
+      target = span_bytes (take block bytes) found.target;
+      user = codes "anonymous";
+      body = take found.length (drop block bytes);
+    }
     → Begins bytes request (drop (block + found.length) bytes)
 begins bytes block found request whole is =
     let body_is : request.body ≡ take found.length (drop block bytes) = ap (λ (r : HttpRequest). r.body) is in
@@ -54,7 +58,7 @@ begins bytes block found request whole is =
     let size : length (take found.length (drop block bytes)) ≡ found.length = grind (arith, common_steps) in
     let asked : found.length ≡ length request.body = sym (ap length body_is ∙ size) in
     let parts : take (block + found.length) bytes ≡ take block bytes ++ request.body =
-        take-add block found.length bytes ∙ ap (λ b. take block bytes ++ b) (sym body_is) in (
+    take-add block found.length bytes ∙ ap (λ b. take block bytes ++ b) (sym body_is) in (
       take (block + found.length) bytes,
       record {
         block = take block bytes;

@@ -1,10 +1,10 @@
 -- No bytes begin with two requests.
-use Rattle.std.proofs.Common.{◌≡◌, ◌⊎◌, ℕ, ◌+◌, ◌-◌, ◌<◌, ◌≤◌, List, [], ◌∷◌, ◌++◌, length, take, drop, map, Some, inl, inr, sym, ◌∙◌, ap, subst, refl, arith, append_assoc, length-append, ◌^◌, ◌==◌, ◌&&◌, Bool, true, false, Option, None, if◌then◌else◌, nat_lt, nat_le, codes, Result, Ok, Err}
+use Rattle.std.proofs.Common.{◌≡◌, ℕ, ◌+◌, ◌-◌, ◌<◌, ◌≤◌, List, [], ◌∷◌, ◌++◌, length, take, drop, map, Some, inl, inr, sym, ◌∙◌, ap, subst, refl, arith, append_assoc, length-append, ◌^◌, ◌==◌, ◌&&◌, Bool, true, false, None, if◌then◌else◌, nat_lt, nat_le, codes, Result, Ok, Err}
 use Rattle.std.proofs.Math.Seq.{take-append_seam, drop-append_seam, take-length}
 use Rattle.std.proofs.lemmas.Grind.{common_steps}
 use Rattle.std.proofs.lemmas.Bool.{cases_lt}
-use Rattle.memchr.specs.Find.{FindsNeedle, OccursAt}
-use Rattle.httparse.specs.Grammar.{RequestHead, ReadsRequest}
+use Rattle.memchr.specs.Find.{OccursAt}
+use Rattle.httparse.specs.Grammar.{RequestHead}
 use Rattle.httparse.specs.Spans.{name_and_value}
 use Rattle.httparse.proofs.GrammarLemmas.{request_unique}
 use Rattle.http_frame.specs.declared.framer.HttpRequest.{HttpRequest}
@@ -18,7 +18,7 @@ use Rattle.std.specs.Char.{is_ascii_digit}
 use Rattle.std.proofs.lemmas.Bool.Decides.{nat_tests}
 use Rattle.std.proofs.lemmas.List.{take-append-le}
 use Rattle.http_frame.specs.Heads.{IsSimple, simple_length, small_number, get_length, post_length, is_named, topics_target}
-use Rattle.http_frame.specs.Requests.{IsBlock, IsRequest, Begins, HasNoBlock, IsRefused, IsUnfinished, BadBlock, LacksBody, Frames, blank_line, most_head}
+use Rattle.http_frame.specs.Requests.{IsBlock, Begins, HasNoBlock, IsRefused, IsUnfinished, Frames, blank_line, most_head}
 use Rattle.http_frame.proofs.Framing.{occurs_front, occurs_whole}
 
 front_of : (block rest bytes : List ℕ) → bytes ≡ block ++ rest → block ≡ take (length block) bytes

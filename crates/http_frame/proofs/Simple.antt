@@ -1,20 +1,20 @@
 -- What the parser finds of a served head.
-use Rattle.std.proofs.Common.{◌≡◌, ◌+◌, ◌<◌, ◌≤◌, ◌++◌, ◌==◌, ◌&&◌, ◌||◌, ℕ, List, [], drop, ◌∷◌, length, map, take, Bool, true, false, if◌then◌else◌, Option, Some, None, Result, Ok, Err, refl, sym, ◌∙◌, ap, subst, arith, length-append, append_assoc, append-nil, IfSome, IfNone, IsTrue, codes, ◌⊎◌, inl, inr}
+use Rattle.std.proofs.Common.{◌≡◌, ◌≤◌, ◌++◌, ◌==◌, ◌&&◌, ◌||◌, ℕ, List, [], drop, ◌∷◌, length, map, take, Bool, true, false, if◌then◌else◌, Option, Some, None, Result, Ok, refl, sym, ◌∙◌, ap, subst, arith, append_assoc, append-nil, IfSome, IfNone, IsTrue, codes, inl, inr}
 use Rattle.std.specs.Str.{bytes_eq}
 use Rattle.std.proofs.lemmas.List.{length-map}
 use Rattle.std.proofs.lemmas.Grind.{common_steps}
 use Rattle.std.proofs.lemmas.Bool.Decides.{eqb_tells}
 use Rattle.httparse.specs.declared.Error.{Error}
 use Rattle.httparse.specs.declared.Status.{Status}
-use Rattle.httparse.specs.declared.Status.TheVariants.{Complete, Partial}
+use Rattle.httparse.specs.declared.Status.TheVariants.{Complete}
 use Rattle.httparse.specs.declared.spans.HeaderSpan.{HeaderSpan}
 use Rattle.httparse.specs.declared.spans.RequestSpans.{RequestSpans}
-use Rattle.httparse.specs.Grammar.{RequestHead, IsRequestHead, ReadsRequest, IsToken, is_token_byte, print_request, print_blank, print_version, print_end, print_section, LineEnd, crlf, lf}
+use Rattle.httparse.specs.Grammar.{RequestHead, ReadsRequest, IsToken, is_token_byte, print_request, print_blank, print_version, print_end, print_section, LineEnd, crlf, lf}
 use Rattle.httparse.specs.Ascii.{space}
 use Rattle.httparse.specs.Outcome.{IsCompleteAnd}
 use Rattle.httparse.specs.Spans.{FindsRequest, IsRequestOf, IsRequestAt, IsRequestWithin, header_bytes, span_bytes, name_and_value}
 use Rattle.http_frame.specs.declared.head.SimpleHead.{SimpleHead}
-use Rattle.http_frame.specs.Heads.{get_length, post_length, method_length, simple_length, topics_target, begins_blank, IsSimple, Finds}
+use Rattle.http_frame.specs.Heads.{get_length, post_length, simple_length, topics_target, begins_blank, IsSimple, Finds}
 
 -- a served head has few fields
 get_few : (fs : List (List ℕ × List ℕ)) (n : ℕ) → get_length fs ≡ Some n → length fs ≤ 2

@@ -1,5 +1,5 @@
 -- The requests that bytes spell (RFC 9112, 2.1 and 6), as a relation on the whole bytes.
-use Rattle.std.specs.Prelude.{◌≡◌, ◌⊎◌, ℕ, ◌+◌, ◌-◌, ◌<◌, ◌≤◌, ◌++◌, List, [], ◌∷◌, length, take, drop, Option, Some, None, Result, Ok, Err, codes}
+use Rattle.std.specs.Prelude.{◌≡◌, ◌⊎◌, ℕ, ◌+◌, ◌-◌, ◌<◌, ◌≤◌, ◌++◌, List, [], ◌∷◌, length, take, Some, None, Result, Ok, Err, codes}
 use Rattle.memchr.specs.Find.{FindsNeedle}
 use Rattle.httparse.specs.Grammar.{RequestHead}
 use Rattle.http_frame.specs.declared.head.SimpleHead.{SimpleHead}

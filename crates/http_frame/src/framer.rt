@@ -111,8 +111,12 @@ fn request_of(
 ) -> Result<HttpRequest, AllocError>
     requires method { IsWithin (length block.now) found.now.method }
     requires target { IsWithin (length block.now) found.now.target }
-    ensures { IfOk result (λ request. request ≡ record { method = span_bytes block.now found.now.method;
-        target = span_bytes block.now found.now.target; user = codes "anonymous"; body = body.now }) }
+    ensures { IfOk result (λ request. request ≡ record {
+      method = span_bytes block.now found.now.method;
+      target = span_bytes block.now found.now.target;
+      user = codes "anonymous";
+      body = body.now;
+    }) }
 {
     Ok(HttpRequest {
         method: Bytes::of(alloc, found.method.of(block))?,

@@ -8,3 +8,6 @@ mod laws;
 pub use framer::{FrameError, FrameFault, FrameStep, Framer, HttpRequest, Look};
 pub use head::{SimpleHead, simple_head};
 pub use laws::{bytes_have_one_reading, readings_exclude_each_other};
+
+#[cfg(test)]
+mod tests;

@@ -207,28 +207,74 @@ fn spelling(value: &Value21) -> &[u8] {
 const DATA: &[u8] =
     b"#7=B($,*,-1.E5,'it''s',.T.,\"0F\",#12,(),(1,(2)),ifcLabel('x'));/*c*/#3=(A()b(1,2));\n#12=a(((((((((((((((((((((((((((((((()))))))))))))))))))))))))))))))) ; ";
 
-const MARKS: &[u8] = b"$*1'.\"#((!";
+/// A value of `#7`: its place, the mark of its kind, and what it keeps of its spelling.
+#[derive(Clone, Copy)]
+struct Kept {
+    at: usize,
+    mark: u8,
+    spelling: &'static [u8],
+}
 
-const SPELLINGS: [&[u8]; 10] = [
-    b"",
-    b"",
-    b"-1.E5",
-    b"it''s",
-    b"T",
-    b"0F",
-    b"",
-    b"",
-    b"",
-    b"IFCLABEL",
+const VALUES: [Kept; 10] = [
+    Kept {
+        at: 0,
+        mark: b'$',
+        spelling: b"",
+    },
+    Kept {
+        at: 1,
+        mark: b'*',
+        spelling: b"",
+    },
+    Kept {
+        at: 2,
+        mark: b'1',
+        spelling: b"-1.E5",
+    },
+    Kept {
+        at: 3,
+        mark: b'\'',
+        spelling: b"it''s",
+    },
+    Kept {
+        at: 4,
+        mark: b'.',
+        spelling: b"T",
+    },
+    Kept {
+        at: 5,
+        mark: b'"',
+        spelling: b"0F",
+    },
+    Kept {
+        at: 6,
+        mark: b'#',
+        spelling: b"",
+    },
+    Kept {
+        at: 7,
+        mark: b'(',
+        spelling: b"",
+    },
+    Kept {
+        at: 8,
+        mark: b'(',
+        spelling: b"",
+    },
+    Kept {
+        at: 9,
+        mark: b'!',
+        spelling: b"IFCLABEL",
+    },
 ];
 
-fn assert_values(rt: &impl Abort, values: &[Value21]) {
-    assert_eq!(rt; values.len(), MARKS.len());
-    let mut at = 0;
-    while at < values.len() && at < MARKS.len() && at < SPELLINGS.len() {
-        assert_eq!(rt; mark(&values[at]), MARKS[at]);
-        assert_eq!(rt; spelling(&values[at]), SPELLINGS[at]);
-        at += 1;
+fn assert_value(rt: &impl Abort, values: &[Value21], row: Kept) {
+    match values.get(row.at) {
+        Some(value) => {
+            assert_eq!(rt; mark(value), row.mark);
+            assert_eq!(rt; spelling(value), row.spelling);
+        }
+        None => assert!(rt; false, "it is missing"),
     }
 }
 
@@ -241,6 +287,29 @@ fn instances(rt: HostRuntime) -> Result<(), Fail> {
     assert_instance(&rt, &exchange, 7, "B", 10);
     assert_instance(&rt, &exchange, 12, "A", 1);
     assert!(rt; exchange.find(4).is_none());
-    assert_values(&rt, exchange.find(7).ok_or("missing")?.values.as_slice());
+    let values = exchange.find(7).ok_or("missing")?.values.as_slice();
+    for row in VALUES {
+        assert_value(&rt, values, row);
+    }
+    Ok(())
+}
+
+/// A file of one pipe, and one of four.
+const ONE_PIPE: &[u8] =
+    b"ISO-10303-21;\nHEADER;\nFILE_DESCRIPTION((''),'2;1');\nFILE_NAME('a.ifc','2024-05-01T12:00:00',(''),(''),'','','');\nFILE_SCHEMA(('IFC4'));\nENDSEC;\nDATA;\n#1=IFCPROJECT('0000000000000000000001',$,'P',$,$,$,$,(),#2);\n#2=IFCUNITASSIGNMENT((#3));\n#3=IFCSIUNIT(*,.LENGTHUNIT.,.MILLI.,.METRE.);\n#4=IFCCARTESIANPOINTLIST3D(((0.,0.,0.),(100.,0.,0.),(0.,100.,0.)));\n#5=IFCTRIANGULATEDFACESET(#4,$,$,((1,2,3)),$);\n#6=IFCSHAPEREPRESENTATION($,'Body','Tessellation',(#5));\n#7=IFCPRODUCTDEFINITIONSHAPE($,$,(#6));\n#8=IFCPIPESEGMENT('0000000000000000000002',$,'Pipe 1',$,$,$,#7,$,$);\nENDSEC;\nEND-ISO-10303-21;\n";
+
+const FOUR_PIPES: &[u8] =
+    b"ISO-10303-21;\nHEADER;\nFILE_DESCRIPTION((''),'2;1');\nFILE_NAME('a.ifc','2024-05-01T12:00:00',(''),(''),'','','');\nFILE_SCHEMA(('IFC4'));\nENDSEC;\nDATA;\n#1=IFCPROJECT('0000000000000000000001',$,'P',$,$,$,$,(),#2);\n#2=IFCUNITASSIGNMENT((#3));\n#3=IFCSIUNIT(*,.LENGTHUNIT.,.MILLI.,.METRE.);\n#10=IFCCARTESIANPOINTLIST3D(((1500.,1500.,1500.),(1600.,1500.,1500.),(1500.,1600.,1500.)));\n#11=IFCTRIANGULATEDFACESET(#10,$,$,((1,2,3)),$);\n#12=IFCSHAPEREPRESENTATION($,'Body','Tessellation',(#11));\n#13=IFCPRODUCTDEFINITIONSHAPE($,$,(#12));\n#14=IFCPIPESEGMENT('0000000000000000000011',$,'0000000000000000000011',$,$,$,#13,$,$);\n#20=IFCCARTESIANPOINTLIST3D(((1500.,1500.,1550.),(1600.,1500.,1550.),(1500.,1600.,1550.)));\n#21=IFCTRIANGULATEDFACESET(#20,$,$,((1,2,3)),$);\n#22=IFCSHAPEREPRESENTATION($,'Body','Tessellation',(#21));\n#23=IFCPRODUCTDEFINITIONSHAPE($,$,(#22));\n#24=IFCPIPESEGMENT('0000000000000000000012',$,'0000000000000000000012',$,$,$,#23,$,$);\n#30=IFCCARTESIANPOINTLIST3D(((9500.,1500.,1500.),(9600.,1500.,1500.),(9500.,1600.,1500.)));\n#31=IFCTRIANGULATEDFACESET(#30,$,$,((1,2,3)),$);\n#32=IFCSHAPEREPRESENTATION($,'Body','Tessellation',(#31));\n#33=IFCPRODUCTDEFINITIONSHAPE($,$,(#32));\n#34=IFCPIPESEGMENT('0000000000000000000013',$,'0000000000000000000013',$,$,$,#33,$,$);\n#40=IFCCARTESIANPOINTLIST3D(((9500.,1500.,1700.),(9600.,1500.,1700.),(9500.,1600.,1700.)));\n#41=IFCTRIANGULATEDFACESET(#40,$,$,((1,2,3)),$);\n#42=IFCSHAPEREPRESENTATION($,'Body','Tessellation',(#41));\n#43=IFCPRODUCTDEFINITIONSHAPE($,$,(#42));\n#44=IFCPIPESEGMENT('0000000000000000000014',$,'0000000000000000000014',$,$,$,#43,$,$);\nENDSEC;\nEND-ISO-10303-21;\n";
+
+#[test]
+fn pipes(rt: HostRuntime) -> Result<(), Fail> {
+    let one = read(rt.alloc(), ONE_PIPE).ok().ok_or("refused")?;
+    assert_eq!(rt; one.instances().len(), 8);
+    assert_instance(&rt, &one, 1, "IFCPROJECT", 9);
+    assert_instance(&rt, &one, 8, "IFCPIPESEGMENT", 9);
+    let four = read(rt.alloc(), FOUR_PIPES).ok().ok_or("refused")?;
+    assert_eq!(rt; four.instances().len(), 23);
+    assert_instance(&rt, &four, 41, "IFCTRIANGULATEDFACESET", 5);
+    assert!(rt; four.find(4).is_none());
     Ok(())
 }

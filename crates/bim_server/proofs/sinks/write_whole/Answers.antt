@@ -15,4 +15,4 @@ loop-at-preserved g c =
 
 pub returns-in-Err-clause-bytes : goal.returns-in-Err-clause-bytes
 returns-in-Err-clause-bytes g c =
-    wrote_front _ _ _ c.args.bytes.now c.loop-at.at c.loop-at.invariant.held c.in-Err.ensures.held
+    wrote_front _ _ _ c.args.bytes.now c.loop-at.at (omega arith) c.loop-at.invariant.held c.in-Err.ensures.held

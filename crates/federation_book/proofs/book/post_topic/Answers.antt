@@ -1,8 +1,7 @@
-use Rattle.std.proofs.Common.{◌≡◌, ◌∙◌, ◌++◌, ◌∷◌, [], ◌-◌, ◌+◌, ap, sym, get_or, slice_set, arith, refl}
+use Rattle.std.proofs.Common.{◌≡◌, ◌∙◌, ◌++◌, ◌∷◌, [], ◌-◌, ◌+◌, ap, get_or, arith, refl}
 use Rattle.federation_book.specs.declared.types.Entry.{Entry}
 use Rattle.federation_book.specs.declared.book.Project.{Project}
 use Rattle.federation_book.specs.History.{topics_of, topic_of_change}
-use Rattle.federation_book.specs.Kept.{IsKept}
 use Rattle.federation_book.proofs.Keeping.{kept_at, kept_push, with_new}
 use Rattle.federation_book.proofs.book.post_topic.Goals as goal
 

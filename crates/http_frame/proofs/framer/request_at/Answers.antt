@@ -1,4 +1,3 @@
-use Rattle.std.proofs.Common.{◌≡◌, take, drop, codes, ◌+◌}
 use Rattle.std.proofs.lemmas.Result.{IfOk-weaker}
 use Rattle.http_frame.proofs.Framing.{begins}
 use Rattle.http_frame.proofs.framer.request_at.Goals as goal

@@ -1,4 +1,4 @@
-use Rattle.std.proofs.Common.{◌≡◌, Err, sym, ◌∙◌}
+use Rattle.std.proofs.Common.{Err, sym, ◌∙◌}
 use Rattle.http_frame.proofs.Simple.{blank_is_none, finds_simple, some_simple, none_simple, not_whole}
 use Rattle.http_frame.proofs.head.simple_head.Goals as goal
 

@@ -1,5 +1,5 @@
 use Rattle.bim_io.proofs.Reading.{given_more, left_more, none_left}
-use Rattle.std.proofs.Common.{◌≡◌, ◌∙◌, length}
+use Rattle.std.proofs.Common.{length}
 use Rattle.bim_io.proofs.memory.MemSourceSource.read.Goals as goal
 
 pub returns-clause-given : goal.returns-clause-given

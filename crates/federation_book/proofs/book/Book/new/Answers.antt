@@ -1,4 +1,4 @@
-use Rattle.std.proofs.Common.{arith, refl}
+use Rattle.std.proofs.Common.{arith}
 use Rattle.std.proofs.lemmas.Grind.{common_steps}
 use Rattle.federation_book.proofs.Keeping.{kept_more}
 use Rattle.federation_book.proofs.book.Book.new.Goals as goal

@@ -1,4 +1,4 @@
-use Rattle.std.proofs.Common.{Ok, drop}
+use Rattle.std.proofs.Common.{Ok}
 use Rattle.http_frame.proofs.OneReading.{frames_short}
 use Rattle.http_frame.proofs.framer.Framer.next.Goals as goal
 

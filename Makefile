@@ -1,0 +1,18 @@
+# make build    proves the crates that the program stands on, and leaves it at crates/bim_server/out/bim_server
+# make replay   replays the stored run of cases/topics over the built program, and prints what it writes
+# make check    the test command: the whole gate, then the end-to-end cases over the built program
+
+SERVER := crates/bim_server/out/bim_server
+
+.PHONY: build replay check
+
+build:
+	@cd crates/bim_server && rt run -- replay </dev/null >&2
+
+replay: build
+	@$(SERVER) $$(cat cases/topics/args) <cases/topics/stdin
+
+check:
+	rt ci
+	@$(MAKE) --no-print-directory build
+	python3 cases/run.py $(SERVER)

@@ -1,0 +1,74 @@
+//! The commands.
+ghost use Rattle.std.specs.Prelude.{◌≡◌, ◌≤◌};
+ghost use Rattle.bim_io.specs.Causes.{Rose};
+ghost use Rattle.bim_server.specs.Words.{replay_words};
+ghost use Rattle.bim_server.specs.Commands.{Does, PrintsUsage, command_words};
+
+use crate::session::{run_session, status_of};
+use crate::sinks::write_whole;
+use crate::words::{Time, is_word, replay_words};
+use bim_io::{Clock, MemClock, Sink, Source};
+use bim_model::Text;
+use std::alloc::Global;
+
+const USAGE: &str = "usage: bim_server replay|check|generate|serve\n";
+
+fn print_usage<K: Sink>(sink: &mut K) -> u8
+    ensures usage { PrintsUsage (K.held sink.old) (K.held sink.new) (K.faults sink.old) (K.faults sink.new) result }
+{
+    let _written = write_whole(sink, USAGE.as_bytes());
+    2
+}
+
+/// Replays one recorded session: reads requests from the source, answers them over a book of one thread, and writes
+/// the responses to the sink. The words are those behind `replay`. It answers the exit status: 0 where the input ended
+/// between requests, 2 where the words are outside their grammar, 4 where a read failed, 5 where a write failed, 6
+/// where memory was wanting, and 7 where the session ended within a request, by a fault of its bytes, or after 10,000
+/// requests.
+pub fn run_replay<S: Source, K: Sink, C: Clock>(
+    alloc: Global,
+    words: &[Text],
+    source: &mut S,
+    sink: &mut K,
+    clock: &mut C,
+) -> u8
+    ensures does { Does (replay_words words.now) (C.moment clock.old) (S.given source.old) (S.given source.new) (S.ended source.new)
+        (K.held sink.old) (K.held sink.new) (K.faults sink.old) (K.faults sink.new) result }
+    ensures read { result ≡ 4 → Rose (S.faults source.old) (S.faults source.new) }
+    ensures write { result ≡ 5 → Rose (K.faults sink.old) (K.faults sink.new) }
+{
+    match replay_words(words) {
+        None => print_usage(sink),
+        Some(Time::OfClock) => status_of(run_session(alloc, source, sink, clock)),
+        Some(Time::At(moment)) => {
+            let mut one_moment = MemClock::new(moment);
+            status_of(run_session(alloc, source, sink, &mut one_moment))
+        }
+    }
+}
+
+/// Does what the command of the first word does, and answers its status. A command that is not built is outside the
+/// grammar, so it prints the usage line and answers 2.
+pub fn run<S: Source, K: Sink, C: Clock>(
+    alloc: Global,
+    words: &[Text],
+    source: &mut S,
+    sink: &mut K,
+    clock: &mut C,
+) -> u8
+    ensures does { Does (command_words words.now) (C.moment clock.old) (S.given source.old) (S.given source.new) (S.ended source.new)
+        (K.held sink.old) (K.held sink.new) (K.faults sink.old) (K.faults sink.new) result }
+    ensures read { result ≡ 4 → Rose (S.faults source.old) (S.faults source.new) }
+    ensures write { result ≡ 5 → Rose (K.faults sink.old) (K.faults sink.new) }
+{
+    match words {
+        [] => print_usage(sink),
+        [name, rest @ ..] => {
+            if is_word(name, "replay") {
+                run_replay(alloc, rest, source, sink, clock)
+            } else {
+                print_usage(sink)
+            }
+        }
+    }
+}

@@ -1,0 +1,148 @@
+//! Recorded sessions over sources and sinks in memory.
+ghost use Rattle.std.specs.Prelude.{◌≤◌};
+
+use crate::commands::{run, run_replay};
+use bim_io::{MemClock, MemSink, MemSource, SureSink, SureSource};
+use bim_model::{Bytes, Items, Text};
+use std::alloc::Global;
+use std::process::Abort;
+use std::test::Fail;
+
+const MADE_AND_LISTED: &[u8] =
+    b"POST /bcf/3.0/projects/00000001-0000-8000-8000-000000000000/topics HTTP/1.1\r\nHost: h\r\nContent-Length: 16\r\n\r\n{\"title\":\"Pipe\"}GET /bcf/3.0/projects/00000001-0000-8000-8000-000000000000/topics HTTP/1.1\r\nHost: h\r\n\r\n";
+
+const MADE_AND_LISTED_ANSWERS: &[u8] =
+    b"HTTP/1.1 201 Created\r\nContent-Type: application/json\r\nX-Book-Turn: 1\r\nContent-Length: 156\r\n\r\n{\"creation_author\":\"anonymous\",\"creation_date\":\"2024-05-01T12:00:00Z\",\"guid\":\"00000001-0000-8000-8000-000000000001\",\"server_assigned_id\":\"1\",\"title\":\"Pipe\"}HTTP/1.1 200 OK\r\nContent-Type: application/json\r\nX-Book-Turn: 2\r\nContent-Length: 158\r\n\r\n[{\"creation_author\":\"anonymous\",\"creation_date\":\"2024-05-01T12:00:00Z\",\"guid\":\"00000001-0000-8000-8000-000000000001\",\"server_assigned_id\":\"1\",\"title\":\"Pipe\"}]";
+
+// The answers to what the source gives, in pieces of at most so many bytes each way.
+fn assert_replays(
+    rt: &impl Abort,
+    alloc: Global,
+    most: u64,
+    input: &[u8],
+    output: &[u8],
+) -> Result<(), Fail>
+    requires { 1 ≤ most }
+{
+    let mut source = SureSource::new(Bytes::of(alloc, input)?, most)?;
+    let mut sink = SureSink::new(alloc, most)?;
+    let mut clock = MemClock::new(1_714_564_800);
+    let status = run_replay(alloc, &[], &mut source, &mut sink, &mut clock);
+    assert_eq!(rt; status, 0);
+    assert_eq!(rt; sink.bytes(), output);
+    Ok(())
+}
+
+#[test]
+fn a_session_is_answered_in_any_pieces(rt: HostRuntime) -> Result<(), Fail> {
+    let alloc = rt.alloc();
+    assert_replays(&rt, alloc, 1, MADE_AND_LISTED, MADE_AND_LISTED_ANSWERS)?;
+    assert_replays(&rt, alloc, 7, MADE_AND_LISTED, MADE_AND_LISTED_ANSWERS)?;
+    assert_replays(
+        &rt,
+        alloc,
+        100_000,
+        MADE_AND_LISTED,
+        MADE_AND_LISTED_ANSWERS,
+    )?;
+    assert_replays(&rt, alloc, 1, b"", b"")
+}
+
+fn fails_at(alloc: Global, call: u64) -> Result<Items<u64>, Fail> {
+    let mut fails = Items::new(alloc);
+    fails.push(call)?;
+    Ok(fails)
+}
+
+// The status where a read or a write of this number fails (0: none), in pieces of at most so many bytes. What is
+// written is a front of the answers, and all of them where nothing fails.
+fn failing(rt: &impl Abort, alloc: Global, most: u64, read: u64, write: u64) -> Result<u8, Fail>
+    requires { 1 ≤ most }
+{
+    let contents = Bytes::of(alloc, MADE_AND_LISTED)?;
+    let mut source = MemSource::new(contents, most, fails_at(alloc, read)?)?;
+    let mut sink = MemSink::new(alloc, most, fails_at(alloc, write)?)?;
+    let mut clock = MemClock::new(1_714_564_800);
+    let status = run_replay(alloc, &[], &mut source, &mut sink, &mut clock);
+    assert!(rt; MADE_AND_LISTED_ANSWERS.starts_with(sink.bytes()));
+    if status == 0 {
+        assert_eq!(rt; sink.bytes(), MADE_AND_LISTED_ANSWERS);
+    }
+    Ok(status)
+}
+
+// Each of so many reads fails in turn, and each of so many writes; one more of either is not made.
+fn assert_each_fails(
+    rt: &impl Abort,
+    alloc: Global,
+    most: u64,
+    reads: u64,
+    writes: u64,
+) -> Result<(), Fail>
+    requires { 1 ≤ most }
+{
+    for call in 1..=reads {
+        assert_eq!(rt; failing(rt, alloc, most, call, 0)?, 4, "read {call}");
+    }
+    for call in 1..=writes {
+        assert_eq!(rt; failing(rt, alloc, most, 0, call)?, 5, "write {call}");
+    }
+    assert_eq!(rt;
+        failing(
+            rt,
+            alloc,
+            most,
+            reads.saturating_add(1),
+            writes.saturating_add(1)
+        )?,
+        0
+    );
+    Ok(())
+}
+
+#[test]
+fn each_fault_of_the_outside_has_its_status(rt: HostRuntime) -> Result<(), Fail> {
+    let alloc = rt.alloc();
+    // 211 bytes come in, and the two answers of 249 and 246 bytes go out; one read more meets the end.
+    assert_each_fails(&rt, alloc, 1, 212, 495)?;
+    assert_each_fails(&rt, alloc, 2, 107, 248)?;
+    assert_each_fails(&rt, alloc, 1_000_000, 2, 2)
+}
+
+fn words_of(alloc: Global, words: &[&str]) -> Result<Vec<Text>, Fail> {
+    let mut made = Vec::new(alloc);
+    for word in words {
+        made.push(Text::of(alloc, word)?)?;
+    }
+    Ok(made)
+}
+
+// The status of the words over an empty input, and whether the usage line is printed.
+fn assert_words(
+    rt: &impl Abort,
+    alloc: Global,
+    words: &[&str],
+    status: u8,
+    output: &[u8],
+) -> Result<(), Fail> {
+    let words = words_of(alloc, words)?;
+    let mut source = SureSource::new(Bytes::of(alloc, b"")?, 100)?;
+    let mut sink = SureSink::new(alloc, 100)?;
+    let mut clock = MemClock::new(0);
+    let answered = run(alloc, words.as_slice(), &mut source, &mut sink, &mut clock);
+    assert_eq!(rt; answered, status);
+    assert_eq!(rt; sink.bytes(), output);
+    Ok(())
+}
+
+#[test]
+fn words_outside_the_grammar_print_the_usage(rt: HostRuntime) -> Result<(), Fail> {
+    let alloc = rt.alloc();
+    let usage = b"usage: bim_server replay|check|generate|serve\n".as_slice();
+    assert_words(&rt, alloc, &["replay"], 0, b"")?;
+    assert_words(&rt, alloc, &["replay", "--at", "253402207200"], 0, b"")?;
+    assert_words(&rt, alloc, &["replay", "--at", "253402207201"], 2, usage)?;
+    assert_words(&rt, alloc, &["replay", "--at", "+5"], 2, usage)?;
+    assert_words(&rt, alloc, &["check"], 2, usage)?;
+    assert_words(&rt, alloc, &[], 2, usage)
+}

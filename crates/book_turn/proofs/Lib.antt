@@ -1,0 +1,6 @@
+pub mod Totals
+pub mod Prefixes
+pub mod Keeps
+pub mod Calls
+pub mod Ends
+mod Counting

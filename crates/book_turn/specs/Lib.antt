@@ -1,0 +1,8 @@
+pub mod Numbers
+pub mod Entries
+pub mod Views
+pub mod Steps
+pub mod Rule
+pub mod Passes
+pub mod Faults
+pub mod Counts

@@ -1,0 +1,7 @@
+use Rattle.std.proofs.Common.{All, sym, subst}
+use Rattle.clearance.specs.Near.{IsInGrid, ElementInGrid}
+use Rattle.clearance.proofs.tests.element.Goals as goal
+
+pub returns : goal.returns
+unfolding ElementInGrid
+returns c = subst (All IsInGrid) (sym c.from_vec.ensures) c.requires

@@ -1,0 +1,9 @@
+use Rattle.clearance.specs.Near.{shape_of}
+use Rattle.clearance.proofs.OffBoxes.{off_far}
+use Rattle.clearance.proofs.triangles.near.Goals as goal
+
+pub returns-then-is_off : goal.returns-then-is_off
+returns-then-is_off c = (
+  λ x. absurd (cc x),
+  λ x. absurd (off_far c.extent_of.result c.extent_of-2.result (shape_of c.args.p.now) (shape_of c.args.q.now) c.args.d c.extent_of.ensures.inside c.extent_of-2.ensures.inside (c.is_off.ensures.0 c.if-is_off.true) x),
+)

@@ -1,0 +1,40 @@
+-- Boxes along the axes.
+use Rattle.std.specs.Prelude.{ℕ, pos, ◌+ℤ◌, ◌≤ℤ◌, ◌<ℤ◌, ◌⊎◌}
+use Rattle.tri_exact.specs.Space.{Vector, Face}
+use Rattle.bim_model.specs.declared.geometry.Extent.{Extent}
+use Rattle.clearance.specs.Near.{vector_of, IsGridPoint}
+
+-- p lies between the corners l and h of a box
+pub record Between (l h p : Vector) : Type 0 where
+  pub x_low : l.x ≤ℤ p.x
+  pub y_low : l.y ≤ℤ p.y
+  pub z_low : l.z ≤ℤ p.z
+  pub x_high : p.x ≤ℤ h.x
+  pub y_high : p.y ≤ℤ h.y
+  pub z_high : p.z ≤ℤ h.z
+
+-- the corners of t lie in the box
+pub record InExtent (k : Extent) (t : Face) : Type 0 where
+  pub a_in : Between (vector_of k.low) (vector_of k.high) t.a
+  pub b_in : Between (vector_of k.low) (vector_of k.high) t.b
+  pub c_in : Between (vector_of k.low) (vector_of k.high) t.c
+
+pub record IsExtent (k : Extent) : Type 0 where
+  pub low_in : IsGridPoint k.low
+  pub high_in : IsGridPoint k.high
+
+-- the box k lies within the box m
+pub record Wider (k m : Extent) : Type 0 where
+  pub x_low : m.low.x ≤ℤ k.low.x
+  pub y_low : m.low.y ≤ℤ k.low.y
+  pub z_low : m.low.z ≤ℤ k.low.z
+  pub x_high : k.high.x ≤ℤ m.high.x
+  pub y_high : k.high.y ≤ℤ m.high.y
+  pub z_high : k.high.z ≤ℤ m.high.z
+
+-- two boxes with a gap of more than d on an axis
+abbrev pub IsOff : Extent → Extent → ℕ → Type 0
+IsOff k m d =
+    ((k.high.x +ℤ pos d) <ℤ m.low.x ⊎ (m.high.x +ℤ pos d) <ℤ k.low.x)
+    ⊎ (((k.high.y +ℤ pos d) <ℤ m.low.y ⊎ (m.high.y +ℤ pos d) <ℤ k.low.y)
+    ⊎ ((k.high.z +ℤ pos d) <ℤ m.low.z ⊎ (m.high.z +ℤ pos d) <ℤ k.low.z))

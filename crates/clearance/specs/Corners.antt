@@ -1,0 +1,12 @@
+-- Corners as a face.
+use Rattle.tri_exact.specs.Space.{Face}
+use Rattle.tri_exact.specs.Places.{at, IsPoint}
+use Rattle.clearance.specs.declared.corners.Corners.{Corners}
+
+abbrev pub face_of : Corners → Face
+face_of t = record { a = at t.a; b = at t.b; c = at t.c }
+
+pub record InGrid (t : Corners) : Type 0 where
+  pub a_in : IsPoint t.a
+  pub b_in : IsPoint t.b
+  pub c_in : IsPoint t.c

@@ -1,0 +1,7 @@
+pub mod Near
+pub mod Corners
+pub mod Rows
+pub mod Planes
+pub mod Boxes
+pub mod Runs
+pub mod Apart

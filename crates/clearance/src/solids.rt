@@ -1,0 +1,42 @@
+// Two elements.
+ghost use Rattle.std.specs.Prelude.{◌≡◌, ◌+◌, ◌≤◌, ◌↔◌, IsTrue, All};
+ghost use Rattle.clearance.specs.Near.{IsInGrid, ListsNear, ElementsNear, ElementInGrid};
+
+use crate::boxes::extent_of_all;
+use crate::runs::{BLOCK, RUN, block_near, pairs_near, split_front};
+use bim_model::{Element, Steps, Triangle};
+use std::sync::ledger::Ledger;
+
+/// Whether a triangle of one list and one of the other come within d, in grid numbers. It takes no memory.
+pub fn lists_near(ps: &[Triangle], qs: &[Triangle], d: u32) -> bool
+    requires ps_in { All IsInGrid ps.now }
+    requires qs_in { All IsInGrid qs.now }
+    requires d_in { d ≤ 10000 }
+    ensures { IsTrue result ↔ ListsNear ps.now qs.now d }
+{
+    if qs.len() <= RUN {
+        return pairs_near(ps, qs, extent_of_all(qs), d);
+    }
+    let mut rest = qs;
+    while !rest.is_empty() {
+        let (front, behind) = split_front(rest, BLOCK);
+        if block_near(ps, front, d) {
+            return true;
+        }
+        rest = behind;
+    }
+    false
+}
+
+/// Whether two elements are near: whether a triangle of the one and a triangle of the other come within d, in
+/// grid numbers. It takes no memory, and exactly one step.
+pub fn solids_near<L: Ledger>(a: &Element, b: &Element, d: u32, steps: &mut Steps<L>) -> bool
+    requires a_in { ElementInGrid a.now }
+    requires b_in { ElementInGrid b.now }
+    requires d_in { d ≤ 10000 }
+    ensures near { IsTrue result ↔ ElementsNear a.now b.now d }
+    ensures step { steps.new ≡ steps.old + 1 }
+{
+    steps.tick();
+    lists_near(a.triangles.as_slice(), b.triangles.as_slice(), d)
+}

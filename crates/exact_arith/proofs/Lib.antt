@@ -1,0 +1,4 @@
+pub mod Ring
+pub mod Triples
+pub mod Order
+pub mod Ranges

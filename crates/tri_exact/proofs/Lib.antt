@@ -1,0 +1,14 @@
+pub mod Choice
+pub mod Slide
+pub mod Pose
+pub mod Weights
+pub mod Reach
+pub mod PointEdge
+pub mod TwoEdges
+pub mod Pierce
+pub mod TwoFaces
+pub mod FootTest
+pub mod EdgesTest
+pub mod Through
+pub mod Posed
+pub mod CrossTest

@@ -1,0 +1,6 @@
+pub mod Space
+pub mod Places
+pub mod Within
+pub mod Foot
+pub mod Edges
+pub mod Pierce

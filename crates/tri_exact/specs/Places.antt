@@ -1,0 +1,30 @@
+-- The program's points as vectors, and the bounds of what is computed from them.
+use Rattle.std.specs.Prelude.{◌≤◌, unsigned_abs}
+use Rattle.tri_exact.specs.Space.{Vector, Face}
+use Rattle.tri_exact.specs.declared.V3.{V3}
+use Rattle.tri_exact.specs.declared.W3.{W3}
+use Rattle.tri_exact.specs.declared.Normal.{Normal}
+
+abbrev pub at : V3 → Vector
+at v = record { x = v.x; y = v.y; z = v.z }
+
+abbrev pub wide : W3 → Vector
+wide v = record { x = v.x; y = v.y; z = v.z }
+
+abbrev pub straight : Normal → Vector
+straight n = record { x = n.x; y = n.y; z = n.z }
+
+abbrev pub face_at : V3 → V3 → V3 → Face
+face_at a b c = record { a = at a; b = at b; c = at c }
+
+-- a point of the grid: each coordinate within 8,000,000
+pub record IsPoint (p : V3) : Type 0 where
+  pub x_in : unsigned_abs p.x ≤ 8000000
+  pub y_in : unsigned_abs p.y ≤ 8000000
+  pub z_in : unsigned_abs p.z ≤ 8000000
+
+-- the vector product of two vectors within 16,000,000: 2 · 16,000,000² at most
+pub record IsCross (n : W3) : Type 0 where
+  pub x_in : unsigned_abs n.x ≤ 512000000000000
+  pub y_in : unsigned_abs n.y ≤ 512000000000000
+  pub z_in : unsigned_abs n.z ≤ 512000000000000

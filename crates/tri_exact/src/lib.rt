@@ -1,0 +1,46 @@
+// Exact predicates on points, edges and triangles of a whole grid.
+#![tactic(auto)]
+
+ghost use Rattle.std.specs.Prelude.{◌≤◌, unsigned_abs};
+
+mod crossing;
+mod edges;
+mod faces;
+pub mod products;
+#[cfg(test)]
+mod tests;
+
+pub use crossing::{edge_pierces, segment_crosses};
+pub use edges::{edge_edge_within, is_beside, is_crossing, point_edge_within};
+pub use faces::{is_inside, point_face_within};
+pub use products::{cross, dot, orient};
+
+/// A point or a vector, in grid numbers.
+#[derive(Clone, Copy)]
+pub struct V3 {
+    pub x: i64,
+    pub y: i64,
+    pub z: i64,
+    ghost x_in: { unsigned_abs x ≤ 16000000 },
+    ghost y_in: { unsigned_abs y ≤ 16000000 },
+    ghost z_in: { unsigned_abs z ≤ 16000000 },
+}
+
+/// A vector of products, in squares of grid numbers.
+#[derive(Clone, Copy)]
+pub struct W3 {
+    pub x: i128,
+    pub y: i128,
+    pub z: i128,
+}
+
+/// A vector product in 64 bits, in squares of grid numbers.
+#[derive(Clone, Copy)]
+pub struct Normal {
+    pub x: i64,
+    pub y: i64,
+    pub z: i64,
+    ghost x_in: { unsigned_abs x ≤ 512000000000000 },
+    ghost y_in: { unsigned_abs y ≤ 512000000000000 },
+    ghost z_in: { unsigned_abs z ≤ 512000000000000 },
+}
