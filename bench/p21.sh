@@ -5,8 +5,9 @@
 # falls back too often: an unclosed comment, slashes, an unclosed text of doubled apostrophes, and a number sign with digits
 # without end. Prints a line for each: its bytes, tokens, and instances (or the place where reading stopped), and then, each the
 # best of five runs, the speed of cutting and of reading in millions of bytes per second with the milliseconds of each, and the
-# peak memory of the process less the file's bytes, divided by the file's bytes. Cutting or reading may stop at a fault: its speed
-# is over the whole input all the same, and so the milliseconds say more there.
+# peak memory of the process less the file's bytes, divided by the file's bytes (a peak that the measuring script itself reaches,
+# some 10 MB, can't be told apart). Cutting and reading stop at a fault, and the speed is over the whole input all the same: there
+# the milliseconds count.
 set -e
 out=$1
 shift
@@ -69,11 +70,13 @@ import sys
 
 out, program, files = sys.argv[1], sys.argv[2], sys.argv[3:]
 SIZE = 8 << 20
+# What each input begins with, and what follows up to its size. They are written piece by piece: what this script holds would count
+# in the peak of each process that it starts.
 INPUTS = {
-    "comment": b"A/*" + b"x " * (SIZE // 2),
-    "slashes": b"A " + b"/" * SIZE,
-    "text": b"'" + b"a''" * (SIZE // 3),
-    "digits": b"#" + b"9" * SIZE,
+    "comment": (b"A/*", b"x "),
+    "slashes": (b"A ", b"/"),
+    "text": (b"'", b"a''"),
+    "digits": (b"#", b"9"),
 }
 
 
@@ -93,11 +96,14 @@ def speed(size, micros):
     return f"{size / max(micros, 1):.0f} MB/s ({micros / 1000:.1f} ms)"
 
 
-for name, content in INPUTS.items():
+for name, (front, piece) in INPUTS.items():
     path = os.path.join(out, name + ".p21")
     with open(path, "wb") as file:
-        file.write(content)
+        file.write(front)
+        for _ in range(SIZE // len(piece) // 1024):
+            file.write(piece * 1024)
     files.append(path)
+own = run("/dev/null")[1]
 for path in files:
     runs = [run(path) for _ in range(5)]
     line = runs[0][0]
@@ -105,8 +111,9 @@ for path in files:
     cut = min(found["cut_us"] for found, _ in runs)
     read = min(found["read_us"] for found, _ in runs)
     peak = min(used for _, used in runs)
+    memory = f"{(peak - size) / size:.1f} bytes a byte" if peak > own else f"at most {own / 1e6:.0f} MB in all"
     print(
         f"{path}: {size} bytes, {line['tokens']} tokens, {line['instances_or_place']} instances or place, "
-        f"cut {speed(size, cut)}, read {speed(size, read)}, memory {(peak - size) / max(size, 1):.1f} bytes a byte"
+        f"cut {speed(size, cut)}, read {speed(size, read)}, memory {memory}"
     )
 MEASURE
