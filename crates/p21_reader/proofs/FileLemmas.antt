@@ -1,0 +1,269 @@
+use Rattle.std.proofs.Common.{◌≡◌, ℕ, ◌⊎◌, inl, inr, List, [], ◌∷◌, ◌++◌, length, Option, Some, None, option_map, Result, Ok, Err, refl, sym, ap, subst, ◌∙◌, append_assoc}
+use Rattle.std.specs.Prelude.{IsSome}
+use Rattle.p21_lexer.specs.declared.token.Token.{Token}
+use Rattle.p21_lexer.specs.declared.token.LexFault.{LexFault}
+use Rattle.p21_lexer.specs.declared.token.LexFault.TheVariants as lex
+use Rattle.p21_lexer.proofs.OneCut.{one_answer}
+use Rattle.p21_lexer.specs.Cutting.{CutsFrom, start_of}
+use Rattle.p21_reader.specs.declared.fault.ReadFault.{ReadFault}
+use Rattle.p21_reader.specs.declared.fault.ReadFault.TheVariants as faults
+use Rattle.p21_reader.specs.declared.piece.Kind.{Kind}
+use Rattle.p21_reader.specs.declared.piece.Kind.TheVariants as kinds
+use Rattle.p21_reader.specs.declared.value.Instance.{Instance}
+use Rattle.p21_reader.specs.declared.instance.Made.{Made}
+use Rattle.p21_reader.specs.Grammar.{Mark, Class, Simple, Name, Open, Close, Comma, Semi, Equals, Word, EndSec, EndIso, Sign, T, Body, Instances, IsFile, IsViable, Derives, header, file}
+use Rattle.p21_reader.specs.Machine.{run, next, step, bind}
+use Rattle.p21_reader.specs.Lexemes.{Lexeme, lexeme_of, class_of, Ending}
+use Rattle.p21_reader.specs.Reading.{Cuts, classes, Goes, Stops, Fails, FailsAfter, kind_of, IsStuck, Expects}
+use Rattle.p21_reader.specs.Heading.{ReadsHeader}
+use Rattle.p21_reader.specs.Instances.{SpellsInstance, SpellsAll, MakesInstance}
+use Rattle.p21_reader.specs.Files.{SpellsFile, HoldsFile, HasFile, Reaches, NoneThere, WrongThere, FaultAt, ReadsClosing, ReadsLast, ReadsSection}
+use Rattle.p21_reader.proofs.Viable.{run_append, sound, complete, viable_iff, file_iff}
+use Rattle.p21_reader.proofs.Steps.{classes_append, goes_here, goes_one, goes_trans, goes_under, fails_after, fails_under, fails_none, fails_refused, after_fails, fails_past}
+
+-- Instances one after another.
+
+pub spells_more : (is : List Instance) (i : Instance) (ls ms : List Lexeme) → SpellsAll is ls → SpellsInstance i ms → SpellsAll (is ++ i ∷ []) (ls ++ ms)
+spells_more [] i ls ms h k = (ms, [], k, ap (λ x. x ++ ms) h ∙ sym (nil ms), refl)
+  where
+    nil : (xs : List Lexeme) → xs ++ [] ≡ xs
+    nil [] = refl
+    nil (x ∷ xs) = ap (λ y. x ∷ y) (nil xs)
+spells_more (j ∷ is) i ls ms h k = (h.0, h.1 ++ ms, h.2, ap (λ x. x ++ ms) h.3 ∙ append_assoc h.0 h.1 ms, spells_more is i h.1 ms h.4 k)
+
+-- so many instances are read
+pub record Many (bytes : List ℕ) (from at : ℕ) (found : List Instance) : Type 0 where
+  pub said : List Lexeme
+  pub spelled : SpellsAll found said
+  pub goes : Goes (Instances ∷ []) (Instances ∷ []) bytes from at said
+
+pub many_none : (bytes : List ℕ) (at : ℕ) (found : List Instance) → found ≡ [] → Many bytes at at found
+many_none bytes at found e = record { said = []; spelled = rw e refl; goes = goes_here (Instances ∷ []) bytes at }
+
+class_name : (c : Class) → kind_of c ≡ kinds.Name → next Instances c ≡ Some (T Equals ∷ Body ∷ T Semi ∷ Instances ∷ [])
+class_name Name h = refl
+class_name c h = cc
+
+pub instances_name : (l : Lexeme) → kinds.Name ≡ kind_of (class_of l) → next Instances (class_of l) ≡ Some (T Equals ∷ Body ∷ T Semi ∷ Instances ∷ [])
+instances_name l h = class_name (class_of l) (sym h)
+
+class_no : (c : Class) → (kind_of c ≡ kinds.Name → ⊥) → (kind_of c ≡ kinds.Word → ⊥) → next Instances c ≡ None
+class_no Name a b = absurd (a refl)
+class_no (Word m) a b = absurd (b refl)
+class_no c a b = refl
+
+pub instances_no : (l : Lexeme) (k : Kind) → k ≡ kind_of (class_of l) → (k ≡ kinds.Name → ⊥) → (k ≡ kinds.Word → ⊥) → next Instances (class_of l) ≡ None
+instances_no l k e a b = class_no (class_of l) (λ h. a (e ∙ h)) (λ h. b (e ∙ h))
+
+pub many_step : (bytes : List ℕ) (from at : ℕ) (t : Token) (found now : List Instance) (made : Made) → Many bytes from at found → CutsFrom bytes at (Ok (Some t)) → next Instances (class_of (lexeme_of bytes t)) ≡ Some (T Equals ∷ Body ∷ T Semi ∷ Instances ∷ [])
+    → MakesInstance (lexeme_of bytes t) bytes t.end (Ok made) → now ≡ found ++ made.instance ∷ [] → Many bytes from made.end now
+many_step bytes from at t found now made m h n i e =
+    let one = goes_one Instances (T Equals ∷ Body ∷ T Semi ∷ Instances ∷ []) bytes at t h n in
+    let two = goes_under (T Equals ∷ Body ∷ T Semi ∷ []) [] (Instances ∷ []) bytes t.end made.end i.0 i.2 in
+    let both = goes_trans (Instances ∷ []) (T Equals ∷ Body ∷ T Semi ∷ Instances ∷ []) (Instances ∷ []) bytes at t.end made.end (lexeme_of bytes t ∷ []) i.0 one two in
+    record {
+      said = m.said ++ lexeme_of bytes t ∷ i.0;
+      spelled = rw e (spells_more found made.instance m.said (lexeme_of bytes t ∷ i.0) m.spelled i.1);
+      goes = goes_trans (Instances ∷ []) (Instances ∷ []) (Instances ∷ []) bytes from at made.end m.said (lexeme_of bytes t ∷ i.0) m.goes both;
+    }
+
+pub many_fails : (bytes : List ℕ) (from at : ℕ) (found : List Instance) (f : ReadFault) → Many bytes from at found → Fails (Instances ∷ []) bytes at f → Fails (Instances ∷ []) bytes from f
+many_fails bytes from at found f m k = fails_after (Instances ∷ []) (Instances ∷ []) bytes from at m.said f m.goes k
+
+pub many_instance : (bytes : List ℕ) (at : ℕ) (t : Token) (f : ReadFault) → CutsFrom bytes at (Ok (Some t)) → next Instances (class_of (lexeme_of bytes t)) ≡ Some (T Equals ∷ Body ∷ T Semi ∷ Instances ∷ [])
+    → Fails (T Equals ∷ Body ∷ T Semi ∷ []) bytes t.end f → Fails (Instances ∷ []) bytes at f
+many_instance bytes at t f h n k =
+    fails_after (Instances ∷ []) (T Equals ∷ Body ∷ T Semi ∷ Instances ∷ []) bytes at t.end (lexeme_of bytes t ∷ []) f (goes_one Instances (T Equals ∷ Body ∷ T Semi ∷ Instances ∷ []) bytes at t h n)
+    (fails_under (T Equals ∷ Body ∷ T Semi ∷ []) (Instances ∷ []) bytes t.end f k)
+
+head_same : (c d : Class) (cs ds : List Class) → c ∷ cs ≡ d ∷ ds → c ≡ d
+head_same c d cs ds e = cc
+
+pub many_closed : (bytes : List ℕ) (from at : ℕ) (t : Token) (found : List Instance) (r : Result ℕ ReadFault) → Many bytes from at found → CutsFrom bytes at (Ok (Some t)) → ReadsClosing bytes t r → ReadsSection bytes from found r
+many_closed bytes from at t found (Ok end) m h c =
+    let n : next Instances (class_of (lexeme_of bytes t)) ≡ Some (T Semi ∷ T (Word EndIso) ∷ T Semi ∷ []) = ap (λ x. next Instances x) (head_same (class_of (lexeme_of bytes t)) (Word EndSec) (classes c.0) (Semi ∷ Word EndIso ∷ Semi ∷ []) c.1) in
+    let both = goes_trans (Instances ∷ []) (T Semi ∷ T (Word EndIso) ∷ T Semi ∷ []) [] bytes at t.end end (lexeme_of bytes t ∷ []) c.0 (goes_one Instances (T Semi ∷ T (Word EndIso) ∷ T Semi ∷ []) bytes at t h n) c.2 in
+    (m.said, lexeme_of bytes t ∷ c.0, m.spelled, c.1, goes_trans (Instances ∷ []) (Instances ∷ []) [] bytes from at end m.said (lexeme_of bytes t ∷ c.0) m.goes both)
+many_closed bytes from at t found (Err f) m h c = many_fails bytes from at found f m (after_fails Instances [] bytes at t f h c)
+
+-- The end.
+
+pub closing_no : (c : Class) → kind_of c ≡ kinds.Word → (c ≡ Word EndSec → ⊥) → next Instances c ≡ None
+closing_no (Word EndSec) h a = absurd (a refl)
+closing_no (Word m) h a = refl
+closing_no c h a = cc
+
+pub last_no : (c : Class) → (c ≡ Word EndIso → ⊥) → next (T (Word EndIso)) c ≡ None
+last_no (Word EndIso) a = absurd (a refl)
+last_no (Word m) a = refl
+last_no c a = refl
+
+abbrev rest_of : List Sign
+rest_of = T Semi ∷ T (Word EndIso) ∷ T Semi ∷ []
+
+pub instances_end : (l : Lexeme) → class_of l ≡ Word EndSec → next Instances (class_of l) ≡ Some (T Semi ∷ T (Word EndIso) ∷ T Semi ∷ [])
+instances_end l e = ap (λ x. next Instances x) e
+
+pub closing_last : (bytes : List ℕ) (at mid : ℕ) (f : ReadFault) → Goes (T Semi ∷ []) [] bytes at mid (Ending ∷ []) → Fails (T (Word EndIso) ∷ T Semi ∷ []) bytes mid f → Fails (T Semi ∷ T (Word EndIso) ∷ T Semi ∷ []) bytes at f
+closing_last bytes at mid f h k =
+    fails_after (T Semi ∷ T (Word EndIso) ∷ T Semi ∷ []) (T (Word EndIso) ∷ T Semi ∷ []) bytes at mid (Ending ∷ []) f (goes_under (T Semi ∷ []) [] (T (Word EndIso) ∷ T Semi ∷ []) bytes at mid (Ending ∷ []) h) k
+
+last_next : (c : Class) → c ≡ Word EndIso → next (T (Word EndIso)) c ≡ Some []
+last_next c e = rw e refl
+
+pub last_read : (bytes : List ℕ) (at : ℕ) (u : Token) → CutsFrom bytes at (Ok (Some u)) → class_of (lexeme_of bytes u) ≡ Word EndIso → ReadsLast bytes at (Ok u.end)
+last_read bytes at u h e = (lexeme_of bytes u, e, goes_one (T (Word EndIso)) [] bytes at u h (last_next (class_of (lexeme_of bytes u)) e))
+
+pub closing_made : (bytes : List ℕ) (mid last : ℕ) (t : Token) (r : Result ℕ ReadFault) → class_of (lexeme_of bytes t) ≡ Word EndSec → Goes (T Semi ∷ []) [] bytes t.end mid (Ending ∷ []) → ReadsLast bytes mid (Ok last)
+    → Expects kinds.Semicolon bytes last r → ReadsClosing bytes t r
+closing_made bytes mid last t (Ok end) e h k x =
+    let two = goes_trans (T (Word EndIso) ∷ T Semi ∷ []) (T Semi ∷ []) [] bytes mid last end (k.0 ∷ []) (Ending ∷ []) (goes_under (T (Word EndIso) ∷ []) [] (T Semi ∷ []) bytes mid last (k.0 ∷ []) k.2) x in (
+      Ending ∷ k.0 ∷ Ending ∷ [],
+      ap (λ y. y ∷ Semi ∷ class_of k.0 ∷ Semi ∷ []) e ∙ ap (λ y. Word EndSec ∷ Semi ∷ y ∷ Semi ∷ []) k.1,
+      goes_trans (T Semi ∷ T (Word EndIso) ∷ T Semi ∷ []) (T (Word EndIso) ∷ T Semi ∷ []) [] bytes t.end mid end (Ending ∷ []) (k.0 ∷ Ending ∷ []) (goes_under (T Semi ∷ []) [] (T (Word EndIso) ∷ T Semi ∷ []) bytes t.end mid (Ending ∷ []) h) two,
+    )
+closing_made bytes mid last t (Err f) e h k x =
+    fails_past Instances (T Semi ∷ T (Word EndIso) ∷ T Semi ∷ []) bytes t f (instances_end (lexeme_of bytes t) e)
+    (closing_last bytes t.end mid f h (fails_after (T (Word EndIso) ∷ T Semi ∷ []) (T Semi ∷ []) bytes mid last (k.0 ∷ []) f (goes_under (T (Word EndIso) ∷ []) [] (T Semi ∷ []) bytes mid last (k.0 ∷ []) k.2) x))
+
+pub closing_semi : (bytes : List ℕ) (t : Token) (f : ReadFault) → class_of (lexeme_of bytes t) ≡ Word EndSec → Fails (T Semi ∷ []) bytes t.end f → ReadsClosing bytes t (Err f)
+closing_semi bytes t f e k = fails_past Instances (T Semi ∷ T (Word EndIso) ∷ T Semi ∷ []) bytes t f (instances_end (lexeme_of bytes t) e) (fails_under (T Semi ∷ []) (T (Word EndIso) ∷ T Semi ∷ []) bytes t.end f k)
+
+pub closing_word : (bytes : List ℕ) (mid : ℕ) (t : Token) (f : ReadFault) → class_of (lexeme_of bytes t) ≡ Word EndSec → Goes (T Semi ∷ []) [] bytes t.end mid (Ending ∷ []) → Fails (T (Word EndIso) ∷ []) bytes mid f → ReadsClosing bytes t (Err f)
+closing_word bytes mid t f e h k =
+    fails_past Instances (T Semi ∷ T (Word EndIso) ∷ T Semi ∷ []) bytes t f (instances_end (lexeme_of bytes t) e) (closing_last bytes t.end mid f h (fails_under (T (Word EndIso) ∷ []) (T Semi ∷ []) bytes mid f k))
+
+-- A whole file.
+
+abbrev pub Both : List ℕ → ℕ → List Instance → Result ℕ ReadFault → Type 0
+Both bytes at found (Ok end) = (ls : List Lexeme) × Cuts bytes at ls end × SpellsFile found ls
+Both bytes at found (Err f) = Fails file bytes at f
+
+pub file_fails : (bytes : List ℕ) (at : ℕ) (f : ReadFault) → Fails header bytes at f → Fails file bytes at f
+file_fails bytes at f k = fails_under header (Instances ∷ []) bytes at f k
+
+pub file_section : (bytes : List ℕ) (at mid : ℕ) (f : ReadFault) (ls : List Lexeme) → Goes header [] bytes at mid ls → Fails (Instances ∷ []) bytes mid f → Fails file bytes at f
+file_section bytes at mid f ls h k = fails_after file (Instances ∷ []) bytes at mid ls f (goes_under header [] (Instances ∷ []) bytes at mid ls h) k
+
+pub file_holds : (bytes : List ℕ) (mid end : ℕ) (found : List Instance) (ls : List Lexeme) → Goes header [] bytes (start_of bytes) mid ls → ReadsSection bytes mid found (Ok end) → HoldsFile bytes found
+file_holds bytes mid end found ls h s =
+    let g = goes_trans file (Instances ∷ []) [] bytes (start_of bytes) mid end ls (s.0 ++ s.1) (goes_under header [] (Instances ∷ []) bytes (start_of bytes) mid ls h) s.4 in
+    record {
+      said = ls ++ (s.0 ++ s.1);
+      end = end;
+      cuts = g.cuts;
+      spells = record {
+        heading = ls;
+        data_section = s.0;
+        closing = s.1;
+        whole = refl;
+        is_file = sound file (classes (ls ++ (s.0 ++ s.1))) (g.leads []);
+        is_heading = sound header (classes ls) (h.leads []);
+        spelled = s.2;
+        is_closing = s.3;
+      };
+    }
+
+some : {A : Type 0} (o : Option A) (x : A) → o ≡ Some x → IsSome o
+some o x h = rw h refl
+
+none_some : {A : Type 0} (o : Option A) → o ≡ None → IsSome o → ⊥
+none_some o e h = let k = rw e at h in cc
+
+reached : (bytes : List ℕ) (before : List Lexeme) (place : ℕ) (s : Sign) (σ : List Sign) → Goes file (s ∷ σ) bytes (start_of bytes) place before → Reaches bytes before place
+reached bytes before place s σ g = record {
+  cuts = g.cuts;
+  viable = (viable_iff (classes before)).1 (some (run file (classes before)) (s ∷ (σ ++ [])) (g.leads []));
+  none = λ h. (let e = (file_iff (classes before)).0 h in let k : Some [] ≡ Some (s ∷ (σ ++ [])) = sym e ∙ g.leads [] in cc);
+}
+
+stuck_run : (bytes : List ℕ) (before : List Lexeme) (place : ℕ) (s : Sign) (σ : List Sign) (l : Lexeme) → Goes file (s ∷ σ) bytes (start_of bytes) place before → next s (class_of l) ≡ None
+    → run file (classes (before ++ l ∷ [])) ≡ None
+stuck_run bytes before place s σ l g n =
+    ap (λ x. run file x) (classes_append before (l ∷ [])) ∙ run_append file (classes before) (class_of l ∷ []) ∙ ap (λ o. bind o (λ β. run β (class_of l ∷ []))) (g.leads []) ∙ rw n refl
+
+stuck_none : (bytes : List ℕ) (before : List Lexeme) (place : ℕ) (s : Sign) (σ : List Sign) (l : Lexeme) → Goes file (s ∷ σ) bytes (start_of bytes) place before → next s (class_of l) ≡ None
+    → IsViable (classes (before ++ l ∷ [])) → ⊥
+stuck_none bytes before place s σ l g n v =
+    none_some (run file (classes (before ++ l ∷ []))) (stuck_run bytes before place s σ l g n) ((viable_iff (classes (before ++ l ∷ []))).0 v)
+
+pub fault_at : (bytes : List ℕ) (f : ReadFault) → Fails file bytes (start_of bytes) f → FaultAt bytes f
+fault_at bytes (faults.BadToken p) k = (k.before, k.place, reached bytes k.before k.place k.sign k.later k.goes, k.stuck)
+fault_at bytes (faults.BadStatement p) k = (
+  k.before,
+  k.place,
+  reached bytes k.before k.place k.sign k.later k.goes,
+  elim k.stuck [ inl e ↦ inl e | inr r ↦ inr (r.0, r.1, r.2, stuck_none bytes k.before k.place k.sign k.later (lexeme_of bytes r.0) k.goes r.3) ],
+)
+fault_at bytes faults.Memory k = tt
+
+pub header_from : (bytes : List ℕ) (at : ℕ) (r : Result ℕ ReadFault) → at ≡ start_of bytes → ReadsHeader bytes at r → ReadsHeader bytes (start_of bytes) r
+header_from bytes at r e h = let P : ℕ → Type 0 = λ n. ReadsHeader bytes n r in subst P e h
+
+-- Where a fault is, no file is.
+
+token_or : Token → Result (Option Token) LexFault → Token
+token_or d (Ok (Some t)) = t
+token_or d r = d
+
+one_token : (bytes : List ℕ) (at : ℕ) (t u : Token) → CutsFrom bytes at (Ok (Some t)) → CutsFrom bytes at (Ok (Some u)) → t ≡ u
+unfolding token_or
+one_token bytes at t u h k = (let e = one_answer bytes at (Ok (Some t)) (Ok (Some u)) h k in ap (λ (r : Result (Option Token) LexFault). token_or t r) e)
+
+-- of two lists of tokens from one place, one is a front of the other
+pub data Fronts (bytes : List ℕ) (ls ms : List Lexeme) (mid : ℕ) : Type 0 where
+  longer : (l : Lexeme) (rest : List Lexeme) → ms ≡ ls ++ l ∷ rest → (t : Token) → CutsFrom bytes mid (Ok (Some t)) → lexeme_of bytes t ≡ l → Fronts bytes ls ms mid
+  shorter : (rest : List Lexeme) → ls ≡ ms ++ rest → Fronts bytes ls ms mid
+
+fronts_step : (bytes : List ℕ) (l : Lexeme) (ls ms : List Lexeme) (mid : ℕ) → Fronts bytes ls ms mid → Fronts bytes (l ∷ ls) (l ∷ ms) mid
+fronts_step bytes l ls ms mid (longer x rest e t h k) = longer x rest (ap (λ y. l ∷ y) e) t h k
+fronts_step bytes l ls ms mid (shorter rest e) = shorter rest (ap (λ y. l ∷ y) e)
+
+fronts : (bytes : List ℕ) (at mid end : ℕ) (ls ms : List Lexeme) → Cuts bytes at ls mid → Cuts bytes at ms end → Fronts bytes ls ms mid
+fronts bytes at mid end ls [] h k = shorter ls refl
+fronts bytes at mid end [] (m ∷ ms) h k = longer m ms refl k.0 (let P : ℕ → Type 0 = λ n. CutsFrom bytes n (Ok (Some k.0)) in subst P h k.1) k.2
+fronts bytes at mid end (l ∷ ls) (m ∷ ms) h k =
+    let e : h.0 ≡ k.0 = one_token bytes at h.0 k.0 h.1 k.1 in
+    let same : l ≡ m = sym h.2 ∙ ap (λ (t : Token). lexeme_of bytes t) e ∙ k.2 in
+    let rest : Cuts bytes h.0.end ms end = (let P : Token → Type 0 = λ t. Cuts bytes t.end ms end in subst P (sym e) k.3) in
+    let f = fronts_step bytes l ls ms mid (fronts bytes h.0.end mid end ls ms h.3 rest) in
+    let P : Lexeme → Type 0 = λ x. Fronts bytes (l ∷ ls) (x ∷ ms) mid in subst P same f
+
+run_nothing : (xs : List Class) (s : Sign) (σ : List Sign) → run [] xs ≡ Some (s ∷ σ) → ⊥
+run_nothing [] s σ h = cc
+run_nothing (x ∷ xs) s σ h = cc
+
+-- what leads on isn't longer than a file
+not_shorter : (ls rest : List Lexeme) (s : Sign) (σ : List Sign) → run file (classes ls) ≡ Some [] → run file (classes (ls ++ rest)) ≡ Some (s ∷ σ) → ⊥
+not_shorter ls rest s σ h k =
+    let e = ap (λ x. run file x) (classes_append ls rest) ∙ run_append file (classes ls) (classes rest) ∙ ap (λ o. bind o (λ β. run β (classes rest))) h in
+    run_nothing (classes rest) s σ (sym e ∙ k)
+
+no_more : (ls rest : List Lexeme) (l : Lexeme) (s : Sign) (σ : List Sign) → run file (classes ls) ≡ Some (s ∷ σ) → next s (class_of l) ≡ None → run file (classes (ls ++ l ∷ rest)) ≡ Some [] → ⊥
+no_more ls rest l s σ h n k =
+    let e = ap (λ x. run file x) (classes_append ls (l ∷ rest)) ∙ run_append file (classes ls) (class_of l ∷ classes rest) ∙ ap (λ o. bind o (λ β. run β (class_of l ∷ classes rest))) h in
+    let none : bind (Some (s ∷ σ)) (λ β. run β (class_of l ∷ classes rest)) ≡ None = rw n refl in
+    let f : None ≡ Some [] = sym none ∙ sym e ∙ k in cc
+
+stuck_there : (bytes : List ℕ) (place : ℕ) (s : Sign) (f : ReadFault) (t : Token) → (f ≡ faults.Memory → ⊥) → IsStuck s bytes place f → CutsFrom bytes place (Ok (Some t)) → next s (class_of (lexeme_of bytes t)) ≡ None
+stuck_there bytes place s (faults.BadToken p) t m h k = absurd (let e = one_answer bytes place (Err (lex.BadToken p)) (Ok (Some t)) h k in cc)
+stuck_there bytes place s (faults.BadStatement p) t m h k = elim h [
+  | inl r ↦ absurd (let e = one_answer bytes place (Ok None) (Ok (Some t)) r.0 k in cc)
+  | inr r ↦ (let e : r.0 ≡ t = one_token bytes place r.0 t r.1 k in let P : Token → Type 0 = λ u. next s (class_of (lexeme_of bytes u)) ≡ None in subst P e r.3)
+]
+stuck_there bytes place s faults.Memory t m h k = absurd (m refl)
+
+stops_file : (bytes : List ℕ) (f : ReadFault) → (f ≡ faults.Memory → ⊥) → Stops file bytes (start_of bytes) f → HasFile bytes → ⊥
+stops_file bytes f m k h =
+    let done : run file (classes h.said) ≡ Some [] = (file_iff (classes h.said)).0 h.is_file in
+    elim (fronts bytes (start_of bytes) k.place h.end k.before h.said k.goes.cuts h.cuts) [
+      | longer l rest e t c same ↦
+          (let n : next k.sign (class_of l) ≡ None = (let P : Lexeme → Type 0 = λ x. next k.sign (class_of x) ≡ None in subst P same (stuck_there bytes k.place k.sign f t m k.stuck c)) in
+          no_more k.before rest l k.sign (k.later ++ []) (k.goes.leads []) n (ap (λ x. run file (classes x)) (sym e) ∙ done))
+      | shorter rest e ↦ not_shorter h.said rest k.sign (k.later ++ []) done (ap (λ x. run file (classes x)) (sym e) ∙ k.goes.leads [])
+    ]
+
+pub no_file : (bytes : List ℕ) (f : ReadFault) → Fails file bytes (start_of bytes) f → (f ≡ faults.Memory) ⊎ (HasFile bytes → ⊥)
+no_file bytes (faults.BadToken p) k = inr (stops_file bytes (faults.BadToken p) (λ e. cc) k)
+no_file bytes (faults.BadStatement p) k = inr (stops_file bytes (faults.BadStatement p) (λ e. cc) k)
+no_file bytes faults.Memory k = inl refl

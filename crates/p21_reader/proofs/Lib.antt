@@ -1,0 +1,11 @@
+pub mod Bodies
+pub mod Contents
+pub mod FileLemmas
+pub mod Finding
+pub mod Headers
+pub mod Lists
+pub mod Prints
+pub mod Seen
+pub mod Steps
+pub mod Viable
+pub mod Words

@@ -1,0 +1,20 @@
+use Rattle.std.proofs.Common.{◌≡◌, ℕ, List, [], ◌∷◌, ◌++◌, map, refl, sym, ap, ◌∙◌, append_assoc}
+use Rattle.p21_reader.specs.declared.value.Value21.{Value21}
+use Rattle.p21_reader.specs.declared.value.Value21.TheVariants as variants
+use Rattle.p21_reader.specs.declared.value.Value21.TheVariants.{rolls-Absent, rolls-Derived, rolls-Number, rolls-Words, rolls-Enumeration, rolls-Bits, rolls-Reference, rolls-List, rolls-Typed}
+use Rattle.p21_reader.specs.declared.value.Value21.TheOpen as layer
+use Rattle.p21_reader.specs.declared.value.Value21.TheFolds.{fold-roll-Value21}
+use Rattle.p21_reader.specs.Lexemes.{Lexeme, Absence, Derivation, Opening, Closing, Separator, NumberOf, WordsOf, EnumerationOf, BitsOf, KeywordOf, ReferenceTo}
+use Rattle.p21_reader.specs.Printing.{print, print_step, print_all, behind, joined}
+
+pub print_absent : print variants.Absent ≡ Absence ∷ []
+print_absent = ap print (sym rolls-Absent) ∙ fold-roll-Value21 (List Lexeme) print_step layer.Absent
+
+pub print_number : (bs : List ℕ) → print (variants.Number bs) ≡ NumberOf bs ∷ []
+print_number bs = ap print (sym (rolls-Number bs)) ∙ fold-roll-Value21 (List Lexeme) print_step (layer.Number bs)
+
+pub print_list : (v : _) → print (variants.List v) ≡ Opening ∷ (print_all v.items ++ Closing ∷ [])
+print_list v = ap print (sym (rolls-List v)) ∙ fold-roll-Value21 (List Lexeme) print_step (layer.List v)
+
+pub print_typed : (w : List ℕ) (v : _) → print (variants.Typed w v) ≡ KeywordOf w ∷ Opening ∷ (print v.value ++ Closing ∷ [])
+print_typed w v = ap print (sym (rolls-Typed w v)) ∙ fold-roll-Value21 (List Lexeme) print_step (layer.Typed w v)

@@ -1,0 +1,101 @@
+ghost use Rattle.std.specs.Prelude.{◌≡◌, ◌≤◌, ◌∷◌, [], IfOk, length, map};
+ghost use Rattle.std.specs.Str.{IsAscii};
+ghost use Rattle.std.specs.Char.{to_ascii_uppercase};
+ghost use Rattle.p21_lexer.specs.Spelling.{value_after, most_name};
+ghost use Rattle.p21_reader.specs.Lexemes.{inner as inner_of, lexeme_of, class_of, single_says, ReferenceTo, KeywordOf};
+ghost use Rattle.p21_reader.specs.Printing.{print};
+ghost use Rattle.p21_reader.specs.Reading.{IsPiece, IsPlain, kind_of};
+
+use crate::piece::{Kind, Piece};
+use crate::value::Value21;
+use bim_model::{Bytes, Text};
+use p21_lexer::TokenKind;
+use std::alloc::{AllocError, Global};
+
+/// The number that decimal digits spell.
+fn number_of(digits: &[u8]) -> u64
+    requires { value_after 0 digits.now ≤ most_name }
+    ensures { result ≡ value_after 0 digits.now }
+{
+    let mut value: u64 = 0;
+    for digit in digits {
+        value = value * 10 + (digit.saturating_sub(b'0')) as u64;
+    }
+    value
+}
+
+/// The number of an instance name.
+pub fn name_of(bytes: &[u8], piece: Piece) -> u64
+    requires piece { IsPiece bytes.now piece }
+    requires name { piece.kind ≡ Kind.Name }
+    ensures { ReferenceTo result ≡ lexeme_of bytes.now piece.token }
+{
+    number_of(&bytes[piece.token.start + 1..piece.token.end])
+}
+
+/// A text of ASCII bytes.
+fn text_of(alloc: Global, bytes: &[u8]) -> Result<Text, AllocError>
+    requires { IsAscii bytes.now }
+    ensures { IfOk result (λ text. text ≡ bytes.now) }
+{
+    Text::of(alloc, unsafe { str::from_utf8_unchecked(bytes) })
+}
+
+/// The bytes with their letters in upper case.
+fn upper_of(alloc: Global, bytes: &[u8]) -> Result<Vec<u8>, AllocError>
+    ensures { IfOk result (λ upper. upper.items ≡ map to_ascii_uppercase bytes.now) }
+{
+    let mut upper = Vec::with_capacity(alloc, bytes.len())?;
+    for byte in bytes {
+        upper.push(byte.to_ascii_uppercase())?;
+    }
+    Ok(upper)
+}
+
+/// A keyword in upper case.
+pub fn keyword_of(alloc: Global, bytes: &[u8], piece: Piece) -> Result<Text, AllocError>
+    requires piece { IsPiece bytes.now piece }
+    requires word { piece.kind ≡ Kind.Word }
+    ensures { IfOk result (λ text. KeywordOf text ≡ lexeme_of bytes.now piece.token) }
+{
+    let upper = upper_of(alloc, &bytes[piece.token.start..piece.token.end])?;
+    text_of(alloc, &upper)
+}
+
+/// What is between the marks.
+fn inner(spelled: &[u8]) -> &[u8]
+    requires { 2 ≤ length spelled.now }
+    ensures { result.now ≡ inner_of spelled.now }
+{
+    &spelled[1..spelled.len() - 1]
+}
+
+/// A value of one token.
+pub fn simple(alloc: Global, bytes: &[u8], piece: Piece) -> Result<Value21, AllocError>
+    requires piece { IsPiece bytes.now piece }
+    requires plain { IsPlain piece.kind }
+    ensures { IfOk result (λ value. print value ≡ lexeme_of bytes.now piece.token ∷ []) }
+{
+    let spelled = &bytes[piece.token.start..piece.token.end];
+    match piece.token.kind {
+        TokenKind::Number => Ok(Value21::Number(Bytes::of(alloc, spelled)?)),
+        TokenKind::Words => Ok(Value21::Words(Bytes::of(alloc, inner(spelled))?)),
+        TokenKind::Enumeration => Ok(Value21::Enumeration(text_of(alloc, inner(spelled))?)),
+        TokenKind::Bits => Ok(Value21::Bits(Bytes::of(alloc, inner(spelled))?)),
+        TokenKind::Name => Ok(Value21::Reference(name_of(bytes, piece))),
+        TokenKind::Single => Ok(single(spelled[0])),
+        TokenKind::Word => unreachable!(),
+    }
+}
+
+/// `$` or `*`.
+fn single(byte: u8) -> Value21
+    requires { IsPlain (kind_of (class_of (single_says byte))) }
+    ensures { print result ≡ single_says byte ∷ [] }
+{
+    if byte == b'*' {
+        Value21::Derived
+    } else {
+        Value21::Absent
+    }
+}

@@ -1,0 +1,315 @@
+use crate::{Exchange, ReadFault, Value21, read};
+use std::alloc::{AllocError, Global};
+use std::process::Abort;
+use std::test::Fail;
+
+const HEAD: &[u8] = b"ISO-10303-21;HEADER;FILE_SCHEMA(('IFC4'));ENDSEC;DATA;";
+
+const TAIL: &[u8] = b"ENDSEC;END-ISO-10303-21;";
+
+/// Bytes, and where they can't go on.
+#[derive(Clone, Copy)]
+struct Row {
+    text: &'static [u8],
+    token: bool,
+    at: u64,
+}
+
+/// Whole texts.
+const PLACES: [Row; 9] = [
+    Row {
+        text: b"",
+        token: false,
+        at: 0,
+    },
+    Row {
+        text: b"ISO-10303-21;HEADER;FILE_NAME('ab",
+        token: true,
+        at: 30,
+    },
+    Row {
+        text: b"ISO-10303-21;HEADER;ENDSEC;DATA;",
+        token: false,
+        at: 32,
+    },
+    Row {
+        text: b"ISO-10303-21,",
+        token: false,
+        at: 12,
+    },
+    Row {
+        text: b"ISO-10303-21;HEADER;A(B(1,2));",
+        token: false,
+        at: 25,
+    },
+    Row {
+        text: b"ISO-10303-21;HEADER;A((1,2)",
+        token: false,
+        at: 27,
+    },
+    Row {
+        text: b"ISO-10303-21;HEADER;ENDSEC;ENDSEC;",
+        token: false,
+        at: 27,
+    },
+    Row {
+        text: b"ISO-10303-21;HEADER;ENDSEC();%",
+        token: true,
+        at: 29,
+    },
+    Row {
+        text: b"\xef\xbb\xbfISO-10303-21;HEADER;ENDSEC;DATA;#1=A(1 2);",
+        token: false,
+        at: 42,
+    },
+];
+
+/// What stands behind `DATA;`, from its first byte on.
+const SECTIONS: [Row; 12] = [
+    Row {
+        text: b"#1=;",
+        token: false,
+        at: 3,
+    },
+    Row {
+        text: b"#1=A();#2=B(,);",
+        token: false,
+        at: 12,
+    },
+    Row {
+        text: b"#1=A($)#2=B();",
+        token: false,
+        at: 7,
+    },
+    Row {
+        text: b"#1=A(!);",
+        token: true,
+        at: 5,
+    },
+    Row {
+        text: b"#1=A(X());",
+        token: false,
+        at: 7,
+    },
+    Row {
+        text: b"#1=A(X(1,2));",
+        token: false,
+        at: 8,
+    },
+    Row {
+        text: b"#1=();",
+        token: false,
+        at: 4,
+    },
+    Row {
+        text: b"#1=(A()1);",
+        token: false,
+        at: 7,
+    },
+    Row {
+        text: b"#1=A(1);ENDSEC;DATA;",
+        token: false,
+        at: 15,
+    },
+    Row {
+        text: b"#1=A(1);ENDSEC;END-ISO-10303-21",
+        token: false,
+        at: 31,
+    },
+    Row {
+        text: b"#1=A(((((((((((((((((((((((((((((((((1)))))))))))))))))))))))))))))))));",
+        token: false,
+        at: 36,
+    },
+    Row {
+        text: b"#1=A((((((((((((((((((((((((((((((((W(1)))))))))))))))))))))))))))))))));",
+        token: false,
+        at: 36,
+    },
+];
+
+fn joined(alloc: Global, parts: [&[u8]; 3]) -> Result<Vec<u8>, AllocError> {
+    let mut whole = Vec::new(alloc);
+    for part in parts {
+        whole.extend_from_slice(part)?;
+    }
+    Ok(whole)
+}
+
+fn assert_place(rt: &impl Abort, alloc: Global, bytes: &[u8], row: Row, from: u64) {
+    match read(alloc, bytes) {
+        Err(ReadFault::BadToken { at }) => {
+            assert!(rt; row.token);
+            assert_eq!(rt; at, row.at.wrapping_add(from));
+        }
+        Err(ReadFault::BadStatement { at }) => {
+            assert!(rt; !row.token);
+            assert_eq!(rt; at, row.at.wrapping_add(from));
+        }
+        _ => assert!(rt; false, "it was read"),
+    }
+}
+
+#[test]
+fn places(rt: HostRuntime) -> Result<(), Fail> {
+    for row in PLACES {
+        assert_place(&rt, rt.alloc(), row.text, row, 0);
+    }
+    for row in SECTIONS {
+        let bytes = joined(rt.alloc(), [HEAD, row.text, b""])?;
+        assert_place(&rt, rt.alloc(), bytes.as_slice(), row, HEAD.len() as u64);
+    }
+    Ok(())
+}
+
+/// The keyword, and how many values there are; "-" of a complex instance.
+fn assert_instance(rt: &impl Abort, exchange: &Exchange, id: u64, keyword: &str, count: usize) {
+    match exchange.find(id) {
+        Some(instance) => {
+            assert_eq!(rt; instance.id, id);
+            assert_eq!(rt; instance.values.len(), count);
+            match &instance.keyword {
+                Some(text) => assert_eq!(rt; text.as_str(), keyword),
+                None => assert_eq!(rt; "-", keyword),
+            }
+        }
+        None => assert!(rt; false, "it is missing"),
+    }
+}
+
+/// The mark of a value's kind.
+fn mark(value: &Value21) -> u8 {
+    match value {
+        Value21::Absent => b'$',
+        Value21::Derived => b'*',
+        Value21::Number(_) => b'1',
+        Value21::Words(_) => b'\'',
+        Value21::Enumeration(_) => b'.',
+        Value21::Bits(_) => b'"',
+        Value21::Reference(_) => b'#',
+        Value21::List(_) => b'(',
+        Value21::Typed(_, _) => b'!',
+    }
+}
+
+/// What a value keeps of its spelling.
+fn spelling(value: &Value21) -> &[u8] {
+    match value {
+        Value21::Number(bytes) => bytes.as_slice(),
+        Value21::Words(bytes) => bytes.as_slice(),
+        Value21::Enumeration(text) => text.as_str().as_bytes(),
+        Value21::Bits(bytes) => bytes.as_slice(),
+        Value21::Typed(keyword, _) => keyword.as_str().as_bytes(),
+        _ => b"",
+    }
+}
+
+const DATA: &[u8] =
+    b"#7=B($,*,-1.E5,'it''s',.T.,\"0F\",#12,(),(1,(2)),ifcLabel('x'));/*c*/#3=(A()b(1,2));\n#12=a(((((((((((((((((((((((((((((((()))))))))))))))))))))))))))))))) ; ";
+
+/// A value of `#7`: its place, the mark of its kind, and what it keeps of its spelling.
+#[derive(Clone, Copy)]
+struct Kept {
+    at: usize,
+    mark: u8,
+    spelling: &'static [u8],
+}
+
+const VALUES: [Kept; 10] = [
+    Kept {
+        at: 0,
+        mark: b'$',
+        spelling: b"",
+    },
+    Kept {
+        at: 1,
+        mark: b'*',
+        spelling: b"",
+    },
+    Kept {
+        at: 2,
+        mark: b'1',
+        spelling: b"-1.E5",
+    },
+    Kept {
+        at: 3,
+        mark: b'\'',
+        spelling: b"it''s",
+    },
+    Kept {
+        at: 4,
+        mark: b'.',
+        spelling: b"T",
+    },
+    Kept {
+        at: 5,
+        mark: b'"',
+        spelling: b"0F",
+    },
+    Kept {
+        at: 6,
+        mark: b'#',
+        spelling: b"",
+    },
+    Kept {
+        at: 7,
+        mark: b'(',
+        spelling: b"",
+    },
+    Kept {
+        at: 8,
+        mark: b'(',
+        spelling: b"",
+    },
+    Kept {
+        at: 9,
+        mark: b'!',
+        spelling: b"IFCLABEL",
+    },
+];
+
+fn assert_value(rt: &impl Abort, values: &[Value21], row: Kept) {
+    match values.get(row.at) {
+        Some(value) => {
+            assert_eq!(rt; mark(value), row.mark);
+            assert_eq!(rt; spelling(value), row.spelling);
+        }
+        None => assert!(rt; false, "it is missing"),
+    }
+}
+
+#[test]
+fn instances(rt: HostRuntime) -> Result<(), Fail> {
+    let bytes = joined(rt.alloc(), [HEAD, DATA, TAIL])?;
+    let exchange = read(rt.alloc(), bytes.as_slice()).ok().ok_or("refused")?;
+    assert_eq!(rt; exchange.instances().len(), 3);
+    assert_instance(&rt, &exchange, 3, "-", 0);
+    assert_instance(&rt, &exchange, 7, "B", 10);
+    assert_instance(&rt, &exchange, 12, "A", 1);
+    assert!(rt; exchange.find(4).is_none());
+    let values = exchange.find(7).ok_or("missing")?.values.as_slice();
+    for row in VALUES {
+        assert_value(&rt, values, row);
+    }
+    Ok(())
+}
+
+/// A file of one pipe, and one of four.
+const ONE_PIPE: &[u8] =
+    b"ISO-10303-21;\nHEADER;\nFILE_DESCRIPTION((''),'2;1');\nFILE_NAME('a.ifc','2024-05-01T12:00:00',(''),(''),'','','');\nFILE_SCHEMA(('IFC4'));\nENDSEC;\nDATA;\n#1=IFCPROJECT('0000000000000000000001',$,'P',$,$,$,$,(),#2);\n#2=IFCUNITASSIGNMENT((#3));\n#3=IFCSIUNIT(*,.LENGTHUNIT.,.MILLI.,.METRE.);\n#4=IFCCARTESIANPOINTLIST3D(((0.,0.,0.),(100.,0.,0.),(0.,100.,0.)));\n#5=IFCTRIANGULATEDFACESET(#4,$,$,((1,2,3)),$);\n#6=IFCSHAPEREPRESENTATION($,'Body','Tessellation',(#5));\n#7=IFCPRODUCTDEFINITIONSHAPE($,$,(#6));\n#8=IFCPIPESEGMENT('0000000000000000000002',$,'Pipe 1',$,$,$,#7,$,$);\nENDSEC;\nEND-ISO-10303-21;\n";
+
+const FOUR_PIPES: &[u8] =
+    b"ISO-10303-21;\nHEADER;\nFILE_DESCRIPTION((''),'2;1');\nFILE_NAME('a.ifc','2024-05-01T12:00:00',(''),(''),'','','');\nFILE_SCHEMA(('IFC4'));\nENDSEC;\nDATA;\n#1=IFCPROJECT('0000000000000000000001',$,'P',$,$,$,$,(),#2);\n#2=IFCUNITASSIGNMENT((#3));\n#3=IFCSIUNIT(*,.LENGTHUNIT.,.MILLI.,.METRE.);\n#10=IFCCARTESIANPOINTLIST3D(((1500.,1500.,1500.),(1600.,1500.,1500.),(1500.,1600.,1500.)));\n#11=IFCTRIANGULATEDFACESET(#10,$,$,((1,2,3)),$);\n#12=IFCSHAPEREPRESENTATION($,'Body','Tessellation',(#11));\n#13=IFCPRODUCTDEFINITIONSHAPE($,$,(#12));\n#14=IFCPIPESEGMENT('0000000000000000000011',$,'0000000000000000000011',$,$,$,#13,$,$);\n#20=IFCCARTESIANPOINTLIST3D(((1500.,1500.,1550.),(1600.,1500.,1550.),(1500.,1600.,1550.)));\n#21=IFCTRIANGULATEDFACESET(#20,$,$,((1,2,3)),$);\n#22=IFCSHAPEREPRESENTATION($,'Body','Tessellation',(#21));\n#23=IFCPRODUCTDEFINITIONSHAPE($,$,(#22));\n#24=IFCPIPESEGMENT('0000000000000000000012',$,'0000000000000000000012',$,$,$,#23,$,$);\n#30=IFCCARTESIANPOINTLIST3D(((9500.,1500.,1500.),(9600.,1500.,1500.),(9500.,1600.,1500.)));\n#31=IFCTRIANGULATEDFACESET(#30,$,$,((1,2,3)),$);\n#32=IFCSHAPEREPRESENTATION($,'Body','Tessellation',(#31));\n#33=IFCPRODUCTDEFINITIONSHAPE($,$,(#32));\n#34=IFCPIPESEGMENT('0000000000000000000013',$,'0000000000000000000013',$,$,$,#33,$,$);\n#40=IFCCARTESIANPOINTLIST3D(((9500.,1500.,1700.),(9600.,1500.,1700.),(9500.,1600.,1700.)));\n#41=IFCTRIANGULATEDFACESET(#40,$,$,((1,2,3)),$);\n#42=IFCSHAPEREPRESENTATION($,'Body','Tessellation',(#41));\n#43=IFCPRODUCTDEFINITIONSHAPE($,$,(#42));\n#44=IFCPIPESEGMENT('0000000000000000000014',$,'0000000000000000000014',$,$,$,#43,$,$);\nENDSEC;\nEND-ISO-10303-21;\n";
+
+#[test]
+fn pipes(rt: HostRuntime) -> Result<(), Fail> {
+    let one = read(rt.alloc(), ONE_PIPE).ok().ok_or("refused")?;
+    assert_eq!(rt; one.instances().len(), 8);
+    assert_instance(&rt, &one, 1, "IFCPROJECT", 9);
+    assert_instance(&rt, &one, 8, "IFCPIPESEGMENT", 9);
+    let four = read(rt.alloc(), FOUR_PIPES).ok().ok_or("refused")?;
+    assert_eq!(rt; four.instances().len(), 23);
+    assert_instance(&rt, &four, 41, "IFCTRIANGULATEDFACESET", 5);
+    assert!(rt; four.find(4).is_none());
+    Ok(())
+}

@@ -1,0 +1,86 @@
+ghost use Rattle.std.specs.Prelude.{◌≡◌, map};
+ghost use Rattle.std.specs.Char.{to_ascii_uppercase};
+ghost use Rattle.std.specs.Str.{bytes_eq};
+ghost use Rattle.p21_reader.specs.Lexemes.{lexeme_of, class_of, mark_of};
+ghost use Rattle.p21_reader.specs.Reading.{IsPiece};
+ghost use Rattle.p21_reader.specs.Heading.{mark_seen, class_seen};
+
+use crate::piece::{Kind, Piece};
+
+/// The words that the grammar names; each other word is `Other`.
+#[derive(Clone, Copy)]
+pub enum Mark {
+    Iso,
+    Header,
+    Data,
+    EndSec,
+    EndIso,
+    Other,
+}
+
+/// What the grammar sees of a token, words told apart.
+#[derive(Clone, Copy)]
+pub enum Seen {
+    Simple,
+    Name,
+    Word(Mark),
+    Open,
+    Close,
+    Comma,
+    Semicolon,
+    Equals,
+}
+
+/// Whether the bytes are this word, in letters of either case.
+fn is_word(bytes: &[u8], word: &[u8]) -> bool
+    ensures { result ≡ bytes_eq (map to_ascii_uppercase bytes.now) word.now }
+{
+    if bytes.len() != word.len() {
+        return false;
+    }
+    let mut at = 0;
+    while at < bytes.len() {
+        if bytes[at].to_ascii_uppercase() != word[at] {
+            return false;
+        }
+        at += 1;
+    }
+    true
+}
+
+/// Which word it is.
+#[tactic(auto, unfolding(crate::specs::Lexemes::mark_of))]
+fn mark_at(bytes: &[u8]) -> Mark
+    ensures { mark_seen result ≡ mark_of (map to_ascii_uppercase bytes.now) }
+{
+    if is_word(bytes, b"ISO-10303-21") {
+        Mark::Iso
+    } else if is_word(bytes, b"HEADER") {
+        Mark::Header
+    } else if is_word(bytes, b"DATA") {
+        Mark::Data
+    } else if is_word(bytes, b"ENDSEC") {
+        Mark::EndSec
+    } else if is_word(bytes, b"END-ISO-10303-21") {
+        Mark::EndIso
+    } else {
+        Mark::Other
+    }
+}
+
+/// What the grammar sees of a token.
+pub fn look(bytes: &[u8], piece: Piece) -> Seen
+    requires { IsPiece bytes.now piece }
+    ensures { class_seen result ≡ class_of (lexeme_of bytes.now piece.token) }
+{
+    match piece.kind {
+        Kind::Simple => Seen::Simple,
+        Kind::Name => Seen::Name,
+        Kind::Word => Seen::Word(mark_at(&bytes[piece.token.start..piece.token.end])),
+        Kind::Open => Seen::Open,
+        Kind::Close => Seen::Close,
+        Kind::Comma => Seen::Comma,
+        Kind::Semicolon => Seen::Semicolon,
+        Kind::Equals => Seen::Equals,
+    }
+}
