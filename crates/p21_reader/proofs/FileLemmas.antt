@@ -206,7 +206,7 @@ token_or : Token → Result (Option Token) LexFault → Token
 token_or d (Ok (Some t)) = t
 token_or d r = d
 
-one_token : (bytes : List ℕ) (at : ℕ) (t u : Token) → CutsFrom bytes at (Ok (Some t)) → CutsFrom bytes at (Ok (Some u)) → t ≡ u
+pub one_token : (bytes : List ℕ) (at : ℕ) (t u : Token) → CutsFrom bytes at (Ok (Some t)) → CutsFrom bytes at (Ok (Some u)) → t ≡ u
 unfolding token_or
 one_token bytes at t u h k = (let e = one_answer bytes at (Ok (Some t)) (Ok (Some u)) h k in ap (λ (r : Result (Option Token) LexFault). token_or t r) e)
 

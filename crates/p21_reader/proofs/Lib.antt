@@ -4,6 +4,7 @@ pub mod FileLemmas
 pub mod Finding
 pub mod Headers
 pub mod Lists
+pub mod OneReading
 pub mod Prints
 pub mod Seen
 pub mod Steps

@@ -43,7 +43,7 @@ class_is Equals Equals h = refl
 class_is (Word m) (Word n) h = ap Word (mark_is m n h)
 class_is c x h = cc
 
-bind_is : {A B : Type 0} (o : Option A) (f : A → Option B) (y : B) → bind o f ≡ Some y → (x : A) × (o ≡ Some x) × (f x ≡ Some y)
+pub bind_is : {A B : Type 0} (o : Option A) (f : A → Option B) (y : B) → bind o f ≡ Some y → (x : A) × (o ≡ Some x) × (f x ≡ Some y)
 bind_is None f y h = cc
 bind_is (Some x) f y h = (x, refl, h)
 

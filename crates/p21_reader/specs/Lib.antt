@@ -6,3 +6,4 @@ pub mod Lexemes
 pub mod Machine
 pub mod Printing
 pub mod Reading
+pub mod Saying

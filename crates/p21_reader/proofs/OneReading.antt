@@ -1,0 +1,231 @@
+use Rattle.std.proofs.Common.{◌≡◌, ℕ, List, [], ◌∷◌, ◌++◌, map, Option, Some, None, Result, Ok, refl, sym, ap, subst, ◌∙◌, append_assoc}
+use Rattle.p21_lexer.specs.declared.token.Token.{Token}
+use Rattle.p21_lexer.specs.Cutting.{CutsFrom, start_of}
+use Rattle.p21_reader.specs.declared.value.Value21.{Value21}
+use Rattle.p21_reader.specs.declared.value.Value21.TheOpen.{Value21-F}
+use Rattle.p21_reader.specs.declared.value.Value21.TheOpen as layer
+use Rattle.p21_reader.specs.declared.value.Value21.TheFolds.{fold-roll-Value21, ind-Value21, map-Value21}
+use Rattle.p21_reader.specs.declared.value.Instance.{Instance}
+use Rattle.p21_reader.specs.Grammar.{Class, Name, Semi, Word, EndSec, EndIso, Sign, Body, file, header}
+use Rattle.p21_reader.specs.Machine.{run, step}
+use Rattle.p21_reader.specs.Lexemes.{Lexeme, Absence, Derivation, Opening, Closing, Separator, Ending, Assigning, NumberOf, WordsOf, EnumerationOf, BitsOf, KeywordOf, ReferenceTo, lexeme_of, class_of, Cuts, classes}
+use Rattle.p21_reader.specs.Printing.{print, print_step, print_all, behind, joined}
+use Rattle.p21_reader.specs.Instances.{SpellsBody, SpellsInstance, SpellsAll}
+use Rattle.p21_reader.specs.Files.{HoldsFile}
+use Rattle.p21_reader.specs.Saying.{Content, Contents, Absent, Derived, Number, Words, Enumeration, Bits, Reference, Listed, Typed, nothing, and, content, content_step, contents, saying}
+use Rattle.p21_reader.proofs.Viable.{bind_is, complete, file_iff}
+use Rattle.p21_reader.proofs.FileLemmas.{one_token}
+
+-- A list of tokens that the table leads through to its end ends nowhere else.
+
+ended : (σ : List Sign) (c : Class) (xs : List Class) → run σ [] ≡ Some [] → run σ (c ∷ xs) ≡ Some [] → ⊥
+ended [] c xs r q = cc
+ended (s ∷ σ) c xs r q = cc
+
+same_step : (σ : List Sign) (l m : Lexeme) (xs ys : List Class) → run σ (class_of l ∷ xs) ≡ Some [] → run σ (class_of m ∷ ys) ≡ Some [] → l ≡ m → (β : List Sign) × (run β xs ≡ Some []) × (run β ys ≡ Some [])
+same_step σ l m xs ys r q e =
+    let a = bind_is (step σ (class_of l)) (λ β. run β xs) [] r in
+    let b = bind_is (step σ (class_of m)) (λ β. run β ys) [] q in
+    let f : Some a.0 ≡ Some b.0 = sym a.1 ∙ ap (λ x. step σ (class_of x)) e ∙ b.1 in
+    let g : a.0 ≡ b.0 = cc in
+    (a.0, a.2, ap (λ β. run β ys) g ∙ b.2)
+
+one_end : (σ : List Sign) (ls ms x y : List Lexeme) → run σ (classes ls) ≡ Some [] → run σ (classes ms) ≡ Some [] → ls ++ x ≡ ms ++ y → x ≡ y
+one_end σ [] [] x y r q e = e
+one_end σ [] (m ∷ ms) x y r q e = absurd (ended σ (class_of m) (classes ms) r q)
+one_end σ (l ∷ ls) [] x y r q e = absurd (ended σ (class_of l) (classes ls) q r)
+one_end σ (l ∷ ls) (m ∷ ms) x y r q e =
+    let same : l ≡ m = cc in
+    let rest : ls ++ x ≡ ms ++ y = cc in
+    let t = same_step σ l m (classes ls) (classes ms) r q same in
+    one_end t.0 ls ms x y t.1 t.2 rest
+
+one_list : (σ : List Sign) (bytes : List ℕ) (at mid end : ℕ) (ls ms : List Lexeme) → Cuts bytes at ls mid → Cuts bytes at ms end → run σ (classes ls) ≡ Some [] → run σ (classes ms) ≡ Some [] → ls ≡ ms
+one_list σ bytes at mid end [] [] h k r q = refl
+one_list σ bytes at mid end [] (m ∷ ms) h k r q = absurd (ended σ (class_of m) (classes ms) r q)
+one_list σ bytes at mid end (l ∷ ls) [] h k r q = absurd (ended σ (class_of l) (classes ls) q r)
+one_list σ bytes at mid end (l ∷ ls) (m ∷ ms) h k r q =
+    let e : h.0 ≡ k.0 = one_token bytes at h.0 k.0 h.1 k.1 in
+    let same : l ≡ m = sym h.2 ∙ ap (λ (t : Token). lexeme_of bytes t) e ∙ k.2 in
+    let rest : Cuts bytes h.0.end ms end = (let P : Token → Type 0 = λ t. Cuts bytes t.end ms end in subst P (sym e) k.3) in
+    let t = same_step σ l m (classes ls) (classes ms) r q same in
+    ap (λ z. l ∷ z) (one_list t.0 bytes h.0.end mid end ls ms h.3 rest t.1 t.2) ∙ ap (λ z. z ∷ ms) same
+
+-- The tokens that spell a value, of what it says.
+
+abbrev mutual
+  spell : Content → List Lexeme
+  spell Absent = Absence ∷ []
+  spell Derived = Derivation ∷ []
+  spell (Number bs) = NumberOf bs ∷ []
+  spell (Words bs) = WordsOf bs ∷ []
+  spell (Enumeration bs) = EnumerationOf bs ∷ []
+  spell (Bits bs) = BitsOf bs ∷ []
+  spell (Reference n) = ReferenceTo n ∷ []
+  spell (Listed vs) = Opening ∷ (spell_all vs ++ Closing ∷ [])
+  spell (Typed w v) = KeywordOf w ∷ Opening ∷ (spell v ++ Closing ∷ [])
+
+  spell_all : Contents → List Lexeme
+  spell_all nothing = []
+  spell_all (and v vs) = spell v ++ spell_behind vs
+
+  spell_behind : Contents → List Lexeme
+  spell_behind nothing = []
+  spell_behind (and v vs) = Separator ∷ (spell v ++ spell_behind vs)
+
+abbrev Spelled : Type 0
+Spelled = (v : Value21) × (print v ≡ spell (content v))
+
+behind_is : (vs : List Spelled) → behind (map print (map (λ e. e.0) vs)) ≡ spell_behind (contents (map content (map (λ e. e.0) vs)))
+behind_is [] = refl
+behind_is (v ∷ vs) = ap (λ z. Separator ∷ (z ++ behind (map print (map (λ e. e.0) vs)))) v.1 ∙ ap (λ z. Separator ∷ (spell (content v.0) ++ z)) (behind_is vs)
+
+joined_is : (vs : List Spelled) → joined (map print (map (λ e. e.0) vs)) ≡ spell_all (contents (map content (map (λ e. e.0) vs)))
+joined_is [] = refl
+joined_is (v ∷ vs) = ap (λ z. z ++ behind (map print (map (λ e. e.0) vs))) v.1 ∙ ap (λ z. spell (content v.0) ++ z) (behind_is vs)
+
+layer_is : (y : Value21-F Spelled) → print_step (map-Value21 _ _ print (map-Value21 _ _ (λ e. e.0) y)) ≡ spell (content_step (map-Value21 _ _ content (map-Value21 _ _ (λ e. e.0) y)))
+layer_is layer.Absent = refl
+layer_is layer.Derived = refl
+layer_is (layer.Number bs) = refl
+layer_is (layer.Words bs) = refl
+layer_is (layer.Enumeration bs) = refl
+layer_is (layer.Bits bs) = refl
+layer_is (layer.Reference n) = refl
+layer_is (layer.List vs) = ap (λ z. Opening ∷ (z ++ Closing ∷ [])) (joined_is vs.items)
+layer_is (layer.Typed w v) = ap (λ z. KeywordOf w ∷ Opening ∷ (z ++ Closing ∷ [])) v.value.1
+
+print_is : (v : Value21) → print v ≡ spell (content v)
+print_is = ind-Value21 (λ v. print v ≡ spell (content v)) (λ x y is.
+    fold-roll-Value21 (List Lexeme) print_step x
+    ∙ subst (λ z. print_step (map-Value21 _ _ print z) ≡ spell (content_step (map-Value21 _ _ content z))) is (layer_is y)
+    ∙ sym (ap spell (fold-roll-Value21 Content content_step x)))
+
+print_behind : (vs : List Value21) → behind (map print vs) ≡ spell_behind (contents (map content vs))
+print_behind [] = refl
+print_behind (v ∷ vs) = ap (λ z. Separator ∷ (z ++ behind (map print vs))) (print_is v) ∙ ap (λ z. Separator ∷ (spell (content v) ++ z)) (print_behind vs)
+
+print_all_is : (vs : List Value21) → print_all vs ≡ spell_all (contents (map content vs))
+print_all_is [] = refl
+print_all_is (v ∷ vs) = ap (λ z. z ++ behind (map print vs)) (print_is v) ∙ ap (λ z. spell (content v) ++ z) (print_behind vs)
+
+-- Tokens begin with one value at most.
+
+not_closing : (v : Content) (x y : List Lexeme) → Closing ∷ x ≡ spell v ++ y → ⊥
+not_closing Absent x y h = cc
+not_closing Derived x y h = cc
+not_closing (Number bs) x y h = cc
+not_closing (Words bs) x y h = cc
+not_closing (Enumeration bs) x y h = cc
+not_closing (Bits bs) x y h = cc
+not_closing (Reference n) x y h = cc
+not_closing (Listed vs) x y h = cc
+not_closing (Typed w v) x y h = cc
+
+-- four lists, put together from the right
+seam : (a b x c d y : List Lexeme) → (a ++ b) ++ x ≡ (c ++ d) ++ y → a ++ (b ++ x) ≡ c ++ (d ++ y)
+seam a b x c d y e = sym (append_assoc a b x) ∙ e ∙ append_assoc c d y
+
+mutual
+  one_value : (v u : Content) (x y : List Lexeme) → spell v ++ x ≡ spell u ++ y → (v ≡ u) × (x ≡ y)
+  one_value Absent Absent x y h = (refl, cc)
+  one_value Derived Derived x y h = (refl, cc)
+  one_value (Number a) (Number b) x y h = let e : a ≡ b = cc in (ap Number e, cc)
+  one_value (Words a) (Words b) x y h = let e : a ≡ b = cc in (ap Words e, cc)
+  one_value (Enumeration a) (Enumeration b) x y h = let e : a ≡ b = cc in (ap Enumeration e, cc)
+  one_value (Bits a) (Bits b) x y h = let e : a ≡ b = cc in (ap Bits e, cc)
+  one_value (Reference a) (Reference b) x y h = let e : a ≡ b = cc in (ap Reference e, cc)
+  one_value (Listed vs) (Listed us) x y h =
+      let e : (spell_all vs ++ Closing ∷ []) ++ x ≡ (spell_all us ++ Closing ∷ []) ++ y = cc in
+      let r = one_all vs us x y (seam (spell_all vs) (Closing ∷ []) x (spell_all us) (Closing ∷ []) y e) in
+      (ap Listed r.0, r.1)
+  one_value (Typed a v) (Typed b u) x y h =
+      let w : a ≡ b = cc in
+      let e : (spell v ++ Closing ∷ []) ++ x ≡ (spell u ++ Closing ∷ []) ++ y = cc in
+      let r = one_value v u (Closing ∷ x) (Closing ∷ y) (seam (spell v) (Closing ∷ []) x (spell u) (Closing ∷ []) y e) in
+      let t : Closing ∷ x ≡ Closing ∷ y = r.1 in
+      (ap (λ z. Typed z v) w ∙ ap (λ z. Typed b z) r.0, cc)
+  one_value v u x y h = cc
+
+  one_all : (vs us : Contents) (x y : List Lexeme) → spell_all vs ++ Closing ∷ x ≡ spell_all us ++ Closing ∷ y → (vs ≡ us) × (x ≡ y)
+  one_all nothing nothing x y h = (refl, cc)
+  one_all nothing (and u us) x y h = absurd (not_closing u x (spell_behind us ++ Closing ∷ y) (h ∙ append_assoc (spell u) (spell_behind us) (Closing ∷ y)))
+  one_all (and v vs) nothing x y h = absurd (not_closing v y (spell_behind vs ++ Closing ∷ x) (sym h ∙ append_assoc (spell v) (spell_behind vs) (Closing ∷ x)))
+  one_all (and v vs) (and u us) x y h =
+      let r = one_value v u (spell_behind vs ++ Closing ∷ x) (spell_behind us ++ Closing ∷ y) (seam (spell v) (spell_behind vs) (Closing ∷ x) (spell u) (spell_behind us) (Closing ∷ y) h) in
+      let s = one_behind vs us x y r.1 in
+      (ap (λ z. and z vs) r.0 ∙ ap (λ z. and u z) s.0, s.1)
+
+  one_behind : (vs us : Contents) (x y : List Lexeme) → spell_behind vs ++ Closing ∷ x ≡ spell_behind us ++ Closing ∷ y → (vs ≡ us) × (x ≡ y)
+  one_behind nothing nothing x y h = (refl, cc)
+  one_behind nothing (and u us) x y h = cc
+  one_behind (and v vs) nothing x y h = cc
+  one_behind (and v vs) (and u us) x y h =
+      let e : (spell v ++ spell_behind vs) ++ Closing ∷ x ≡ (spell u ++ spell_behind us) ++ Closing ∷ y = cc in
+      let r = one_value v u (spell_behind vs ++ Closing ∷ x) (spell_behind us ++ Closing ∷ y) (seam (spell v) (spell_behind vs) (Closing ∷ x) (spell u) (spell_behind us) (Closing ∷ y) e) in
+      let s = one_behind vs us x y r.1 in
+      (ap (λ z. and z vs) r.0 ∙ ap (λ z. and u z) s.0, s.1)
+
+-- Tokens begin with one instance at most.
+
+one_body : (k j : Option (List ℕ)) (vs us : List Value21) (ls ms x y : List Lexeme) → SpellsBody k vs ls → SpellsBody j us ms → ls ++ x ≡ ms ++ y → (k ≡ j) × (contents (map content vs) ≡ contents (map content us)) × (x ≡ y)
+one_body (Some k) (Some j) vs us ls ms x y h g e =
+    let a : ls ≡ KeywordOf k ∷ Opening ∷ (spell_all (contents (map content vs)) ++ Closing ∷ []) = h ∙ ap (λ z. KeywordOf k ∷ Opening ∷ (z ++ Closing ∷ [])) (print_all_is vs) in
+    let b : ms ≡ KeywordOf j ∷ Opening ∷ (spell_all (contents (map content us)) ++ Closing ∷ []) = g ∙ ap (λ z. KeywordOf j ∷ Opening ∷ (z ++ Closing ∷ [])) (print_all_is us) in
+    let f : KeywordOf k ∷ Opening ∷ ((spell_all (contents (map content vs)) ++ Closing ∷ []) ++ x) ≡ KeywordOf j ∷ Opening ∷ ((spell_all (contents (map content us)) ++ Closing ∷ []) ++ y) =
+        sym (ap (λ z. z ++ x) a) ∙ e ∙ ap (λ z. z ++ y) b in
+    let w : k ≡ j = cc in
+    let t : (spell_all (contents (map content vs)) ++ Closing ∷ []) ++ x ≡ (spell_all (contents (map content us)) ++ Closing ∷ []) ++ y = cc in
+    let r = one_all (contents (map content vs)) (contents (map content us)) x y (seam (spell_all (contents (map content vs))) (Closing ∷ []) x (spell_all (contents (map content us))) (Closing ∷ []) y t) in
+    (ap (λ (z : List ℕ). Some z) w, r.0, r.1)
+one_body (Some k) None vs us ls ms x y h g e =
+    absurd (let f : KeywordOf k ∷ Opening ∷ ((print_all vs ++ Closing ∷ []) ++ x) ≡ Opening ∷ (g.1 ++ y) = sym (ap (λ z. z ++ x) h) ∙ e ∙ ap (λ z. z ++ y) g.2 in cc)
+one_body None (Some j) vs us ls ms x y h g e =
+    absurd (let f : Opening ∷ (h.1 ++ x) ≡ KeywordOf j ∷ Opening ∷ ((print_all us ++ Closing ∷ []) ++ y) = sym (ap (λ z. z ++ x) h.2) ∙ e ∙ ap (λ z. z ++ y) g in cc)
+one_body None None vs us ls ms x y h g e = (
+  refl,
+  ap (λ z. contents (map content z)) (h.0 ∙ sym g.0),
+  one_end (Body ∷ []) ls ms x y (complete (Body ∷ []) (classes ls) h.3) (complete (Body ∷ []) (classes ms) g.3) e,
+)
+
+-- an instance's tokens, with others behind them
+opened : (i : Instance) (ls x : List Lexeme) (h : SpellsInstance i ls) → ls ++ x ≡ ReferenceTo i.id ∷ Assigning ∷ (h.body ++ (Ending ∷ x))
+opened i ls x h = ap (λ z. z ++ x) h.whole ∙ ap (λ z. ReferenceTo i.id ∷ Assigning ∷ z) (append_assoc h.body (Ending ∷ []) x)
+
+one_instance : (i j : Instance) (ls ms x y : List Lexeme) → SpellsInstance i ls → SpellsInstance j ms → ls ++ x ≡ ms ++ y → (saying i ≡ saying j) × (x ≡ y)
+one_instance i j ls ms x y h g e =
+    let f : ReferenceTo i.id ∷ Assigning ∷ (h.body ++ (Ending ∷ x)) ≡ ReferenceTo j.id ∷ Assigning ∷ (g.body ++ (Ending ∷ y)) = sym (opened i ls x h) ∙ e ∙ opened j ms y g in
+    let n : i.id ≡ j.id = cc in
+    let t : h.body ++ (Ending ∷ x) ≡ g.body ++ (Ending ∷ y) = cc in
+    let r = one_body i.keyword j.keyword i.values j.values h.body g.body (Ending ∷ x) (Ending ∷ y) h.is_body g.is_body t in
+    let z : Ending ∷ x ≡ Ending ∷ y = r.2 in
+    (
+      ap (λ a. (a, i.keyword, contents (map content i.values))) n ∙ ap (λ a. (j.id, a, contents (map content i.values))) r.0 ∙ ap (λ a. (j.id, j.keyword, a)) r.1,
+      cc,
+    )
+
+no_instance : (i : Instance) (is : List Instance) (ls x y : List Lexeme) (rest : List Class) → SpellsAll (i ∷ is) ls → classes x ≡ Word EndSec ∷ rest → x ≡ ls ++ y → ⊥
+no_instance i is ls x y rest h c e =
+    let f : x ≡ ReferenceTo i.id ∷ Assigning ∷ (h.2.body ++ (Ending ∷ (h.1 ++ y))) = e ∙ ap (λ z. z ++ y) h.3 ∙ append_assoc h.0 h.1 y ∙ opened i h.0 (h.1 ++ y) h.2 in
+    let g : Name ∷ classes (Assigning ∷ (h.2.body ++ (Ending ∷ (h.1 ++ y)))) ≡ Word EndSec ∷ rest = sym (ap classes f) ∙ c in
+    cc
+
+one_data : (is js : List Instance) (ls ms x y : List Lexeme) (rest : List Class) → SpellsAll is ls → SpellsAll js ms → classes x ≡ Word EndSec ∷ rest → classes y ≡ Word EndSec ∷ rest → ls ++ x ≡ ms ++ y → map saying is ≡ map saying js
+one_data [] [] ls ms x y rest h k c d e = refl
+one_data [] (j ∷ js) ls ms x y rest h k c d e = absurd (no_instance j js ms x y rest k c (sym (ap (λ z. z ++ x) h) ∙ e))
+one_data (i ∷ is) [] ls ms x y rest h k c d e = absurd (no_instance i is ls y x rest h d (sym (ap (λ z. z ++ y) k) ∙ sym e))
+one_data (i ∷ is) (j ∷ js) ls ms x y rest h k c d e =
+    let f : h.0 ++ (h.1 ++ x) ≡ k.0 ++ (k.1 ++ y) = seam h.0 h.1 x k.0 k.1 y (sym (ap (λ z. z ++ x) h.3) ∙ e ∙ ap (λ z. z ++ y) k.3) in
+    let r = one_instance i j h.0 k.0 (h.1 ++ x) (k.1 ++ y) h.2 k.2 f in
+    ap (λ z. z ∷ map saying is) r.0 ∙ ap (λ z. saying j ∷ z) (one_data is js h.1 k.1 x y rest h.4 k.4 c d r.1)
+
+-- Bytes hold one file at most.
+
+pub one_reading : (bytes : List ℕ) (a b : List Instance) → HoldsFile bytes a → HoldsFile bytes b → map saying a ≡ map saying b
+one_reading bytes a b h k =
+    let s = h.spells in
+    let t = k.spells in
+    let said : h.said ≡ k.said = one_list file bytes (start_of bytes) h.end k.end h.said k.said h.cuts k.cuts ((file_iff (classes h.said)).0 s.is_file) ((file_iff (classes k.said)).0 t.is_file) in
+    let rest : s.data_section ++ s.closing ≡ t.data_section ++ t.closing =
+        one_end header s.heading t.heading (s.data_section ++ s.closing) (t.data_section ++ t.closing) (complete header (classes s.heading) s.is_heading) (complete header (classes t.heading) t.is_heading) (sym s.whole ∙ said ∙ t.whole) in
+    one_data a b s.data_section t.data_section s.closing t.closing (Semi ∷ Word EndIso ∷ Semi ∷ []) s.spelled t.spelled s.is_closing t.is_closing rest
