@@ -1,6 +1,6 @@
-use Rattle.std.proofs.Common.{◌≡◌, ℕ, List, [], ◌∷◌, ◌++◌, map, Option, Some, None, Result, Ok, refl, sym, ap, subst, ◌∙◌, append_assoc}
+use Rattle.std.proofs.Common.{◌≡◌, ℕ, List, [], ◌∷◌, ◌++◌, map, Option, Some, None, refl, sym, ap, subst, ◌∙◌, append_assoc}
 use Rattle.p21_lexer.specs.declared.token.Token.{Token}
-use Rattle.p21_lexer.specs.Cutting.{CutsFrom, start_of}
+use Rattle.p21_lexer.specs.Cutting.{start_of}
 use Rattle.p21_reader.specs.declared.value.Value21.{Value21}
 use Rattle.p21_reader.specs.declared.value.Value21.TheOpen.{Value21-F}
 use Rattle.p21_reader.specs.declared.value.Value21.TheOpen as layer
@@ -173,7 +173,7 @@ one_body (Some k) (Some j) vs us ls ms x y h g e =
     let a : ls ≡ KeywordOf k ∷ Opening ∷ (spell_all (contents (map content vs)) ++ Closing ∷ []) = h ∙ ap (λ z. KeywordOf k ∷ Opening ∷ (z ++ Closing ∷ [])) (print_all_is vs) in
     let b : ms ≡ KeywordOf j ∷ Opening ∷ (spell_all (contents (map content us)) ++ Closing ∷ []) = g ∙ ap (λ z. KeywordOf j ∷ Opening ∷ (z ++ Closing ∷ [])) (print_all_is us) in
     let f : KeywordOf k ∷ Opening ∷ ((spell_all (contents (map content vs)) ++ Closing ∷ []) ++ x) ≡ KeywordOf j ∷ Opening ∷ ((spell_all (contents (map content us)) ++ Closing ∷ []) ++ y) =
-        sym (ap (λ z. z ++ x) a) ∙ e ∙ ap (λ z. z ++ y) b in
+    sym (ap (λ z. z ++ x) a) ∙ e ∙ ap (λ z. z ++ y) b in
     let w : k ≡ j = cc in
     let t : (spell_all (contents (map content vs)) ++ Closing ∷ []) ++ x ≡ (spell_all (contents (map content us)) ++ Closing ∷ []) ++ y = cc in
     let r = one_all (contents (map content vs)) (contents (map content us)) x y (seam (spell_all (contents (map content vs))) (Closing ∷ []) x (spell_all (contents (map content us))) (Closing ∷ []) y t) in
@@ -199,10 +199,7 @@ one_instance i j ls ms x y h g e =
     let t : h.body ++ (Ending ∷ x) ≡ g.body ++ (Ending ∷ y) = cc in
     let r = one_body i.keyword j.keyword i.values j.values h.body g.body (Ending ∷ x) (Ending ∷ y) h.is_body g.is_body t in
     let z : Ending ∷ x ≡ Ending ∷ y = r.2 in
-    (
-      ap (λ a. (a, i.keyword, contents (map content i.values))) n ∙ ap (λ a. (j.id, a, contents (map content i.values))) r.0 ∙ ap (λ a. (j.id, j.keyword, a)) r.1,
-      cc,
-    )
+    (λ k. (n k, r.0 k, r.1 k), cc)
 
 no_instance : (i : Instance) (is : List Instance) (ls x y : List Lexeme) (rest : List Class) → SpellsAll (i ∷ is) ls → classes x ≡ Word EndSec ∷ rest → x ≡ ls ++ y → ⊥
 no_instance i is ls x y rest h c e =
@@ -227,5 +224,5 @@ one_reading bytes a b h k =
     let t = k.spells in
     let said : h.said ≡ k.said = one_list file bytes (start_of bytes) h.end k.end h.said k.said h.cuts k.cuts ((file_iff (classes h.said)).0 s.is_file) ((file_iff (classes k.said)).0 t.is_file) in
     let rest : s.data_section ++ s.closing ≡ t.data_section ++ t.closing =
-        one_end header s.heading t.heading (s.data_section ++ s.closing) (t.data_section ++ t.closing) (complete header (classes s.heading) s.is_heading) (complete header (classes t.heading) t.is_heading) (sym s.whole ∙ said ∙ t.whole) in
+    one_end header s.heading t.heading (s.data_section ++ s.closing) (t.data_section ++ t.closing) (complete header (classes s.heading) s.is_heading) (complete header (classes t.heading) t.is_heading) (sym s.whole ∙ said ∙ t.whole) in
     one_data a b s.data_section t.data_section s.closing t.closing (Semi ∷ Word EndIso ∷ Semi ∷ []) s.spelled t.spelled s.is_closing t.is_closing rest
