@@ -1,21 +1,19 @@
-use Rattle.std.proofs.Common.{◌≡◌, ℕ, ◌+◌, ◌<◌, ◌≤◌, ◌⊎◌, inl, inr, List, [], ◌∷◌, ◌++◌, length, map, drop, Option, Some, None, option_map, Result, Ok, Err, arith, refl, sym, ap, subst, ◌∙◌, append_assoc}
+use Rattle.std.proofs.Common.{◌≡◌, ℕ, List, [], ◌∷◌, ◌++◌, Some, None, Result, Ok, Err, refl, sym, ap, ◌∙◌}
 use Rattle.p21_lexer.specs.declared.token.Token.{Token}
 use Rattle.p21_lexer.specs.Cutting.{CutsFrom}
 use Rattle.p21_reader.specs.declared.fault.ReadFault.{ReadFault}
-use Rattle.p21_reader.specs.declared.fault.ReadFault.TheVariants as faults
 use Rattle.p21_reader.specs.declared.piece.Kind.{Kind}
 use Rattle.p21_reader.specs.declared.piece.Kind.TheVariants as kinds
 use Rattle.p21_reader.specs.declared.value.Value21.{Value21}
-use Rattle.p21_reader.specs.declared.value.Instance.{Instance}
 use Rattle.p21_reader.specs.declared.instance.Made.{Made}
-use Rattle.p21_reader.specs.Grammar.{Class, Simple, Name, Open, Close, Comma, Semi, Equals, Word, Sign, T, AnyWord, Body, Ones, Value, Inside, After, Derives}
+use Rattle.p21_reader.specs.Grammar.{Class, Open, Close, Semi, Equals, Word, Sign, T, AnyWord, Body, Ones, Inside, Derives}
 use Rattle.p21_reader.specs.Machine.{run, next}
 use Rattle.p21_reader.specs.Lexemes.{Lexeme, lexeme_of, class_of, Opening, Closing, Ending, Assigning, KeywordOf, ReferenceTo}
 use Rattle.p21_reader.specs.Printing.{print_all}
-use Rattle.p21_reader.specs.Reading.{Goes, Fails, FailsAfter, kind_of, classes}
-use Rattle.p21_reader.specs.Instances.{SpellsBody, SpellsInstance, MakesBody, Passes, StartsBody, MakesInstance}
+use Rattle.p21_reader.specs.Reading.{Goes, Fails, kind_of, classes}
+use Rattle.p21_reader.specs.Instances.{MakesBody, Passes, StartsBody, MakesInstance}
 use Rattle.p21_reader.proofs.Viable.{sound}
-use Rattle.p21_reader.proofs.Steps.{goes_here, goes_one, goes_trans, goes_under, fails_after, fails_under, fails_none, fails_refused, after_fails, fails_past}
+use Rattle.p21_reader.proofs.Steps.{goes_here, goes_one, goes_trans, goes_under, fails_after, fails_under, fails_past}
 
 -- an opening parenthesis, and values
 pub opens_goes : (d : ℕ) (bytes : List ℕ) (at opened end : ℕ) (ls : List Lexeme) → Goes (T Open ∷ []) [] bytes at opened (Opening ∷ []) → Goes (Inside (Some d) ∷ []) [] bytes opened end ls

@@ -1,16 +1,14 @@
-use Rattle.std.proofs.Common.{◌≡◌, ℕ, ◌+◌, ◌-◌, ◌*◌, ◌<◌, ◌≤◌, ◌==◌, ◌⊎◌, inl, inr, Bool, true, false, List, [], ◌∷◌, ◌++◌, length, get_or, map, take, drop, zero, suc, add-one, arith, refl, sym, ap, subst, ◌∙◌, drop-cons, slice_range, slice_index, length-append, ◌&&◌, ◌||◌}
+use Rattle.std.proofs.Common.{◌≡◌, ℕ, ◌+◌, ◌-◌, ◌*◌, ◌<◌, ◌≤◌, ◌==◌, ◌⊎◌, inl, inr, Bool, true, false, List, [], ◌∷◌, ◌++◌, length, get_or, map, drop, zero, suc, add-one, arith, refl, sym, ap, subst, ◌∙◌, drop-cons, slice_range, length-append, ◌&&◌}
 use Rattle.std.proofs.lemmas.Bool.Decides.{nat_tests}
-use Rattle.std.specs.List.{list_all}
 use Rattle.std.specs.Str.{IsAscii}
 use Rattle.std.specs.Char.{to_ascii_uppercase}
 use Rattle.std.proofs.Math.Seq.{take-append_seam}
 use Rattle.p21_lexer.specs.declared.token.TokenKind.{TokenKind}
 use Rattle.p21_lexer.specs.declared.token.TokenKind.TheVariants as tokens
-use Rattle.p21_lexer.specs.Spelling.{Spells, IsWord, IsName, IsText, IsEnumeration, IsBits, value_after, most_name, is_letter, is_letter_or_digit, is_word_byte, AreAll}
-use Rattle.p21_reader.specs.declared.piece.Kind.{Kind}
+use Rattle.p21_lexer.specs.Spelling.{Spells, IsWord, value_after, most_name, is_letter, is_letter_or_digit, is_word_byte, AreAll}
 use Rattle.p21_reader.specs.declared.piece.Kind.TheVariants as kinds
-use Rattle.p21_reader.specs.Lexemes.{Lexeme, ReferenceTo, KeywordOf, says, alone, class_of, single_says, inner}
-use Rattle.p21_reader.specs.Reading.{kind_of, IsPlain}
+use Rattle.p21_reader.specs.Lexemes.{ReferenceTo, KeywordOf, says, class_of, single_says, inner}
+use Rattle.p21_reader.specs.Reading.{kind_of}
 use Rattle.p21_reader.proofs.Seen.{head_of}
 
 tells : (b : Bool) → (b ≡ true) ⊎ (b ≡ false)

@@ -1,4 +1,4 @@
-use Rattle.std.proofs.Common.{◌≡◌, ℕ, ◌⊎◌, inl, inr, List, [], ◌∷◌, ◌++◌, length, Option, Some, None, option_map, Result, Ok, Err, refl, sym, ap, subst, ◌∙◌, append_assoc}
+use Rattle.std.proofs.Common.{◌≡◌, ℕ, ◌⊎◌, inl, inr, List, [], ◌∷◌, ◌++◌, Option, Some, None, Result, Ok, Err, refl, sym, ap, subst, ◌∙◌, append_assoc}
 use Rattle.std.specs.Prelude.{IsSome}
 use Rattle.p21_lexer.specs.declared.token.Token.{Token}
 use Rattle.p21_lexer.specs.declared.token.LexFault.{LexFault}
@@ -11,15 +11,15 @@ use Rattle.p21_reader.specs.declared.piece.Kind.{Kind}
 use Rattle.p21_reader.specs.declared.piece.Kind.TheVariants as kinds
 use Rattle.p21_reader.specs.declared.value.Instance.{Instance}
 use Rattle.p21_reader.specs.declared.instance.Made.{Made}
-use Rattle.p21_reader.specs.Grammar.{Mark, Class, Simple, Name, Open, Close, Comma, Semi, Equals, Word, EndSec, EndIso, Sign, T, Body, Instances, IsFile, IsViable, Derives, header, file}
-use Rattle.p21_reader.specs.Machine.{run, next, step, bind}
+use Rattle.p21_reader.specs.Grammar.{Class, Name, Semi, Equals, Word, EndSec, EndIso, Sign, T, Body, Instances, IsViable, header, file}
+use Rattle.p21_reader.specs.Machine.{run, next, bind}
 use Rattle.p21_reader.specs.Lexemes.{Lexeme, lexeme_of, class_of, Ending}
-use Rattle.p21_reader.specs.Reading.{Cuts, classes, Goes, Stops, Fails, FailsAfter, kind_of, IsStuck, Expects}
+use Rattle.p21_reader.specs.Reading.{Cuts, classes, Goes, Stops, Fails, kind_of, IsStuck, Expects}
 use Rattle.p21_reader.specs.Heading.{ReadsHeader}
 use Rattle.p21_reader.specs.Instances.{SpellsInstance, SpellsAll, MakesInstance}
-use Rattle.p21_reader.specs.Files.{SpellsFile, HoldsFile, HasFile, Reaches, NoneThere, WrongThere, FaultAt, ReadsClosing, ReadsLast, ReadsSection}
-use Rattle.p21_reader.proofs.Viable.{run_append, sound, complete, viable_iff, file_iff}
-use Rattle.p21_reader.proofs.Steps.{classes_append, goes_here, goes_one, goes_trans, goes_under, fails_after, fails_under, fails_none, fails_refused, after_fails, fails_past}
+use Rattle.p21_reader.specs.Files.{SpellsFile, HoldsFile, HasFile, Reaches, FaultAt, ReadsClosing, ReadsLast, ReadsSection}
+use Rattle.p21_reader.proofs.Viable.{run_append, sound, viable_iff, file_iff}
+use Rattle.p21_reader.proofs.Steps.{classes_append, goes_here, goes_one, goes_trans, goes_under, fails_after, fails_under, after_fails, fails_past}
 
 -- Instances one after another.
 

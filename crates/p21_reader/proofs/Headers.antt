@@ -1,15 +1,13 @@
-use Rattle.std.proofs.Common.{◌≡◌, ℕ, ◌⊎◌, inl, inr, List, [], ◌∷◌, ◌++◌, Some, None, Result, Ok, Err, refl, sym, ap, subst, ◌∙◌, append_assoc}
+use Rattle.std.proofs.Common.{◌≡◌, ℕ, inl, inr, List, [], ◌∷◌, ◌++◌, Some, Ok, refl, sym, ap, subst, ◌∙◌, append_assoc}
 use Rattle.p21_lexer.specs.declared.token.Token.{Token}
 use Rattle.p21_lexer.specs.Cutting.{CutsFrom}
 use Rattle.p21_reader.specs.declared.fault.ReadFault.{ReadFault}
-use Rattle.p21_reader.specs.declared.fault.ReadFault.TheVariants as faults
 use Rattle.p21_reader.specs.declared.header.Want.{Want}
 use Rattle.p21_reader.specs.Grammar.{Sign, header}
-use Rattle.p21_reader.specs.Machine.{next}
 use Rattle.p21_reader.specs.Lexemes.{Lexeme, lexeme_of, class_of}
-use Rattle.p21_reader.specs.Reading.{Goes, Fails, NoToken}
+use Rattle.p21_reader.specs.Reading.{Goes, Fails}
 use Rattle.p21_reader.specs.Heading.{sign_of, signs_of, Follows, FollowsNot}
-use Rattle.p21_reader.proofs.Steps.{goes_here, goes_one, goes_trans, goes_under, fails_after, fails_none, fails_refused}
+use Rattle.p21_reader.proofs.Steps.{goes_here, goes_one, goes_trans, goes_under, fails_after, fails_refused}
 
 append_nil : {A : Type 0} (xs : List A) → xs ++ [] ≡ xs
 append_nil [] = refl

@@ -1,4 +1,4 @@
-use Rattle.std.proofs.Common.{◌≡◌, ℕ, ◌+◌, ◌-◌, ◌<◌, ◌≤◌, ◌⊎◌, inl, inr, List, [], ◌∷◌, ◌++◌, length, map, take, drop, Option, Some, None, option_map, Result, Ok, Err, zero, suc, arith, refl, sym, ap, subst, ◌∙◌, append_assoc}
+use Rattle.std.proofs.Common.{◌≡◌, ℕ, ◌-◌, ◌⊎◌, inl, inr, List, [], ◌∷◌, ◌++◌, map, Option, Some, None, option_map, Result, Ok, Err, zero, suc, arith, refl, sym, ap, ◌∙◌, append_assoc}
 use Rattle.p21_lexer.specs.declared.token.Token.{Token}
 use Rattle.p21_lexer.specs.Cutting.{CutsFrom}
 use Rattle.p21_reader.specs.declared.fault.ReadFault.{ReadFault}
@@ -6,13 +6,13 @@ use Rattle.p21_reader.specs.declared.fault.ReadFault.TheVariants as faults
 use Rattle.p21_reader.specs.declared.piece.Kind.{Kind}
 use Rattle.p21_reader.specs.declared.piece.Kind.TheVariants as kinds
 use Rattle.p21_reader.specs.declared.value.Value21.{Value21}
-use Rattle.p21_reader.specs.Grammar.{Class, Simple, Name, Open, Close, Comma, Semi, Equals, Word, Sign, T, Value, Inside, After, down}
-use Rattle.p21_reader.specs.Machine.{run, next, next_value}
+use Rattle.p21_reader.specs.Grammar.{Class, Simple, Name, Open, Close, Comma, Word, Sign, T, Value, Inside, After, down}
+use Rattle.p21_reader.specs.Machine.{next, next_value}
 use Rattle.p21_reader.specs.Lexemes.{Lexeme, lexeme_of, class_of, Opening, Closing, Separator}
-use Rattle.p21_reader.specs.Printing.{print, print_all, behind, joined}
-use Rattle.p21_reader.specs.Reading.{Goes, Stops, Fails, StopsAfter, FailsAfter, ReadsValue, PushesValue, PushesMade, PushesInside, PushesMore, kind_of, IsSign, sign_says}
+use Rattle.p21_reader.specs.Printing.{print, behind}
+use Rattle.p21_reader.specs.Reading.{Goes, Fails, StopsAfter, FailsAfter, ReadsValue, PushesValue, PushesMade, PushesInside, PushesMore, kind_of, IsSign, sign_says}
 use Rattle.p21_reader.proofs.Seen.{sign_said}
-use Rattle.p21_reader.proofs.Steps.{goes_here, goes_one, goes_trans, goes_under, stops_after, stops_under, fails_after, fails_under, fails_none, fails_refused, after_fails, fails_past}
+use Rattle.p21_reader.proofs.Steps.{goes_here, goes_one, goes_trans, goes_under, stops_under, fails_after, fails_under, after_fails, fails_past}
 
 -- so many values of a list stand behind its first one
 pub record Behind (d : Option ℕ) (bytes : List ℕ) (from at : ℕ) (old now : List Value21) : Type 0 where

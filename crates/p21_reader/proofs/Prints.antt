@@ -1,11 +1,10 @@
-use Rattle.std.proofs.Common.{◌≡◌, ℕ, List, [], ◌∷◌, ◌++◌, map, refl, sym, ap, ◌∙◌, append_assoc}
-use Rattle.p21_reader.specs.declared.value.Value21.{Value21}
+use Rattle.std.proofs.Common.{◌≡◌, ℕ, List, [], ◌∷◌, ◌++◌, sym, ap, ◌∙◌}
 use Rattle.p21_reader.specs.declared.value.Value21.TheVariants as variants
 use Rattle.p21_reader.specs.declared.value.Value21.TheVariants.{rolls-Absent, rolls-Derived, rolls-Number, rolls-Words, rolls-Enumeration, rolls-Bits, rolls-Reference, rolls-List, rolls-Typed}
 use Rattle.p21_reader.specs.declared.value.Value21.TheOpen as layer
 use Rattle.p21_reader.specs.declared.value.Value21.TheFolds.{fold-roll-Value21}
-use Rattle.p21_reader.specs.Lexemes.{Lexeme, Absence, Derivation, Opening, Closing, Separator, NumberOf, WordsOf, EnumerationOf, BitsOf, KeywordOf, ReferenceTo}
-use Rattle.p21_reader.specs.Printing.{print, print_step, print_all, behind, joined}
+use Rattle.p21_reader.specs.Lexemes.{Lexeme, Absence, Opening, Closing, NumberOf, KeywordOf}
+use Rattle.p21_reader.specs.Printing.{print, print_step, print_all}
 
 pub print_absent : print variants.Absent ≡ Absence ∷ []
 print_absent = ap print (sym rolls-Absent) ∙ fold-roll-Value21 (List Lexeme) print_step layer.Absent

@@ -1,11 +1,11 @@
-use Rattle.std.proofs.Common.{◌≡◌, ℕ, ◌+◌, ◌-◌, ◌<◌, ◌≤◌, List, [], ◌∷◌, length, get_or, take, drop, Option, Some, None, zero, suc, arith, refl, sym, ap, ◌∙◌, drop-cons, slice_range}
+use Rattle.std.proofs.Common.{◌≡◌, ℕ, ◌-◌, ◌<◌, ◌≤◌, List, [], ◌∷◌, length, get_or, take, drop, Some, None, suc, arith, refl, ap, drop-cons, slice_range}
 use Rattle.p21_lexer.specs.declared.token.TokenKind.{TokenKind}
 use Rattle.p21_lexer.specs.declared.token.TokenKind.TheVariants as tokens
 use Rattle.p21_reader.specs.declared.piece.Kind.{Kind}
 use Rattle.p21_reader.specs.declared.piece.Kind.TheVariants as kinds
-use Rattle.p21_reader.specs.Grammar.{Class, Simple, Name, Open, Close, Comma, Semi, Equals, Word, Sign, T}
+use Rattle.p21_reader.specs.Grammar.{Class, Open, Close, Comma, Semi, Equals, T}
 use Rattle.p21_reader.specs.Machine.{next}
-use Rattle.p21_reader.specs.Lexemes.{Lexeme, Absence, Derivation, Opening, Closing, Separator, Ending, Assigning, NumberOf, WordsOf, EnumerationOf, BitsOf, KeywordOf, ReferenceTo, alone, says, class_of, single_says}
+use Rattle.p21_reader.specs.Lexemes.{Lexeme, Opening, Closing, Separator, Ending, Assigning, alone, says, class_of, single_says}
 use Rattle.p21_reader.specs.Reading.{kind_of, IsSign, sign_class, sign_says}
 
 pub head_of : (bs : List ℕ) (a b d : ℕ) → a < b → b ≤ length bs → slice_range bs a b ≡ get_or bs a d ∷ take (b - suc a) (drop (suc a) bs)

@@ -1,16 +1,16 @@
-use Rattle.std.proofs.Common.{◌≡◌, ℕ, ◌+◌, ◌-◌, ◌<◌, ◌≤◌, ◌⊎◌, inl, inr, List, [], ◌∷◌, ◌++◌, length, get_or, map, take, drop, Option, Some, None, option_map, Result, Ok, Err, zero, suc, add-one, arith, refl, sym, ap, subst, ◌∙◌, append_assoc, drop-cons, slice_range, length-append, length-drop}
+use Rattle.std.proofs.Common.{◌≡◌, ℕ, ◌-◌, ◌<◌, ◌≤◌, inl, inr, List, [], ◌∷◌, ◌++◌, length, drop, Some, None, Result, Ok, Err, arith, refl, sym, ap, subst, ◌∙◌, append_assoc, length-append, length-drop}
 use Rattle.p21_lexer.specs.declared.token.Token.{Token}
 use Rattle.p21_lexer.specs.Cutting.{CutsFrom, StopsAt, IsFirst}
 use Rattle.p21_lexer.specs.Gaps.{Passes}
 use Rattle.p21_reader.specs.declared.fault.ReadFault.{ReadFault}
 use Rattle.p21_reader.specs.declared.fault.ReadFault.TheVariants as faults
-use Rattle.p21_reader.specs.Grammar.{Class, Sign, T}
+use Rattle.p21_reader.specs.Grammar.{Sign, T}
 use Rattle.p21_reader.specs.declared.piece.Kind.{Kind}
 use Rattle.std.specs.Prelude.{IsErrAnd, IfOk}
 use Rattle.p21_reader.proofs.Seen.{sign_said, sign_led}
-use Rattle.p21_reader.specs.Machine.{run, step, next, bind}
+use Rattle.p21_reader.specs.Machine.{run, next, bind}
 use Rattle.p21_reader.specs.Lexemes.{Lexeme, lexeme_of, class_of}
-use Rattle.p21_reader.specs.Reading.{Cuts, classes, Goes, Stops, Fails, IsRefused, IsStuck, NoToken, StopsAfter, FailsAfter, IsSign, kind_of, sign_class, sign_says}
+use Rattle.p21_reader.specs.Reading.{Cuts, classes, Goes, Stops, Fails, NoToken, StopsAfter, FailsAfter, IsSign, kind_of, sign_class, sign_says}
 use Rattle.p21_reader.proofs.Viable.{run_append}
 
 pub classes_append : (ls ms : List Lexeme) → classes (ls ++ ms) ≡ classes ls ++ classes ms

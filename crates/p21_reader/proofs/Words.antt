@@ -1,4 +1,4 @@
-use Rattle.std.proofs.Common.{◌≡◌, ◌≢◌, ℕ, ◌+◌, ◌<◌, ◌≤◌, ◌==◌, List, [], ◌∷◌, length, get_or, map, drop, Bool, true, false, zero, suc, add-one, arith, refl, sym, ap, ◌∙◌, drop-cons, ◌&&◌}
+use Rattle.std.proofs.Common.{◌≡◌, ◌≢◌, ℕ, ◌+◌, ◌<◌, ◌≤◌, ◌==◌, List, [], ◌∷◌, length, get_or, map, drop, Bool, true, false, zero, suc, add-one, arith, refl, drop-cons, ◌&&◌}
 use Rattle.std.specs.Str.{bytes_eq}
 
 pub words_step : (up : ℕ → ℕ) (bs ws : List ℕ) (i : ℕ) → i < length bs → i < length ws → (up (get_or bs i 0) == get_or ws i 0) ≡ true

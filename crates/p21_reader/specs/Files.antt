@@ -1,12 +1,11 @@
-use Rattle.std.specs.Prelude.{◌≡◌, ℕ, List, [], ◌∷◌, ◌++◌, Option, Some, None, Result, Ok, Err, length, ◌⊎◌, IsPermutation}
+use Rattle.std.specs.Prelude.{◌≡◌, ℕ, List, [], ◌∷◌, ◌++◌, Some, None, Result, Ok, Err, length, ◌⊎◌, IsPermutation}
 use Rattle.p21_lexer.specs.declared.token.Token.{Token}
 use Rattle.p21_lexer.specs.declared.token.LexFault.TheVariants as lex
 use Rattle.p21_lexer.specs.Cutting.{CutsFrom, start_of}
 use Rattle.p21_reader.specs.declared.fault.ReadFault.{ReadFault}
 use Rattle.p21_reader.specs.declared.fault.ReadFault.TheVariants as faults
 use Rattle.p21_reader.specs.declared.value.Instance.{Instance}
-use Rattle.p21_reader.specs.Grammar.{Sign, T, Word, EndSec, EndIso, Semi, Instances, Derives, IsFile, IsViable, header}
-use Rattle.p21_reader.specs.Machine.{next}
+use Rattle.p21_reader.specs.Grammar.{T, Word, EndSec, EndIso, Semi, Instances, Derives, IsFile, IsViable, header}
 use Rattle.p21_reader.specs.Lexemes.{Lexeme, lexeme_of, class_of}
 use Rattle.p21_reader.specs.Reading.{Cuts, classes, Goes, Fails, FailsAfter}
 use Rattle.p21_reader.specs.Instances.{SpellsAll}

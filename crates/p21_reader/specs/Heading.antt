@@ -1,4 +1,4 @@
-use Rattle.std.specs.Prelude.{◌≡◌, ℕ, List, [], ◌∷◌, ◌++◌, Option, Some, None, Result, Ok, Err, ◌⊎◌}
+use Rattle.std.specs.Prelude.{◌≡◌, ℕ, List, [], ◌∷◌, ◌++◌, Some, None, Result, Ok, Err, ◌⊎◌}
 use Rattle.p21_lexer.specs.declared.token.Token.{Token}
 use Rattle.p21_reader.specs.declared.fault.ReadFault.{ReadFault}
 use Rattle.p21_reader.specs.declared.fault.ReadFault.TheVariants as faults

@@ -1,10 +1,10 @@
-use Rattle.std.specs.Prelude.{◌≡◌, ℕ, List, [], ◌∷◌, ◌++◌, Option, Some, None, Result, Ok, Err, codes}
+use Rattle.std.specs.Prelude.{◌≡◌, ℕ, List, [], ◌∷◌, ◌++◌, Option, Some, None, Result, Ok, Err}
 use Rattle.p21_lexer.specs.declared.token.Token.{Token}
 use Rattle.p21_reader.specs.declared.fault.ReadFault.{ReadFault}
 use Rattle.p21_reader.specs.declared.value.Value21.{Value21}
 use Rattle.p21_reader.specs.declared.value.Instance.{Instance}
 use Rattle.p21_reader.specs.declared.instance.Made.{Made}
-use Rattle.p21_reader.specs.Grammar.{Sign, T, AnyWord, Open, Equals, Semi, Body, Ones, Inside, Instances, Derives, IsFile, header}
+use Rattle.p21_reader.specs.Grammar.{Sign, T, Equals, Semi, Body, Derives}
 use Rattle.p21_reader.specs.Lexemes.{Lexeme, Opening, Closing, Ending, Assigning, KeywordOf, ReferenceTo, lexeme_of, class_of}
 use Rattle.p21_reader.specs.Machine.{next}
 use Rattle.p21_reader.specs.Printing.{print_all}

@@ -1,4 +1,4 @@
-use Rattle.std.specs.Prelude.{ℕ, ◌-◌, List, [], ◌∷◌, length, take, drop, map, ◌==◌, if◌then◌else◌, codes, slice_range, Option, Some, Result, Ok, ◌≡◌}
+use Rattle.std.specs.Prelude.{ℕ, ◌-◌, List, [], ◌∷◌, length, drop, map, ◌==◌, if◌then◌else◌, codes, slice_range, Some, Ok, ◌≡◌}
 use Rattle.std.specs.Str.{bytes_eq}
 use Rattle.std.specs.Char.{to_ascii_uppercase}
 use Rattle.p21_lexer.specs.declared.token.TokenKind.{TokenKind}

@@ -1,5 +1,5 @@
-use Rattle.std.specs.Prelude.{ℕ, List, [], ◌∷◌, ◌++◌, map, Option, Some, None}
-use Rattle.p21_reader.specs.Lexemes.{Lexeme, Absence, Derivation, Opening, Closing, Separator, Ending, Assigning, NumberOf, WordsOf, EnumerationOf, BitsOf, KeywordOf, ReferenceTo}
+use Rattle.std.specs.Prelude.{List, [], ◌∷◌, ◌++◌, map}
+use Rattle.p21_reader.specs.Lexemes.{Lexeme, Absence, Derivation, Opening, Closing, Separator, NumberOf, WordsOf, EnumerationOf, BitsOf, KeywordOf, ReferenceTo}
 use Rattle.p21_reader.specs.declared.value.Value21.{Value21}
 use Rattle.p21_reader.specs.declared.value.Value21.TheOpen.{Value21-F}
 use Rattle.p21_reader.specs.declared.value.Value21.TheOpen as layer

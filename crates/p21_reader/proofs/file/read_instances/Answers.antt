@@ -1,8 +1,5 @@
-use Rattle.std.proofs.Common.{◌≡◌, sym, ◌∙◌, [], ◌∷◌, Ok, Err}
+use Rattle.std.proofs.Common.{Ok, Err}
 use Rattle.p21_lexer.specs.Cutting.{start_of}
-use Rattle.p21_reader.specs.Grammar.{header}
-use Rattle.p21_reader.specs.Reading.{Fails, Goes}
-use Rattle.p21_reader.specs.Heading.{ReadsHeader}
 use Rattle.p21_reader.proofs.Steps.{residual}
 use Rattle.p21_reader.proofs.FileLemmas.{fault_at, file_fails, file_section, file_holds, header_from, no_file}
 use Rattle.p21_reader.proofs.file.read_instances.Goals as goal

@@ -1,4 +1,4 @@
-use Rattle.std.proofs.Common.{◌≡◌, sym, ap, ◌∙◌, Some}
+use Rattle.std.proofs.Common.{sym, ap, ◌∙◌}
 use Rattle.p21_reader.specs.Machine.{next}
 use Rattle.p21_reader.specs.Heading.{sign_of, signs_of}
 use Rattle.p21_reader.proofs.Headers.{signs_append}

@@ -1,4 +1,3 @@
-use Rattle.std.proofs.Common.{◌≡◌, ◌++◌, ◌∷◌, []}
 use Rattle.p21_reader.specs.Heading.{sign_of, signs_of}
 use Rattle.p21_reader.proofs.Steps.{residual, fails_none}
 use Rattle.p21_reader.proofs.Headers.{heads_fail, heads_step, follow_fail}

@@ -1,4 +1,4 @@
-use Rattle.std.proofs.Common.{◌∷◌, [], Some, None, sym, ◌∙◌, refl}
+use Rattle.std.proofs.Common.{None, sym, ◌∙◌, refl}
 use Rattle.p21_reader.specs.declared.piece.Kind.TheVariants as kinds
 use Rattle.p21_reader.specs.declared.instance.Made.{Made}
 use Rattle.p21_reader.specs.Lexemes.{lexeme_of}

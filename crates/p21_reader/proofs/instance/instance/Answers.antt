@@ -1,4 +1,4 @@
-use Rattle.std.proofs.Common.{◌∷◌, [], ◌++◌, Some, None, sym, ◌∙◌, refl, arith, ◌≤◌}
+use Rattle.std.proofs.Common.{◌∷◌, []}
 use Rattle.p21_reader.specs.Grammar.{T, Equals, Semi, Body}
 use Rattle.p21_reader.specs.Lexemes.{lexeme_of}
 use Rattle.p21_reader.proofs.Steps.{residual, fails_none, fails_under, after_fails, cuts_on}

@@ -1,10 +1,9 @@
-use Rattle.std.proofs.Common.{◌≡◌, refl, sym, ap, ◌∙◌, rules, [], ◌∷◌, Result, Ok, Err}
-use Rattle.p21_reader.specs.declared.fault.ReadFault.{ReadFault}
+use Rattle.std.proofs.Common.{◌≡◌, refl, sym, ◌∙◌, rules, [], Err}
 use Rattle.p21_reader.specs.Grammar.{T}
 use Rattle.p21_reader.specs.Lexemes.{class_of, lexeme_of}
-use Rattle.p21_reader.specs.Reading.{kind_of, sign_class, sign_says, Expects, Goes}
-use Rattle.p21_reader.proofs.Seen.{sign_said, sign_led, sign_refused}
-use Rattle.p21_reader.proofs.Steps.{goes_one, fails_none, fails_refused, residual, expected}
+use Rattle.p21_reader.specs.Reading.{sign_class}
+use Rattle.p21_reader.proofs.Seen.{sign_refused}
+use Rattle.p21_reader.proofs.Steps.{fails_none, fails_refused, residual, expected}
 use Rattle.p21_reader.proofs.piece.expect.Goals as goal
 
 pub returns-in_err-piece-clause-expects : goal.returns-in_err-piece-clause-expects

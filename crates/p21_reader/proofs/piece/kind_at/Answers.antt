@@ -1,4 +1,4 @@
-use Rattle.std.proofs.Common.{◌≡◌, refl, sym, ap, ◌∙◌}
+use Rattle.std.proofs.Common.{refl, sym, ap, ◌∙◌}
 use Rattle.p21_reader.specs.Lexemes.{class_of}
 use Rattle.p21_reader.specs.Reading.{kind_of}
 use Rattle.p21_reader.proofs.Seen.{alone_says, simple_seen}

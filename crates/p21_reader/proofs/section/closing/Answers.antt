@@ -1,4 +1,4 @@
-use Rattle.std.proofs.Common.{◌≡◌, sym, ◌∙◌, rules}
+use Rattle.std.proofs.Common.{◌≡◌, rules}
 use Rattle.p21_reader.specs.Grammar.{Word, EndSec}
 use Rattle.p21_reader.specs.Lexemes.{lexeme_of, class_of}
 use Rattle.p21_reader.proofs.Steps.{residual}

@@ -1,4 +1,4 @@
-use Rattle.std.proofs.Common.{◌≡◌, sym, ◌∙◌, rules, [], ◌∷◌, None, refl}
+use Rattle.std.proofs.Common.{◌≡◌, rules, [], None, refl}
 use Rattle.p21_reader.specs.Grammar.{T, Word, EndIso}
 use Rattle.p21_reader.specs.Machine.{next}
 use Rattle.p21_reader.specs.Lexemes.{lexeme_of, class_of}

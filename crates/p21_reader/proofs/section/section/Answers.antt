@@ -1,5 +1,4 @@
-use Rattle.std.proofs.Common.{◌≡◌, sym, ◌∙◌, [], ◌∷◌, refl}
-use Rattle.p21_reader.specs.Grammar.{Instances}
+use Rattle.std.proofs.Common.{sym, ◌∙◌}
 use Rattle.p21_reader.specs.Lexemes.{lexeme_of}
 use Rattle.p21_reader.proofs.Steps.{residual}
 use Rattle.p21_reader.proofs.FileLemmas.{many_step, many_fails, many_instance, many_closed, instances_name}

@@ -1,6 +1,6 @@
 use Rattle.std.proofs.Common.{◌≡◌, map, slice_range, sym, ◌∙◌, rules}
 use Rattle.std.specs.Char.{to_ascii_uppercase}
-use Rattle.p21_reader.proofs.Contents.{keyword_ascii, word_kind, keyword_says}
+use Rattle.p21_reader.proofs.Contents.{keyword_ascii, word_kind}
 use Rattle.p21_reader.proofs.simple.keyword_of.Goals as goal
 
 pub text_of-requires : goal.text_of-requires

@@ -1,5 +1,5 @@
-use Rattle.std.proofs.Common.{◌≡◌, map, slice_range, sym, ◌∙◌, rules}
-use Rattle.p21_reader.proofs.Contents.{name_bound, name_kind, tail_of, name_says}
+use Rattle.std.proofs.Common.{slice_range, sym, ◌∙◌}
+use Rattle.p21_reader.proofs.Contents.{name_bound, name_kind, tail_of}
 use Rattle.p21_reader.proofs.simple.name_of.Goals as goal
 
 pub number_of-requires : goal.number_of-requires

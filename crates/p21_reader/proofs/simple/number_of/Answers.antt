@@ -1,6 +1,6 @@
-use Rattle.std.proofs.Common.{◌≡◌, ◌≤◌, ◌+◌, ◌*◌, ◌-◌, arith, ◌∙◌, sym, drop, get_or}
+use Rattle.std.proofs.Common.{◌≤◌, arith, drop}
 use Rattle.p21_lexer.specs.Spelling.{value_after, most_name}
-use Rattle.p21_reader.proofs.Contents.{digit_step, digit_bound}
+use Rattle.p21_reader.proofs.Contents.{digit_bound}
 use Rattle.p21_reader.proofs.simple.number_of.Goals as goal
 
 pub overflow_mul-value : goal.overflow_mul-value

@@ -1,6 +1,6 @@
-use Rattle.std.proofs.Common.{arith, refl, sym, ◌∙◌, ◌≡◌, ◌≤◌, ◌++◌, ◌∷◌, [], Some, Result, Ok, Err}
+use Rattle.std.proofs.Common.{arith, sym, ◌∙◌, ◌++◌, ◌∷◌, [], Some}
 use Rattle.p21_reader.specs.declared.piece.Kind.TheVariants as kinds
-use Rattle.p21_reader.specs.Grammar.{Inside, Value, After, T, Open, Close}
+use Rattle.p21_reader.specs.Grammar.{Inside, Value, T, Open, Close}
 use Rattle.p21_reader.specs.Lexemes.{lexeme_of, Opening, Closing}
 use Rattle.p21_reader.specs.Printing.{print}
 use Rattle.p21_reader.proofs.Steps.{residual, fails_none, fails_under, after_fails, ok_on}
