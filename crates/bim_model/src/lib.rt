@@ -12,6 +12,7 @@ mod shared;
 mod steps;
 mod text;
 mod topic;
+mod upload;
 
 pub use bytes::Bytes;
 pub use element::Element;
@@ -24,6 +25,7 @@ pub use shared::Shared;
 pub use steps::Steps;
 pub use text::Text;
 pub use topic::{Author, Topic, TopicBody};
+pub use upload::{BuildError, Many, Mode, UploadFault};
 
 #[cfg(test)]
 mod tests;
