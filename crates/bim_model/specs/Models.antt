@@ -2,6 +2,7 @@
 use Rattle.std.specs.Prelude.{ℕ, ℤ, pos, ◌*ℤ◌, ◌-ℤ◌, ◌≤ℤ◌, ◌≤◌, ◌<◌, List, length, sum_by, Bool, IsTrue, All, AllPairs}
 use Rattle.std.specs.Ordering.{nat_cmp, is_lt}
 use Rattle.std.specs.Cmp.Lexicographic.{slice_cmp}
+use Rattle.bim_model.specs.Guids.{IsGuid}
 use Rattle.bim_model.specs.Boxes.{corners_of}
 use Rattle.bim_model.specs.declared.geometry.Point.{Point}
 use Rattle.bim_model.specs.declared.geometry.TheConstants.{PER_MM}
@@ -24,8 +25,9 @@ pub record IsInReach (p : Point) : Type 0 where
   pub z_low : (pos 0 -ℤ farthest) ≤ℤ p.z
   pub z_high : p.z ≤ℤ farthest
 
--- at least one triangle, and all corners in reach
-pub record HasSurface (element : Element) : Type 0 where
+-- an identifier that was read, at least one triangle, and all corners in reach
+pub record IsModelled (element : Element) : Type 0 where
+  pub guid : IsGuid element.guid.chars
   pub some : 0 < length element.triangles
   pub near : All IsInReach (corners_of element.triangles)
 
@@ -36,5 +38,5 @@ triangle_count elements = sum_by (λ (e : Element). length e.triangles) elements
 -- a building model: elements with surfaces, strictly rising by identifier, with at most a million triangles
 pub record IsModel (elements : List Element) : Type 0 where
   pub rising : AllPairs (λ (e f : Element). IsTrue (is_below e.guid.chars f.guid.chars)) elements
-  pub surfaces : All HasSurface elements
+  pub modelled : All IsModelled elements
   pub few : triangle_count elements ≤ 1000000
