@@ -127,12 +127,12 @@ module _ {A : Type 0} (p : A → Bool) where
       let front : length (take place xs) ≡ place = length-take-le place xs (omega arith) in
       let one : take (passed + 1) (drop place xs) ≡ take (suc k) rest = ap (λ n. take n (drop place xs)) up ∙ sym (take-take (suc k) (end - place) (drop place xs) inside) in
       let behind : rest_of xs end (place + (passed + 1)) ≡ drop (suc k) rest =
-        ap (take left) (ap (λ n. drop n xs) (sym added) ∙ sym (drop-drop (suc k) place xs)) ∙ sym (drop-take (suc k) left (drop place xs)) ∙ ap (λ n. drop (suc k) (take n (drop place xs))) parts in
+      ap (take left) (ap (λ n. drop n xs) (sym added) ∙ sym (drop-drop (suc k) place xs)) ∙ sym (drop-take (suc k) left (drop place xs)) ∙ ap (λ n. drop (suc k) (take n (drop place xs))) parts in
       record {
         within = omega (arith, f.within);
         places =
-          ap (places_from 0 p) (take-add place (passed + 1) xs) ∙ places-append 0 (take place xs) (take (passed + 1) (drop place xs))
-          ∙ ap (λ l. places_from 0 p (take place xs) ++ l) (ap₂ (λ n l. places_from n p l) (zero-add _ ∙ front) one ∙ f.place place ∙ ap (λ n. (place + n) ∷ []) (sym e));
+            ap (places_from 0 p) (take-add place (passed + 1) xs) ∙ places-append 0 (take place xs) (take (passed + 1) (drop place xs))
+            ∙ ap (λ l. places_from 0 p (take place xs) ++ l) (ap₂ (λ n l. places_from n p l) (zero-add _ ∙ front) one ∙ f.place place ∙ ap (λ n. (place + n) ∷ []) (sym e));
         lanes = ap (λ l. mask_l (map p l)) behind ∙ f.rest ∙ ap (λ n. mask_l (map p rest) / 2 ^ n / 2) (sym e);
       }
 

@@ -3,6 +3,8 @@
 
 mod plain;
 mod table;
+#[cfg(test)]
+mod tests;
 
 pub use plain::places_within;
 pub use table::BoxTable;

@@ -85,17 +85,12 @@ impl BoxTable {
     }
 
     /// The places, rising, of the boxes whose gap to the probe is at most `grow` grid numbers on each axis.
-    pub fn within(
-        &self,
-        alloc: Global,
-        probe: &Extent,
-        grow: u32,
-    ) -> Result<Vec<u32>, AllocError>
+    pub fn within(&self, alloc: Global, probe: &Extent, grow: u32) -> Result<Vec<u32>, AllocError>
         ensures { IfOk result (λ places. places.items ≡ places_within probe.now grow self.now) }
     {
         let reach = grown(probe, grow);
         let count = self.x.low.len();
-        let mut places = Vec::with_capacity(alloc, count)?;
+        let mut places = Vec::new(alloc);
         let blocks = count / LANES;
         for block in 0..blocks {
             self.add_block(block * LANES, &reach, &mut places)?;
@@ -106,19 +101,18 @@ impl BoxTable {
 
     /// Adds the places of those of the eight boxes from `at` on that meet `reach`.
     #[inline(always)]
-    fn add_block(
-        &self,
-        at: usize,
-        reach: &Extent,
-        places: &mut Vec<u32>,
-    ) -> Result<(), AllocError>
+    fn add_block(&self, at: usize, reach: &Extent, places: &mut Vec<u32>) -> Result<(), AllocError>
         requires whole { at + 8 ≤ length self.now }
         requires few { length self.now < 2 ^ 32 }
         requires so_far { places.old.items ≡ places_from 0 (meets reach.now) (take at self.now) }
         ensures { IfOk result (λ _. places.new.items ≡ places_from 0 (meets reach.now) (take (at + 8) self.now)) }
     {
-        let mut place = at as u32;
         let mut lanes = self.lanes(at, reach);
+        if lanes == 0 {
+            return Ok(());
+        }
+        places.reserve(self.x.low.len() - at)?;
+        let mut place = at as u32;
         while lanes != 0 {
             let passed = lanes.trailing_zeros();
             places.push(place + passed)?;
@@ -144,18 +138,15 @@ impl BoxTable {
     }
 
     /// Adds the places of the boxes from `from` on that meet `reach`.
-    fn add_rest(
-        &self,
-        from: usize,
-        reach: &Extent,
-        places: &mut Vec<u32>,
-    ) -> Result<(), AllocError>
+    fn add_rest(&self, from: usize, reach: &Extent, places: &mut Vec<u32>) -> Result<(), AllocError>
         requires within { from ≤ length self.now }
         requires so_far { places.old.items ≡ places_from 0 (meets reach.now) (take from self.now) }
         ensures { IfOk result (λ _. places.new.items ≡ places_from 0 (meets reach.now) self.now) }
     {
-        for place in from..self.x.low.len() {
+        let count = self.x.low.len();
+        for place in from..count {
             if self.is_met(place, reach) {
+                places.reserve(count - place)?;
                 places.push(place as u32)?;
             }
         }

@@ -13,8 +13,8 @@ returns-then-is_close-2 c =
     let z = read b.low.z b.high.z p.low.z p.high.z g (search rules) (search rules) (search rules) (search rules) c.is_close-then-is_close-2.ensures in
     elim c.if-is_close.branch [
       | then-is_close w ↦
-        let y = read b.low.y b.high.y p.low.y p.high.y g (search rules) (search rules) (search rules) (search rules) w.is_close-then-is_close.ensures in
-        third _ _ _ (sym x ∙ w.if-is_close.true) (sym y ∙ sym w.value-is ∙ c.if-is_close-2.true) z
+          let y = read b.low.y b.high.y p.low.y p.high.y g (search rules) (search rules) (search rules) (search rules) w.is_close-then-is_close.ensures in
+          third _ _ _ (sym x ∙ w.if-is_close.true) (sym y ∙ sym w.value-is ∙ c.if-is_close-2.true) z
       | else-is_close w ↦ absurd (cc)
     ]
 
@@ -26,7 +26,7 @@ returns-else-is_close-2 c =
     let x = read b.low.x b.high.x p.low.x p.high.x g (search rules) (search rules) (search rules) (search rules) c.is_close.ensures in
     elim c.if-is_close.branch [
       | then-is_close w ↦
-        let y = read b.low.y b.high.y p.low.y p.high.y g (search rules) (search rules) (search rules) (search rules) w.is_close-then-is_close.ensures in
-        second _ _ _ (sym x ∙ w.if-is_close.true) (sym y ∙ sym w.value-is ∙ c.if-is_close-2.false) c.if-is_close-2.false
+          let y = read b.low.y b.high.y p.low.y p.high.y g (search rules) (search rules) (search rules) (search rules) w.is_close-then-is_close.ensures in
+          second _ _ _ (sym x ∙ w.if-is_close.true) (sym y ∙ sym w.value-is ∙ c.if-is_close-2.false) c.if-is_close-2.false
       | else-is_close w ↦ first _ _ _ (sym x ∙ w.if-is_close.false) c.if-is_close-2.false
     ]

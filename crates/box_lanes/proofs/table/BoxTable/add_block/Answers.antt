@@ -14,8 +14,16 @@ loop-lanes-init c =
       low = omega arith;
       high = omega arith;
       bits = c.lanes-lanes.ensures ∙ ap (λ n. mask_l (map (meets a.reach.now) (take n (drop a.at a.self.now)))) eight;
-      found = c.requires.so_far;
+      found = c.in_ok-reserve.ensures.items ∙ c.requires.so_far;
     }
+
+pub returns-then-lanes-eq0 : goal.returns-then-lanes-eq0
+returns-then-lanes-eq0 c =
+    let a = c.args in
+    let eight : 8 ≡ a.at + 8 - a.at = omega arith in
+    let none : mask_l (map (meets a.reach.now) (take (a.at + 8 - a.at) (drop a.at a.self.now))) ≡ 0 =
+      ap (λ n. mask_l (map (meets a.reach.now) (take n (drop a.at a.self.now)))) (sym eight) ∙ sym c.lanes-lanes.ensures ∙ c.if-lanes-eq0.true in
+    c.requires.so_far ∙ sym (finished (meets a.reach.now) a.self.now (a.at + 8) a.at (omega arith) c.requires.whole none)
 
 pub overflow_add-place : goal.overflow_add-place
 overflow_add-place c =

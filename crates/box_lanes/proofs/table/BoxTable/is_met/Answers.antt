@@ -19,8 +19,8 @@ returns-then-meets-2 c = λ d.
     let z = span_read b.low.z b.high.z r.low.z r.high.z (search rules) (search rules) (side_at (λ (e : Extent). e.low.z) boxes i d _ t.low_z_is h) (side_at (λ (e : Extent). e.high.z) boxes i d _ t.high_z_is h) c.meets-then-meets-2.ensures in
     elim c.if-meets.branch [
       | then-meets w ↦
-        let y = span_read b.low.y b.high.y r.low.y r.high.y (search rules) (search rules) (side_at (λ (e : Extent). e.low.y) boxes i d _ t.low_y_is h) (side_at (λ (e : Extent). e.high.y) boxes i d _ t.high_y_is h) w.meets-then-meets.ensures in
-        third _ _ _ (sym x ∙ w.if-meets.true) (sym y ∙ sym w.value-is ∙ c.if-meets-2.true) z ∙ ap (λ l. meets r (get_or l i d)) c.self.view_is
+          let y = span_read b.low.y b.high.y r.low.y r.high.y (search rules) (search rules) (side_at (λ (e : Extent). e.low.y) boxes i d _ t.low_y_is h) (side_at (λ (e : Extent). e.high.y) boxes i d _ t.high_y_is h) w.meets-then-meets.ensures in
+          third _ _ _ (sym x ∙ w.if-meets.true) (sym y ∙ sym w.value-is ∙ c.if-meets-2.true) z ∙ ap (λ l. meets r (get_or l i d)) c.self.view_is
       | else-meets w ↦ absurd (cc)
     ]
 
@@ -35,7 +35,7 @@ returns-else-meets-2 c = λ d.
     let x = span_read b.low.x b.high.x r.low.x r.high.x (search rules) (search rules) (side_at (λ (e : Extent). e.low.x) boxes i d _ t.low_x_is h) (side_at (λ (e : Extent). e.high.x) boxes i d _ t.high_x_is h) c.meets.ensures in
     elim c.if-meets.branch [
       | then-meets w ↦
-        let y = span_read b.low.y b.high.y r.low.y r.high.y (search rules) (search rules) (side_at (λ (e : Extent). e.low.y) boxes i d _ t.low_y_is h) (side_at (λ (e : Extent). e.high.y) boxes i d _ t.high_y_is h) w.meets-then-meets.ensures in
-        second _ _ _ (sym x ∙ w.if-meets.true) (sym y ∙ sym w.value-is ∙ c.if-meets-2.false) c.if-meets-2.false ∙ ap (λ l. meets r (get_or l i d)) c.self.view_is
+          let y = span_read b.low.y b.high.y r.low.y r.high.y (search rules) (search rules) (side_at (λ (e : Extent). e.low.y) boxes i d _ t.low_y_is h) (side_at (λ (e : Extent). e.high.y) boxes i d _ t.high_y_is h) w.meets-then-meets.ensures in
+          second _ _ _ (sym x ∙ w.if-meets.true) (sym y ∙ sym w.value-is ∙ c.if-meets-2.false) c.if-meets-2.false ∙ ap (λ l. meets r (get_or l i d)) c.self.view_is
       | else-meets w ↦ first _ _ _ (sym x ∙ w.if-meets.false) c.if-meets-2.false ∙ ap (λ l. meets r (get_or l i d)) c.self.view_is
     ]

@@ -21,12 +21,12 @@ returns c =
     let long = length-chunk at 8 boxes room in
     let fits : All Fits32 bs = All-take Fits32 8 _ (All-drop Fits32 at boxes t.fits) in
     let x = spans (λ (b : Extent). b.low.x) (λ (b : Extent). b.high.x) r.low.x r.high.x bs (search rules) (search rules) long
-      (All-weaker Fits32 (Fit (λ (b : Extent). b.low.x)) (λ b (f : Fits32 b). f.low_x) bs fits) (All-weaker Fits32 (Fit (λ (b : Extent). b.high.x)) (λ b (f : Fits32 b). f.high_x) bs fits)
-      (column _ boxes at (c.deref.ensures.value ∙ t.low_x_is) room) (column _ boxes at (c.deref-2.ensures.value ∙ t.high_x_is) room) in
+    (All-weaker Fits32 (Fit (λ (b : Extent). b.low.x)) (λ b (f : Fits32 b). f.low_x) bs fits) (All-weaker Fits32 (Fit (λ (b : Extent). b.high.x)) (λ b (f : Fits32 b). f.high_x) bs fits)
+    (column _ boxes at (c.deref.ensures.value ∙ t.low_x_is) room) (column _ boxes at (c.deref-2.ensures.value ∙ t.high_x_is) room) in
     let y = spans (λ (b : Extent). b.low.y) (λ (b : Extent). b.high.y) r.low.y r.high.y bs (search rules) (search rules) long
-      (All-weaker Fits32 (Fit (λ (b : Extent). b.low.y)) (λ b (f : Fits32 b). f.low_y) bs fits) (All-weaker Fits32 (Fit (λ (b : Extent). b.high.y)) (λ b (f : Fits32 b). f.high_y) bs fits)
-      (column _ boxes at (c.deref-3.ensures.value ∙ t.low_y_is) room) (column _ boxes at (c.deref-4.ensures.value ∙ t.high_y_is) room) in
+    (All-weaker Fits32 (Fit (λ (b : Extent). b.low.y)) (λ b (f : Fits32 b). f.low_y) bs fits) (All-weaker Fits32 (Fit (λ (b : Extent). b.high.y)) (λ b (f : Fits32 b). f.high_y) bs fits)
+    (column _ boxes at (c.deref-3.ensures.value ∙ t.low_y_is) room) (column _ boxes at (c.deref-4.ensures.value ∙ t.high_y_is) room) in
     let z = spans (λ (b : Extent). b.low.z) (λ (b : Extent). b.high.z) r.low.z r.high.z bs (search rules) (search rules) long
-      (All-weaker Fits32 (Fit (λ (b : Extent). b.low.z)) (λ b (f : Fits32 b). f.low_z) bs fits) (All-weaker Fits32 (Fit (λ (b : Extent). b.high.z)) (λ b (f : Fits32 b). f.high_z) bs fits)
-      (column _ boxes at (c.deref-5.ensures.value ∙ t.low_z_is) room) (column _ boxes at (c.deref-6.ensures.value ∙ t.high_z_is) room) in
+    (All-weaker Fits32 (Fit (λ (b : Extent). b.low.z)) (λ b (f : Fits32 b). f.low_z) bs fits) (All-weaker Fits32 (Fit (λ (b : Extent). b.high.z)) (λ b (f : Fits32 b). f.high_z) bs fits)
+    (column _ boxes at (c.deref-5.ensures.value ∙ t.low_z_is) room) (column _ boxes at (c.deref-6.ensures.value ∙ t.high_z_is) room) in
     masked (meets r) bs long (and_also _ _ bs (and_also _ _ bs x y) z) ∙ ap (λ l. mask_l (map (meets r) (chunk at 8 l))) same
