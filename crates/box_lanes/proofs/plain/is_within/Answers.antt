@@ -1,4 +1,4 @@
-use Rattle.std.proofs.Common.{rules, ◌≡◌, arith, sym, ◌∙◌}
+use Rattle.std.proofs.Common.{rules, sym, ◌∙◌}
 use Rattle.box_lanes.proofs.Spans.{read}
 use Rattle.box_lanes.proofs.Axes.{third, second, first}
 use Rattle.box_lanes.proofs.plain.is_within.Goals as goal

@@ -1,4 +1,4 @@
-use Rattle.std.proofs.Common.{◌≡◌, ap, ◌∙◌}
+use Rattle.std.proofs.Common.{ap, ◌∙◌}
 use Rattle.box_lanes.specs.Gaps.{is_within}
 use Rattle.box_lanes.proofs.Places.{place_taken, place_passed}
 use Rattle.box_lanes.proofs.plain.places_within.Goals as goal

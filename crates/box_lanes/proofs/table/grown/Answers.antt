@@ -1,6 +1,4 @@
-use Rattle.std.proofs.Common.{rules, ◌≡◌, ℤ, ap₂, ◌∙◌, sym, w32, SFits, ◌&&◌, to_z, of_z}
-use Rattle.std.specs.Int.{saturate_signed}
-use Rattle.std.proofs.lemmas.Int.{to_z-of_z}
+use Rattle.std.proofs.Common.{rules, ap₂, ◌&&◌}
 use Rattle.box_lanes.proofs.Reach.{axis}
 use Rattle.box_lanes.proofs.table.grown.Goals as goal
 

@@ -1,7 +1,6 @@
-use Rattle.std.proofs.Common.{◌≡◌, ◌+◌, ◌-◌, ◌*◌, ◌/◌, ◌^◌, ◌≤◌, ◌++◌, [], ◌∷◌, map, take, drop, sym, ap, ◌∙◌, arith}
+use Rattle.std.proofs.Common.{◌≡◌, ◌+◌, ◌-◌, ◌/◌, ◌^◌, ◌++◌, [], ◌∷◌, map, take, drop, sym, ap, ◌∙◌, arith}
 use lib.Count.{count_trailing_zeros}
 use lib.Lanes.{mask_l}
-use Rattle.box_lanes.specs.Gaps.{places_from}
 use Rattle.box_lanes.specs.Lanes.{meets}
 use Rattle.box_lanes.proofs.Places.{next, finished}
 use Rattle.box_lanes.proofs.table.BoxTable.add_block.Goals as goal
@@ -22,7 +21,7 @@ returns-then-lanes-eq0 c =
     let a = c.args in
     let eight : 8 ≡ a.at + 8 - a.at = omega arith in
     let none : mask_l (map (meets a.reach.now) (take (a.at + 8 - a.at) (drop a.at a.self.now))) ≡ 0 =
-      ap (λ n. mask_l (map (meets a.reach.now) (take n (drop a.at a.self.now)))) (sym eight) ∙ sym c.lanes-lanes.ensures ∙ c.if-lanes-eq0.true in
+    ap (λ n. mask_l (map (meets a.reach.now) (take n (drop a.at a.self.now)))) (sym eight) ∙ sym c.lanes-lanes.ensures ∙ c.if-lanes-eq0.true in
     c.requires.so_far ∙ sym (finished (meets a.reach.now) a.self.now (a.at + 8) a.at (omega arith) c.requires.whole none)
 
 pub overflow_add-place : goal.overflow_add-place

@@ -1,4 +1,4 @@
-use Rattle.std.proofs.Common.{◌≡◌, ◌*◌, map, take}
+use Rattle.std.proofs.Common.{◌≡◌, take}
 use Rattle.box_lanes.specs.Gaps.{places_from}
 use Rattle.box_lanes.specs.Lanes.{meets}
 use Rattle.box_lanes.proofs.table.BoxTable.add_rest.Given as goal

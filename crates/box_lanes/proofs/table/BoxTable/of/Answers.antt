@@ -1,8 +1,7 @@
-use Rattle.std.proofs.Common.{rules, ◌≡◌, ◌<◌, pos, map, length, get_or, take, sym, ap, ◌∙◌, subst, arith, take_all}
+use Rattle.std.proofs.Common.{rules, ◌≡◌, ◌<◌, map, length, get_or, take, ap, ◌∙◌, subst, arith, take_all}
 use Rattle.std.specs.List.{All}
 use Rattle.std.proofs.lemmas.List.Elements.{All-more}
 use Rattle.bim_model.specs.declared.geometry.Extent.{Extent}
-use Rattle.box_lanes.specs.Columns.{boxes_in, IsTable}
 use Rattle.box_lanes.specs.Lanes.{Fits32}
 use Rattle.box_lanes.proofs.Columns.{nought, boxes_again, side_more, is_table}
 use Rattle.box_lanes.proofs.table.BoxTable.of.Goals as goal
