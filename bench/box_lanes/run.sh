@@ -4,7 +4,7 @@
 #   bench/box_lanes/run.sh
 #
 # Copies the crates into a scratch folder, adds the program of pace.txt, builds it proved (`rt run`) and prints the
-# least of nine rounds by turns for each number of boxes and each cube that they lie in.
+# least of nine rounds by turns for each number of boxes and each cube that they lie in. The probes are boxes of the list.
 set -e
 top=$(cd "$(dirname "$0")/../.." && pwd)
 work=$(mktemp -d)
