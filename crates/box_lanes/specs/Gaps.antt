@@ -5,6 +5,7 @@ use borrow.Author.Differences.{up}
 use Rattle.bim_model.specs.declared.geometry.Extent.{Extent}
 
 -- how far two spans of an axis lie apart: from the end of the lower to the start of the higher, and 0 where they meet
+-- (up z is z, or 0 where z is below 0)
 abbrev pub gap : (low high other_low other_high : ℤ) → ℕ
 gap low high other_low other_high = max (up (low -ℤ other_high)) (up (other_low -ℤ high))
 

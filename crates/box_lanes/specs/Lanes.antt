@@ -1,9 +1,9 @@
--- Boxes that meet a box, by one comparison a side.
+-- Boxes that meet a box, by one comparison for each side.
 use Rattle.std.specs.Prelude.{Bool, ◌&&◌, int_le, FitsSigned}
 use Rattle.std.specs.Int.{w32}
 use Rattle.bim_model.specs.declared.geometry.Extent.{Extent}
 
--- two boxes have a point in common
+-- on each axis neither span begins above the end of the other
 abbrev pub meets : Extent → Extent → Bool
 meets reach box =
     ((int_le box.low.x reach.high.x && int_le reach.low.x box.high.x)

@@ -68,7 +68,7 @@ impl Model for BoxTable {
 }
 
 impl BoxTable {
-    /// A table of the boxes.
+    /// A table of the boxes, of which there are fewer than 2^32: a place has 32 bits. An error where memory is wanting.
     pub fn of(alloc: Global, boxes: &[Extent]) -> Result<BoxTable, AllocError>
         requires { length boxes.now < 2 ^ 32 }
         ensures { IfOk result (λ table. table ≡ boxes.now) }
@@ -84,7 +84,8 @@ impl BoxTable {
         Ok(BoxTable { x, y, z })
     }
 
-    /// The places, rising, of the boxes whose gap to the probe is at most `grow` grid numbers on each axis.
+    /// The places, from 0 and rising, of the boxes whose gap to the probe is at most `grow` grid numbers on each axis.
+    /// Coordinates and `grow` may be any. An error where memory is wanting.
     pub fn within(&self, alloc: Global, probe: &Extent, grow: u32) -> Result<Vec<u32>, AllocError>
         ensures { IfOk result (λ places. places.items ≡ places_within probe.now grow self.now) }
     {
