@@ -1,7 +1,7 @@
 use Rattle.p21_reader.specs.Heading.{sign_of, signs_of}
 use Rattle.p21_reader.proofs.Steps.{residual, fails_none}
 use Rattle.p21_reader.proofs.Headers.{heads_fail, heads_step, follow_fail}
-use Rattle.p21_reader.proofs.header.header.Goals as goal
+use Rattle.p21_reader.proofs.nested.pass_values.Goals as goal
 
 pub returns-in_err-piece-clause-header : goal.returns-in_err-piece-clause-header
 returns-in_err-piece-clause-header c =

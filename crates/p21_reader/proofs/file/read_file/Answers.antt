@@ -2,7 +2,7 @@ use Rattle.std.proofs.Common.{Ok, Err}
 use Rattle.p21_lexer.specs.Cutting.{start_of}
 use Rattle.p21_reader.proofs.Steps.{residual}
 use Rattle.p21_reader.proofs.FileLemmas.{fault_at, file_fails, file_section, file_holds, header_from, no_file}
-use Rattle.p21_reader.proofs.file.read_instances.Goals as goal
+use Rattle.p21_reader.proofs.file.read_file.Goals as goal
 
 pub returns-in_err-data-clause-fault : goal.returns-in_err-data-clause-fault
 returns-in_err-data-clause-fault c =
