@@ -34,13 +34,6 @@ pub record HoldsFile (bytes : List ℕ) (statements : List Statement) (instances
   pub cuts : Cuts bytes (start_of bytes) said end
   pub spells : SpellsFile statements instances said
 
--- some first tokens of these bytes are a file
-pub record HasFile (bytes : List ℕ) : Type 0 where
-  pub said : List Lexeme
-  pub end : ℕ
-  pub cuts : Cuts bytes (start_of bytes) said end
-  pub is_file : IsFile (classes said)
-
 -- The tokens up to this place begin a file and are none.
 pub record Reaches (bytes : List ℕ) (said : List Lexeme) (at : ℕ) : Type 0 where
   pub cuts : Cuts bytes (start_of bytes) said at

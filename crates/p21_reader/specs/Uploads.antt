@@ -83,4 +83,4 @@ Judges bytes found is_ifc4 = (statements : List Statement) × HoldsFile bytes st
 
 -- the first two tokens of a file end here
 abbrev pub BeginsAt : List ℕ → ℕ → Type 0
-BeginsAt bytes end = (ls : List Lexeme) × Goes (T (Word Iso) ∷ T Semi ∷ []) [] bytes (start_of bytes) end ls
+BeginsAt bytes end = (ls : List Lexeme) × (classes ls ≡ Word Iso ∷ Semi ∷ []) × Goes (T (Word Iso) ∷ T Semi ∷ []) [] bytes (start_of bytes) end ls
