@@ -1,0 +1,6 @@
+//! Decimals and texts as they are spelled in exchange files (ISO 10303-21), and decimal printing.
+#![tactic(auto)]
+
+mod decimal;
+
+pub use decimal::Decimal;
