@@ -1,3 +1,4 @@
 pub mod Values
 pub mod Numbers
 pub mod Decimals
+pub mod Scanning

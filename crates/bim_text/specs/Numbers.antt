@@ -1,6 +1,7 @@
 -- Numbers as they are spelled (ISO 10303-21, section 6, integers and reals): an optional sign, digits, optionally a point and digits,
 -- optionally an exponent. Digits may lack behind the point, the point may lack before an exponent, and its E has either case.
-use Rattle.std.specs.Prelude.{◌≡◌, ℕ, ◌+◌, ◌-◌, ◌*◌, ◌<◌, ◌≤◌, ◌==◌, ◌&&◌, nat_le, Bool, true, false, if◌then◌else◌, ℤ, pos, ◌-ℤ◌, ◌≤ℤ◌, neg_ℤ, List, [], ◌∷◌, ◌++◌, length, reverse, Option, Some, None, All, ◌⊎◌}
+use Rattle.std.specs.Prelude.{◌≡◌, ℕ, ◌+◌, ◌-◌, ◌*◌, ◌<◌, ◌≤◌, ◌==◌, ◌&&◌, nat_le, Bool, true, false, if◌then◌else◌, ℤ, pos, ◌-ℤ◌, ◌≤ℤ◌, neg_ℤ, List, [], ◌∷◌, ◌++◌, length, reverse, Option, Some, None, ◌⊎◌}
+use Rattle.std.specs.List.{list_all}
 use Rattle.bim_text.specs.Values.{Scaled, signed}
 
 -- A spelling by its parts.
@@ -43,7 +44,7 @@ abbrev pub is_digit : ℕ → Bool
 is_digit b = nat_le 48 b && nat_le b 57
 
 abbrev pub AreDigits : List ℕ → Type 0
-AreDigits bs = All (λ b. is_digit b ≡ true) bs
+AreDigits bs = list_all is_digit bs ≡ true
 
 abbrev pub fraction_digits : Option (List ℕ) → List ℕ
 fraction_digits None = []

@@ -2,5 +2,8 @@
 #![tactic(auto)]
 
 mod decimal;
+mod digits;
+mod order;
+mod spelling;
 
 pub use decimal::Decimal;
