@@ -73,10 +73,10 @@ point_past bs i h = rw (drop_past bs i h) refl
 pub ruleset points = (point_step, point_other, point_past)
 
 pub exponent_step : (bs : List ℕ) (i : ℕ) → i < length bs → exponent_at (drop i bs) ≡ Some (record {
-    mark = get_or bs i 0;
-    sign = sign_at (drop (i + 1) bs);
-    digits = drop (length (sign_bytes (sign_at (drop (i + 1) bs)))) (drop (i + 1) bs)
-    })
+  mark = get_or bs i 0;
+  sign = sign_at (drop (i + 1) bs);
+  digits = drop (length (sign_bytes (sign_at (drop (i + 1) bs)))) (drop (i + 1) bs);
+})
 exponent_step bs i lt = rw (add-one i, drop-cons bs i 0) refl
 
 pub exponent_past : (bs : List ℕ) (i : ℕ) → length bs ≤ i → exponent_at (drop i bs) ≡ None

@@ -68,7 +68,7 @@ describes_digit ds k b d h z lt =
       few = omega (arith, significant_digit ds b z, few_first ds d.digits (omega arith));
       room = omega arith;
       exact = λ _. omega arith;
-      large = λ far. omega (arith, far)
+      large = λ far. omega (arith, far);
     }
 
 kept_low : (k : Digits) → k.all < 10 ^ 33 → kept_zero k ≡ record { all = k.all * 10; significand = k.significand; zeros = k.zeros + 1 }
@@ -91,7 +91,7 @@ describes_zero ds k d =
             few = rw (significant_zero ds) d.few;
             room = omega arith;
             exact = λ _. omega (arith, v, e);
-            large = λ far. omega (arith, far, v, e)
+            large = λ far. omega (arith, far, v, e);
           }))
       | inr le ↦ (let far = all_high ds k d le in
           rw (kept_high k le) (record {
@@ -102,7 +102,7 @@ describes_zero ds k d =
             few = rw (significant_zero ds) d.few;
             room = d.room;
             exact = λ near. absurd (omega (arith, near, far, v));
-            large = λ _. le
+            large = λ _. le;
           }))
     ]
   where
@@ -140,5 +140,5 @@ unfolding Kept
 kept_all [] ds k d all = rw (append-nil ds) d
 kept_all (b ∷ bs) ds k d all =
     kept_more ds bs b (kept_step k b)
-      (λ next s. rw (← snoc_cons ds bs b) (kept_all bs (ds ++ b ∷ []) next s (and_right (is_digit b) _ all)))
-      k (stepped ds k b d (and_left (is_digit b) _ all))
+    (λ next s. rw (← snoc_cons ds bs b) (kept_all bs (ds ++ b ∷ []) next s (and_right (is_digit b) _ all)))
+    k (stepped ds k b d (and_left (is_digit b) _ all))

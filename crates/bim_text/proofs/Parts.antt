@@ -124,9 +124,9 @@ parts_of_bytes s all lt more e =
     let w : behind_fraction rest ≡ exponent_bytes s.exponent = rw e3 (drop-append_seam (fraction_bytes s.fraction) (exponent_bytes s.exponent)) in
     let e4 : exponent_at (exponent_bytes s.exponent) ≡ s.exponent = exponent_only s.exponent e in
     same_spelling _ s e1
-      (ap front u ∙ e2)
-      (ap (λ (l : List ℕ). fraction_at (behind_front l)) u ∙ ap fraction_at v ∙ e3)
-      (ap (λ (l : List ℕ). exponent_at (behind_fraction (behind_front l))) u ∙ ap (λ (l : List ℕ). exponent_at (behind_fraction l)) v ∙ ap exponent_at w ∙ e4)
+    (ap front u ∙ e2)
+    (ap (λ (l : List ℕ). fraction_at (behind_front l)) u ∙ ap fraction_at v ∙ e3)
+    (ap (λ (l : List ℕ). exponent_at (behind_fraction (behind_front l))) u ∙ ap (λ (l : List ℕ). exponent_at (behind_fraction l)) v ∙ ap exponent_at w ∙ e4)
 
 pub parts_only : (s : Spelling) (bs : List ℕ) → IsNumber s bs → parts bs ≡ s
 parts_only s bs n = rw n.whole (parts_of_bytes s n.digits n.some n.fraction n.exponent)

@@ -60,6 +60,7 @@ same_zero b p q =
   where
     nothing : (a c : ℕ) → 0 * a * c ≡ 0
     nothing a c = omega arith
+
     signed_zero : (b : Bool) → signed b 0 ≡ pos 0
     signed_zero false = refl
     signed_zero true = refl
@@ -129,5 +130,5 @@ order_zero a b m n p q e =
     let left = regroup m (10 ^ above p) (10 ^ below q) in
     let right = regroup n (10 ^ above q) (10 ^ below p) in
     zero_both m n (10 ^ above p * 10 ^ below q) (10 ^ above q * 10 ^ below p) (some_powers (above p) (below q)) (some_powers (above q) (below p)) e
-      ∙ sym (ap (λ (x : ℕ). nat_cmp x (n * 10 ^ above q * 10 ^ below p)) left ∙ ap (λ (x : ℕ). nat_cmp (m * (10 ^ above p * 10 ^ below q)) x) right)
-      ∙ sym (sizes a b m n p q)
+    ∙ sym (ap (λ (x : ℕ). nat_cmp x (n * 10 ^ above q * 10 ^ below p)) left ∙ ap (λ (x : ℕ). nat_cmp (m * (10 ^ above p * 10 ^ below q)) x) right)
+    ∙ sym (sizes a b m n p q)

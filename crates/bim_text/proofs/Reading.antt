@@ -44,8 +44,8 @@ nothing_kept = record {
   few = omega arith;
   room = omega arith;
   exact = λ _. refl;
-  large = λ h. absurd (omega (arith, h))
-  }
+  large = λ h. absurd (omega (arith, h));
+}
 
 kept_whole : (bs : List ℕ) → Kept (front bs) (kept_after nothing (front bs))
 kept_whole bs = kept_all (front bs) [] nothing nothing_kept (front_digits bs)
@@ -108,20 +108,22 @@ read_is bs a b c k l short e f n g x y is low high =
     let v = at_fraction bs a b e f in
     let q = at_exponent bs a b c e f g in
     let d = digits_kept bs k l (sym (x ∙ ap (λ (m : List ℕ). kept_after nothing (front m)) w)) (sym (y ∙ ap (λ (m : List ℕ). kept_after k (fraction_digits (fraction_at m))) v)) in
-    let size : length (front (drop a bs)) ≡ length (parts bs).whole = ap (λ (m : List ℕ). length (front m)) w in
-    (d, record {
-      number = record {
-        whole = parts_whole bs;
-        digits = front_digits (unsigned bs);
-        some = pos_of_ne (length (parts bs).whole) (λ z. n (omega (arith, z, size, f)));
-        fraction = fraction_are_digits (behind_front (unsigned bs));
-        exponent = rw q at is
-      };
-      short = short;
-      few = d.few;
-      low = rw q at low;
-      high = rw q at high
-    })
+    let size : length (front (drop a bs)) ≡ length (parts bs).whole = ap (λ (m : List ℕ). length (front m)) w in (
+      d,
+      record {
+        number = record {
+          whole = parts_whole bs;
+          digits = front_digits (unsigned bs);
+          some = pos_of_ne (length (parts bs).whole) (λ z. n (omega (arith, z, size, f)));
+          fraction = fraction_are_digits (behind_front (unsigned bs));
+          exponent = rw q at is;
+        };
+        short = short;
+        few = d.few;
+        low = rw q at low;
+        high = rw q at high;
+      },
+    )
   where
     pos_of_ne : (n : ℕ) → (n ≡ 0 → ⊥) → 0 < n
     pos_of_ne n h = grind arith

@@ -2,3 +2,4 @@ pub mod Values
 pub mod Numbers
 pub mod Decimals
 pub mod Scanning
+pub mod Texts

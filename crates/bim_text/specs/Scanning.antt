@@ -41,16 +41,16 @@ parts bs = record {
   sign = sign_at bs;
   whole = front (unsigned bs);
   fraction = fraction_at (behind_front (unsigned bs));
-  exponent = exponent_at (behind_fraction (behind_front (unsigned bs)))
-  }
+  exponent = exponent_at (behind_fraction (behind_front (unsigned bs)));
+}
 
 -- One more digit: a zero is counted and, where there is room, put behind the others; another digit needs room.
 abbrev pub kept_zero : Digits → Digits
 kept_zero k = record {
   all = if nat_lt k.all (10 ^ 33) then k.all * 10 else k.all;
   significand = k.significand;
-  zeros = k.zeros + 1
-  }
+  zeros = k.zeros + 1;
+}
 
 abbrev pub kept_digit : Digits → ℕ → Digits
 kept_digit k b = record { all = k.all * 10 + (b - 48); significand = k.all * 10 + (b - 48); zeros = 0 }

@@ -1,7 +1,6 @@
 //! Decimals: their exact values, without floats.
 ghost use Rattle.std.specs.Prelude.{◌≡◌, ◌≢◌, ◌^◌, ◌%◌, ◌<◌, pos, false};
 
-
 use crate::digits::{Digits, scan};
 use crate::order::order_raised;
 use crate::spelling::{is_minus_at, scan_exponent, scan_fraction, sign_end};

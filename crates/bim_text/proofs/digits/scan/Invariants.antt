@@ -8,8 +8,8 @@ invariant-loop-at l = record {
   fits : l.digits.all < 10 ^ 34;
   zeros : l.digits.zeros ≤ l.at;
   end : l.fn.from + length (front (drop l.fn.from l.text)) ≡ l.at + length (front (drop l.at l.text));
-  kept : kept_after l.fn.before (front (drop l.fn.from l.text)) ≡ kept_after l.digits (front (drop l.at l.text))
-  }
+  kept : kept_after l.fn.before (front (drop l.fn.from l.text)) ≡ kept_after l.digits (front (drop l.at l.text));
+}
 
 abbrev pub decreases-loop-at : goal.decreases-loop-at
 decreases-loop-at l = length l.initial.text - l.at

@@ -7,5 +7,5 @@ abbrev pub invariant-loop-digit : goal.invariant-loop-digit
 invariant-loop-digit l = record {
   small : l.value ≤ 400;
   digits : list_all is_digit l.digits ≡ list_all is_digit (drop l.digit-index l.digits);
-  value : value_after 0 l.digits ≡ value_after l.value (drop l.digit-index l.digits)
-  }
+  value : value_after 0 l.digits ≡ value_after l.value (drop l.digit-index l.digits);
+}

@@ -20,15 +20,15 @@ pub of-requires-clause-bounded : goal.of-requires-clause-bounded
 of-requires-clause-bounded c =
     let i = c.in_ok-exponent.ensures in
     (read_is c.args.text.now c.sign_end-from.result c.in_ok-whole.whole.end c.in_ok-fraction.fraction.end c.in_ok-whole.whole.digits c.in_ok-fraction.fraction.digits
-      (omega arith) c.sign_end-from.ensures.end c.in_ok-whole.ensures.end c.if-whole-from.false c.in_ok-fraction.ensures.end c.in_ok-whole.ensures.kept c.in_ok-fraction.ensures.kept
-      i.is (subst (λ (x : ℤ). negsuc 399 ≤ℤ x) i.value i.low) (subst (λ (x : ℤ). x ≤ℤ pos 400) i.value i.high)).0.bounded
+    (omega arith) c.sign_end-from.ensures.end c.in_ok-whole.ensures.end c.if-whole-from.false c.in_ok-fraction.ensures.end c.in_ok-whole.ensures.kept c.in_ok-fraction.ensures.kept
+    i.is (subst (λ (x : ℤ). negsuc 399 ≤ℤ x) i.value i.low) (subst (λ (x : ℤ). x ≤ℤ pos 400) i.value i.high)).0.bounded
 
 pub of-requires-clause-stripped : goal.of-requires-clause-stripped
 of-requires-clause-stripped c =
     let i = c.in_ok-exponent.ensures in
     (read_is c.args.text.now c.sign_end-from.result c.in_ok-whole.whole.end c.in_ok-fraction.fraction.end c.in_ok-whole.whole.digits c.in_ok-fraction.fraction.digits
-      (omega arith) c.sign_end-from.ensures.end c.in_ok-whole.ensures.end c.if-whole-from.false c.in_ok-fraction.ensures.end c.in_ok-whole.ensures.kept c.in_ok-fraction.ensures.kept
-      i.is (subst (λ (x : ℤ). negsuc 399 ≤ℤ x) i.value i.low) (subst (λ (x : ℤ). x ≤ℤ pos 400) i.value i.high)).0.stripped
+    (omega arith) c.sign_end-from.ensures.end c.in_ok-whole.ensures.end c.if-whole-from.false c.in_ok-fraction.ensures.end c.in_ok-whole.ensures.kept c.in_ok-fraction.ensures.kept
+    i.is (subst (λ (x : ℤ). negsuc 399 ≤ℤ x) i.value i.low) (subst (λ (x : ℤ). x ≤ℤ pos 400) i.value i.high)).0.stripped
 
 pub returns-clause-value : goal.returns-clause-value
 returns-clause-value c =
@@ -36,12 +36,12 @@ returns-clause-value c =
     let bs = c.args.text.now in
     let f = c.in_ok-fraction.fraction in
     let r = read_is c.args.text.now c.sign_end-from.result c.in_ok-whole.whole.end c.in_ok-fraction.fraction.end c.in_ok-whole.whole.digits c.in_ok-fraction.fraction.digits
-      (omega arith) c.sign_end-from.ensures.end c.in_ok-whole.ensures.end c.if-whole-from.false c.in_ok-fraction.ensures.end c.in_ok-whole.ensures.kept c.in_ok-fraction.ensures.kept
-      i.is (subst (λ (x : ℤ). negsuc 399 ≤ℤ x) i.value i.low) (subst (λ (x : ℤ). x ≤ℤ pos 400) i.value i.high) in
+    (omega arith) c.sign_end-from.ensures.end c.in_ok-whole.ensures.end c.if-whole-from.false c.in_ok-fraction.ensures.end c.in_ok-whole.ensures.kept c.in_ok-fraction.ensures.kept
+    i.is (subst (λ (x : ℤ). negsuc 399 ≤ℤ x) i.value i.low) (subst (λ (x : ℤ). x ≤ℤ pos 400) i.value i.high) in
     let p = power_is bs c.sign_end-from.result c.in_ok-whole.whole.end f.end f.count c.in_ok-exponent.exponent c.sign_end-from.ensures.end c.in_ok-whole.ensures.end c.in_ok-fraction.ensures.end i.value c.in_ok-fraction.ensures.count in
     let few : f.count ≤ 33554432 = omega (arith, c.in_ok-fraction.ensures.few, c.in_ok-fraction.ensures.within) in
     record {
       spelling = parts bs;
       read = r.1;
-      value = value_is bs c.of.result f.digits c.is_minus_at.result _ c.of.ensures c.is_minus_at.ensures r.0 (omega (arith, ints, p, few, i.low, i.high))
+      value = value_is bs c.of.result f.digits c.is_minus_at.result _ c.of.ensures c.is_minus_at.ensures r.0 (omega (arith, ints, p, few, i.low, i.high));
     }
