@@ -82,12 +82,14 @@ double_least (i ∷ []) id h e = cc
 double_least (i ∷ j ∷ more) id h e = elim (tells (i.id == j.id)) [
   | inl t ↦ (let same : i.id ≡ j.id = eqb-true i.id j.id t in let f = rw t at e in let g : j.id ≡ id = cc in
       (two_there id i j more (same ∙ g) g, λ other lt. omega (arith, below other i (j ∷ more) h (omega (arith, lt, same, g)))))
-  | inr u ↦ (let f = rw u at e in let r = double_least (j ∷ more) id h.1 f in
-      (omega (arith, r.0, times_cons id i (j ∷ more)), λ other lt. elim (tells (i.id == other)) [
-        | inl t ↦ (let same : i.id ≡ other = eqb-true i.id other t in
-            omega (arith, times_same other i (j ∷ more) same, below other j more h.1 (let n = not_equal i.id j.id u in omega (arith, same, n, h.0))))
-        | inr v ↦ omega (arith, times_other other i (j ∷ more) (not_equal i.id other v), r.1 other lt)
-      ]))
+  | inr u ↦ (let f = rw u at e in let r = double_least (j ∷ more) id h.1 f in (
+    omega (arith, r.0, times_cons id i (j ∷ more)),
+    λ other lt. elim (tells (i.id == other)) [
+      | inl t ↦ (let same : i.id ≡ other = eqb-true i.id other t in
+          omega (arith, times_same other i (j ∷ more) same, below other j more h.1 (let n = not_equal i.id j.id u in omega (arith, same, n, h.0))))
+      | inr v ↦ omega (arith, times_other other i (j ∷ more) (not_equal i.id other v), r.1 other lt)
+    ],
+  ))
 ]
 
 -- where no two neighbours have one number, each is below all that follow

@@ -66,6 +66,7 @@ both_fronts xs ys r q e f = same xs ys r q e f
     nil : {A : Type 0} (xs : List A) → xs ++ [] ≡ xs
     nil [] = refl
     nil (x ∷ xs) = ap (λ y. x ∷ y) (nil xs)
+
     same : {A : Type 0} (xs ys r q : List A) → xs ≡ ys ++ r → ys ≡ xs ++ q → xs ≡ ys
     same [] [] r q e f = refl
     same [] (y ∷ ys) r q e f = cc

@@ -271,7 +271,7 @@ one_heading ss ts ls ms x y h k e =
     let f : h.opening ++ ((h.middle ++ h.closing) ++ x) ≡ k.opening ++ ((k.middle ++ k.closing) ++ y) = seam h.opening (h.middle ++ h.closing) x k.opening (k.middle ++ k.closing) y (sym (ap (λ z. z ++ x) h.whole) ∙ e ∙ ap (λ z. z ++ y) k.whole) in
     let g = one_length h.opening k.opening ((h.middle ++ h.closing) ++ x) ((k.middle ++ k.closing) ++ y) (Word Iso ∷ Semi ∷ Word Header ∷ Semi ∷ []) h.is_opening k.is_opening f in
     let r = one_statements ss ts h.middle k.middle (h.closing ++ x) (k.closing ++ y) (Word Data ∷ Semi ∷ classes x) (Word Data ∷ Semi ∷ classes y) h.spelled k.spelled (closed h.closing x h.is_closing) (closed k.closing y k.is_closing)
-        (sym (append_assoc h.middle h.closing x) ∙ g ∙ append_assoc k.middle k.closing y) in
+    (sym (append_assoc h.middle h.closing x) ∙ g ∙ append_assoc k.middle k.closing y) in
     (r.0, one_length h.closing k.closing x y (Word EndSec ∷ Semi ∷ Word Data ∷ Semi ∷ []) h.is_closing k.is_closing r.1)
 
 -- Bytes hold one file at most.

@@ -9,5 +9,4 @@ pub mod Printing
 pub mod Reading
 pub mod Saying
 pub mod Schema
-pub mod TextValue
 pub mod Uploads

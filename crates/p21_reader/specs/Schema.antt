@@ -3,7 +3,7 @@ use Rattle.std.specs.Char.{to_ascii_uppercase}
 use Rattle.std.specs.Str.{bytes_eq}
 use Rattle.p21_reader.specs.Grammar.{Iso, Header, Data, EndSec, Semi, Word, Inside, Derives}
 use Rattle.p21_reader.specs.Lexemes.{Lexeme, Opening, Closing, Ending, WordsOf, KeywordOf, classes}
-use Rattle.p21_reader.specs.TextValue.{text_value}
+use Rattle.bim_text.specs.Texts.{text_of_spelling}
 
 -- The header of a file: its statements, and the schema that they name (ISO 10303-21, section 8).
 
@@ -37,7 +37,7 @@ schemas statements = map (λ s. s.values) (filter (λ s. bytes_eq s.keyword (cod
 
 -- a text, as it stands between its apostrophes, whose value is IFC4 in letters of either case
 abbrev pub IsIfc4 : List ℕ → Type 0
-IsIfc4 spelled = map to_ascii_uppercase (text_value spelled) ≡ codes "IFC4"
+IsIfc4 spelled = map to_ascii_uppercase (text_of_spelling spelled) ≡ codes "IFC4"
 
 -- FILE_SCHEMA stands exactly once, with one value, a list of one text, which is IFC4
 abbrev pub NamesIfc4 : List Statement → Type 0

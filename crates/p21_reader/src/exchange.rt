@@ -71,9 +71,7 @@ pub fn read(alloc: Global, bytes: &[u8]) -> Result<Exchange, BuildError>
     ensures refused { IfErr result (λ error. error ≡ BuildError.Memory ⊎ ((instances : List Instance) → SpellsExchange bytes.now instances → ⊥)) }
 {
     if bytes.len() > MOST_BYTES {
-        return Err(BuildError::Fault(UploadFault::TooMany {
-            what: Many::Bytes,
-        }));
+        return Err(BuildError::Fault(UploadFault::TooMany { what: Many::Bytes }));
     }
     let found = ifc4_instances(alloc, bytes)?;
     let mut instances = within_limits(found)?;

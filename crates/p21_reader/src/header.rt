@@ -19,7 +19,9 @@ pub enum Part {
         end: usize,
     },
     /// The end of the header, and the place behind it.
-    Data { end: usize },
+    Data {
+        end: usize,
+    },
 }
 
 /// Whether a header names IFC4, and the place behind it.

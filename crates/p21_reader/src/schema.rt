@@ -7,6 +7,7 @@ use crate::ahead::only_text;
 use crate::fault::ReadFault;
 use crate::piece::{Kind, Piece};
 use crate::word::is_word;
+use bim_text::text_of;
 use std::alloc::{AllocError, Global};
 
 /// What the statements of a header say of the schema so far.
@@ -24,7 +25,8 @@ pub enum Schema {
 fn is_ifc4(alloc: Global, spelled: &[u8]) -> Result<bool, AllocError>
     ensures { IfOk result (λ named. IsTrue named ↔ IsIfc4 spelled.now) }
 {
-    Ok(is_word(spelled, b"IFC4"))
+    let text = text_of(alloc, spelled)?;
+    Ok(is_word(text.as_str().as_bytes(), b"IFC4"))
 }
 
 /// Whether what stands behind the opening parenthesis of a statement is one value, a list of one text, which is IFC4.
@@ -39,7 +41,13 @@ fn holds_ifc4(alloc: Global, bytes: &[u8], inside: usize) -> Result<bool, AllocE
 }
 
 /// What is said of the schema after one more statement, whose keyword is given, and whose values stand from `inside` on.
-pub fn judge(alloc: Global, bytes: &[u8], so_far: Schema, word: Piece, inside: usize) -> Result<Schema, ReadFault>
+pub fn judge(
+    alloc: Global,
+    bytes: &[u8],
+    so_far: Schema,
+    word: Piece,
+    inside: usize,
+) -> Result<Schema, ReadFault>
     requires piece { IsPiece bytes.now word }
     requires word { word.kind ≡ Kind.Word }
     requires inside { inside ≤ length bytes.now }
