@@ -302,21 +302,26 @@ const WHOLES: [Whole; 23] = [
     Whole {
         header: b"FILE_SCHEMA(('IFC2X3'));",
         section: b"#1=A();#1=A(;",
-        fault: Some(UploadFault::BadStatement { at: 69 }),
+        fault: Some(UploadFault::BadStatement { at: 68 }),
     },
 ];
+
+fn file_of(alloc: Global, row: Whole) -> Result<Vec<u8>, AllocError> {
+    let mut bytes = Vec::from_slice(alloc, b"ISO-10303-21;HEADER;")?;
+    bytes.extend_from_slice(row.header)?;
+    bytes.extend_from_slice(b"ENDSEC;DATA;")?;
+    bytes.extend_from_slice(row.section)?;
+    bytes.extend_from_slice(TAIL)?;
+    Ok(bytes)
+}
 
 #[test]
 fn stages(rt: HostRuntime) -> Result<(), Fail> {
     for row in WHOLES {
-        let front = joined(
-            rt.alloc(),
-            [b"ISO-10303-21;HEADER;", row.header, b"ENDSEC;DATA;"],
-        )?;
-        let bytes = joined(rt.alloc(), [front.as_slice(), row.section, TAIL])?;
+        let bytes = file_of(rt.alloc(), row)?;
         match row.fault {
             Some(fault) => assert_fault(&rt, rt.alloc(), bytes.as_slice(), fault),
-            None => assert!(&rt; read(rt.alloc(), bytes.as_slice()).is_ok()),
+            None => assert!(rt; read(rt.alloc(), bytes.as_slice()).is_ok()),
         }
     }
     Ok(())
