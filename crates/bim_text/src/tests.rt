@@ -342,20 +342,19 @@ const WORDS: [Words; 35] = [
     },
 ];
 
+fn are_same(one: &str, other: &str) -> bool {
+    one == other
+}
+
 #[test]
 fn decimals_and_texts(rt: HostRuntime) -> Result<(), Fail> {
     for row in SPELLINGS {
-        let decimal = Decimal::read(row.text);
-        assert_eq!(rt;
-            decimal.map(|d| (d.negative, d.digits, d.exp)),
-            row.decimal,
-            "{:?}",
-            row.text
-        );
+        let decimal = Decimal::read(row.text).map(|d| (d.negative, d.digits, d.exp));
+        assert_eq!(rt; decimal, row.decimal, "{:?}", row.text);
     }
     for row in WORDS {
         let text = text_of(rt.alloc(), row.spelled)?;
-        assert_eq!(rt; text.as_str(), row.text, "{:?}", row.spelled);
+        assert!(rt; are_same(text.as_str(), row.text), "{:?}", row.spelled);
     }
     Ok(())
 }
