@@ -8,7 +8,7 @@ use Rattle.std.proofs.lemmas.List.{append-nil, drop-drop, length-drop, take-appe
 use Rattle.std.proofs.lemmas.Str.{IsUtf8-from_ascii}
 use Rattle.bim_text.proofs.Cleaning.{cleaned_nil, cleaned_kept}
 use Rattle.bim_text.specs.Texts.{Row, sequence_len, row_of, escape_row, high_row, wide_row, is_code, is_wide, is_shifted, is_page, are_groups, is_hexadecimal, run, rows_within, rows, cleaned, unpaired, is_plain, is_clean, text_of_spelling}
-use Rattle.bim_text.proofs.Tests.{tells, and_left, and_right}
+use Rattle.bim_text.proofs.Truths.{tells, and_left, and_right}
 use Rattle.bim_text.proofs.Fronts.{drop_past}
 
 -- each row is of one byte at least, and within the bytes

@@ -5,7 +5,7 @@ use Rattle.std.proofs.lemmas.Bool.{le-leb, lt-leb, ne_eqb, eqb-true}
 use Rattle.std.proofs.lemmas.Bool.Decides.{nat_tests}
 use Rattle.std.proofs.lemmas.List.{append-nil, length-drop, get_or-drop}
 use Rattle.bim_text.specs.Texts.{unpaired, is_kept, cleaned, is_clean}
-use Rattle.bim_text.proofs.Tests.{tells, and_left, and_right}
+use Rattle.bim_text.proofs.Truths.{tells, and_left, and_right}
 use Rattle.bim_text.proofs.Fronts.{drop_past}
 
 pub cleaned_nil : cleaned [] ≡ []

@@ -8,7 +8,7 @@ use Rattle.std.proofs.lemmas.List.Folds.{list_all-append}
 use Rattle.bim_text.specs.declared.digits.Digits.{Digits}
 use Rattle.bim_text.specs.Numbers.{is_digit, value_after, AreDigits, from_first, significant}
 use Rattle.bim_text.specs.Scanning.{kept_zero, kept_digit, kept_step, kept_after}
-use Rattle.bim_text.proofs.Tests.{tells, and_left, and_right, and_both, digit_low, digit_high}
+use Rattle.bim_text.proofs.Truths.{tells, and_left, and_right, and_both, digit_low, digit_high}
 use Rattle.bim_text.proofs.Significant.{value_snoc, significant_digit, significant_zero, significant_grows, significant_most, snoc_cons, value_low, value_high}
 
 pub record Describes (ds : List ℕ) (k : Digits) : Type 0 where

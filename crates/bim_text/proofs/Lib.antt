@@ -1,5 +1,5 @@
 pub mod Fronts
-pub mod Tests
+pub mod Truths
 pub mod Significant
 pub mod Kept
 pub mod Parts

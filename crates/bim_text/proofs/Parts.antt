@@ -5,7 +5,7 @@ use Rattle.std.proofs.lemmas.Bool.{eqb-true}
 use Rattle.std.proofs.lemmas.Bool.Decides.{nat_tests}
 use Rattle.bim_text.specs.Numbers.{Sign, Unsigned, Plus, Minus, Exponent, Spelling, sign_bytes, fraction_bytes, exponent_bytes, bytes_of, is_digit, AreDigits, fraction_digits, IsExponent, IsNumber}
 use Rattle.bim_text.specs.Scanning.{front, sign_at, fraction_at, exponent_at, unsigned, behind_front, behind_fraction, parts}
-use Rattle.bim_text.proofs.Tests.{tells, and_left, and_right, and_both, digit_low, digit_high}
+use Rattle.bim_text.proofs.Truths.{tells, and_left, and_right, and_both, digit_low, digit_high}
 
 -- The parts are the bytes.
 

@@ -5,7 +5,7 @@ use Rattle.std.proofs.lemmas.Bool.{eqb-true}
 use Rattle.std.proofs.lemmas.Bool.Decides.{nat_tests}
 use Rattle.std.proofs.lemmas.List.{reverse-append, length-reverse, length-append, append-nil}
 use Rattle.bim_text.specs.Numbers.{is_digit, value_after, AreDigits, from_first, significant}
-use Rattle.bim_text.proofs.Tests.{tells, and_left, and_right, digit_low, digit_high}
+use Rattle.bim_text.proofs.Truths.{tells, and_left, and_right, digit_low, digit_high}
 
 -- one more digit
 

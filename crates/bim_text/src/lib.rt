@@ -4,10 +4,17 @@
 mod bytes;
 mod decimal;
 mod digits;
+mod laws;
 mod order;
+mod print;
 mod rows;
 mod spelling;
 mod text;
 
 pub use decimal::Decimal;
+pub use laws::{one_value, plain_texts};
+pub use print::print_i64;
 pub use text::text_of;
+
+#[cfg(test)]
+mod tests;
