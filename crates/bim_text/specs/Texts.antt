@@ -5,7 +5,7 @@ use Rattle.std.specs.Char.{digit_value}
 use Rattle.std.specs.Str.{is_utf8}
 use lib.Utf8.{scalar}
 
--- First, each doubled apostrophe becomes one, from the left, and bytes below 32 are dropped.
+-- Two apostrophes in a row, paired from the left, stand for one; then control bytes go.
 
 abbrev pub unpaired : List ℕ → List ℕ
 unpaired [] = []
@@ -46,8 +46,8 @@ abbrev pub run : (ℕ → Bool) → List ℕ → ℕ
 run p [] = 0
 run p (b ∷ bs) = if p b then run p bs + 1 else 0
 
--- Then, from the left, the rows of the table. Each tells its characters, in UTF-8, and how many bytes it is. A place past the end
--- holds 0.
+-- What may stand at the front of cleaned bytes: the characters that it means, in UTF-8, and how many bytes it is. A place past the
+-- end holds 0.
 
 pub record Row : Type 0 where
   pub gives : List ℕ
@@ -74,7 +74,7 @@ is_shifted bs = slice_index bs 1 == 83 && slice_index bs 2 == 92 && nat_le 32 (s
 unfoldable pub is_page : List ℕ → Bool
 is_page bs = slice_index bs 1 == 80 && nat_le 65 (slice_index bs 2) && nat_le (slice_index bs 2) 73 && slice_index bs 3 == 92
 
--- a surrogate and what is above 10FFFF become U+FFFD
+-- a code, or the replacement character where Unicode has no character of that code
 unfoldable pub character : ℕ → ℕ
 character code = if scalar code then code else 0xFFFD
 
@@ -101,7 +101,7 @@ escape_row bs =
 abbrev pub sequence_len : ℕ → ℕ
 sequence_len b = if nat_lt b 224 then 2 else (if nat_lt b 240 then 3 else 4)
 
--- the row of a byte from 128 on: a well-formed UTF-8 sequence is its character, another byte the character of its code
+-- the row of a byte that isn't ASCII: where UTF-8 begins a character there it is that one, else the byte is a character of ISO 8859-1
 unfoldable pub high_row : List ℕ → Row
 high_row bs = let n = sequence_len (slice_index bs 0) in
     if nat_le n (length bs) && is_utf8 (take n bs) then record { gives = take n bs; size = n } else record { gives = encode_utf8 (slice_index bs 0); size = 1 }

@@ -31,8 +31,8 @@ impl Decimal {
     ghost use Rattle.bim_text.specs.Numbers.{Spelling, IsRead};
     ghost use Rattle.bim_text.specs.Decimals.{Reads, value_of};
 
-    /// The number that the bytes spell (ISO 10303-21, section 6). None where they have over 33,554,432 bytes, spell no number, have
-    /// over 34 significant digits, or write an exponent outside -400 to 400. Takes no memory.
+    /// The number that the bytes spell (ISO 10303-21, section 6). There is none for other bytes, and none for a spelling that is too
+    /// much for a model: more than 33,554,432 bytes, 34 digits that count, or a power of ten beyond 400 either way. Takes no memory.
     pub fn read(text: &[u8]) -> Option<Decimal>
         ensures value { IfSome result (Reads text.now) }
         ensures none { IfNone result ((s : Spelling) → IsRead s text.now → ⊥) }

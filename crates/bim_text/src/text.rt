@@ -51,7 +51,7 @@ fn next_place(spelled: &[u8], at: usize) -> usize
     }
 }
 
-/// The bytes with one apostrophe for each two, and without those below 32.
+/// The bytes with each pair of apostrophes as one, and without control bytes.
 #[tactic(auto, using(crate::proofs::Cleaning::ends))]
 fn clean(alloc: Global, spelled: &[u8]) -> Result<Vec<u8>, AllocError>
     ensures { IfOk result (λ bytes. bytes.items ≡ cleaned spelled.now) }
@@ -110,8 +110,8 @@ fn are_clean(bytes: &[u8]) -> bool
     bytes.iter().all(|byte| is_clean(*byte))
 }
 
-/// The text that bytes spell between their apostrophes: doubled apostrophes become one and bytes below 32 are dropped, then escapes
-/// are read from the left. Bytes from 128 on are UTF-8 where they are well formed, else the characters of their codes.
+/// The text that the bytes between two apostrophes of a file stand for. Control bytes are passed over, also within an escape. Bytes
+/// that aren't ASCII are read as UTF-8 where they can be, else as ISO 8859-1.
 #[tactic(auto, using(crate::proofs::AllRows::whole))]
 pub fn text_of(alloc: Global, spelled: &[u8]) -> Result<Text, AllocError>
     ensures { IfOk result (λ text. text ≡ text_of_spelling spelled.now) }
