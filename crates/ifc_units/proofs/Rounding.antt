@@ -47,6 +47,7 @@ exact_none n d h low high g close = elim (split g (n / d)) [
     split a b = grind arith
 
 pub ruleset roundings = (snap_whole, snap_next, exact_whole, exact_next, exact_none)
+
 -- powers of ten
 
 pub power_some : (z : ℕ) → 0 < 10 ^ z

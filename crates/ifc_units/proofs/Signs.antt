@@ -39,16 +39,16 @@ times_left u b n = *ℤ_comm (pos u) (signed b n) ∙ signed_times b n u ∙ ap 
 pub gap_same : (u : ℕ) (b : Bool) (m g : ℕ) (p : ℤ) → gap u (record { number = signed b m; power = p }) (signed b g) ≡ distance (u * (m * 10 ^ above p)) (g * 10 ^ below p)
 gap_same u b m g p =
     ap (λ (x : ℤ). unsigned_abs (pos u *ℤ x -ℤ signed b g *ℤ pos (10 ^ below p))) (signed_times b m (10 ^ above p))
-      ∙ ap (λ (x : ℤ). unsigned_abs (x -ℤ signed b g *ℤ pos (10 ^ below p))) (times_left u b (m * 10 ^ above p))
-      ∙ ap (λ (x : ℤ). unsigned_abs (signed b (u * (m * 10 ^ above p)) -ℤ x)) (signed_times b g (10 ^ below p))
-      ∙ same_sign b (u * (m * 10 ^ above p)) (g * 10 ^ below p)
+    ∙ ap (λ (x : ℤ). unsigned_abs (x -ℤ signed b g *ℤ pos (10 ^ below p))) (times_left u b (m * 10 ^ above p))
+    ∙ ap (λ (x : ℤ). unsigned_abs (signed b (u * (m * 10 ^ above p)) -ℤ x)) (signed_times b g (10 ^ below p))
+    ∙ same_sign b (u * (m * 10 ^ above p)) (g * 10 ^ below p)
 
 pub gap_other : (u : ℕ) (b : Bool) (m g : ℕ) (p : ℤ) → gap u (record { number = signed b m; power = p }) (signed (not b) g) ≡ u * (m * 10 ^ above p) + g * 10 ^ below p
 gap_other u b m g p =
     ap (λ (x : ℤ). unsigned_abs (pos u *ℤ x -ℤ signed (not b) g *ℤ pos (10 ^ below p))) (signed_times b m (10 ^ above p))
-      ∙ ap (λ (x : ℤ). unsigned_abs (x -ℤ signed (not b) g *ℤ pos (10 ^ below p))) (times_left u b (m * 10 ^ above p))
-      ∙ ap (λ (x : ℤ). unsigned_abs (signed b (u * (m * 10 ^ above p)) -ℤ x)) (signed_times (not b) g (10 ^ below p))
-      ∙ other_sign b (u * (m * 10 ^ above p)) (g * 10 ^ below p)
+    ∙ ap (λ (x : ℤ). unsigned_abs (x -ℤ signed (not b) g *ℤ pos (10 ^ below p))) (times_left u b (m * 10 ^ above p))
+    ∙ ap (λ (x : ℤ). unsigned_abs (signed b (u * (m * 10 ^ above p)) -ℤ x)) (signed_times (not b) g (10 ^ below p))
+    ∙ other_sign b (u * (m * 10 ^ above p)) (g * 10 ^ below p)
 
 size_of : (b : Bool) (m : ℕ) (p : ℤ) → unsigned_abs (signed b m *ℤ pos (10 ^ above p)) ≡ m * 10 ^ above p
 size_of b m p = ap unsigned_abs (signed_times b m (10 ^ above p)) ∙ signed_size b (m * 10 ^ above p)
@@ -61,7 +61,7 @@ signed_grid Snap u b m g p h =
     let e = gap_same u b m g p in
     record {
       near = omega (arith, e, h.near);
-      away = λ k. rw (size_of b m p, signed_size b g) (h.away (omega (arith, e, k)))
+      away = λ k. rw (size_of b m p, signed_size b g) (h.away (omega (arith, e, k)));
     }
 
 -- a grid number of the other sign is at most nothing

@@ -57,4 +57,4 @@ not_below Snap u x g h few close other lt =
 pub unique : (mode : Mode) (u : ℕ) (x : Scaled) (g h : ℤ) → u < 500 → IsGridNumber mode u x g → IsGridNumber mode u x h → g ≡ h
 unique mode u x g h few close other =
     by_lt_z g h (λ lt. absurd (not_below mode u x g h few close other lt))
-      (λ le. by_lt_z h g (λ lt. absurd (not_below mode u x h g few other close lt)) (λ more. omega (arith, ints, le, more)))
+    (λ le. by_lt_z h g (λ lt. absurd (not_below mode u x h g few other close lt)) (λ more. omega (arith, ints, le, more)))

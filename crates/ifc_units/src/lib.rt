@@ -2,10 +2,12 @@
 #![tactic(auto)]
 
 mod grid;
+mod laws;
 mod scale;
 mod sizes;
 
 pub use grid::{GridFault, to_grid};
+pub use laws::one_grid_number;
 pub use scale::Scale;
 
 #[cfg(test)]

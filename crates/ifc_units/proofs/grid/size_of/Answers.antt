@@ -32,7 +32,7 @@ returns-in-Some-part_size-clause-ok c =
     let e : p +ℤ pos c.unsigned_abs-places.result ≡ pos 0 = omega (arith, ints, c.unsigned_abs-places.ensures.value) in
     let s = part_is c.args.mode c.args.number.digits c.unsigned_abs-places.result c.in-Some-part_size.size p e c.in-Some-part_size.ensures.size in
     if_ok {P = λ (g : ℕ). g ≡ c.in-Some-part_size.size × g ≤ 800000} {Q = λ (g : ℕ). IsSizeOf c.args.mode p c.args.number.digits g} c.near.result
-      (λ g h. subst (λ (x : ℕ). IsSizeOf c.args.mode p c.args.number.digits x) (sym h.0) s) c.near.ensures.ok
+    (λ g h. subst (λ (x : ℕ). IsSizeOf c.args.mode p c.args.number.digits x) (sym h.0) s) c.near.ensures.ok
 
 pub returns-in-Some-part_size-clause-too_far : goal.returns-in-Some-part_size-clause-too_far
 returns-in-Some-part_size-clause-too_far c =
