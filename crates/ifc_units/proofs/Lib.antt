@@ -1,3 +1,0 @@
-pub mod Rounding
-pub mod Signs
-pub mod Unique
