@@ -1,0 +1,4 @@
+pub mod Normals
+pub mod Views
+pub mod Corners
+pub mod Removal
