@@ -1,5 +1,5 @@
 -- The corners of a polygon that remain, each with its neighbours.
-use Rattle.std.specs.Prelude.{ℕ, zero, suc, ◌+◌, ◌-◌, ◌==◌, ◌≤◌, ℤ, pos, negsuc, List, [], ◌∷◌, length, slice_index_or, Bool, true, false, if◌then◌else◌, Option, Some, None}
+use Rattle.std.specs.Prelude.{ℕ, zero, suc, ◌+◌, ◌-◌, ◌==◌, ◌≤◌, ℤ, pos, negsuc, List, [], ◌∷◌, length, slice_index_or, Bool, true, false, All, if◌then◌else◌, Option, Some, None}
 use Rattle.bim_model.specs.declared.geometry.Point.{Point}
 use Rattle.ear_cut.specs.declared.views.View.{View}
 use Rattle.ear_cut.specs.declared.corners.Corner.{Corner}
@@ -36,6 +36,10 @@ pub record InGrid (t : Turn) : Type 0 where
   pub before_in : IsGridPoint t.before.point
   pub corner_in : IsGridPoint t.corner.point
   pub after_in : IsGridPoint t.after.point
+
+-- each corner stands at a point of the grid
+unfoldable pub AreInGrid : List Corner → Type 0
+AreInGrid left = All (λ (c : Corner). IsGridPoint c.point) left
 
 abbrev pub by_sign : ℤ → Angle
 by_sign (pos zero) = Straight

@@ -18,15 +18,16 @@ abbrev pub first_from : (ℕ → Bool) → ℕ → ℕ → Option ℕ
 first_from test i zero = None
 first_from test i (suc n) = if test i then Some i else first_from test (i + 1) n
 
-abbrev pub holds_corner : View → Turn → Corner → Bool
-holds_corner view t other = holds view (seen view.axis t.before.point) (seen view.axis t.corner.point) (seen view.axis t.after.point) (seen view.axis other.point)
+-- another corner is not in the closed triangle, or stands where one of its corners does
+abbrev pub is_free : Option View → Turn → Corner → Bool
+is_free (Some view) t other = not (holds view (seen view.axis t.before.point) (seen view.axis t.corner.point) (seen view.axis t.after.point) (seen view.axis other.point))
+is_free None t other = true
 
 -- a corner of positive area whose closed triangle holds no other corner that remains
 abbrev pub is_ear_at : Option View → List Corner → Turn → Angle → Bool
-is_ear_at (Some view) left t Convex = list_all (λ (other : Corner). not (holds_corner view t other)) left
-is_ear_at (Some view) left t Straight = false
-is_ear_at (Some view) left t Reflex = false
-is_ear_at None left t angle = false
+is_ear_at view left t Convex = list_all (λ (other : Corner). is_free view t other) left
+is_ear_at view left t Straight = false
+is_ear_at view left t Reflex = false
 
 abbrev pub is_ear : Option View → List Corner → Turn → Bool
 is_ear view left t = is_ear_at view left t (angle_of view t)

@@ -48,8 +48,12 @@ area view a b c = signed view.reversed (bend a b c)
 abbrev pub same_spot : Spot → Spot → Bool
 same_spot a b = int_eq a.u b.u && int_eq a.v b.v
 
+-- p is shown at a corner of the triangle
+abbrev pub is_corner : Spot → Spot → Spot → Spot → Bool
+is_corner a b c p = same_spot p a || (same_spot p b || same_spot p c)
+
 -- p lies on no outer side of an edge of abc, a triangle of positive area, and stands at none of its corners
 unfoldable pub holds : View → Spot → Spot → Spot → Spot → Bool
 holds view a b c p =
-    not (int_lt (area view a b p) (pos 0)) && (not (int_lt (area view b c p) (pos 0)) && (not (int_lt (area view c a p) (pos 0))
-    && not (same_spot p a || same_spot p b || same_spot p c)))
+    not (int_lt (area view a b p) (pos 0))
+    && (not (int_lt (area view b c p) (pos 0)) && (not (int_lt (area view c a p) (pos 0)) && not (is_corner a b c p)))

@@ -1,0 +1,68 @@
+// Polygons cut into triangles by the removal of their corners.
+ghost use Rattle.std.specs.Prelude.{◌≡◌, ◌≤◌, ◌+◌, length, All, IfOk, MatchOption, MatchResult, vec_len, None, Some};
+ghost use Rattle.ear_cut.specs.Normals.{IsGridPoint, normal_of};
+ghost use Rattle.ear_cut.specs.Corners.{angle_of};
+ghost use Rattle.ear_cut.specs.Removal.{ear_of, is_turned_over, cut_of};
+
+use crate::corners::{Angle, Turn, angle_of, corners_of, turn_at};
+use crate::ears::Ear;
+use crate::normals::normal_of;
+use crate::notes::{notes_of, take_next};
+use crate::views::{View, view_of};
+use bim_model::Point;
+use std::alloc::{AllocError, Global};
+
+/// Why a polygon was not cut.
+#[derive(Clone, Copy, Debug, PartialEq, Eq, Drop)]
+pub enum CutFault {
+    /// No corner may be removed, or the last triangle is turned over.
+    Stuck,
+    /// Memory was refused.
+    Memory,
+}
+
+/// The triangle at a corner.
+fn ear_of(t: Turn) -> Ear
+    ensures { result ≡ ear_of t }
+{
+    Ear {
+        a: t.before.place,
+        b: t.corner.place,
+        c: t.after.place,
+    }
+}
+
+/// Whether the area at a corner is below zero in the view.
+fn is_turned_over(view: Option<View>, angle: Angle) -> bool
+    ensures { result ≡ is_turned_over view angle }
+{
+    match (view, angle) {
+        (Some(_), Angle::Reflex) => true,
+        _ => false,
+    }
+}
+
+/// The triangles of a polygon, in the order of its corners' removal; none where the rule is stuck.
+fn removals(alloc: Global, corners: &[Point]) -> Result<Option<Vec<Ear>>, AllocError>
+    requires three { 3 ≤ length corners.now }
+    requires few { length corners.now ≤ 65536 }
+    requires in_grid { All IsGridPoint corners.now }
+    ensures { IfOk result (λ found. MatchOption found (cut_of corners.now ≡ None) (λ ears. cut_of corners.now ≡ Some ears.items)) }
+{
+    let view = view_of(normal_of(corners));
+    let mut left = corners_of(alloc, corners)?;
+    let mut notes = notes_of(alloc, view, &left)?;
+    let mut ears = Vec::with_capacity(alloc, corners.len() - 2)?;
+    for step in 3..corners.len() {
+        match take_next(view, &mut left, &mut notes) {
+            None => return Ok(None),
+            Some(t) => ears.push(ear_of(t))?,
+        }
+    }
+    let last = turn_at(&left, 1);
+    if is_turned_over(view, angle_of(view, last)) {
+        return Ok(None);
+    }
+    ears.push(ear_of(last))?;
+    Ok(Some(ears))
+}
