@@ -24,11 +24,11 @@ lift_below i k h = grind (arith, nat_tests)
 lift_above : (i k : ℕ) → i ≤ k → lift i k ≡ k + 1
 lift_above i k h = grind (arith, nat_tests)
 
-lift_within : (m i k : ℕ) → k + 1 < m → lift i k < m
+pub lift_within : (m i k : ℕ) → k + 1 < m → lift i k < m
 lift_within m i k h = grind (arith, nat_tests)
 
 -- an element of the list before
-taken : {X : Type 0} (xs : List X) (i k : ℕ) (d : X) → i < length xs → slice_index_or (remove xs i) k d ≡ slice_index_or xs (lift i k) d
+pub taken : {X : Type 0} (xs : List X) (i k : ℕ) (d : X) → i < length xs → slice_index_or (remove xs i) k d ≡ slice_index_or xs (lift i k) d
 taken xs i k d h =
     elim (cases_lt k i) [
       | inl l ↦ get_or-remove_below xs i d k l h ∙ sym (ap (λ (j : ℕ). slice_index_or xs j d) (lift_below i k l))

@@ -11,4 +11,4 @@ mod removal;
 mod views;
 
 pub use ears::Ear;
-pub use removal::CutFault;
+pub use removal::{CutFault, cut};

@@ -1,8 +1,9 @@
 // Polygons cut into triangles by the removal of their corners.
-ghost use Rattle.std.specs.Prelude.{◌≡◌, ◌≤◌, ◌+◌, length, All, IfOk, MatchOption, MatchResult, vec_len, None, Some};
+ghost use Rattle.std.specs.Prelude.{◌≡◌, ◌≤◌, ◌+◌, length, All, IfOk, IfErr, MatchOption, None, Some};
 ghost use Rattle.ear_cut.specs.Normals.{IsGridPoint, normal_of};
 ghost use Rattle.ear_cut.specs.Corners.{angle_of};
 ghost use Rattle.ear_cut.specs.Removal.{ear_of, is_turned_over, cut_of};
+ghost use Rattle.ear_cut.specs.Areas.{area_of_ears};
 
 use crate::corners::{Angle, Turn, angle_of, corners_of, turn_at};
 use crate::ears::Ear;
@@ -65,4 +66,26 @@ fn removals(alloc: Global, corners: &[Point]) -> Result<Option<Vec<Ear>>, AllocE
     }
     ears.push(ear_of(last))?;
     Ok(Some(ears))
+}
+
+/// The triangles of a closed polygon of three or more corners, at most 65,536, each coordinate within 8,000,000
+/// grid numbers. The list and its order are fixed: the corners are removed one by one (ear clipping), in the view
+/// along the greatest component of the polygon's normal. A polygon of n corners gives n - 2 triangles.
+///
+/// `CutFault::Stuck` comes exactly where no corner may be removed or the last triangle is turned over, as in a
+/// polygon that crosses itself; `CutFault::Memory` where memory was refused.
+pub fn cut(alloc: Global, corners: &[Point]) -> Result<Vec<Ear>, CutFault>
+    requires three { 3 ≤ length corners.now }
+    requires few { length corners.now ≤ 65536 }
+    requires in_grid { All IsGridPoint corners.now }
+    ensures triangles { IfOk result (λ ears. cut_of corners.now ≡ Some ears.items) }
+    ensures stuck { IfErr result (λ fault. fault ≡ CutFault.Stuck → cut_of corners.now ≡ None) }
+    ensures count { IfOk result (λ ears. length ears.items + 2 ≡ length corners.now) }
+    ensures areas { IfOk result (λ ears. area_of_ears corners.now ears.items ≡ normal_of corners.now) }
+{
+    match removals(alloc, corners) {
+        Ok(Some(ears)) => Ok(ears),
+        Ok(None) => Err(CutFault::Stuck),
+        Err(_) => Err(CutFault::Memory),
+    }
 }
