@@ -231,15 +231,15 @@ areas_by points view zero left ears m a e =
     after_last (λ es. area_of_ears points es ≡ normal_of (map (λ (c : Corner). c.point) left)) (ear_of (turn_at left 1)) (is_turned_over view (angle_of view (turn_at left 1))) ears (last_area points left (omega (arith, m)) a) e
 areas_by points view (suc n) left ears m a e =
     after_choice (λ es. area_of_ears points es ≡ normal_of (map (λ (c : Corner). c.point) left)) view n left (choice view left) ears (λ i rest f g.
-      let w = chosen_within view left i f in
-      let l = length-remove left i w in
-      let ps = map (λ (c : Corner). c.point) left in
-      let k = length-map left (λ (c : Corner). c.point) in
-      let t = ear_area points left i a w in
-      let more = areas_by points view n (remove left i) rest (omega (arith, l, m)) (placed_without points left i w a) g ∙ ap normal_of (map-remove left i) in
-      ap (λ (v : Vector). plus v (area_of_ears points rest)) t
-      ∙ (ap (λ (v : Vector). plus (triangle (get_or ps (previous (length ps) i) nobody.point) (get_or ps i nobody.point) (get_or ps (next (length ps) i) nobody.point)) v) more
-      ∙ sym (normal_without ps i nobody.point (omega (arith, k, m)) (omega (arith, k, w))))) e
+    let w = chosen_within view left i f in
+    let l = length-remove left i w in
+    let ps = map (λ (c : Corner). c.point) left in
+    let k = length-map left (λ (c : Corner). c.point) in
+    let t = ear_area points left i a w in
+    let more = areas_by points view n (remove left i) rest (omega (arith, l, m)) (placed_without points left i w a) g ∙ ap normal_of (map-remove left i) in
+    ap (λ (v : Vector). plus v (area_of_ears points rest)) t
+    ∙ (ap (λ (v : Vector). plus (triangle (get_or ps (previous (length ps) i) nobody.point) (get_or ps i nobody.point) (get_or ps (next (length ps) i) nobody.point)) v) more
+    ∙ sym (normal_without ps i nobody.point (omega (arith, k, m)) (omega (arith, k, w))))) e
 
 -- the triangles' areas add up to the polygon's
 pub areas_add_up : (points : List Point) (ears : List Ear) → 3 ≤ length points → cut_of points ≡ Some ears → area_of_ears points ears ≡ normal_of points

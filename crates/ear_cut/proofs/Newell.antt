@@ -40,6 +40,7 @@ along_push p [] q = plus_comm_nowhere (cross_of (vector_of p) (vector_of q))
   where
     after_zero : (a : ℤ) → a +ℤ pos 0 ≡ pos 0 +ℤ a
     after_zero a = omega (arith, ints)
+
     plus_comm_nowhere : (a : Vector) → plus a nowhere ≡ plus nowhere a
     plus_comm_nowhere a = same_vector _ _ _ _ _ _ (after_zero a.x) (after_zero a.y) (after_zero a.z)
 along_push p (r ∷ rs) q =

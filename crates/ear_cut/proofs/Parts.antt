@@ -1,4 +1,4 @@
--- Vectors with equal parts, and tests read from a register.
+-- Vectors with equal parts, and tests of several parts.
 use Rattle.std.proofs.Common.{◌≡◌, ◌∙◌, ap, sym, ℤ, pos, Bool, true, false, not, ◌&&◌, refl, FitsSigned, w64, int_lt}
 use Rattle.std.proofs.lemmas.Int.{to_z-of_z}
 use Rattle.exact_arith.proofs.Ranges.{in_64}
@@ -8,10 +8,6 @@ pub same_vector : (a b c d e f : ℤ) → a ≡ d → b ≡ e → c ≡ f → �
 same_vector a b c d e f h k l =
     ap (λ (t : ℤ). let v : Vector = record { x = t; y = b; z = c } in v) h
     ∙ (ap (λ (t : ℤ). let v : Vector = record { x = d; y = t; z = c } in v) k ∙ ap (λ (t : ℤ). let v : Vector = record { x = d; y = e; z = t } in v) l)
-
--- whether a computed number is below zero
-pub sign_read : (x y : ℤ) (b : Bool) → x ≡ y → FitsSigned w64 x → int_lt (in_64 x) (pos 0) ≡ b → int_lt y (pos 0) ≡ b
-sign_read x y b e f h = sym (ap (λ (t : ℤ). int_lt t (pos 0)) (to_z-of_z w64 x f ∙ e)) ∙ h
 
 -- a test of several parts that fails, or goes on, at the first
 pub fails : (x r : Bool) → x ≡ true → false ≡ (not x && r)

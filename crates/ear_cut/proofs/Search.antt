@@ -26,9 +26,9 @@ some_from test i zero j f g t h = absurd (omega arith)
 some_from test i (suc n) j f g t h =
     elim (cases_lt i j) [
       | inl l ↦ ap (λ (b : Bool). cond b (Some i) (first_from test (i + 1) n)) (h i (omega arith) l)
-        ∙ some_from test (i + 1) n j (omega arith) (omega arith) t (λ k o m. h k (omega arith) m)
+          ∙ some_from test (i + 1) n j (omega arith) (omega arith) t (λ k o m. h k (omega arith) m)
       | inr l ↦ let e : j ≡ i = omega arith in
-        ap (λ (b : Bool). cond b (Some i) (first_from test (i + 1) n)) (sym (ap test e) ∙ t) ∙ ap Some (sym e)
+          ap (λ (b : Bool). cond b (Some i) (first_from test (i + 1) n)) (sym (ap test e) ∙ t) ∙ ap Some (sym e)
     ]
 
 pub first_is : (test : ℕ → Bool) (n : ℕ) (r : Option ℕ) → IsFirst test n r → r ≡ first_from test 0 n

@@ -29,7 +29,7 @@ unfoldable pub turn_at : List Corner → ℕ → Turn
 turn_at left i = record {
   before = slice_index_or left (previous (length left) i) nobody;
   corner = slice_index_or left i nobody;
-  after = slice_index_or left (next (length left) i) nobody
+  after = slice_index_or left (next (length left) i) nobody;
 }
 
 pub record InGrid (t : Turn) : Type 0 where

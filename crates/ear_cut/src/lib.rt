@@ -4,10 +4,11 @@
 mod coordinates;
 mod corners;
 mod ears;
-
 mod normals;
 mod notes;
 mod removal;
+#[cfg(test)]
+mod tests;
 mod views;
 
 pub use ears::Ear;

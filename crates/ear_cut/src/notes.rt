@@ -30,11 +30,7 @@ fn fresh(view: Option<View>, left: &[Corner], i: usize) -> Note
 }
 
 /// The notes of all corners.
-pub fn notes_of(
-    alloc: Global,
-    view: Option<View>,
-    left: &[Corner],
-) -> Result<Vec<Note>, AllocError>
+pub fn notes_of(alloc: Global, view: Option<View>, left: &[Corner]) -> Result<Vec<Note>, AllocError>
     requires { AreInGrid left.now }
     ensures { IfOk result (λ notes. IsNoted view left.now notes.items) }
 {
@@ -230,11 +226,7 @@ fn remove_at(view: Option<View>, left: &mut Vec<Corner>, notes: &mut Vec<Note>, 
 }
 
 /// Takes out the corner that goes next, and gives it between its neighbours.
-pub fn take_next(
-    view: Option<View>,
-    left: &mut Vec<Corner>,
-    notes: &mut Vec<Note>,
-) -> Option<Turn>
+pub fn take_next(view: Option<View>, left: &mut Vec<Corner>, notes: &mut Vec<Note>) -> Option<Turn>
     requires many { 3 < length left.old.items }
     requires left_in { AreInGrid left.old.items }
     requires noted { IsNoted view left.old.items notes.old.items }

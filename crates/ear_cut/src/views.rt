@@ -1,5 +1,5 @@
 // The view in which a polygon is cut.
-ghost use Rattle.std.specs.Prelude.{◌≡◌, ◌≤◌, unsigned_abs};
+ghost use Rattle.std.specs.Prelude.{◌≡◌, ◌≤◌, pos, int_lt, unsigned_abs};
 ghost use Rattle.ear_cut.specs.Normals.{IsGridPoint, is_nowhere};
 ghost use Rattle.ear_cut.specs.Views.{axis_of, component, view_of, seen, bend, area, same_spot, is_corner, holds};
 ghost use Rattle.ear_cut.specs.Registers.{as_vector, as_spot};
@@ -113,18 +113,26 @@ fn is_same(a: Flat, b: Flat) -> bool
     a.u == b.u && a.v == b.v
 }
 
+/// Whether an area is below zero: the point is on the outer side of the edge.
+#[inline(always)]
+fn is_outside(area: i64) -> bool
+    ensures { result ≡ int_lt area (pos 0) }
+{
+    area < 0
+}
+
 /// Whether p lies in the closed triangle, whose area is positive, and at none of its corners.
 #[inline(always)]
 pub fn holds(view: View, t: Shape, p: Flat) -> bool
     ensures { result ≡ holds view (as_spot t.a) (as_spot t.b) (as_spot t.c) (as_spot p) }
 {
-    if area(view, t.a, t.b, p) < 0 {
+    if is_outside(area(view, t.a, t.b, p)) {
         return false;
     }
-    if area(view, t.b, t.c, p) < 0 {
+    if is_outside(area(view, t.b, t.c, p)) {
         return false;
     }
-    if area(view, t.c, t.a, p) < 0 {
+    if is_outside(area(view, t.c, t.a, p)) {
         return false;
     }
     !is_corner(t, p)

@@ -9,5 +9,5 @@ invariant-loop-corner l = record {
   sum : as_vector l.sum ≡ along (l.first ∷ take l.corner-index l.corners);
   last : l.previous ≡ last_of l.first (take l.corner-index l.corners);
   previous_in : IsGridPoint l.previous;
-  small : IsWithin l.sum (128000000000000 * l.corner-index)
+  small : IsWithin l.sum (128000000000000 * l.corner-index);
 }

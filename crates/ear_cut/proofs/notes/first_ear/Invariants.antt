@@ -7,5 +7,5 @@ use Rattle.ear_cut.proofs.notes.first_ear.Given as goal
 abbrev pub invariant-loop-i : goal.invariant-loop-i
 invariant-loop-i l = record {
   none : (k : ℕ) → k < l.i → is_ear (Some l.view) l.left (turn_at l.left k) ≡ false;
-  noted : IsNoted (Some l.view) l.left l.notes
+  noted : IsNoted (Some l.view) l.left l.notes;
 }

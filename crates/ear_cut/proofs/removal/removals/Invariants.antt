@@ -10,5 +10,5 @@ invariant-loop-step l = record {
   count : length l.left.items + l.step ≡ length l.corners + 3;
   in_grid : AreInGrid l.left.items;
   noted : IsNoted l.view l.left.items l.notes.items;
-  whole : cut_of l.corners ≡ behind l.ears.items (cut_by l.view (length l.corners - l.step) l.left.items)
+  whole : cut_of l.corners ≡ behind l.ears.items (cut_by l.view (length l.corners - l.step) l.left.items);
 }
