@@ -49,7 +49,7 @@ pub first_same : (test other : ℕ → Bool) (n m : ℕ) (r : Option ℕ) → n 
 first_same test other n m (Some i) e h f = (omega (arith, f.0), h i (omega (arith, f.0)) ∙ f.1, λ k l. h k (omega (arith, f.0)) ∙ f.2 k l)
 first_same test other n m None e h f = λ k l. h k l ∙ f k (omega arith)
 
-all_pass : (p : Corner → Bool) (xs : List Corner) → ((k : ℕ) → k < length xs → p (slice_index_or xs k nobody) ≡ true) → list_all p xs ≡ true
+pub all_pass : (p : Corner → Bool) (xs : List Corner) → ((k : ℕ) → k < length xs → p (slice_index_or xs k nobody) ≡ true) → list_all p xs ≡ true
 all_pass p [] h = refl
 all_pass p (x ∷ xs) h = ap (λ (b : Bool). b && list_all p xs) (h 0 (omega arith)) ∙ all_pass p xs (λ k l. h (suc k) (omega arith))
 

@@ -1,5 +1,5 @@
 -- The triangles found so far, before those that are to come.
-use Rattle.std.proofs.Common.{◌≡◌, ◌∙◌, ap, sym, refl, subst, ℕ, zero, suc, ◌+◌, ◌-◌, ◌<◌, Bool, true, false, cond, List, [], ◌∷◌, ◌++◌, append_assoc, length, All, Option, Some, None, arith}
+use Rattle.std.proofs.Common.{◌≡◌, ◌∙◌, ap, sym, refl, subst, ℕ, zero, suc, ◌+◌, ◌-◌, ◌<◌, ◌≤◌, Bool, true, false, cond, List, [], ◌∷◌, ◌++◌, append_assoc, length, All, Option, Some, None, arith}
 use Rattle.std.specs.Prelude.{remove, slice_index_or}
 use Rattle.std.specs.Option.{option_map, option_and_then}
 use Rattle.bim_model.specs.declared.geometry.Point.{Point}
@@ -9,6 +9,7 @@ use Rattle.ear_cut.specs.declared.ears.Ear.{Ear}
 use Rattle.ear_cut.specs.Normals.{IsGridPoint, normal_of}
 use Rattle.ear_cut.specs.Views.{view_of}
 use Rattle.ear_cut.specs.Corners.{corners_from, turn_at, angle_of, AreInGrid}
+use Rattle.ear_cut.proofs.Places.{length-corners}
 use Rattle.ear_cut.specs.Removal.{choice, ear_of, is_turned_over, cut_by, cut_of}
 
 -- the list done, and what comes behind it
@@ -42,15 +43,16 @@ unfolding cut_by
 last_stuck view n left done whole e f h =
     h ∙ (ap (λ (j : ℕ). behind done (cut_by view j left)) e ∙ ap (λ (b : Bool). behind done (cond b None (Some (ear_of (turn_at left 1) ∷ [])))) f)
 
-behind_nothing : (o : Option (List Ear)) → o ≡ behind [] o
+pub behind_nothing : (o : Option (List Ear)) → o ≡ behind [] o
 behind_nothing None = refl
 behind_nothing (Some more) = refl
 
-pub begun : (points : List Point) (view : Option View) (left : List Corner) (n : ℕ) → view ≡ view_of (normal_of points) → left ≡ corners_from 0 points → n ≡ length points - 3 → cut_of points ≡ behind [] (cut_by view n left)
+pub begun : (points : List Point) (view : Option View) (left : List Corner) → view ≡ view_of (normal_of points) → left ≡ corners_from 0 points → cut_of points ≡ cut_by view (length left - 3) left
 unfolding cut_of
-begun points view left n e f h =
-    sym (ap (λ (v : Option View). cut_by v n left) e ∙ (ap (λ (cs : List Corner). cut_by (view_of (normal_of points)) n cs) f ∙ ap (λ (j : ℕ). cut_by (view_of (normal_of points)) j (corners_from 0 points)) h))
-    ∙ behind_nothing (cut_by view n left)
+begun points view left e f =
+    sym (ap (λ (v : Option View). cut_by v (length left - 3) left) e
+    ∙ (ap (λ (cs : List Corner). cut_by (view_of (normal_of points)) (length cs - 3) cs) f
+    ∙ ap (λ (n : ℕ). cut_by (view_of (normal_of points)) (n - 3) (corners_from 0 points)) (length-corners 0 points)))
 
 -- corners at points of the grid
 by_points : (n : ℕ) (points : List Point) → All IsGridPoint points → (k : ℕ) (d : Corner) → k < length (corners_from n points) → IsGridPoint (slice_index_or (corners_from n points) k d).point

@@ -1,5 +1,5 @@
 -- What a removal leaves: the corner k was the corner `lift i k` before the i-th was taken out.
-use Rattle.std.proofs.Common.{◌≡◌, ◌≢◌, ◌∙◌, ap, sym, refl, subst, ℕ, ◌+◌, ◌-◌, ◌<◌, ◌≤◌, cond, inl, inr, List, length, map, set, Option, arith}
+use Rattle.std.proofs.Common.{◌≡◌, ◌≢◌, ◌∙◌, ap, sym, refl, subst, ℕ, ◌+◌, ◌-◌, ◌<◌, ◌≤◌, Bool, true, false, cond, ◌⊎◌, inl, inr, List, length, map, set, Option, Some, None, All, arith}
 use Rattle.std.specs.Prelude.{slice_index_or, remove, nat_lt}
 use Rattle.std.proofs.lemmas.Bool.{cases_lt, cases_eq}
 use Rattle.std.proofs.lemmas.Bool.Decides.{nat_tests}
@@ -8,6 +8,7 @@ use Rattle.std.proofs.lemmas.List.Edits.{length-remove, get_or-remove_below, get
 use Rattle.ear_cut.specs.declared.views.View.{View}
 use Rattle.ear_cut.specs.declared.corners.Corner.{Corner}
 use Rattle.ear_cut.specs.declared.corners.Turn.{Turn}
+use Rattle.ear_cut.specs.declared.corners.Angle.{Angle}
 use Rattle.ear_cut.specs.declared.notes.Note.{Note}
 use Rattle.ear_cut.specs.Corners.{previous, next, nobody, turn_at, angle_of, AreInGrid}
 use Rattle.ear_cut.specs.Normals.{IsGridPoint}
@@ -45,7 +46,7 @@ previous_taken n i k h l e = grind (arith, nat_tests)
 next_taken : (n i k : ℕ) → i ≤ n → k < n → k ≢ previous n (place_behind n i) → lift i (next n k) ≡ next (n + 1) (lift i k)
 next_taken n i k h l e = grind (arith, nat_tests)
 
-same_turn : (a b c d e f : Corner) → a ≡ d → b ≡ e → c ≡ f → ◌≡◌ {A = Turn} (record { before = a; corner = b; after = c }) (record { before = d; corner = e; after = f })
+pub same_turn : (a b c d e f : Corner) → a ≡ d → b ≡ e → c ≡ f → ◌≡◌ {A = Turn} (record { before = a; corner = b; after = c }) (record { before = d; corner = e; after = f })
 same_turn a b c d e f h k l =
     ap (λ (t : Corner). let v : Turn = record { before = t; corner = b; after = c } in v) h
     ∙ (ap (λ (t : Corner). let v : Turn = record { before = d; corner = t; after = c } in v) k ∙ ap (λ (t : Corner). let v : Turn = record { before = d; corner = e; after = t } in v) l)

@@ -5,3 +5,4 @@ pub mod Removal
 pub mod Registers
 pub mod Notes
 pub mod Areas
+pub mod Fans

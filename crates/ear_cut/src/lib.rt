@@ -4,6 +4,7 @@
 mod coordinates;
 mod corners;
 mod ears;
+mod fans;
 mod normals;
 mod notes;
 mod removal;
