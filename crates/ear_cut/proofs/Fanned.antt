@@ -1,5 +1,5 @@
 -- A polygon whose corners lie round the last one is cut from there: the first corner that is left always goes.
-use Rattle.std.proofs.Common.{◌≡◌, ◌∙◌, ap, sym, refl, subst, ℕ, zero, suc, ◌+◌, ◌-◌, ◌<◌, ◌≤◌, ◌⊎◌, inl, inr, ℤ, pos, ◌-ℤ◌, ◌<ℤ◌, Bool, true, false, not, ◌&&◌, ◌||◌, List, drop, length, Option, Some, None, arith}
+use Rattle.std.proofs.Common.{◌≡◌, ◌∙◌, ap, sym, refl, subst, ℕ, zero, suc, ◌+◌, ◌-◌, ◌<◌, ◌≤◌, inl, inr, ℤ, pos, ◌-ℤ◌, ◌<ℤ◌, Bool, true, false, not, ◌&&◌, ◌||◌, List, drop, length, Option, Some, None, arith}
 use Rattle.std.specs.Prelude.{slice_index_or, remove, int_lt}
 use Rattle.std.proofs.lemmas.Int.{ints}
 use Rattle.std.proofs.lemmas.Bool.{cases_lt}
@@ -13,7 +13,7 @@ use Rattle.ear_cut.specs.declared.corners.Angle.TheVariants.{Convex}
 use Rattle.ear_cut.specs.Views.{Spot, seen, area, same_spot, is_corner, holds}
 use Rattle.ear_cut.specs.Corners.{previous, next, nobody, turn_at, angle_of, is_straight, by_sign}
 use Rattle.ear_cut.specs.Removal.{choice, first_from, or_else, is_ear, is_ear_at, is_free}
-use Rattle.ear_cut.specs.Fans.{spot_at, area_at, IsFanAt, IsFan}
+use Rattle.ear_cut.specs.Fans.{spot_at, area_at, IsFan}
 use Rattle.ear_cut.proofs.Spokes.{area_cyclic, area_turned, area_behind, convex_sign}
 use Rattle.ear_cut.proofs.Search.{first_is, all_pass}
 use Rattle.ear_cut.proofs.Taken.{same_turn}
@@ -90,13 +90,13 @@ all_convex view left i (suc k) f h l =
     elim (cases_lt ((i + suc k) + 1) (length left)) [
       | inl m ↦ convex_at view left i (suc k) ((i + suc k) - 1) (i + suc k) ((i + suc k) + 1) (before_middle i (length left) (suc k) (omega arith)) refl (behind_middle i (length left) (suc k) m) (f.each (i + suc k) (omega arith) m).convex
       | inr m ↦
-        let e : (i + suc k) + 1 ≡ length left = omega arith in
-        let o = length left - 1 in
-        let p : i + suc k ≡ o = omega (arith, e) in
-        let q : (i + suc k) - 1 ≡ length left - 2 = omega (arith, e) in
-        let r = later view left i (length left - 2) f (omega (arith, h)) (omega (arith, h)) in
-        convex_at view left i (suc k) (length left - 2) o i (before_middle i (length left) (suc k) (omega arith) ∙ q) p (behind_last i (length left) (suc k) e)
-        (subst (λ (x : ℤ). pos 0 <ℤ x) (area_cyclic view (spot_at view left (length left - 2)) (spot_at view left o) (spot_at view left i)) r)
+          let e : (i + suc k) + 1 ≡ length left = omega arith in
+          let o = length left - 1 in
+          let p : i + suc k ≡ o = omega (arith, e) in
+          let q : (i + suc k) - 1 ≡ length left - 2 = omega (arith, e) in
+          let r = later view left i (length left - 2) f (omega (arith, h)) (omega (arith, h)) in
+          convex_at view left i (suc k) (length left - 2) o i (before_middle i (length left) (suc k) (omega arith) ∙ q) p (behind_last i (length left) (suc k) e)
+          (subst (λ (x : ℤ). pos 0 <ℤ x) (area_cyclic view (spot_at view left (length left - 2)) (spot_at view left o) (spot_at view left i)) r)
     ]
 
 -- ---- the first of them between the last corner and the next one
@@ -178,9 +178,9 @@ ear_first view left i f h =
     let rest = drop i left in
     ap (is_ear_at (Some view) rest (turn_at rest 0)) (all_convex view left i 0 f h (omega arith))
     ∙ all_pass (λ (c : Corner). is_free (Some view) (turn_at rest 0) c) rest (λ k l.
-      ap (λ (t : Turn). is_free (Some view) t (slice_index_or rest k nobody)) (first_turn left i h)
-      ∙ (ap (is_free (Some view) (fan_turn left i)) (get_or-drop i left k nobody)
-      ∙ free_at view left i (i + k) f h (omega arith) (omega (arith, l, length-drop i left, h))))
+    ap (λ (t : Turn). is_free (Some view) t (slice_index_or rest k nobody)) (first_turn left i h)
+    ∙ (ap (is_free (Some view) (fan_turn left i)) (get_or-drop i left k nobody)
+    ∙ free_at view left i (i + k) f h (omega arith) (omega (arith, l, length-drop i left, h))))
 
 -- the first of them goes
 pub first_goes : (view : View) (left : List Corner) (i : ℕ) → IsFan view left → i + 3 ≤ length left → Some 0 ≡ choice (Some view) (drop i left)

@@ -1,7 +1,5 @@
 -- Vectors with equal parts, and tests of several parts.
-use Rattle.std.proofs.Common.{◌≡◌, ◌∙◌, ap, sym, ℤ, pos, Bool, true, false, not, ◌&&◌, refl, FitsSigned, w64, int_lt}
-use Rattle.std.proofs.lemmas.Int.{to_z-of_z}
-use Rattle.exact_arith.proofs.Ranges.{in_64}
+use Rattle.std.proofs.Common.{◌≡◌, ◌∙◌, ap, ℤ, Bool, true, false, not, ◌&&◌, refl}
 use Rattle.ear_cut.specs.Normals.{Vector}
 
 pub same_vector : (a b c d e f : ℤ) → a ≡ d → b ≡ e → c ≡ f → ◌≡◌ {A = Vector} (record { x = a; y = b; z = c }) (record { x = d; y = e; z = f })

@@ -1,5 +1,5 @@
 -- Points with their places.
-use Rattle.std.proofs.Common.{◌≡◌, ◌∙◌, ap, sym, refl, ℕ, ◌+◌, ◌<◌, List, [], ◌∷◌, ◌++◌, take, length, get_or, arith, zero, suc, min}
+use Rattle.std.proofs.Common.{◌≡◌, ◌∙◌, ap, sym, refl, ℕ, ◌+◌, ◌<◌, List, [], ◌∷◌, ◌++◌, take, length, get_or, arith, suc}
 use Rattle.std.proofs.lemmas.List.{take_more, length-take-le}
 use Rattle.bim_model.specs.declared.geometry.Point.{Point}
 use Rattle.ear_cut.specs.declared.corners.Corner.{Corner}

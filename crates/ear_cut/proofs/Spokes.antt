@@ -1,5 +1,5 @@
 -- Areas of triangles with a common corner.
-use Rattle.std.proofs.Common.{◌≡◌, ◌∙◌, ap, sym, refl, subst, ℤ, pos, negsuc, zero, suc, ◌+ℤ◌, ◌-ℤ◌, ◌*ℤ◌, ◌≤ℤ◌, ◌<ℤ◌, Bool, true, false, List, [], ◌∷◌, arith}
+use Rattle.std.proofs.Common.{◌≡◌, ◌∙◌, ap, sym, refl, subst, ℤ, pos, negsuc, zero, suc, ◌+ℤ◌, ◌-ℤ◌, ◌*ℤ◌, ◌<ℤ◌, Bool, true, false, [], ◌∷◌, arith}
 use Rattle.std.proofs.lemmas.Int.{ints}
 use Rattle.exact_arith.proofs.Ring.{ring, Term, at, lit, ◌⊕◌, ◌⊖◌, ◌⊗◌}
 use Rattle.exact_arith.proofs.Order.{mul_positive}
@@ -7,7 +7,6 @@ use Rattle.ear_cut.specs.declared.views.View.{View}
 use Rattle.ear_cut.specs.declared.corners.Angle.TheVariants.{Convex}
 use Rattle.ear_cut.specs.Views.{Spot, bend, signed, area}
 use Rattle.ear_cut.specs.Corners.{by_sign}
-
 
 abbrev bent : Term → Term → Term → Term → Term → Term → Term
 bent au av bu bv cu cv = (bu ⊖ au) ⊗ (cv ⊖ bv) ⊖ (bv ⊖ av) ⊗ (cu ⊖ bu)

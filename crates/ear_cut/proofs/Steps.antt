@@ -1,5 +1,5 @@
 -- The triangles found so far, before those that are to come.
-use Rattle.std.proofs.Common.{◌≡◌, ◌∙◌, ap, sym, refl, subst, ℕ, zero, suc, ◌+◌, ◌-◌, ◌<◌, ◌≤◌, Bool, true, false, cond, List, [], ◌∷◌, ◌++◌, append_assoc, length, All, Option, Some, None, arith}
+use Rattle.std.proofs.Common.{◌≡◌, ◌∙◌, ap, sym, refl, subst, ℕ, zero, suc, ◌+◌, ◌-◌, ◌<◌, Bool, true, false, cond, List, [], ◌∷◌, ◌++◌, append_assoc, length, All, Option, Some, None, arith}
 use Rattle.std.specs.Prelude.{remove, slice_index_or}
 use Rattle.std.specs.Option.{option_map, option_and_then}
 use Rattle.bim_model.specs.declared.geometry.Point.{Point}

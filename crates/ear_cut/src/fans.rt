@@ -75,11 +75,7 @@ fn is_fan(view: View, left: &[Corner]) -> bool
 }
 
 /// The triangles of a convex polygon; a `None` says nothing.
-fn fan_of(
-    alloc: Global,
-    view: View,
-    left: &[Corner],
-) -> Result<Option<Vec<Ear>>, AllocError>
+fn fan_of(alloc: Global, view: View, left: &[Corner]) -> Result<Option<Vec<Ear>>, AllocError>
     requires many { 2 < length left.now }
     requires left_in { AreInGrid left.now }
     ensures { IfOk result (λ found. IfSome found (λ ears. cut_by (Some view) (length left.now - 3) left.now ≡ Some ears.items)) }

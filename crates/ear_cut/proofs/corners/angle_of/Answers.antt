@@ -1,4 +1,4 @@
-use Rattle.std.proofs.Common.{◌≡◌, ◌∙◌, ap, sym, ℤ, Bool, Option, Some, None, cond, rules, w64, FitsSigned}
+use Rattle.std.proofs.Common.{◌∙◌, ap, sym, Bool, Option, cond, rules, w64, FitsSigned}
 use Rattle.std.proofs.lemmas.Int.{to_z-of_z}
 use Rattle.ear_cut.specs.declared.views.View.{View}
 use Rattle.ear_cut.specs.declared.corners.Angle.TheVariants.{Straight, Reflex}

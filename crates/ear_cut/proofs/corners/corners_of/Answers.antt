@@ -1,4 +1,4 @@
-use Rattle.std.proofs.Common.{◌≡◌, ◌∙◌, ap, ◌++◌, ◌∷◌, [], List, get_or}
+use Rattle.std.proofs.Common.{◌∙◌, ap, ◌++◌, ◌∷◌, [], List, get_or}
 use Rattle.ear_cut.specs.declared.corners.Corner.{Corner}
 use Rattle.ear_cut.specs.Corners.{nobody}
 use Rattle.ear_cut.proofs.Places.{corner, corners_more}

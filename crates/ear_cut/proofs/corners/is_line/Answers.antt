@@ -1,4 +1,4 @@
-use Rattle.std.proofs.Common.{◌≡◌, ◌∙◌, ap}
+use Rattle.std.proofs.Common.{◌∙◌, ap}
 use Rattle.ear_cut.specs.Normals.{Vector, is_nowhere, cross_of, step}
 use Rattle.ear_cut.specs.Registers.{as_way}
 use Rattle.ear_cut.proofs.corners.is_line.Goals as goal

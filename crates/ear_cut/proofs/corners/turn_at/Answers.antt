@@ -1,4 +1,4 @@
-use Rattle.std.proofs.Common.{◌≡◌, ◌∙◌, ap, ℕ, length}
+use Rattle.std.proofs.Common.{◌∙◌, ap, ℕ, length}
 use Rattle.std.specs.Prelude.{slice_index_or}
 use Rattle.ear_cut.specs.declared.corners.Turn.{Turn}
 use Rattle.ear_cut.specs.Corners.{turn_at, nobody, previous}

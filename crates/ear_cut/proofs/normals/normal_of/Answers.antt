@@ -1,4 +1,4 @@
-use Rattle.std.proofs.Common.{ℕ, ◌+◌, ◌*◌, ◌≤◌, ℤ, ◌≡◌, refl, arith, rules}
+use Rattle.std.proofs.Common.{ℕ, ◌+◌, ◌*◌, ◌≤◌, ℤ, refl, arith, rules}
 use Rattle.std.specs.Prelude.{unsigned_abs}
 use Rattle.ear_cut.specs.declared.normals.Normal.{Normal}
 use Rattle.ear_cut.specs.Registers.{IsWithin}

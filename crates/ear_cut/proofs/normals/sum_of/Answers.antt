@@ -1,5 +1,5 @@
 use Rattle.std.proofs.Common.{ℕ, ℤ, ◌+ℤ◌, ◌+◌, unsigned_abs, ◌≤◌, ◌≡◌, arith, subst, sym}
-use Rattle.exact_arith.proofs.Ranges.{Kept, value_kept_64, sum_kept, kept_64, in_64, fits_64, abs_add}
+use Rattle.exact_arith.proofs.Ranges.{Kept, value_kept_64, sum_kept, kept_64, in_64, abs_add}
 use Rattle.ear_cut.proofs.Parts.{same_vector}
 use Rattle.ear_cut.proofs.normals.sum_of.Goals as goal
 

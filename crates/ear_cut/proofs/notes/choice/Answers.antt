@@ -1,7 +1,5 @@
-use Rattle.std.proofs.Common.{◌≡◌, ◌∙◌, ap, sym, ℕ, length, Some, None, Option}
+use Rattle.std.proofs.Common.{◌∙◌, ap, sym, ℕ, length, Some, None, Option}
 use Rattle.std.specs.Prelude.{slice_index_or}
-use Rattle.ear_cut.specs.declared.notes.Note.{Note}
-use Rattle.ear_cut.specs.declared.corners.Angle.{Angle}
 use Rattle.ear_cut.specs.Corners.{is_straight, angle_of, turn_at}
 use Rattle.ear_cut.specs.Removal.{choice, first_from, or_else, is_ear}
 use Rattle.ear_cut.specs.Notes.{blank}

@@ -1,6 +1,6 @@
-use Rattle.std.proofs.Common.{◌≡◌, ◌∙◌, ap, sym, subst, List, set, map}
+use Rattle.std.proofs.Common.{◌∙◌, ap, sym, subst, List, set}
 use Rattle.ear_cut.specs.declared.notes.Note.{Note}
-use Rattle.ear_cut.specs.Notes.{IsNoted, fresh, shifted}
+use Rattle.ear_cut.specs.Notes.{IsNoted, fresh}
 use Rattle.ear_cut.proofs.Taken.{updated}
 use Rattle.ear_cut.proofs.notes.update.Goals as goal
 
