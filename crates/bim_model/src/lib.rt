@@ -7,11 +7,15 @@ mod geometry;
 mod guid;
 mod identifiers;
 mod items;
+mod model;
 mod moment;
+mod named_model;
 mod shared;
+mod snapshot;
 mod steps;
 mod text;
 mod topic;
+mod upload;
 
 pub use bytes::Bytes;
 pub use element::Element;
@@ -19,11 +23,15 @@ pub use geometry::{Extent, PER_MM, Point, Triangle, extent_of};
 pub use guid::Guid;
 pub use identifiers::{id_of, serial_of};
 pub use items::{Duplicate, Items};
+pub use model::Model;
 pub use moment::Moment;
+pub use named_model::NamedModel;
 pub use shared::Shared;
+pub use snapshot::Snapshot;
 pub use steps::Steps;
 pub use text::Text;
 pub use topic::{Author, Topic, TopicBody};
+pub use upload::{BuildError, Many, Mode, UploadFault};
 
 #[cfg(test)]
 mod tests;

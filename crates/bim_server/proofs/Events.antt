@@ -8,8 +8,10 @@ use Rattle.federation_book.specs.declared.types.Stamp.{Stamp}
 use Rattle.federation_book.specs.declared.types.Entry.{Entry}
 use Rattle.federation_book.specs.declared.types.BookReply.{BookReply}
 use Rattle.federation_book.specs.declared.types.BookRequest.{BookRequest}
-use Rattle.federation_book.specs.declared.types.BookRequest.TheVariants.{ListTopics, PostTopic}
-use Rattle.federation_book.specs.History.{reply_of, added_by, body_of, topic_made, entry_made, project_of, at_turn, IsBefore}
+use Rattle.federation_book.specs.declared.types.BookRequest.TheVariants.{ListTopics, PostTopic, Upload, ReadVersion}
+use Rattle.bim_model.specs.declared.element.Element.{Element}
+use Rattle.federation_book.specs.declared.types.Change.TheVariants as change
+use Rattle.federation_book.specs.History.{reply_of, added_by, body_of, topic_made, model_put, entry_made, project_of, at_turn, IsBefore}
 use Rattle.federation_book.specs.Runs.{Step, IsRun, IsOneThread}
 use Rattle.federation_book.proofs.Histories.{AreOf, added_of, above_of, at_turn-new, of_turn-new, Runs_push, follows_one, one_push}
 use Rattle.bcf_http.specs.declared.calls.RequestFault.TheVariants.{NotBuilt}
@@ -46,14 +48,25 @@ fault_is may moment rest later may_be (inr body) = inr (moment, may_be, body.0, 
 abbrev pub step_of : ServerState → BookRequest → Step
 step_of server call = record { stamp = stamp_of (server.turns + 1); request = call }
 
-nothing_made : (h : List Entry) (stamp : Stamp) (body : TopicBody) (author : Author) (weight : ℕ) (o : Option ℕ) → ChangesNothing (topic_made h body author o)
-    → entry_made stamp body author weight o ≡ []
-nothing_made h stamp body author weight None nothing = refl
-nothing_made h stamp body author weight (Some p) nothing = absurd nothing
+nothing_asked : (stamp : Stamp) (o : Option ℕ) → entry_made stamp o None ≡ []
+nothing_asked stamp None = refl
+nothing_asked stamp (Some p) = refl
+
+nothing_posted : (h : List Entry) (stamp : Stamp) (body : TopicBody) (author : Author) (weight : ℕ) (o : Option ℕ) → ChangesNothing (topic_made h body author o)
+    → entry_made stamp o (Some (change.PostTopic body author weight)) ≡ []
+nothing_posted h stamp body author weight None nothing = refl
+nothing_posted h stamp body author weight (Some p) nothing = absurd nothing
+
+nothing_put : (h : List Entry) (stamp : Stamp) (name : List ℕ) (model : List Element) (o : Option ℕ) → ChangesNothing (model_put h model o)
+    → entry_made stamp o (Some (change.Upload name model)) ≡ []
+nothing_put h stamp name model None nothing = refl
+nothing_put h stamp name model (Some p) nothing = absurd nothing
 
 nothing_added : (h : List Entry) (stamp : Stamp) (call : BookRequest) → ChangesNothing (body_of 1 h call) → added_by 1 h stamp call ≡ []
-nothing_added h stamp (ListTopics id) nothing = refl
-nothing_added h stamp (PostTopic id body author weight) nothing = nothing_made h stamp body author weight (project_of 1 id) nothing
+nothing_added h stamp (ListTopics id) nothing = nothing_asked stamp (project_of 1 id)
+nothing_added h stamp (PostTopic id body author weight) nothing = nothing_posted h stamp body author weight (project_of 1 id) nothing
+nothing_added h stamp (Upload id name model) nothing = nothing_put h stamp name model (project_of 1 id) nothing
+nothing_added h stamp (ReadVersion id wanted) nothing = nothing_asked stamp (project_of 1 id)
 
 pub takes_next : (may : ℕ → Type 0) (server : ServerState) (request : HttpRequest) (call : BookRequest) (moment : ℕ) → may moment → asked_by moment request ≡ Ok call
     → IsBefore (server.turns + 1) server.history → Takes may 1 (with_turn call server).history request (step_of server call)

@@ -121,6 +121,8 @@ Talks moment old (Leave e) new =
 abbrev pub ChangesNothing : ReplyBody → Type 0
 ChangesNothing (reply.TopicIs topic) = ⊥
 ChangesNothing (reply.TopicList topics) = Unit {0}
+ChangesNothing (reply.Changed version elements triangles left) = ⊥
+ChangesNothing (reply.Version version newest models) = Unit {0}
 ChangesNothing (reply.Refused fault) = Unit {0}
 
 -- the response to a call that the book answered with this receipt, or for which memory was wanting

@@ -65,6 +65,8 @@ fn changes_nothing(reply: &ReplyBody) -> bool
     match reply {
         ReplyBody::TopicIs(_) => false,
         ReplyBody::TopicList(_) => true,
+        ReplyBody::Changed { .. } => false,
+        ReplyBody::Version { .. } => true,
         ReplyBody::Refused(_) => true,
     }
 }

@@ -1,0 +1,10 @@
+//! Boxes along the axes, filtered by their gap to a box, eight at a time.
+#![tactic(auto)]
+
+mod plain;
+mod table;
+#[cfg(test)]
+mod tests;
+
+pub use plain::places_within;
+pub use table::BoxTable;
