@@ -1,0 +1,6 @@
+use Rattle.std.proofs.Common.{All}
+use Rattle.ear_cut.specs.Normals.{IsGridPoint}
+use Rattle.ear_cut.proofs.tests.polygon.Given as goal
+
+abbrev pub invariant-loop-corner : goal.invariant-loop-corner
+invariant-loop-corner l = All IsGridPoint l.made.items

@@ -1,0 +1,8 @@
+pub mod Normals
+pub mod Views
+pub mod Corners
+pub mod Removal
+pub mod Registers
+pub mod Notes
+pub mod Areas
+pub mod Fans

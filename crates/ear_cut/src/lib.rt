@@ -1,0 +1,16 @@
+//! Polygons of space cut into triangles, by a rule that determines each triangle and their order.
+#![tactic(auto)]
+
+mod coordinates;
+mod corners;
+mod ears;
+mod fans;
+mod normals;
+mod notes;
+mod removal;
+#[cfg(test)]
+mod tests;
+mod views;
+
+pub use ears::Ear;
+pub use removal::{CutFault, cut};

@@ -1,0 +1,243 @@
+// What is noted of each corner that remains, so that a removal has only its neighbours judged anew.
+ghost use Rattle.std.specs.Prelude.{◌≡◌, ◌≤◌, ◌<◌, ◌==◌, length, IfOk, IfSome, MatchOption, None, slice_index_or, slice_set, map, remove, false, Some};
+ghost use Rattle.ear_cut.specs.Corners.{turn_at, angle_of, is_straight, nobody, InGrid, AreInGrid};
+ghost use Rattle.ear_cut.specs.Removal.{is_free, is_ear, choice};
+ghost use Rattle.ear_cut.specs.Notes.{blank, fresh, shifted, tells_ear, place_behind, IsClearTo, IsNoted, IsTaken, IsRemoval, IsFirst};
+
+use crate::coordinates::Shape;
+use crate::corners::{Angle, Corner, Turn, angle_of, previous, turn_at};
+use crate::views::{View, holds, seen};
+use std::alloc::{AllocError, Global};
+
+/// What is noted of a corner.
+#[derive(Clone, Copy)]
+pub struct Note {
+    pub angle: Angle,
+    /// So many corners that remain, from the first on, are not in its triangle.
+    pub clear: usize,
+}
+
+/// The note of a corner whose triangle has not been searched.
+fn fresh(view: Option<View>, left: &[Corner], i: usize) -> Note
+    requires i_in { i < length left.now }
+    requires left_in { AreInGrid left.now }
+    ensures { result ≡ fresh view left.now i }
+{
+    Note {
+        angle: angle_of(view, turn_at(left, i)),
+        clear: 0,
+    }
+}
+
+/// The notes of all corners.
+pub fn notes_of(alloc: Global, view: Option<View>, left: &[Corner]) -> Result<Vec<Note>, AllocError>
+    requires { AreInGrid left.now }
+    ensures { IfOk result (λ notes. IsNoted view left.now notes.items) }
+{
+    let mut notes = Vec::with_capacity(alloc, left.len())?;
+    for i in 0..left.len() {
+        notes.push(fresh(view, left, i))?;
+    }
+    Ok(notes)
+}
+
+/// Whether the area at a corner is zero.
+fn is_straight(angle: Angle) -> bool
+    ensures { result ≡ is_straight angle }
+{
+    match angle {
+        Angle::Straight => true,
+        _ => false,
+    }
+}
+
+/// The first corner of zero area.
+fn first_straight(notes: &[Note]) -> Option<usize>
+    ensures { IsFirst (λ i. is_straight (slice_index_or notes.now i blank).angle) (length notes.now) result }
+{
+    for i in 0..notes.len() {
+        if is_straight(notes[i].angle) {
+            return Some(i);
+        }
+    }
+    None
+}
+
+/// How many corners, from the first on, are not in the triangle, of which `from` are known not to be.
+fn clear_to(view: View, t: Turn, left: &[Corner], from: usize) -> usize
+    requires t_in { InGrid t }
+    requires left_in { AreInGrid left.now }
+    requires known { IsClearTo (Some view) left.now t from }
+    ensures clear { IsClearTo (Some view) left.now t result }
+    ensures stop { result < length left.now → is_free (Some view) t (slice_index_or left.now result nobody) ≡ false }
+{
+    let shape = Shape {
+        a: seen(view.axis, t.before.point),
+        b: seen(view.axis, t.corner.point),
+        c: seen(view.axis, t.after.point),
+    };
+    for i in from..left.len() {
+        if holds(view, shape, seen(view.axis, left[i].point)) {
+            return i;
+        }
+    }
+    left.len()
+}
+
+/// The note of a corner, with its triangle searched if its area is positive.
+fn searched(view: View, left: &[Corner], i: usize, note: Note) -> Note
+    requires i_in { i < length left.now }
+    requires left_in { AreInGrid left.now }
+    requires angle { note.angle ≡ angle_of (Some view) (turn_at left.now i) }
+    requires clear { IsClearTo (Some view) left.now (turn_at left.now i) note.clear }
+    ensures angle { result.angle ≡ note.angle }
+    ensures clear { IsClearTo (Some view) left.now (turn_at left.now i) result.clear }
+    ensures tells { tells_ear result (length left.now) ≡ is_ear (Some view) left.now (turn_at left.now i) }
+{
+    match note.angle {
+        Angle::Convex => Note {
+            angle: note.angle,
+            clear: clear_to(view, turn_at(left, i), left, note.clear),
+        },
+        _ => note,
+    }
+}
+
+/// Whether the note of a corner, with its triangle searched, tells that it is an ear of n corners.
+fn tells_ear(note: Note, n: usize) -> bool
+    ensures { result ≡ tells_ear note n }
+{
+    match note.angle {
+        Angle::Convex => note.clear == n,
+        _ => false,
+    }
+}
+
+/// The first ear.
+fn first_ear(view: View, left: &[Corner], notes: &mut [Note]) -> Option<usize>
+    requires left_in { AreInGrid left.now }
+    requires noted { IsNoted (Some view) left.now notes.old }
+    ensures first { IsFirst (λ i. is_ear (Some view) left.now (turn_at left.now i)) (length left.now) result }
+    ensures noted { IsNoted (Some view) left.now notes.new }
+{
+    for i in 0..left.len() {
+        let note = searched(view, left, i, notes[i]);
+        notes[i] = note;
+        if tells_ear(note, left.len()) {
+            return Some(i);
+        }
+    }
+    None
+}
+
+/// The first ear; without a view there is none.
+fn first_seen_ear(view: Option<View>, left: &[Corner], notes: &mut [Note]) -> Option<usize>
+    requires left_in { AreInGrid left.now }
+    requires noted { IsNoted view left.now notes.old }
+    ensures first { IsFirst (λ i. is_ear view left.now (turn_at left.now i)) (length left.now) result }
+    ensures noted { IsNoted view left.now notes.new }
+{
+    match view {
+        None => None,
+        Some(view) => first_ear(view, left, notes),
+    }
+}
+
+/// The corner that goes next.
+fn choice(view: Option<View>, left: &[Corner], notes: &mut [Note]) -> Option<usize>
+    requires left_in { AreInGrid left.now }
+    requires noted { IsNoted view left.now notes.old }
+    ensures choice { result ≡ choice view left.now }
+    ensures within { IfSome result (λ i. i < length left.now) }
+    ensures noted { IsNoted view left.now notes.new }
+{
+    match first_straight(notes) {
+        Some(i) => Some(i),
+        None => first_seen_ear(view, left, notes),
+    }
+}
+
+/// A note with the i-th corner taken out of the list.
+fn shifted(note: Note, i: usize) -> Note
+    ensures { result ≡ shifted i note }
+{
+    if i < note.clear {
+        Note {
+            angle: note.angle,
+            clear: note.clear - 1,
+        }
+    } else {
+        note
+    }
+}
+
+/// The notes with the i-th corner taken out of the list.
+fn shift(notes: &mut [Note], i: usize)
+    ensures { notes.new ≡ map (shifted i) notes.old }
+{
+    for note in notes.iter_mut() {
+        *note = shifted(*note, i);
+    }
+}
+
+/// Judges a corner anew.
+fn renew(view: Option<View>, left: &[Corner], notes: &mut [Note], i: usize)
+    requires i_in { i < length left.now }
+    requires left_in { AreInGrid left.now }
+    requires count { length notes.old ≡ length left.now }
+    ensures { notes.new ≡ slice_set notes.old i (fresh view left.now i) }
+{
+    notes[i] = fresh(view, left, i);
+}
+
+/// The place, among n corners, that is behind the i-th once that is taken out.
+fn place_behind(n: usize, i: usize) -> usize
+    requires { i ≤ n }
+    ensures { result ≡ place_behind n i }
+{
+    if i == n { 0 } else { i }
+}
+
+/// Brings the notes up to date where the i-th corner and its note were taken out.
+fn update(view: Option<View>, left: &[Corner], notes: &mut [Note], i: usize)
+    requires left_in { AreInGrid left.now }
+    requires taken { IsTaken view left.now notes.old i }
+    ensures { IsNoted view left.now notes.new }
+{
+    shift(notes, i);
+    let after = place_behind(left.len(), i);
+    renew(view, left, notes, previous(left.len(), after));
+    renew(view, left, notes, after);
+}
+
+/// Takes the i-th corner out, and judges its neighbours anew.
+fn remove_at(view: Option<View>, left: &mut Vec<Corner>, notes: &mut Vec<Note>, i: usize)
+    requires i_in { i < length left.old.items }
+    requires many { 3 < length left.old.items }
+    requires left_in { AreInGrid left.old.items }
+    requires noted { IsNoted view left.old.items notes.old.items }
+    ensures removed { left.new.items ≡ remove left.old.items i }
+    ensures left_in { AreInGrid left.new.items }
+    ensures noted { IsNoted view left.new.items notes.new.items }
+{
+    let _ = left.remove(i);
+    let _ = notes.remove(i);
+    update(view, left, notes, i);
+}
+
+/// Takes out the corner that goes next, and gives it between its neighbours.
+pub fn take_next(view: Option<View>, left: &mut Vec<Corner>, notes: &mut Vec<Note>) -> Option<Turn>
+    requires many { 3 < length left.old.items }
+    requires left_in { AreInGrid left.old.items }
+    requires noted { IsNoted view left.old.items notes.old.items }
+    ensures { MatchOption result (choice view left.old.items ≡ None) (λ t. IsRemoval view left.old.items t left.new.items notes.new.items) }
+{
+    match choice(view, left, notes) {
+        None => None,
+        Some(i) => {
+            let t = turn_at(left, i);
+            remove_at(view, left, notes, i);
+            Some(t)
+        }
+    }
+}
