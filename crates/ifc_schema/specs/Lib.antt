@@ -1,0 +1,9 @@
+pub mod Words
+pub mod Entities
+pub mod Forms
+pub mod Table
+pub mod Looking
+pub mod Bodies
+pub mod Flaws
+pub mod Used
+pub mod StageFive

@@ -1,0 +1,79 @@
+use crate::entity::Entity;
+
+/// The instances that a reference may lead to, by their entities.
+#[derive(Clone, Copy)]
+pub enum Targets {
+    /// None is named.
+    Nothing,
+    One(Entity),
+    /// Polygonal faces, with voids or without.
+    Faces,
+    /// Face sets and mapped items.
+    Items,
+}
+
+/// What one value is, where it isn't a list.
+#[derive(Clone, Copy)]
+pub enum Leaf {
+    Number,
+    /// A number whose value is whole.
+    Whole,
+    Text,
+    /// A text whose value is a globally unique identifier.
+    Identifier,
+    Enumeration,
+    /// A reference to an instance of one of these entities, which are followed.
+    Reference(Targets),
+    /// A reference to any instance, of which these are followed.
+    AnyReference(Targets),
+    /// Any value.
+    Anything,
+}
+
+/// How many items a list has.
+#[derive(Clone, Copy)]
+pub enum Count {
+    Exactly(usize),
+    AtLeast(usize),
+}
+
+/// In how many lists a leaf stands.
+#[derive(Clone, Copy)]
+pub enum Shape {
+    One,
+    List(Count),
+    /// A list of lists.
+    Table(Count, Count),
+}
+
+/// What may stand in place of a value of the form.
+#[derive(Clone, Copy)]
+pub enum Need {
+    /// Nothing.
+    Must,
+    /// `$` or `*`.
+    OrAbsent,
+    /// `$` or `*`, or the instance has no such attribute.
+    OrMissing,
+}
+
+/// In which instances of the entity an attribute is followed.
+#[derive(Clone, Copy)]
+pub enum When {
+    Always,
+    /// In an element that has a body.
+    WithBody,
+    /// In a representation that is a body or is mapped.
+    WithItems,
+}
+
+/// An attribute of an entity, and the form that it has.
+#[derive(Clone, Copy)]
+pub struct Attribute {
+    /// Its number, from 0.
+    pub at: usize,
+    pub when: When,
+    pub need: Need,
+    pub shape: Shape,
+    pub leaf: Leaf,
+}

@@ -1,0 +1,12 @@
+//! The entities of IFC that a coordination model is read from (IFC4 ADD2 TC1): which attributes are followed and what form they have, which
+//! instances of a file are used, and views of single instances.
+#![tactic(auto)]
+
+mod entity;
+mod flaw;
+mod form;
+mod survey;
+mod table;
+
+pub use entity::Entity;
+pub use survey::Survey;
