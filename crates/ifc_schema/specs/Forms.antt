@@ -1,10 +1,6 @@
 -- The forms that attributes have.
 use Rattle.std.specs.Prelude.{ℕ, ◌==◌, ◌||◌, nat_le, Bool, true, false, List, [], ◌∷◌, Option, Some, None}
 use Rattle.std.specs.List.{list_any}
-use Rattle.p21_reader.specs.declared.value.Value21.{Value21}
-use Rattle.p21_reader.specs.declared.value.Value21.TheOpen.{Value21-F}
-use Rattle.p21_reader.specs.declared.value.Value21.TheOpen as layer
-use Rattle.p21_reader.specs.declared.value.Value21.TheViews.{out-Value21}
 use Rattle.ifc_schema.specs.declared.entity.Entity.{Entity}
 use Rattle.ifc_schema.specs.declared.entity.Entity.TheVariants as entity
 use Rattle.ifc_schema.specs.declared.form.Targets.{Targets}
@@ -16,10 +12,6 @@ use Rattle.ifc_schema.specs.declared.form.Count.TheVariants.{Exactly, AtLeast}
 use Rattle.ifc_schema.specs.declared.form.Need.{Need}
 use Rattle.ifc_schema.specs.declared.form.Need.TheVariants.{Must, OrAbsent, OrMissing}
 use Rattle.ifc_schema.specs.Entities.{is_of}
-
--- one layer of a value: its kind, and the values in it
-abbrev pub seen : Value21 → Value21-F Value21
-seen = out-Value21
 
 -- a list may have that many items
 abbrev pub fits : Count → ℕ → Bool
@@ -43,12 +35,6 @@ abbrev pub followed : Leaf → Targets
 followed (leaf.Reference t) = t
 followed (leaf.AnyReference t) = t
 followed _ = targets.Nothing
-
--- a `*` counts as a `$`
-abbrev pub is_absent : Value21-F Value21 → Bool
-is_absent layer.Absent = true
-is_absent layer.Derived = true
-is_absent _ = false
 
 -- an absent value may stand in place of one of the form
 abbrev pub allows_absent : Need → Bool

@@ -1,6 +1,7 @@
 pub mod Words
 pub mod Entities
 pub mod Forms
+pub mod Values
 pub mod Table
 pub mod Looking
 pub mod Bodies

@@ -1,9 +1,7 @@
 -- The instances that a model is read from.
-use Rattle.std.specs.Prelude.{◌≡◌, ℕ, ◌<◌, Bool, true, false, List, Option, Some, None, Contains, Any}
+use Rattle.std.specs.Prelude.{◌≡◌, ℕ, ◌<◌, Bool, true, false, List, Option, Some, None, MatchOption, Contains, Any}
 use Rattle.std.specs.List.{slice_get}
 use Rattle.p21_reader.specs.declared.value.Value21.{Value21}
-use Rattle.p21_reader.specs.declared.value.Value21.TheOpen.{Value21-F}
-use Rattle.p21_reader.specs.declared.value.Value21.TheOpen as layer
 use Rattle.p21_reader.specs.declared.value.Instance.{Instance}
 use Rattle.ifc_schema.specs.declared.entity.Entity.TheVariants.{RepresentationMap, Representation}
 use Rattle.ifc_schema.specs.declared.form.Attribute.{Attribute}
@@ -12,21 +10,20 @@ use Rattle.ifc_schema.specs.declared.form.Targets.TheVariants as targets
 use Rattle.ifc_schema.specs.declared.form.Shape.{Shape}
 use Rattle.ifc_schema.specs.declared.form.Shape.TheVariants as shape
 use Rattle.ifc_schema.specs.Entities.{is_root}
-use Rattle.ifc_schema.specs.Forms.{seen, holds, followed}
+use Rattle.ifc_schema.specs.Forms.{holds, followed}
+use Rattle.ifc_schema.specs.Values.{reference_of, items_of}
 use Rattle.ifc_schema.specs.Looking.{look, entity_at, is_a, row_at}
 use Rattle.ifc_schema.specs.Bodies.{applies}
 
 -- a value is a reference to that instance
-abbrev pub RefersTo : ℕ → Value21-F Value21 → Type 0
-RefersTo to (layer.Reference n) = n ≡ to
-RefersTo to _ = ⊥
+abbrev pub RefersTo : ℕ → Value21 → Type 0
+RefersTo to v = reference_of v ≡ Some to
 
-abbrev pub SomeItem : (Value21-F Value21 → Type 0) → Value21-F Value21 → Type 0
-SomeItem P (layer.List vs) = Any (λ v. P (seen v)) vs.items
-SomeItem P _ = ⊥
+abbrev pub SomeItem : (Value21 → Type 0) → Value21 → Type 0
+SomeItem P v = MatchOption (items_of v) ⊥ (Any P)
 
 -- a reference stands in a value, where the shape has its leaves
-abbrev pub StandsIn : ℕ → Shape → Value21-F Value21 → Type 0
+abbrev pub StandsIn : ℕ → Shape → Value21 → Type 0
 StandsIn to shape.One v = RefersTo to v
 StandsIn to (shape.List _) v = SomeItem (RefersTo to) v
 StandsIn to (shape.Table _ _) v = SomeItem (SomeItem (RefersTo to)) v
@@ -44,7 +41,7 @@ pub record Names (world : List Instance) (mapped : Bool) (i : Instance) (to : �
   pub applied : applies world mapped i attribute.when ≡ true
   pub value : Value21
   pub there : slice_get i.values attribute.at ≡ Some value
-  pub stands : StandsIn to attribute.shape (seen value)
+  pub stands : StandsIn to attribute.shape value
   pub leads : LeadsTo world (followed attribute.leaf) to
 
 -- an instance is a representation map of that representation
@@ -52,7 +49,7 @@ pub record Maps (world : List Instance) (i : Instance) (representation : ℕ) : 
   pub map : is_a RepresentationMap i ≡ true
   pub value : Value21
   pub there : slice_get i.values 1 ≡ Some value
-  pub refers : RefersTo representation (seen value)
+  pub refers : RefersTo representation value
   pub leads : LeadsTo world (targets.One Representation) representation
 
 -- An instance is used: it is used wherever it stands; or one that is used names it; or it is among the items of a representation that one that

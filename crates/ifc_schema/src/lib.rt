@@ -7,6 +7,7 @@ mod flaw;
 mod form;
 mod survey;
 mod table;
+mod value;
 
 pub use entity::Entity;
 pub use survey::Survey;
