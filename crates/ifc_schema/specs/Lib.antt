@@ -4,6 +4,7 @@ pub mod Forms
 pub mod Values
 pub mod Table
 pub mod Looking
+pub mod Places
 pub mod Bodies
 pub mod Flaws
 pub mod Used

@@ -2,12 +2,15 @@
 //! instances of a file are used, and views of single instances.
 #![tactic(auto)]
 
+mod body;
 mod entity;
 mod flaw;
 mod form;
+mod look;
 mod survey;
 mod table;
 mod value;
+mod words;
 
 pub use entity::Entity;
 pub use survey::Survey;
