@@ -1,4 +1,9 @@
+//! The forms that attributes have.
+ghost use Rattle.std.specs.Prelude.{◌≡◌};
+ghost use Rattle.ifc_schema.specs.Forms.{holds, fits, followed, allows_absent, allows_missing};
+
 use crate::entity::Entity;
+use bim_model::Text;
 
 /// The instances that a reference may lead to, by their entities.
 #[derive(Clone, Copy)]
@@ -76,4 +81,67 @@ pub struct Attribute {
     pub need: Need,
     pub shape: Shape,
     pub leaf: Leaf,
+}
+
+impl Targets {
+    /// Whether an instance with this keyword is meant.
+    pub fn holds(self, keyword: &Option<Text>) -> bool
+        ensures { result ≡ holds self keyword.now }
+    {
+        let Some(keyword) = keyword else {
+            return false;
+        };
+        let keyword = keyword.as_str();
+        match self {
+            Targets::Nothing => false,
+            Targets::One(entity) => entity.is(keyword),
+            Targets::Faces => Entity::Face.is(keyword) || Entity::FaceWithVoids.is(keyword),
+            Targets::Items => {
+                Entity::TriangulatedFaceSet.is(keyword)
+                    || Entity::PolygonalFaceSet.is(keyword)
+                    || Entity::MappedItem.is(keyword)
+            }
+        }
+    }
+}
+
+impl Leaf {
+    /// The entities whose instances are followed.
+    pub fn followed(self) -> Targets
+        ensures { result ≡ followed self }
+    {
+        match self {
+            Leaf::Reference(targets) => targets,
+            Leaf::AnyReference(targets) => targets,
+            _ => Targets::Nothing,
+        }
+    }
+}
+
+impl Count {
+    /// Whether a list may have that many items.
+    pub fn fits(self, many: usize) -> bool
+        ensures { result ≡ fits self many }
+    {
+        match self {
+            Count::Exactly(count) => many == count,
+            Count::AtLeast(count) => count <= many,
+        }
+    }
+}
+
+impl Need {
+    /// Whether `$` or `*` may stand.
+    pub fn allows_absent(self) -> bool
+        ensures { result ≡ allows_absent self }
+    {
+        !matches!(self, Need::Must)
+    }
+
+    /// Whether the instance may lack the attribute.
+    pub fn allows_missing(self) -> bool
+        ensures { result ≡ allows_missing self }
+    {
+        matches!(self, Need::OrMissing)
+    }
 }

@@ -1,6 +1,7 @@
 //! What spelled numbers and texts say.
 ghost use Rattle.std.specs.Prelude.{◌≡◌, ◌&&◌};
 ghost use Rattle.std.specs.Bool.{MatchBool};
+ghost use Rattle.std.specs.List.{list_all};
 ghost use Rattle.bim_model.specs.Guids.{is_guid_char as guid_char};
 ghost use Rattle.ifc_schema.specs.Words.{IsNumber, IsNoNumber, IsWhole, IsNotWhole, says_body, says_guid, text_value};
 
@@ -32,10 +33,16 @@ fn is_guid_char(byte: u8) -> bool
     byte.is_ascii_alphanumeric() || byte == b'_' || byte == b'$'
 }
 
+fn are_guid_chars(text: &[u8]) -> bool
+    ensures { result ≡ list_all guid_char text.now }
+{
+    text.iter().all(|byte| is_guid_char(*byte))
+}
+
 /// Whether a spelled text says a globally unique identifier.
 #[tactic(auto, unfolding(crate::specs::Words::says_guid, crate::specs::Words::text_value))]
 pub fn says_guid(spelled: &[u8]) -> bool
     ensures { result ≡ says_guid spelled.now }
 {
-    spelled.len() == 22 && spelled.iter().all(|byte| is_guid_char(*byte))
+    spelled.len() == 22 && are_guid_chars(spelled)
 }
