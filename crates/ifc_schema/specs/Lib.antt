@@ -9,3 +9,4 @@ pub mod Bodies
 pub mod Flaws
 pub mod Used
 pub mod StageFive
+pub mod Marks

@@ -8,7 +8,7 @@ use Rattle.ifc_schema.specs.declared.entity.Entity.TheVariants.{Subject}
 use Rattle.ifc_schema.specs.declared.flaw.Flaw.{Flaw}
 use Rattle.ifc_schema.specs.declared.flaw.Flaw.TheVariants.{Dangling, BadShape}
 use Rattle.ifc_schema.specs.declared.survey.Survey.{Survey}
-use Rattle.ifc_schema.specs.Looking.{look, is_a}
+use Rattle.ifc_schema.specs.Looking.{look, entity_at}
 use Rattle.ifc_schema.specs.Bodies.{has_body}
 use Rattle.ifc_schema.specs.Flaws.{InstanceFlaw}
 use Rattle.ifc_schema.specs.Used.{Used, IsMapped}
@@ -38,7 +38,7 @@ pub record StageFive (world : List Instance) (fault : UploadFault) : Type 0 wher
 pub record IsModelElement (world : List Instance) (id : ℕ) : Type 0 where
   pub instance : Instance
   pub found : look world id ≡ Some instance
-  pub subject : is_a Subject instance ≡ true
+  pub subject : entity_at instance ≡ Some Subject
   pub body : has_body world instance ≡ true
 
 -- numbers that rise, and are exactly those of which P holds

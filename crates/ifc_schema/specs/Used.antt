@@ -12,7 +12,7 @@ use Rattle.ifc_schema.specs.declared.form.Shape.TheVariants as shape
 use Rattle.ifc_schema.specs.Entities.{is_root}
 use Rattle.ifc_schema.specs.Forms.{holds, followed}
 use Rattle.ifc_schema.specs.Values.{reference_of, items_of}
-use Rattle.ifc_schema.specs.Looking.{look, entity_at, is_a, row_at}
+use Rattle.ifc_schema.specs.Looking.{look, entity_at, row_at}
 use Rattle.ifc_schema.specs.Bodies.{applies}
 
 -- a value is a reference to that instance
@@ -34,19 +34,23 @@ pub record LeadsTo (world : List Instance) (targets : Targets) (to : ℕ) : Type
   pub found : look world to ≡ Some target
   pub meant : holds targets target.keyword ≡ true
 
--- An instance's row follows that one, also where the instance lacks its form. Whether the instance is mapped is given.
-pub record Names (world : List Instance) (mapped : Bool) (i : Instance) (to : ℕ) : Type 0 where
-  pub attribute : Attribute
-  pub listed : Contains (row_at i) attribute
+-- an attribute of an instance follows that one
+pub record NamesBy (world : List Instance) (mapped : Bool) (i : Instance) (attribute : Attribute) (to : ℕ) : Type 0 where
   pub applied : applies world mapped i attribute.when ≡ true
   pub value : Value21
   pub there : slice_get i.values attribute.at ≡ Some value
   pub stands : StandsIn to attribute.shape value
   pub leads : LeadsTo world (followed attribute.leaf) to
 
+-- An instance's row follows that one, also where the instance lacks its form. Whether the instance is mapped is given.
+pub record Names (world : List Instance) (mapped : Bool) (i : Instance) (to : ℕ) : Type 0 where
+  pub attribute : Attribute
+  pub listed : Contains (row_at i) attribute
+  pub names : NamesBy world mapped i attribute to
+
 -- an instance is a representation map of that representation
 pub record Maps (world : List Instance) (i : Instance) (representation : ℕ) : Type 0 where
-  pub map : is_a RepresentationMap i ≡ true
+  pub map : entity_at i ≡ Some RepresentationMap
   pub value : Value21
   pub there : slice_get i.values 1 ≡ Some value
   pub refers : RefersTo representation value

@@ -11,6 +11,7 @@ mod survey;
 mod table;
 mod value;
 mod words;
+mod work;
 
 pub use entity::Entity;
 pub use survey::Survey;
