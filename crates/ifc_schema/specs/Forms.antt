@@ -25,6 +25,10 @@ members (targets.One e) = e ∷ []
 members targets.Faces = entity.Face ∷ entity.FaceWithVoids ∷ []
 members targets.Items = entity.TriangulatedFaceSet ∷ entity.PolygonalFaceSet ∷ entity.MappedItem ∷ []
 
+abbrev pub is_nothing : Targets → Bool
+is_nothing targets.Nothing = true
+is_nothing _ = false
+
 -- An instance with this keyword is one of those that are meant. A complex instance has no keyword, and is none.
 abbrev pub holds : Targets → Option (List ℕ) → Bool
 holds t None = false

@@ -1,6 +1,6 @@
 //! The forms that attributes have.
 ghost use Rattle.std.specs.Prelude.{◌≡◌};
-ghost use Rattle.ifc_schema.specs.Forms.{holds, fits, followed, allows_absent, allows_missing};
+ghost use Rattle.ifc_schema.specs.Forms.{is_nothing, holds, fits, followed, allows_absent, allows_missing};
 
 use crate::entity::Entity;
 use bim_model::Text;
@@ -84,6 +84,13 @@ pub struct Attribute {
 }
 
 impl Targets {
+    /// Whether no entity is meant.
+    pub fn is_nothing(self) -> bool
+        ensures { result ≡ is_nothing self }
+    {
+        matches!(self, Targets::Nothing)
+    }
+
     /// Whether an instance with this keyword is meant.
     pub fn holds(self, keyword: &Option<Text>) -> bool
         ensures { result ≡ holds self keyword.now }

@@ -5,11 +5,13 @@
 mod body;
 mod entity;
 mod flaw;
+mod follow;
 mod form;
 mod look;
 mod survey;
 mod table;
 mod value;
+mod visit;
 mod words;
 mod work;
 
