@@ -3,17 +3,20 @@
 #![tactic(auto)]
 
 mod body;
+mod checks;
 mod entity;
 mod flaw;
 mod follow;
 mod form;
 mod look;
-mod survey;
+mod outcome;
 mod table;
 mod value;
 mod visit;
 mod words;
 mod work;
 
+pub use checks::survey;
 pub use entity::Entity;
-pub use survey::Survey;
+pub use outcome::Survey;
+

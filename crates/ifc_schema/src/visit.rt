@@ -46,19 +46,31 @@ fn visit(exchange: &Exchange, at: usize, work: &mut Work) -> Result<(), AllocErr
     follow(exchange, mapped, &exchange.instances()[at], work)
 }
 
+/// Marks the instance at a place, where it is used wherever it stands.
+fn mark_root(exchange: &Exchange, at: usize, work: &mut Work) -> Result<(), AllocError>
+    requires size { length work.old.marks.items ≡ length exchange.now }
+    requires within { at < length exchange.now }
+    ensures grows { OnOk result (Grows exchange.now work.old work.new) }
+    ensures root { OnOk result (IsRootAt exchange.now at → 0 < rank_at work.new at) }
+{
+    let instances = exchange.instances();
+    if !is_root(entity_at(&instances[at])) {
+        return Ok(());
+    }
+    if !is_first(instances, at) {
+        return Ok(());
+    }
+    work.raise(at, Mark::Used)
+}
+
 /// Marks the instances that are used wherever they stand.
 fn mark_roots(exchange: &Exchange, work: &mut Work) -> Result<(), AllocError>
     requires size { length work.old.marks.items ≡ length exchange.now }
     ensures grows { OnOk result (Grows exchange.now work.old work.new) }
     ensures roots { OnOk result ((at : ℕ) → IsRootAt exchange.now at → 0 < rank_at work.new at) }
 {
-    let instances = exchange.instances();
-    for at in 0..instances.len() {
-        if is_root(entity_at(&instances[at])) {
-            if is_first(instances, at) {
-                work.raise(at, Mark::Used)?;
-            }
-        }
+    for at in 0..exchange.instances().len() {
+        mark_root(exchange, at, work)?;
     }
     Ok(())
 }

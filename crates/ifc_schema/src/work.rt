@@ -25,6 +25,12 @@ impl Mark {
         }
     }
 
+    pub fn is_seen(self) -> bool
+        ensures { IsTrue result ↔ (0 < rank self) }
+    {
+        !matches!(self, Mark::Unseen)
+    }
+
     pub fn is_mapped(self) -> bool
         ensures { result ≡ is_mapped self }
     {

@@ -4,12 +4,8 @@ use Rattle.ifc_schema.specs.Places.{IsPlaceOf}
 use Rattle.ifc_schema.specs.Forms.{holds}
 use Rattle.ifc_schema.specs.Marks.{rank, rank_at, Grows}
 use Rattle.ifc_schema.proofs.Growing.{meant_there, not_meant, reached_there, raise_grows, Raised}
-use Rattle.ifc_schema.proofs.PlaceLemmas.{place_once}
+use Rattle.ifc_schema.proofs.Results.{on_ok2}
 use Rattle.ifc_schema.proofs.follow.mark_target.Goals as goal
-
-on_ok2 : {T E A B C : Type 0} (r : Result T E) → (A → B → C) → OnOk r A → OnOk r B → OnOk r C
-on_ok2 (Ok x) f a b = f a b
-on_ok2 (Err e) f a b = tt
 
 pub returns-then-holds-clause-grows : goal.returns-then-holds-clause-grows
 returns-then-holds-clause-grows c =

@@ -1,0 +1,142 @@
+-- The numbers of instances are listed place by place.
+use Rattle.std.proofs.Common.{◌≡◌, ◌≢◌, ℕ, ◌+◌, ◌<◌, ◌≤◌, ◌⊎◌, inl, inr, Bool, true, false, IsTrue, ◌↔◌, List, [], ◌∷◌, ◌++◌, length, get_or, Option, Some, None, Contains, refl, sym, ap, ◌∙◌, subst, arith, length-append}
+use Rattle.std.specs.List.Sorted.{IsNonDecreasingBy, IsSortedByKey, IsStrictlyIncreasing}
+use Rattle.std.specs.Ordering.{nat_cmp}
+use Rattle.std.proofs.lemmas.List.{get_or_default, get_or-append-add, append-nil}
+use Rattle.std.proofs.Math.ListN.{get_or-append}
+use Rattle.std.proofs.lemmas.List.Sorted.{IsNonDecreasingBy-from_sort}
+use Rattle.std.proofs.lemmas.List.Elements.{Contains-append_left, Contains-push, Contains-push_cases}
+use Rattle.p21_reader.specs.declared.value.Instance.{Instance}
+use Rattle.ifc_schema.specs.declared.flaw.Flaw.{Flaw}
+use Rattle.ifc_schema.specs.declared.work.Mark.{Mark}
+use Rattle.ifc_schema.specs.declared.work.Mark.TheVariants.{Unseen, Used as Met, Mapped}
+use Rattle.ifc_schema.specs.declared.work.Work.{Work}
+use Rattle.ifc_schema.specs.Looking.{look}
+use Rattle.ifc_schema.specs.Places.{IsPlaceOf}
+use Rattle.ifc_schema.specs.Used.{Used, root, named, mapped, IsMapped}
+use Rattle.ifc_schema.specs.Marks.{rank, rank_at, mark_at, is_mapped, SoundAt, Known}
+use Rattle.ifc_schema.specs.Flaws.{InstanceFlaw}
+use Rattle.ifc_schema.specs.StageFive.{UsedFlaw, StageFive, Lists, fault_of}
+use Rattle.ifc_schema.proofs.PlaceLemmas.{PlaceFound, place_found, found_at, place_once, some_instance}
+use Rattle.ifc_schema.proofs.Following.{look_there, number_once}
+
+-- an instance of which P holds stands before that place
+pub record Below (world : List Instance) (at : ℕ) (P : ℕ → Type 0) (id : ℕ) : Type 0 where
+  pub place : ℕ
+  pub below : place < at
+  pub there : IsPlaceOf world id place
+  pub holds : P id
+
+pub record Found (world : List Instance) (id : ℕ) : Type 0 where
+  pub instance : Instance
+  pub found : look world id ≡ Some instance
+
+-- what is used is there
+pub used_found : (world : List Instance) (id : ℕ) → Used world id → Found world id
+used_found world _ (root id i f r) = record { instance = i; found = f }
+used_found world _ (named from to i u f n) = record { instance = n.names.leads.target; found = n.names.leads.found }
+used_found world _ (mapped by from to m i u fm h f n) = record { instance = n.names.leads.target; found = n.names.leads.found }
+
+-- an earlier place has a lower number
+lower : (world : List Instance) → IsSortedByKey (λ (i : Instance). i.id) nat_cmp world → (a b k at : ℕ) → IsPlaceOf world a k → IsPlaceOf world b at → k < at → a < b
+lower world rises a b k at p q lt =
+    let up = IsNonDecreasingBy-from_sort (λ (i : Instance). i.id) world rises in
+    let w = q.within in
+    let x = up k at some_instance (omega arith) w in
+    let y = p.number some_instance in
+    let z = q.number some_instance in
+    let n = q.first k lt some_instance in
+    strict a b (omega arith) (λ e. n (y ∙ e))
+  where
+    strict : (a b : ℕ) → a ≤ b → (a ≡ b → ⊥) → a < b
+    strict a b h n = grind arith
+
+-- a lower number has an earlier place
+pub earlier : (world : List Instance) → IsSortedByKey (λ (i : Instance). i.id) nat_cmp world → (a b k at : ℕ) → IsPlaceOf world a k → IsPlaceOf world b at → a < b → k < at
+earlier world rises a b k at p q lt =
+    let up = IsNonDecreasingBy-from_sort (λ (i : Instance). i.id) world rises in
+    let y = p.number some_instance in
+    let z = q.number some_instance in
+    elim (side k at) [
+      | inl l ↦ l
+      | inr g ↦ (let w = p.within in let x = up at k some_instance g w in absurd (omega arith))
+      ]
+  where
+    side : (k n : ℕ) → (k < n) ⊎ (n ≤ k)
+    side k n = grind arith
+
+pub lists_none : (world : List Instance) (P : ℕ → Type 0) → Lists (Below world 0 P) []
+lists_none world P = record {
+  rises = λ k l. absurd (omega arith);
+  each = λ id c. let l = c.1 in absurd (omega arith);
+  all = λ id b. let l = b.below in absurd (omega arith);
+}
+
+below_on : (world : List Instance) (at : ℕ) (P : ℕ → Type 0) (id : ℕ) → Below world at P id → Below world (at + 1) P id
+below_on world at P id b = record { place = b.place; below = let l = b.below in omega arith; there = b.there; holds = b.holds }
+
+below_last : (world : List Instance) (at : ℕ) (P : ℕ → Type 0) (id : ℕ) → Below world (at + 1) P id → (Below world at P id) ⊎ (IsPlaceOf world id at × P id)
+below_last world at P id b = elim (last b.place at b.below) [
+  | inl l ↦ inl (record { place = b.place; below = l; there = b.there; holds = b.holds })
+  | inr e ↦ inr (subst (IsPlaceOf world id) e b.there, b.holds)
+  ]
+  where
+    last : (k n : ℕ) → k < n + 1 → (k < n) ⊎ (k ≡ n)
+    last k n h = grind arith
+
+-- one more number
+pub lists_more : (world : List Instance) (at id : ℕ) (P : ℕ → Type 0) (ids : List ℕ) → IsSortedByKey (λ (i : Instance). i.id) nat_cmp world → IsPlaceOf world id at → P id
+    → Lists (Below world at P) ids → Lists (Below world (at + 1) P) (ids ++ id ∷ [])
+lists_more world at id P ids rises p h ls = record {
+  rises = λ k l. elim (last k (length ids) (let e = length-append ids (id ∷ []) in omega arith)) [
+    | inl lt ↦ (
+        let a = get_or-append ids (id ∷ []) 0 k (omega arith) in
+        let b = get_or-append ids (id ∷ []) 0 (k + 1) lt in
+        let x = ls.rises k lt in omega arith)
+    | inr e ↦ (
+        let a = get_or-append ids (id ∷ []) 0 k (omega arith) in
+        let b = ap (λ j. get_or (ids ++ id ∷ []) j 0) e ∙ seam ids id in
+        let c : Contains ids (get_or ids k 0) = (k, omega arith, get_or_default ids k (get_or ids k 0) 0 (omega arith)) in
+        let w = ls.each (get_or ids k 0) c in
+        let x = lower world rises (get_or ids k 0) id w.place at w.there p w.below in omega arith)
+    ];
+  each = λ n c. elim (Contains-push_cases ids id n c) [
+    | inl d ↦ below_on world at P n (ls.each n d)
+    | inr e ↦ subst (Below world (at + 1) P) e (record { place = at; below = omega arith; there = p; holds = h })
+    ];
+  all = λ n b. elim (below_last world at P n b) [
+    | inl d ↦ Contains-append_left ids (id ∷ []) n (ls.all n d)
+    | inr q ↦ subst (Contains (ids ++ id ∷ [])) (number_once world id n at p q.0) (Contains-push ids id)
+    ];
+}
+  where
+    last : (k n : ℕ) → k + 1 < n + 1 → (k + 1 < n) ⊎ (k + 1 ≡ n)
+    last k n h = grind arith
+    seam : (ids : List ℕ) (id : ℕ) → get_or (ids ++ id ∷ []) (length ids) 0 ≡ id
+    seam ids id = (let e = get_or-append-add ids (id ∷ []) 0 0 in ap (λ j. get_or (ids ++ id ∷ []) j 0) (zero_more (length ids)) ∙ e)
+      where
+        zero_more : (n : ℕ) → n ≡ n + 0
+        zero_more n = omega arith
+
+-- no more number
+pub lists_same : (world : List Instance) (at : ℕ) (P : ℕ → Type 0) (ids : List ℕ) → ((id : ℕ) → IsPlaceOf world id at → P id → ⊥) → Lists (Below world at P) ids → Lists (Below world (at + 1) P) ids
+lists_same world at P ids none ls = record {
+  rises = ls.rises;
+  each = λ n c. below_on world at P n (ls.each n c);
+  all = λ n b. elim (below_last world at P n b) [
+    | inl d ↦ ls.all n d
+    | inr q ↦ absurd (none n q.0 q.1)
+    ];
+}
+
+-- all numbers
+pub lists_all : (world : List Instance) (at : ℕ) (P : ℕ → Type 0) (ids : List ℕ) → length world ≤ at → ((id : ℕ) → P id → Found world id) → Lists (Below world at P) ids → Lists P ids
+lists_all world at P ids le found ls = record {
+  rises = ls.rises;
+  each = λ n c. (ls.each n c).holds;
+  all = λ n h.
+      let f = found n h in
+      let p = place_found world n f.instance f.found in
+      let w = p.place.within in
+      ls.all n (record { place = p.at; below = omega arith; there = p.place; holds = h });
+}
