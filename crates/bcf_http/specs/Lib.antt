@@ -1,3 +1,5 @@
 pub mod Calls
 pub mod Responses
 pub mod Answers
+pub mod Versions
+pub mod UploadFaults

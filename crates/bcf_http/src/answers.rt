@@ -6,7 +6,7 @@ use crate::calls::{ReplyKind, RequestFault};
 use crate::responses::response;
 use crate::trees::answer_out;
 use bcf_json::BodyFault;
-use bim_model::Bytes;
+use bim_model::{Bytes, UploadFault};
 use federation_book::{BookFault, BookReply, ReplyBody};
 use http::StatusCode;
 use http_frame::FrameFault;
@@ -17,6 +17,8 @@ use std::alloc::{AllocError, Global};
 pub enum Answer {
     Book(BookReply),
     Refused(RequestFault),
+    /// The file of an upload makes no model.
+    Built(UploadFault),
     Frame(FrameFault),
     Memory,
 }
@@ -34,6 +36,14 @@ fn reply_status(created: bool, reply: &ReplyBody) -> StatusCode
             }
         }
         ReplyBody::TopicList(_) => StatusCode::OK,
+        ReplyBody::Changed { .. } => {
+            if created {
+                StatusCode::CREATED
+            } else {
+                StatusCode::OK
+            }
+        }
+        ReplyBody::Version { .. } => StatusCode::OK,
         ReplyBody::Refused(BookFault::NoProject) => StatusCode::NOT_FOUND,
     }
 }
@@ -56,6 +66,7 @@ fn status_of(created: bool, answer: &Answer) -> StatusCode
     match answer {
         Answer::Book(reply) => reply_status(created, &reply.body),
         Answer::Refused(fault) => fault_status(*fault),
+        Answer::Built(_) => StatusCode::UNPROCESSABLE_ENTITY,
         Answer::Frame(_) => StatusCode::NOT_IMPLEMENTED,
         Answer::Memory => StatusCode::SERVICE_UNAVAILABLE,
     }

@@ -5,6 +5,8 @@ mod answers;
 mod calls;
 mod responses;
 mod trees;
+mod upload_faults;
+mod versions;
 
 pub use answers::{Answer, to_response};
 pub use calls::{HttpCall, Refusal, ReplyKind, RequestFault, kind_of, to_call};

@@ -1,24 +1,16 @@
 //! Answers as JSON values.
 ghost use Rattle.std.specs.Prelude.{◌≡◌, IfOk};
 ghost use Rattle.serde_json.specs.View.{view};
-ghost use Rattle.bcf_http.specs.Answers.{error_tree, request_fault_tree, IsReplyTree, IsAnswerTree};
+ghost use Rattle.bcf_http.specs.Answers.{request_fault_tree, IsReplyTree, IsAnswerTree};
 
 use crate::answers::Answer;
 use crate::calls::RequestFault;
+use crate::upload_faults::{error_out, upload_fault_out};
+use crate::versions::{changed_out, version_out};
 use bcf_json::{BodyFault, topic_out, topics_out};
 use federation_book::{BookFault, ReplyBody};
-use serde_json::{Value, json};
+use serde_json::Value;
 use std::alloc::{AllocError, Global};
-
-#[tactic(auto, unfolding(crate::specs::Answers::error_tree))]
-fn error_out(alloc: Global, code: &str, name: &str) -> Result<Value, AllocError>
-    ensures { IfOk result (λ v. view v ≡ error_tree code.now name.now) }
-{
-    let mut message = String::from_str(alloc, code)?;
-    message.push_str(" ")?;
-    message.push_str(name)?;
-    json!(in alloc; {"code": code, "message": message.as_str()})
-}
 
 fn fault_out(alloc: Global, fault: RequestFault) -> Result<Value, AllocError>
     ensures { IfOk result (λ v. view v ≡ request_fault_tree fault) }
@@ -39,6 +31,17 @@ fn reply_out(alloc: Global, project: u32, reply: &ReplyBody) -> Result<Value, Al
             let trees = topics_out(alloc, project, topics.as_slice())?;
             Ok(Value::Array(trees))
         }
+        ReplyBody::Changed {
+            version,
+            elements,
+            triangles,
+            left,
+        } => changed_out(alloc, *version, *elements, *triangles, *left),
+        ReplyBody::Version {
+            version,
+            newest,
+            snapshot,
+        } => version_out(alloc, *version, *newest, snapshot.get().models()),
         ReplyBody::Refused(BookFault::NoProject) => error_out(alloc, "K1", "NoProject"),
     }
 }
@@ -50,6 +53,7 @@ pub fn answer_out(alloc: Global, project: u32, answer: &Answer) -> Result<Value,
     match answer {
         Answer::Book(reply) => reply_out(alloc, project, &reply.body),
         Answer::Refused(fault) => fault_out(alloc, *fault),
+        Answer::Built(fault) => upload_fault_out(alloc, *fault),
         Answer::Frame(_) => error_out(alloc, "H0", "NotBuilt"),
         Answer::Memory => error_out(alloc, "M1", "Memory"),
     }

@@ -3,3 +3,5 @@ pub mod Guids
 pub mod Moments
 pub mod Identifiers
 pub mod Boxes
+pub mod Models
+pub mod Snapshots

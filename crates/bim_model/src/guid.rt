@@ -22,6 +22,14 @@ impl Guid {
         chars.copy_from_slice(text);
         Some(Guid { chars })
     }
+
+    /// Its characters, lent. They are those of an identifier that was read.
+    pub fn as_str(&self) -> &str
+        requires { IsGuid self.now.chars }
+        ensures { result.now ≡ self.now.chars }
+    {
+        unsafe { str::from_utf8_unchecked(&self.chars) }
+    }
 }
 
 fn is_guid_char(byte: u8) -> bool

@@ -4,13 +4,11 @@ use Rattle.std.proofs.lemmas.List.Elements.{filter-append, All-push}
 use Rattle.std.proofs.lemmas.Bool.Decides.{nat_tests}
 use Rattle.std.proofs.lemmas.Bool.{eq-eqb}
 use Rattle.std.proofs.lemmas.List.Sums.{sum_by-cons}
-use Rattle.bim_model.specs.declared.topic.TopicBody.{TopicBody}
-use Rattle.bim_model.specs.declared.topic.Author.{Author}
 use Rattle.federation_book.specs.declared.types.Stamp.{Stamp}
 use Rattle.federation_book.specs.declared.types.Entry.{Entry}
 use Rattle.federation_book.specs.declared.types.BookRequest.{BookRequest}
-use Rattle.federation_book.specs.declared.types.BookRequest.TheVariants.{ListTopics, PostTopic}
-use Rattle.federation_book.specs.History.{at_turn, of_turn, added_by, entry_made, project_of, IsBefore}
+use Rattle.federation_book.specs.declared.types.Change.{Change}
+use Rattle.federation_book.specs.History.{at_turn, of_turn, added_by, entry_made, change_asked, project_named, project_of, IsBefore}
 use Rattle.federation_book.specs.Runs.{Step, Follows, Runs, IsOneThread}
 
 abbrev pub AreOf : ℕ → List Entry → Type 0
@@ -21,14 +19,14 @@ abbrev pub AreAbove : ℕ → List Entry → Type 0
 AreAbove turn [] = Unit {0}
 AreAbove turn (e ∷ es) = (turn < e.stamp.turn) × AreAbove turn es
 
-made_of : (stamp : Stamp) (body : TopicBody) (author : Author) (weight : ℕ) (o : Option ℕ) → AreOf stamp.turn (entry_made stamp body author weight o)
-made_of stamp body author weight None = tt
-made_of stamp body author weight (Some p) = (refl, tt)
+made_of : (stamp : Stamp) (project : Option ℕ) (change : Option Change) → AreOf stamp.turn (entry_made stamp project change)
+made_of stamp None c = tt
+made_of stamp (Some p) None = tt
+made_of stamp (Some p) (Some c) = (refl, tt)
 
 -- an added entry is of its request's turn
 pub added_of : (projects : ℕ) (h : List Entry) (stamp : Stamp) (request : BookRequest) → AreOf stamp.turn (added_by projects h stamp request)
-added_of projects h stamp (ListTopics id) = tt
-added_of projects h stamp (PostTopic id body author weight) = made_of stamp body author weight (project_of projects id)
+added_of projects h stamp request = made_of stamp (project_of projects (project_named request)) (change_asked request)
 
 pub above_of : (turn top : ℕ) (es : List Entry) → top < turn → AreOf turn es → AreAbove top es
 above_of turn top [] lt are = tt

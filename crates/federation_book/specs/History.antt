@@ -1,6 +1,10 @@
 -- What the book answers and what it adds, of its history alone.
 use Rattle.std.specs.Prelude.{ℕ, ◌+◌, ◌/◌, ◌<◌, ◌^◌, ◌&&◌, ◌==◌, ◌++◌, List, [], ◌∷◌, length, fold, filter, nat_lt, nat_le, All, AllPairs, if◌then◌else◌, Option, Some, None}
 use Rattle.bim_model.specs.Identifiers.{identifier}
+use Rattle.bim_model.specs.Models.{triangle_count}
+use Rattle.bim_model.specs.Snapshots.{with_model}
+use Rattle.bim_model.specs.declared.element.Element.{Element}
+use Rattle.bim_model.specs.declared.named_model.NamedModel.{NamedModel}
 use Rattle.bim_model.specs.declared.topic.Topic.{Topic}
 use Rattle.bim_model.specs.declared.topic.TopicBody.{TopicBody}
 use Rattle.bim_model.specs.declared.topic.Author.{Author}
@@ -45,19 +49,41 @@ project_of projects id =
 abbrev pub new_topic : List Topic → TopicBody → Author → Topic
 new_topic topics body author = record { serial = length topics + 1; body = body; created = author }
 
--- the topic that a change makes
-abbrev pub topic_of_change : List Topic → Change → Topic
-topic_of_change topics (change.PostTopic body author weight) = new_topic topics body author
+-- What follows of a history for a project: its topics, how many versions were made, and the models of the newest. Version 0 has no models.
+pub record ProjectState : Type 0 where
+  pub topics : List Topic
+  pub version : ℕ
+  pub models : List NamedModel
 
-abbrev pub with_change : List Topic → Change → List Topic
-with_change topics (change.PostTopic body author weight) = topics ++ new_topic topics body author ∷ []
+abbrev pub untouched : ProjectState
+untouched = record { topics = []; version = 0; models = [] }
 
-abbrev pub with_entry : ℕ → List Topic → Entry → List Topic
-with_entry project topics entry = if entry.project == project then with_change topics entry.change else topics
+abbrev pub named_model : List ℕ → List Element → NamedModel
+named_model name model = record { name = name; model = model }
 
--- the topics of a project after a history
-unfoldable pub topics_of : ℕ → List Entry → List Topic
-topics_of project history = fold (with_entry project) [] history
+-- a change of the project: a topic is made, or a model takes its place in the next version
+abbrev pub with_change : ProjectState → Change → ProjectState
+with_change s (change.PostTopic body author weight) = record { topics = s.topics ++ new_topic s.topics body author ∷ []; version = s.version; models = s.models }
+with_change s (change.Upload name model) = record { topics = s.topics; version = s.version + 1; models = with_model (named_model name model) s.models }
+
+abbrev pub with_entry : ℕ → ProjectState → Entry → ProjectState
+with_entry project s entry = if entry.project == project then with_change s entry.change else s
+
+-- the project after a history
+unfoldable pub state_of : ℕ → List Entry → ProjectState
+state_of project history = fold (with_entry project) untouched history
+
+-- the topics of a project after a history, by rising serial number
+abbrev pub topics_of : ℕ → List Entry → List Topic
+topics_of project history = (state_of project history).topics
+
+-- the number of its newest version: how many uploads it has accepted
+abbrev pub newest_of : ℕ → List Entry → ℕ
+newest_of project history = (state_of project history).version
+
+-- the models of its newest version, by rising name
+abbrev pub models_of : ℕ → List Entry → List NamedModel
+models_of project history = (state_of project history).models
 
 -- the reply to a request for a project's topics, by the project's number where there is one
 abbrev pub topic_list : List Entry → Option ℕ → ReplyBody
@@ -69,22 +95,50 @@ abbrev pub topic_made : List Entry → TopicBody → Author → Option ℕ → R
 topic_made history body author None = reply.Refused NoProject
 topic_made history body author (Some project) = reply.TopicIs (new_topic (topics_of project history) body author)
 
+-- the reply to an upload: the number of the version that it makes, and what the uploaded model has
+abbrev pub model_put : List Entry → List Element → Option ℕ → ReplyBody
+model_put history model None = reply.Refused NoProject
+model_put history model (Some project) = reply.Changed (newest_of project history + 1) (length model) (triangle_count model) 0
+
+-- the reply to a request for a project's newest version
+abbrev pub newest_version : List Entry → Option ℕ → ReplyBody
+newest_version history None = reply.Refused NoProject
+newest_version history (Some project) = reply.Version (newest_of project history) (newest_of project history) (models_of project history)
+
 abbrev pub body_of : ℕ → List Entry → BookRequest → ReplyBody
 body_of projects history (request.ListTopics id) = topic_list history (project_of projects id)
 body_of projects history (request.PostTopic id body author weight) = topic_made history body author (project_of projects id)
+body_of projects history (request.Upload id name model) = model_put history model (project_of projects id)
+body_of projects history (request.ReadVersion id wanted) = newest_version history (project_of projects id)
 
 -- what a book of so many projects answers at a history: the first refusal that holds, else what the request asks for
 abbrev pub reply_of : ℕ → List Entry → BookRequest → BookReply
 reply_of projects history request = record { body = body_of projects history request }
 
-abbrev pub entry_made : Stamp → TopicBody → Author → ℕ → Option ℕ → List Entry
-entry_made stamp body author weight None = []
-entry_made stamp body author weight (Some project) = (let e : Entry = record { stamp = stamp; project = project; change = change.PostTopic body author weight } in e) ∷ []
+-- the change that a request asks for, where it asks for one
+abbrev pub change_asked : BookRequest → Option Change
+change_asked (request.ListTopics id) = None
+change_asked (request.PostTopic id body author weight) = Some (change.PostTopic body author weight)
+change_asked (request.Upload id name model) = Some (change.Upload name model)
+change_asked (request.ReadVersion id wanted) = None
+
+-- the identifier of the project that a request names
+abbrev pub project_named : BookRequest → ℕ
+project_named (request.ListTopics id) = id
+project_named (request.PostTopic id body author weight) = id
+project_named (request.Upload id name model) = id
+project_named (request.ReadVersion id wanted) = id
+
+abbrev pub entry_of : Stamp → ℕ → Change → Entry
+entry_of stamp project change = record { stamp = stamp; project = project; change = change }
+
+abbrev pub entry_made : Stamp → Option ℕ → Option Change → List Entry
+entry_made stamp (Some project) (Some change) = entry_of stamp project change ∷ []
+entry_made stamp _ _ = []
 
 -- the one entry that an accepted change adds at a history, or none
 abbrev pub added_by : ℕ → List Entry → Stamp → BookRequest → List Entry
-added_by projects history stamp (request.ListTopics id) = []
-added_by projects history stamp (request.PostTopic id body author weight) = entry_made stamp body author weight (project_of projects id)
+added_by projects history stamp request = entry_made stamp (project_of projects (project_named request)) (change_asked request)
 
 -- what contracts see of a book
 pub record BookState : Type 0 where

@@ -1,18 +1,13 @@
 //! The book.
-ghost use Rattle.std.specs.Prelude.{◌≡◌, ◌≤◌, ◌<◌, ◌+◌, ◌-◌, ◌^◌, ◌++◌, ◌∷◌, [], ℕ, Option, List, length, vec_len, vec_capacity, slice_get, IfOk, OnOk, OnErr, IfSome};
-ghost use Rattle.federation_book.specs.History.{body_of, reply_of, added_by, topics_of, new_topic, project_of, entry_made, topic_list, topic_made, topic_of_change, BookState, IsBefore, IsHistory};
-ghost use Rattle.federation_book.specs.Kept.{IsKept, KeepTopics};
+ghost use Rattle.std.specs.Prelude.{◌≡◌, ◌≤◌, ◌<◌, ◌+◌, ◌-◌, ◌^◌, ◌++◌, ◌∷◌, [], ℕ, Option, Some, List, length, vec_len, vec_capacity, slice_get, IfOk, OnOk, OnErr, IfSome};
+ghost use Rattle.bim_model.specs.Models.{triangle_count};
+ghost use Rattle.federation_book.specs.History.{body_of, reply_of, added_by, entry_of, state_of, topics_of, newest_of, new_topic, project_of, topic_list, newest_version, BookState, IsBefore, IsHistory};
+ghost use Rattle.federation_book.specs.Kept.{state_kept, IsKept, KeepStates};
 
+use crate::project::Project;
 use crate::types::{BookFault, BookReply, BookRequest, Change, Entry, ReplyBody, Stamp};
-use bim_model::{Author, Duplicate, Items, Topic, TopicBody, id_of};
+use bim_model::{Author, Duplicate, Model, Shared, Text, Topic, TopicBody, id_of};
 use std::alloc::{AllocError, Global};
-use std::marker::Model;
-
-/// What is kept of a project beside the journal.
-#[derive(Drop)]
-pub struct Project {
-    topics: Items<Topic>,
-}
 
 /// The history of the projects, and what follows from it.
 #[derive(Drop)]
@@ -21,7 +16,7 @@ pub struct Book {
     entries: Vec<Entry>,
 }
 
-impl Model for Book {
+impl std::marker::Model for Book {
     ghost use Rattle.std.specs.Prelude.{length};
     ghost use Rattle.federation_book.specs.History.{BookState};
     ghost use Rattle.federation_book.specs.Kept.{IsKept};
@@ -45,37 +40,16 @@ fn project_of(projects: usize, id: u128) -> Option<u32>
     }
 }
 
-// The topic that a change makes behind those made before.
-fn topic_of_change(alloc: Global, topics: &[Topic], change: &Change) -> Result<Topic, AllocError>
-    ensures { IfOk result (λ topic. topic ≡ topic_of_change topics.now change.now) }
-{
-    match change {
-        Change::PostTopic { body, author, .. } => Ok(Topic {
-            serial: topics.len() as u64 + 1,
-            body: body.copy(alloc)?,
-            created: author.copy(alloc)?,
-        }),
-    }
-}
-
 // The project of this number, lent.
-fn kept_of<'a>(projects: &'a [Project], entries: &[Entry], number: u32) -> &'a [Topic]
+fn kept_of<'a>(projects: &'a [Project], entries: &[Entry], number: u32) -> &'a Project
     requires kept { IsKept projects.now entries.now }
     requires low { 1 ≤ number }
     requires high { number ≤ length projects.now }
-    ensures { result.now ≡ topics_of number entries.now }
+    ensures state { state_kept result.now ≡ state_of number entries.now }
+    ensures few { result.now.version < 2 ^ 63 }
 {
-    projects[number as usize - 1].topics.as_slice()
-}
-
-fn copy_topics(alloc: Global, topics: &[Topic]) -> Result<Items<Topic>, AllocError>
-    ensures { IfOk result (λ made. made ≡ topics.now) }
-{
-    let mut made = Items::new(alloc);
-    for topic in topics {
-        made.push(topic.copy(alloc)?)?;
-    }
-    Ok(made)
+    let _count = entries.len();
+    &projects[number as usize - 1]
 }
 
 // The topics of a project.
@@ -91,8 +65,31 @@ fn list_topics(
 {
     match number {
         Some(number) => {
-            let topics = copy_topics(alloc, kept_of(projects, entries, number))?;
+            let topics = kept_of(projects, entries, number).topics.copy(alloc)?;
             Ok(ReplyBody::TopicList(topics))
+        }
+        None => Ok(ReplyBody::Refused(BookFault::NoProject)),
+    }
+}
+
+// The newest version of a project.
+fn read_newest(
+    projects: &[Project],
+    entries: &[Entry],
+    number: Option<u32>,
+) -> Result<ReplyBody, AllocError>
+    requires kept { IsKept projects.now entries.now }
+    requires number { IfSome number (λ n. (1 ≤ n) × (n ≤ length projects.now)) }
+    ensures { IfOk result (λ body. body ≡ newest_version entries.now number) }
+{
+    match number {
+        Some(number) => {
+            let project = kept_of(projects, entries, number);
+            Ok(ReplyBody::Version {
+                version: project.version,
+                newest: project.version,
+                snapshot: project.newest.share()?,
+            })
         }
         None => Ok(ReplyBody::Refused(BookFault::NoProject)),
     }
@@ -104,29 +101,76 @@ fn post_topic(
     entries: &mut Vec<Entry>,
     number: u32,
     stamp: Stamp,
-    change: Change,
+    body: TopicBody,
+    author: Author,
+    weight: u64,
 ) -> Result<Topic, AllocError>
     requires kept { IsKept projects.old.items entries.old.items }
     requires after { IsBefore stamp.turn entries.old.items }
     requires low { 1 ≤ number }
     requires high { number ≤ length projects.old.items }
-    ensures reply { IfOk result (λ topic. topic ≡ topic_of_change (topics_of number entries.old.items) change) }
-    ensures added { OnOk result (entries.new.items ≡ entries.old.items ++ (let e : Entry = record { stamp = stamp; project = number; change = change } in e) ∷ []) }
+    ensures reply { IfOk result (λ topic. topic ≡ new_topic (topics_of number entries.old.items) body author) }
+    ensures added { OnOk result (entries.new.items ≡ entries.old.items ++ entry_of stamp number (Change.PostTopic body author weight) ∷ []) }
     ensures count { length projects.new.items ≡ length projects.old.items }
     ensures kept { IsKept projects.new.items entries.new.items }
     ensures err { OnErr result (entries.new.items ≡ entries.old.items) }
 {
     let alloc = *entries.allocator();
-    let topic = topic_of_change(alloc, kept_of(projects, entries, number), &change)?;
+    let topic = kept_of(projects, entries, number).new_topic(alloc, &body, &author)?;
     let kept = topic.copy(alloc)?;
     entries.reserve(1)?;
     projects[number as usize - 1].topics.push(kept)?;
     entries.push_reserved(Entry {
         stamp,
         project: number,
-        change,
+        change: Change::PostTopic {
+            body,
+            author,
+            weight,
+        },
     });
     Ok(topic)
+}
+
+// Makes the next version of the project of this number, and its entry. An `Err` leaves all as it was.
+fn upload(
+    projects: &mut Vec<Project>,
+    entries: &mut Vec<Entry>,
+    number: u32,
+    stamp: Stamp,
+    name: Text,
+    model: Shared<Model>,
+) -> Result<ReplyBody, AllocError>
+    requires kept { IsKept projects.old.items entries.old.items }
+    requires after { IsBefore stamp.turn entries.old.items }
+    requires low { 1 ≤ number }
+    requires high { number ≤ length projects.old.items }
+    ensures reply { IfOk result (λ body. body ≡ ReplyBody.Changed (newest_of number entries.old.items + 1) (length model) (triangle_count model) 0) }
+    ensures added { OnOk result (entries.new.items ≡ entries.old.items ++ entry_of stamp number (Change.Upload name model) ∷ []) }
+    ensures count { length projects.new.items ≡ length projects.old.items }
+    ensures kept { IsKept projects.new.items entries.new.items }
+    ensures err { OnErr result (entries.new.items ≡ entries.old.items) }
+{
+    let alloc = *entries.allocator();
+    let models = kept_of(projects, entries, number).next_models(alloc, &name, &model)?;
+    let elements = model.get().elements().len() as u64;
+    let triangles = model.get().triangle_count();
+    entries.reserve(1)?;
+    let version = kept_of(projects, entries, number).version + 1;
+    let project = &mut projects[number as usize - 1];
+    project.version = version;
+    project.newest = models;
+    entries.push_reserved(Entry {
+        stamp,
+        project: number,
+        change: Change::Upload { name, model },
+    });
+    Ok(ReplyBody::Changed {
+        version,
+        elements,
+        triangles,
+        left: 0,
+    })
 }
 
 impl Book {
@@ -138,9 +182,8 @@ impl Book {
     {
         let mut kept = Vec::new(alloc);
         for _number in 0..projects {
-            kept.push(Project {
-                topics: Items::new(alloc),
-            })?;
+            let project = Project::new(alloc)?;
+            kept.push(project)?;
         }
         Ok(Book {
             projects: kept,
@@ -200,15 +243,22 @@ fn act_on(
             weight,
         } => match project_of(projects.len(), project) {
             Some(number) => {
-                let change = Change::PostTopic {
-                    body,
-                    author,
-                    weight,
-                };
-                let topic = post_topic(projects, entries, number, stamp, change)?;
-                Ok(ReplyBody::TopicIs(topic))
+                let made = post_topic(projects, entries, number, stamp, body, author, weight)?;
+                Ok(ReplyBody::TopicIs(made))
             }
             None => Ok(ReplyBody::Refused(BookFault::NoProject)),
         },
+        BookRequest::Upload {
+            project,
+            name,
+            model,
+        } => match project_of(projects.len(), project) {
+            Some(number) => upload(projects, entries, number, stamp, name, model),
+            None => Ok(ReplyBody::Refused(BookFault::NoProject)),
+        },
+        BookRequest::ReadVersion { project, .. } => {
+            let number = project_of(projects.len(), project);
+            read_newest(projects, entries, number)
+        }
     }
 }

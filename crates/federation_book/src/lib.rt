@@ -2,10 +2,11 @@
 #![tactic(auto)]
 
 mod book;
+mod project;
 mod types;
 
-pub use book::{Book, Project};
-pub use types::{BookFault, BookReply, BookRequest, Change, Entry, ReplyBody, Stamp};
+pub use book::Book;
+pub use types::{BookFault, BookReply, BookRequest, Change, Entry, ReplyBody, Stamp, Wanted};
 
 #[cfg(test)]
 mod tests;

@@ -3,8 +3,8 @@ ghost use Rattle.std.specs.Prelude.{◌≡◌, ◌+◌, OnOk};
 ghost use Rattle.federation_book.specs.History.{IsBefore};
 
 use crate::book::Book;
-use crate::types::{BookFault, BookRequest, Change, Entry, ReplyBody, Stamp};
-use bim_model::{Author, Moment, Text, Topic, TopicBody, id_of};
+use crate::types::{BookFault, BookRequest, Change, Entry, ReplyBody, Stamp, Wanted};
+use bim_model::{Author, Model, Moment, NamedModel, Shared, Text, Topic, TopicBody, id_of};
 use std::alloc::{AllocError, Global};
 use std::process::Abort;
 use std::test::Fail;
@@ -135,13 +135,106 @@ fn is_journal(rt: &impl Abort, journal: &[Entry]) {
     for (entry, (turn, project, title)) in journal.iter().zip(wanted) {
         assert_eq!(rt; entry.stamp.turn, turn);
         assert_eq!(rt; entry.project, project);
-        let Change::PostTopic {
+        is_post(rt, &entry.change, title);
+    }
+}
+
+fn is_post(rt: &impl Abort, change: &Change, title: &str) {
+    match change {
+        Change::PostTopic {
             body,
             author,
             weight,
-        } = &entry.change;
-        assert_eq!(rt; body.title.as_str(), title);
-        assert_eq!(rt; author.user.as_str(), "anna");
-        assert_eq!(rt; *weight, 17);
+        } => {
+            assert_eq!(rt; body.title.as_str(), title);
+            assert_eq!(rt; author.user.as_str(), "anna");
+            assert_eq!(rt; *weight, 17);
+        }
+        Change::Upload { .. } => assert!(rt; false),
     }
+}
+
+// Asks for the newest version of a project: its number, and the names of its models.
+fn try_version(
+    rt: &impl Abort,
+    book: &mut Book,
+    turn: u64,
+    project: u128,
+    wanted: u64,
+    names: &[&str],
+) -> Result<(), AllocError>
+    requires { IsBefore turn book.old.journal }
+    ensures { OnOk result (IsBefore (turn + 1) book.new.journal) }
+{
+    let version = Wanted::Newest;
+    let reply = book.act(stamp(turn), BookRequest::ReadVersion { project, version })?;
+    match &reply.body {
+        ReplyBody::Version {
+            version,
+            newest,
+            snapshot,
+        } => {
+            assert_eq!(rt; (*version, *newest), (wanted, wanted));
+            are_named(rt, snapshot.get().models(), names);
+        }
+        _ => assert!(rt; false),
+    }
+    Ok(())
+}
+
+fn are_named(rt: &impl Abort, models: &[NamedModel], names: &[&str]) {
+    assert_eq!(rt; models.len(), names.len());
+    for (model, name) in models.iter().zip(names) {
+        assert_eq!(rt; model.name.as_str(), *name);
+    }
+}
+
+// Uploads a model without elements.
+fn upload(
+    alloc: Global,
+    book: &mut Book,
+    turn: u64,
+    project: u128,
+    name: &str,
+) -> Result<ReplyBody, AllocError>
+    requires { IsBefore turn book.old.journal }
+    ensures { OnOk result (IsBefore (turn + 1) book.new.journal) }
+{
+    let request = BookRequest::Upload {
+        project,
+        name: Text::of(alloc, name)?,
+        model: Shared::new(alloc, Model::from_vec(Vec::new(alloc)))?,
+    };
+    Ok(book.act(stamp(turn), request)?.body)
+}
+
+fn is_changed(rt: &impl Abort, body: &ReplyBody, wanted: u64) {
+    match body {
+        ReplyBody::Changed {
+            version,
+            elements,
+            triangles,
+            left,
+        } => assert_eq!(rt; (*version, *elements, *triangles, *left), (wanted, 0, 0, 0)),
+        _ => assert!(rt; false),
+    }
+}
+
+#[test]
+fn makes_a_version_of_each_upload(rt: HostRuntime) -> Result<(), Fail> {
+    let alloc = rt.alloc();
+    let mut book = Book::new(alloc, 2)?;
+    let first = id_of(1, 0);
+    let second = id_of(2, 0);
+    try_version(&rt, &mut book, 1, first, 0, &[])?;
+    is_changed(&rt, &upload(alloc, &mut book, 2, first, "m")?, 1);
+    is_changed(&rt, &upload(alloc, &mut book, 3, first, "a-2")?, 2);
+    is_changed(&rt, &upload(alloc, &mut book, 4, second, "b")?, 1);
+    is_changed(&rt, &upload(alloc, &mut book, 5, first, "a")?, 3);
+    is_changed(&rt, &upload(alloc, &mut book, 6, first, "m")?, 4);
+    try_version(&rt, &mut book, 7, first, 4, &["a", "a-2", "m"])?;
+    try_version(&rt, &mut book, 8, second, 1, &["b"])?;
+    is_refused(&rt, &upload(alloc, &mut book, 9, id_of(3, 0), "m")?);
+    assert_eq!(rt; book.journal().len(), 5);
+    Ok(())
 }

@@ -1,5 +1,5 @@
 //! Requests to the book, its replies, and the entries of its journal.
-use bim_model::{Author, Items, Topic, TopicBody};
+use bim_model::{Author, Items, Model, Shared, Snapshot, Text, Topic, TopicBody};
 
 /// When a call was made.
 #[derive(Clone, Copy, Debug, PartialEq, Eq)]
@@ -25,6 +25,22 @@ pub enum BookRequest {
         /// The length of the request's body in bytes.
         weight: u64,
     },
+    Upload {
+        project: u128,
+        /// 1 to 64 characters of `A-Za-z0-9_.-`.
+        name: Text,
+        model: Shared<Model>,
+    },
+    ReadVersion {
+        project: u128,
+        version: Wanted,
+    },
+}
+
+/// Which version is asked for.
+#[derive(Clone, Copy, Debug, PartialEq, Eq)]
+pub enum Wanted {
+    Newest,
 }
 
 /// Why a request is refused.
@@ -39,6 +55,23 @@ pub enum ReplyBody {
     /// The topics of a project by rising serial number.
     TopicList(Items<Topic>),
     TopicIs(Topic),
+    /// An upload made a version.
+    Changed {
+        /// Its number.
+        version: u64,
+        /// How many elements the uploaded model has.
+        elements: u64,
+        /// How many triangles they have together.
+        triangles: u64,
+        /// How many buckets of the version are to be checked.
+        left: u64,
+    },
+    Version {
+        version: u64,
+        /// The number of the project's newest version.
+        newest: u64,
+        snapshot: Shared<Snapshot>,
+    },
     Refused(BookFault),
 }
 
@@ -55,6 +88,10 @@ pub enum Change {
         body: TopicBody,
         author: Author,
         weight: u64,
+    },
+    Upload {
+        name: Text,
+        model: Shared<Model>,
     },
 }
 

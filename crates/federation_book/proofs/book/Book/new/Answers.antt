@@ -5,6 +5,6 @@ use Rattle.federation_book.proofs.book.Book.new.Goals as goal
 
 pub loop-number-preserved : goal.loop-number-preserved
 loop-number-preserved c = record {
-  kept = kept_more c.loop-number.kept.items c.push.new.self.items _ c.loop-number.invariant.kept c.new.ensures c.in_ok-push.ensures.items;
+  kept = kept_more c.loop-number.kept.items c.push.new.self.items _ c.loop-number.invariant.kept c.in_ok-project.ensures c.in_ok-push.ensures.items;
   count = grind (arith, common_steps, c.in_ok-push.ensures.items);
 }

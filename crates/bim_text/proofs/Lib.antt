@@ -1,0 +1,12 @@
+pub mod Fronts
+pub mod Truths
+pub mod Significant
+pub mod Kept
+pub mod Parts
+pub mod Powers
+pub mod Quotients
+pub mod Reading
+pub mod Runs
+pub mod RowLemmas
+pub mod Cleaning
+pub mod AllRows

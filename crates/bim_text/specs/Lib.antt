@@ -1,0 +1,5 @@
+pub mod Values
+pub mod Numbers
+pub mod Decimals
+pub mod Scanning
+pub mod Texts

@@ -1,0 +1,109 @@
+-- Numbers as they are spelled (ISO 10303-21, section 6, integers and reals): an optional sign, digits, optionally a point and digits,
+-- optionally an exponent. Digits may lack behind the point, the point may lack before an exponent, and its E has either case.
+use Rattle.std.specs.Prelude.{◌≡◌, ℕ, ◌+◌, ◌-◌, ◌*◌, ◌<◌, ◌≤◌, ◌==◌, ◌&&◌, nat_le, Bool, true, false, if◌then◌else◌, ℤ, pos, ◌-ℤ◌, ◌≤ℤ◌, neg_ℤ, List, [], ◌∷◌, ◌++◌, length, reverse, Option, Some, None, ◌⊎◌}
+use Rattle.std.specs.List.{list_all}
+use Rattle.bim_text.specs.Values.{Scaled, signed}
+
+-- A spelling by its parts.
+
+pub data Sign : Type 0 where
+  Unsigned Plus Minus : Sign
+
+pub record Exponent : Type 0 where
+  pub mark : ℕ
+  pub sign : Sign
+  pub digits : List ℕ
+
+pub record Spelling : Type 0 where
+  pub sign : Sign
+  pub whole : List ℕ
+  pub fraction : Option (List ℕ)
+  pub exponent : Option Exponent
+
+-- The bytes of a spelling.
+
+abbrev pub sign_bytes : Sign → List ℕ
+sign_bytes Unsigned = []
+sign_bytes Plus = 43 ∷ []
+sign_bytes Minus = 45 ∷ []
+
+abbrev pub fraction_bytes : Option (List ℕ) → List ℕ
+fraction_bytes None = []
+fraction_bytes (Some digits) = 46 ∷ digits
+
+abbrev pub exponent_bytes : Option Exponent → List ℕ
+exponent_bytes None = []
+exponent_bytes (Some e) = e.mark ∷ (sign_bytes e.sign ++ e.digits)
+
+abbrev pub bytes_of : Spelling → List ℕ
+bytes_of s = sign_bytes s.sign ++ (s.whole ++ (fraction_bytes s.fraction ++ exponent_bytes s.exponent))
+
+-- Which spellings are right: those of digits, of which there is one before the point and one in an exponent.
+
+abbrev pub is_digit : ℕ → Bool
+is_digit b = nat_le 48 b && nat_le b 57
+
+abbrev pub AreDigits : List ℕ → Type 0
+AreDigits bs = list_all is_digit bs ≡ true
+
+abbrev pub fraction_digits : Option (List ℕ) → List ℕ
+fraction_digits None = []
+fraction_digits (Some digits) = digits
+
+-- an E or an e, and one or more digits
+abbrev pub IsExponent : Option Exponent → Type 0
+IsExponent None = Unit {0}
+IsExponent (Some e) = ((e.mark ≡ 69) ⊎ (e.mark ≡ 101)) × AreDigits e.digits × (0 < length e.digits)
+
+-- the bytes are a number of this spelling
+pub record IsNumber (s : Spelling) (text : List ℕ) : Type 0 where
+  pub whole : text ≡ bytes_of s
+  pub digits : AreDigits s.whole
+  pub some : 0 < length s.whole
+  pub fraction : AreDigits (fraction_digits s.fraction)
+  pub exponent : IsExponent s.exponent
+
+-- What a spelling writes.
+
+-- the number that decimal digits write, after those that write n
+abbrev pub value_after : ℕ → List ℕ → ℕ
+value_after n [] = n
+value_after n (b ∷ bs) = value_after (n * 10 + (b - 48)) bs
+
+abbrev pub is_minus : Sign → Bool
+is_minus Minus = true
+is_minus Plus = false
+is_minus Unsigned = false
+
+abbrev pub exponent_of : Option Exponent → ℤ
+exponent_of None = pos 0
+exponent_of (Some e) = signed (is_minus e.sign) (value_after 0 e.digits)
+
+-- the digits before and behind the point
+abbrev pub digits_of : Spelling → List ℕ
+digits_of s = s.whole ++ fraction_digits s.fraction
+
+-- all digits as one whole number, times ten to the exponent less the number of digits behind the point
+abbrev pub written : Spelling → Scaled
+written s = record {
+  number = signed (is_minus s.sign) (value_after 0 (digits_of s));
+  power = exponent_of s.exponent -ℤ pos (length (fraction_digits s.fraction));
+}
+
+-- the digits from the first that isn't 0 on
+abbrev pub from_first : List ℕ → List ℕ
+from_first [] = []
+from_first (b ∷ bs) = if b == 48 then from_first bs else b ∷ bs
+
+-- how many digits are left without the zeros in front and behind
+abbrev pub significant : List ℕ → ℕ
+significant bs = length (from_first (reverse (from_first bs)))
+
+-- the bytes are a number of this spelling that is read: at most 33,554,432 bytes, 34 significant digits, and an exponent
+-- from -400 to 400
+pub record IsRead (s : Spelling) (text : List ℕ) : Type 0 where
+  pub number : IsNumber s text
+  pub short : length text ≤ 33554432
+  pub few : significant (digits_of s) ≤ 34
+  pub low : neg_ℤ (pos 400) ≤ℤ exponent_of s.exponent
+  pub high : exponent_of s.exponent ≤ℤ pos 400

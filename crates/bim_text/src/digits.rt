@@ -1,0 +1,118 @@
+//! Decimal digits, read one after another.
+ghost use Rattle.std.specs.Prelude.{◌≡◌, ◌+◌, ◌-◌, ◌^◌, ◌<◌, ◌≤◌, IsTrue, ◌↔◌, Some, option_map, IfSome, IfNone, length, drop, List, ℕ, true};
+ghost use Rattle.bim_text.specs.Numbers.{is_digit, value_after, AreDigits};
+ghost use Rattle.bim_text.specs.Scanning.{front, kept_step, kept_after};
+
+/// What is kept of digits.
+#[derive(Clone, Copy)]
+pub struct Digits {
+    /// All of them as one number, as long as it has at most 34 digits.
+    pub all: u128,
+    /// The number that they write up to the last that isn't 0.
+    pub significand: u128,
+    /// How many zeros stand behind that one.
+    pub zeros: u32,
+}
+
+/// The least number of 34 digits.
+const FULL: u128 = 1_000_000_000_000_000_000_000_000_000_000_000;
+
+/// Digits, and where they end.
+#[derive(Clone, Copy)]
+pub struct Scanned {
+    pub digits: Digits,
+    pub end: usize,
+}
+
+pub fn is_digit(byte: u8) -> bool
+    ensures { result ≡ is_digit byte }
+{
+    byte >= b'0' && byte <= b'9'
+}
+
+impl Digits {
+    /// No digits.
+    pub const NONE: Digits = Digits {
+        all: 0,
+        significand: 0,
+        zeros: 0,
+    };
+
+    /// One more digit. None where there are over 34 from the first to the last that isn't 0.
+    fn with(self, digit: u8) -> Option<Digits>
+        requires digit { is_digit digit ≡ true }
+        requires room { self.zeros + 1 < 2 ^ 32 }
+        requires fits { self.all < 10 ^ 34 }
+        ensures step { result ≡ kept_step self digit }
+        ensures fits { IfSome result (λ next. next.all < 10 ^ 34) }
+        ensures zeros { IfSome result (λ next. next.zeros ≤ self.zeros + 1) }
+    {
+        if digit == b'0' {
+            let all = if self.all < FULL {
+                self.all * 10
+            } else {
+                self.all
+            };
+            Some(Digits {
+                all,
+                significand: self.significand,
+                zeros: self.zeros + 1,
+            })
+        } else if self.all < FULL {
+            let all = self.all * 10 + (digit - b'0') as u128;
+            Some(Digits {
+                all,
+                significand: all,
+                zeros: 0,
+            })
+        } else {
+            None
+        }
+    }
+}
+
+/// The digits from a place on, behind others. None where they are too many.
+#[tactic(auto, using(crate::proofs::Fronts::fronts))]
+pub fn scan(text: &[u8], from: usize, before: Digits) -> Option<Scanned>
+    requires place { from ≤ length text.now }
+    requires short { length text.now ≤ 33554432 }
+    requires zeros { before.zeros ≤ from }
+    requires fits { before.all < 10 ^ 34 }
+    ensures kept { option_map (λ s. s.digits) result ≡ kept_after before (front (drop from text.now)) }
+    ensures end { IfSome result (λ s. s.end ≡ from + length (front (drop from text.now))) }
+    ensures within { IfSome result (λ s. s.end ≤ length text.now) }
+    ensures fits { IfSome result (λ s. s.digits.all < 10 ^ 34) }
+    ensures zeros { IfSome result (λ s. s.digits.zeros ≤ s.end) }
+{
+    let mut digits = before;
+    let mut at = from;
+    while at < text.len() && is_digit(text[at]) {
+        digits = digits.with(text[at])?;
+        at += 1;
+    }
+    Some(Scanned { digits, end: at })
+}
+
+/// The number that digits write. None where there are none or other bytes, or where it is over 400.
+#[tactic(auto, using(crate::proofs::Fronts::writings))]
+pub fn up_to_400(digits: &[u8]) -> Option<u32>
+    ensures some { IfSome result (λ n. (0 < length digits.now) × AreDigits digits.now) }
+    ensures value { IfSome result (λ n. n ≡ value_after 0 digits.now) }
+    ensures small { IfSome result (λ n. n ≤ 400) }
+    ensures none { IfNone result (0 < length digits.now → AreDigits digits.now → value_after 0 digits.now ≤ 400 → ⊥) }
+{
+    if digits.is_empty() {
+        return None;
+    }
+    let mut value: u32 = 0;
+    for digit in digits {
+        if !is_digit(*digit) {
+            return None;
+        }
+        value = value * 10 + (*digit - b'0') as u32;
+        if value > 400 {
+            return None;
+        }
+    }
+    Some(value)
+}

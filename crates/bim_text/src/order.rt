@@ -1,0 +1,27 @@
+//! The order of numbers with zeros behind them.
+ghost use Rattle.std.specs.Prelude.{◌≡◌, ◌*◌, ◌^◌, ◌<◌};
+ghost use Rattle.std.specs.Ordering.{nat_cmp};
+
+use std::cmp::Ordering;
+
+/// The order of a number with so many zeros behind it and another, which has at most 34 digits.
+#[tactic(auto, using(crate::proofs::Quotients::quotients))]
+pub fn order_raised(digits: u128, zeros: u64, other: u128) -> Ordering
+    requires some { 0 < digits }
+    requires few { other < 10 ^ 34 }
+    ensures { result ≡ nat_cmp (digits * 10 ^ zeros) other }
+{
+    if zeros > 34 {
+        return Ordering::Greater;
+    }
+    let scale = 10u128.pow(zeros as u32);
+    let quotient = other / scale;
+    if digits != quotient {
+        return digits.cmp(&quotient);
+    }
+    if other % scale == 0 {
+        Ordering::Equal
+    } else {
+        Ordering::Less
+    }
+}

@@ -1,0 +1,452 @@
+use crate::{Decimal, print_i64, text_of};
+use std::cmp::Ordering;
+use std::test::Fail;
+
+/// A spelling, and what it is read as: whether it is negative, its digits and its exponent.
+#[derive(Clone, Copy)]
+struct Spelling {
+    text: &'static [u8],
+    decimal: Option<(bool, u128, i32)>,
+}
+
+const SPELLINGS: [Spelling; 45] = [
+    Spelling {
+        text: b"1.5E3",
+        decimal: Some((false, 15, 2)),
+    },
+    Spelling {
+        text: b"-0.00",
+        decimal: Some((false, 0, 0)),
+    },
+    Spelling {
+        text: b"9999999999999999999999999999999999",
+        decimal: Some((false, 9999999999999999999999999999999999, 0)),
+    },
+    Spelling {
+        text: b"99999999999999999999999999999999999",
+        decimal: None,
+    },
+    Spelling {
+        text: b"1E401",
+        decimal: None,
+    },
+    Spelling {
+        text: b"1E400",
+        decimal: Some((false, 1, 400)),
+    },
+    Spelling {
+        text: b"-1.e-0400",
+        decimal: Some((true, 1, -400)),
+    },
+    Spelling {
+        text: b"1E-401",
+        decimal: None,
+    },
+    Spelling {
+        text: b".5",
+        decimal: None,
+    },
+    Spelling {
+        text: b"",
+        decimal: None,
+    },
+    Spelling {
+        text: b"+",
+        decimal: None,
+    },
+    Spelling {
+        text: b"1 ",
+        decimal: None,
+    },
+    Spelling {
+        text: b"1E",
+        decimal: None,
+    },
+    Spelling {
+        text: b"1E+",
+        decimal: None,
+    },
+    Spelling {
+        text: b"0E401",
+        decimal: None,
+    },
+    Spelling {
+        text: b"1E18446744073709551617",
+        decimal: None,
+    },
+    Spelling {
+        text: b"000000000000000000000000000000000000000070000000000000000000000000000000000000000.000",
+        decimal: Some((false, 7, 40)),
+    },
+    Spelling {
+        text: b"10000000000000000000000000000000001",
+        decimal: None,
+    },
+    Spelling {
+        text: b"1000000000000000000000000000000001.0E1",
+        decimal: Some((false, 1000000000000000000000000000000001, 1)),
+    },
+    Spelling {
+        text: b"0.00000000000000000000000000000000000000005",
+        decimal: Some((false, 5, -41)),
+    },
+    Spelling {
+        text: b"2.9999999999999996",
+        decimal: Some((false, 29999999999999996, -16)),
+    },
+    Spelling {
+        text: b"-87111920980701400545",
+        decimal: Some((true, 87111920980701400545, 0)),
+    },
+    Spelling {
+        text: b"+19.25E-3",
+        decimal: Some((false, 1925, -5)),
+    },
+    Spelling {
+        text: b"129991200050",
+        decimal: Some((false, 12999120005, 1)),
+    },
+    Spelling {
+        text: b"500",
+        decimal: Some((false, 5, 2)),
+    },
+    Spelling {
+        text: b"999999.1E00",
+        decimal: Some((false, 9999991, -1)),
+    },
+    Spelling {
+        text: b"0000009129000000512",
+        decimal: Some((false, 9129000000512, 0)),
+    },
+    Spelling {
+        text: b"00",
+        decimal: Some((false, 0, 0)),
+    },
+    Spelling {
+        text: b"015.",
+        decimal: Some((false, 15, 0)),
+    },
+    Spelling {
+        text: b"1200000000000000e1",
+        decimal: Some((false, 12, 15)),
+    },
+    Spelling {
+        text: b"-50E+400",
+        decimal: Some((true, 5, 401)),
+    },
+    Spelling {
+        text: b"-991746060674264988539709436106.25E-3",
+        decimal: Some((true, 99174606067426498853970943610625, -5)),
+    },
+    Spelling {
+        text: b"472790825137871647204948590690E-400",
+        decimal: Some((false, 47279082513787164720494859069, -399)),
+    },
+    Spelling {
+        text: b"E000000000000.e",
+        decimal: None,
+    },
+    Spelling {
+        text: b"5595668684668547944290659777583349174E401",
+        decimal: None,
+    },
+    Spelling {
+        text: b"e5000000999+000",
+        decimal: None,
+    },
+    Spelling {
+        text: b"121e.",
+        decimal: None,
+    },
+    Spelling {
+        text: b"5.00000000000000E-",
+        decimal: None,
+    },
+    Spelling {
+        text: b"+1085314e-401",
+        decimal: None,
+    },
+    Spelling {
+        text: b"00-9+",
+        decimal: None,
+    },
+    Spelling {
+        text: b"5.9-999+5",
+        decimal: None,
+    },
+    Spelling {
+        text: b".",
+        decimal: None,
+    },
+    Spelling {
+        text: b"E",
+        decimal: None,
+    },
+    Spelling {
+        text: b"--",
+        decimal: None,
+    },
+    Spelling {
+        text: b"-9258209274856196916061885212191769649.000",
+        decimal: None,
+    },
+];
+
+/// The bytes between the apostrophes, and the text that they spell.
+#[derive(Clone, Copy)]
+struct Words {
+    spelled: &'static [u8],
+    text: &'static str,
+}
+
+const WORDS: [Words; 35] = [
+    Words {
+        spelled: b"a\\\\b\\X\\41\\S\\i''\\X2\\00E9\\X0\\",
+        text: "a\\bA\u{E9}'\u{E9}",
+    },
+    Words {
+        spelled: b"Pipe 1",
+        text: "Pipe 1",
+    },
+    Words {
+        spelled: b"",
+        text: "",
+    },
+    Words {
+        spelled: b"Decke \\X2\\00FC\\X0\\ber EG",
+        text: "Decke \u{FC}ber EG",
+    },
+    Words {
+        spelled: b"\\X2\\D83DDE00\\X0\\",
+        text: "\u{FFFD}\u{FFFD}",
+    },
+    Words {
+        spelled: b"\\X4\\0001F600\\X0\\",
+        text: "\u{1F600}",
+    },
+    Words {
+        spelled: b"\\X4\\00110000\\X0\\",
+        text: "\u{FFFD}",
+    },
+    Words {
+        spelled: b"\\X\\00",
+        text: "\u{0}",
+    },
+    Words {
+        spelled: b"\\S\\''",
+        text: "\u{A7}",
+    },
+    Words {
+        spelled: b"\\S\\\\",
+        text: "\u{DC}",
+    },
+    Words {
+        spelled: b"\\S\\\x7F",
+        text: "\\S\\\u{7F}",
+    },
+    Words {
+        spelled: b"'\x0A'",
+        text: "''",
+    },
+    Words {
+        spelled: b"'''",
+        text: "''",
+    },
+    Words {
+        spelled: b"\xC3\x0A\xA9",
+        text: "\u{E9}",
+    },
+    Words {
+        spelled: b"\xE9 \xC3\xA9 \xF0\x9F\x98\x80 \xED\xA0\x80",
+        text: "\u{E9} \u{E9} \u{1F600} \u{ED}\u{A0}\u{80}",
+    },
+    Words {
+        spelled: b"\\PA\\x\\PJ\\",
+        text: "x\\PJ\\",
+    },
+    Words {
+        spelled: b"\\X2\\00e\\X0\\",
+        text: "\\X2\\00e\\X0\\",
+    },
+    Words {
+        spelled: b"\\X2\\\\X0\\",
+        text: "\\X2\\X0\\",
+    },
+    Words {
+        spelled: b"\x7F\x80",
+        text: "\u{7F}\u{80}",
+    },
+    Words {
+        spelled: b"a\\",
+        text: "a\\",
+    },
+    Words {
+        spelled: b"\\X\x07\\4\x001",
+        text: "A",
+    },
+    Words {
+        spelled: b"\xC3\xA9\\X2\\00E\\X0\\\xE9\\PJ\\\\X2\\D800\\X0\\a",
+        text: "\u{E9}\\X2\\00E\\X0\\\u{E9}\\PJ\\X2\\D800\\X0\\a",
+    },
+    Words {
+        spelled: b"\\X4\\0001F600\\X0\\\x07\\X2\\00E9\\X0\\\\X\\4\xE9\x0A",
+        text: "\u{1F600}\u{E9}\\X\\4\u{E9}",
+    },
+    Words {
+        spelled: b"\\X\\00\\X2\\00e900FC\\X0\\\\\\PA\\\\X2\\00E\\X0\\",
+        text: "\u{0}\u{E9}\u{FC}\\PA\\X2\\00E\\X0\\",
+    },
+    Words {
+        spelled: b"\\X0\\\\X2\\00E\\X0\\\\X4\\00110000\\X0\\''",
+        text: "\\X0\\X2\\00E\\X0\\X4\\00110000\\X0\\'",
+    },
+    Words {
+        spelled: b"\\PA\\\\X4\\00110000\\X0\\\\X4\\00110000\\X0\\",
+        text: "\u{FFFD}\u{FFFD}",
+    },
+    Words {
+        spelled: b"\\\\\x0A\\X4\\00110000\\X0\\\\X4\\00110000\\X0\\''",
+        text: "\\\u{FFFD}\u{FFFD}'",
+    },
+    Words {
+        spelled: b"\\PJ\\\\X2\\00E\\X0\\\xF0\x9F\x98\x80\\\\X2\\00E9\\X0\\",
+        text: "\\PJ\\X2\\00E\\X0\\\u{1F600}\\X2\\00E9\\X0\\",
+    },
+    Words {
+        spelled: b"\\PA\\\\X2\\D800\\X0\\\\X4\\0001F600\\X0\\\\\\\\X4\\0001F600\\X0\\ ",
+        text: "\u{FFFD}\u{1F600}\\\u{1F600} ",
+    },
+    Words {
+        spelled: b"\\X0\\\\X2\\00E9\\X0\\''a\\X4\\0001F600\\X0\\\\PA\\",
+        text: "\\X0\\X2\\00E9\\X0\\'a\u{1F600}",
+    },
+    Words {
+        spelled: b"\xE9Z\\PA\\\\X4\\0001F600\\X0\\\\X4\\00110000\\X0\\\x07",
+        text: "\u{E9}Z\u{1F600}\u{FFFD}",
+    },
+    Words {
+        spelled: b"\\X\\4\\X4\\0001F600\\X0\\\\X4\\0001F600\\X0\\\x07",
+        text: "\\X\\4\u{1F600}\u{1F600}",
+    },
+    Words {
+        spelled: b"\\X2\\00e900FC\\X0\\\\X\\00\\X\\E9\\X\\00\\X4\\0001F600\\X0\\\xC3\xA9",
+        text: "\u{E9}\u{FC}\u{0}\u{E9}\u{0}\u{1F600}\u{E9}",
+    },
+    Words {
+        spelled: b"\\X4\\00110000\\X0\\\\X4\\00110000\\X0\\\\X0\\\\X4\\0001F600\\X0\\",
+        text: "\u{FFFD}\u{FFFD}\\X0\\X4\\0001F600\\X0\\",
+    },
+    Words {
+        spelled: b"\xC3\xA9\\S\\''\\X2\\00e900FC\\X0\\\xC3\xA9a\\X2\\00E9\\X0\\",
+        text: "\u{E9}\u{A7}\u{E9}\u{FC}\u{E9}a\u{E9}",
+    },
+];
+
+fn are_same(one: &str, other: &str) -> bool {
+    one == other
+}
+
+#[test]
+fn decimals_and_texts(rt: HostRuntime) -> Result<(), Fail> {
+    for row in SPELLINGS {
+        let decimal = Decimal::read(row.text).map(|d| (d.negative, d.digits, d.exp));
+        assert_eq!(rt; decimal, row.decimal, "{:?}", row.text);
+    }
+    for row in WORDS {
+        let text = text_of(rt.alloc(), row.spelled)?;
+        assert!(rt; are_same(text.as_str(), row.text), "{:?}", row.spelled);
+    }
+    Ok(())
+}
+
+/// Two spellings, a power of ten for the first, and the order of their sizes.
+#[derive(Clone, Copy)]
+struct Sizes {
+    one: &'static [u8],
+    shift: i32,
+    other: &'static [u8],
+    order: Ordering,
+}
+
+const SIZES: [Sizes; 9] = [
+    Sizes {
+        one: b"1",
+        shift: 0,
+        other: b"-1.0",
+        order: Ordering::Equal,
+    },
+    Sizes {
+        one: b"-0.00001",
+        shift: 6,
+        other: b"10",
+        order: Ordering::Equal,
+    },
+    Sizes {
+        one: b"0.000001",
+        shift: 6,
+        other: b"1.0000000001",
+        order: Ordering::Less,
+    },
+    Sizes {
+        one: b"12e-300",
+        shift: 6,
+        other: b"-11.999999999999999e-294",
+        order: Ordering::Greater,
+    },
+    Sizes {
+        one: b"1e400",
+        shift: 10,
+        other: b"9999999999999999999999999999999999e-400",
+        order: Ordering::Greater,
+    },
+    Sizes {
+        one: b"9999999999999999999999999999999999e-400",
+        shift: -10,
+        other: b"1e400",
+        order: Ordering::Less,
+    },
+    Sizes {
+        one: b"0",
+        shift: 10,
+        other: b"1e-400",
+        order: Ordering::Less,
+    },
+    Sizes {
+        one: b"1e-400",
+        shift: -10,
+        other: b"0.0",
+        order: Ordering::Greater,
+    },
+    Sizes {
+        one: b"0",
+        shift: 1,
+        other: b"-0",
+        order: Ordering::Equal,
+    },
+];
+
+#[test]
+fn sizes_and_numbers(rt: HostRuntime) -> Result<(), Fail> {
+    for row in SIZES {
+        let one = Decimal::read(row.one).ok_or("no number")?;
+        let other = Decimal::read(row.other).ok_or("no number")?;
+        if row.shift >= -10 && row.shift <= 10 {
+            assert_eq!(rt;
+                one.compare_size(&other, row.shift),
+                row.order,
+                "{:?}",
+                row.one
+            );
+        }
+    }
+    let mut out = Vec::new(rt.alloc());
+    for number in [0, -1, 10, i64::MAX, i64::MIN] {
+        print_i64(number, &mut out)?;
+        out.push(b' ')?;
+    }
+    assert_eq!(rt;
+        out.as_slice(),
+        b"0 -1 10 9223372036854775807 -9223372036854775808 ".as_slice()
+    );
+    Ok(())
+}
