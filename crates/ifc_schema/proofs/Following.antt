@@ -38,21 +38,21 @@ there : (world : List Instance) (at : ℕ) (i : Instance) → at < length world 
 there world at i lt e = slice_get-get_or world at i lt ∙ ap Some (sym e)
 
 -- an instance that is looked up by the number of its place
-look_there : (world : List Instance) (id at : ℕ) (i : Instance) → IsPlaceOf world id at → i ≡ get_or world at i → look world id ≡ Some i
+pub look_there : (world : List Instance) (id at : ℕ) (i : Instance) → IsPlaceOf world id at → i ≡ get_or world at i → look world id ≡ Some i
 look_there world id at i p e = found_at world id at i p ∙ ap Some (sym e)
 
 -- a place has one number
-number_once : (world : List Instance) (a b at : ℕ) → IsPlaceOf world a at → IsPlaceOf world b at → a ≡ b
+pub number_once : (world : List Instance) (a b at : ℕ) → IsPlaceOf world a at → IsPlaceOf world b at → a ≡ b
 number_once world a b at p q = sym (p.number some_instance) ∙ q.number some_instance
 
 -- Following.
 
-mapped_rank : (m : Mark) → is_mapped m ≡ true → 1 < rank m
+pub mapped_rank : (m : Mark) → is_mapped m ≡ true → 1 < rank m
 mapped_rank Unseen h = cc
 mapped_rank Met h = cc
 mapped_rank Mapped h = omega arith
 
-rank_mapped : (m : Mark) → 1 < rank m → is_mapped m ≡ true
+pub rank_mapped : (m : Mark) → 1 < rank m → is_mapped m ≡ true
 rank_mapped Unseen h = absurd (omega arith)
 rank_mapped Met h = absurd (omega arith)
 rank_mapped Mapped h = refl

@@ -1,5 +1,5 @@
 -- The numbers of instances are listed place by place.
-use Rattle.std.proofs.Common.{◌≡◌, ◌≢◌, ℕ, ◌+◌, ◌<◌, ◌≤◌, ◌⊎◌, inl, inr, Bool, true, false, IsTrue, ◌↔◌, List, [], ◌∷◌, ◌++◌, length, get_or, Option, Some, None, Contains, refl, sym, ap, ◌∙◌, subst, arith, length-append}
+use Rattle.std.proofs.Common.{◌≡◌, ◌≢◌, ℕ, ◌+◌, ◌<◌, ◌≤◌, ◌⊎◌, inl, inr, Bool, true, false, IsTrue, ◌↔◌, List, [], ◌∷◌, ◌++◌, ◌&&◌, length, get_or, Option, Some, None, Contains, refl, sym, ap, ◌∙◌, subst, arith, length-append}
 use Rattle.std.specs.List.Sorted.{IsNonDecreasingBy, IsSortedByKey, IsStrictlyIncreasing}
 use Rattle.std.specs.Ordering.{nat_cmp}
 use Rattle.std.proofs.lemmas.List.{get_or_default, get_or-append-add, append-nil}
@@ -14,18 +14,18 @@ use Rattle.ifc_schema.specs.declared.work.Work.{Work}
 use Rattle.ifc_schema.specs.Looking.{look}
 use Rattle.ifc_schema.specs.Places.{IsPlaceOf}
 use Rattle.ifc_schema.specs.Used.{Used, root, named, mapped, IsMapped}
-use Rattle.ifc_schema.specs.Marks.{rank, rank_at, mark_at, is_mapped, SoundAt, Known}
+use Rattle.ifc_schema.specs.Marks.{rank, rank_at, mark_at, is_seen, is_mapped, SoundAt, Known}
 use Rattle.ifc_schema.specs.Flaws.{InstanceFlaw}
-use Rattle.ifc_schema.specs.StageFive.{UsedFlaw, StageFive, Lists, fault_of}
+use Rattle.ifc_schema.specs.StageFive.{UsedFlaw, StageFive, IsModelElement, is_model_element, is_subject, Lists, fault_of}
+use Rattle.ifc_schema.specs.Steps.{FaultAt, CheckedAt, Below}
+use Rattle.ifc_schema.specs.Entities.{is_root}
+use Rattle.ifc_schema.specs.Bodies.{has_body}
 use Rattle.ifc_schema.proofs.PlaceLemmas.{PlaceFound, place_found, found_at, place_once, some_instance}
-use Rattle.ifc_schema.proofs.Following.{look_there, number_once}
-
--- an instance of which P holds stands before that place
-pub record Below (world : List Instance) (at : ℕ) (P : ℕ → Type 0) (id : ℕ) : Type 0 where
-  pub place : ℕ
-  pub below : place < at
-  pub there : IsPlaceOf world id place
-  pub holds : P id
+use Rattle.ifc_schema.proofs.Following.{look_there, number_once, mapped_rank, rank_mapped}
+use Rattle.bim_model.specs.declared.upload.UploadFault.{UploadFault}
+use Rattle.ifc_schema.specs.declared.entity.Entity.{Entity}
+use Rattle.ifc_schema.specs.declared.entity.Entity.TheVariants.{Subject}
+use Rattle.ifc_schema.specs.Looking.{entity_at}
 
 pub record Found (world : List Instance) (id : ℕ) : Type 0 where
   pub instance : Instance
@@ -140,3 +140,97 @@ lists_all world at P ids le found ls = record {
       let w = p.place.within in
       ls.all n (record { place = p.at; below = omega arith; there = p.place; holds = h });
 }
+
+-- What is known of the instance at a place.
+
+-- its flaw, checked as its mark says
+pub used_flaw : (world : List Instance) (w : Work) (id at : ℕ) (i : Instance) (b : Bool) (f : Option Flaw) → Known world w → IsPlaceOf world id at → i ≡ get_or world at i → b ≡ is_mapped (mark_at w at)
+    → InstanceFlaw world b i f → UsedFlaw world id f
+used_flaw world w id at i b f k p e be h = record {
+  instance = i;
+  found = look_there world id at i p e;
+  mapped = b;
+  is_mapped = (
+    λ t. let s = (k.sound at).mapped (mapped_rank (mark_at w at) (sym be ∙ t)) in subst (IsMapped world) (number_once world s.id id at s.place p) s.mapped,
+    λ m. be ∙ rank_mapped (mark_at w at) (k.mapped id m at p),
+  );
+  flawed = h;
+}
+
+seen_rank : (m : Mark) → is_seen m ≡ false → rank m ≡ 0
+seen_rank Unseen h = refl
+seen_rank Met h = cc
+seen_rank Mapped h = cc
+
+rank_seen : (m : Mark) → is_seen m ≡ true → 0 < rank m
+rank_seen Unseen h = cc
+rank_seen Met h = omega arith
+rank_seen Mapped h = omega arith
+
+-- a mark that is read at a place
+pub seen_there : (world : List Instance) (w : Work) (at : ℕ) (m : Mark) → Known world w → at < length world → m ≡ get_or w.marks.items at m → is_seen m ≡ true → 0 < rank_at w at
+seen_there world w at m k lt e s =
+    let d = ap rank (e ∙ get_or_default w.marks.items at m Unseen (let z = k.size in omega arith)) in
+    let r = rank_seen m s in omega arith
+
+-- nothing that is used stands where nothing was met
+pub unseen_there : (world : List Instance) (w : Work) (at : ℕ) (m : Mark) → Known world w → at < length world → m ≡ get_or w.marks.items at m → is_seen m ≡ false → (id : ℕ) → IsPlaceOf world id at → Used world id → ⊥
+unseen_there world w at m k lt e s id p u =
+    let d = ap rank (e ∙ get_or_default w.marks.items at m Unseen (let z = k.size in omega arith)) in
+    let z = seen_rank m s in
+    let r = k.used id u at p in omega arith
+
+pub fault_there : (world : List Instance) (w : Work) (at : ℕ) (i : Instance) (flaw : Flaw) (fault : UploadFault) → Known world w → 0 < rank_at w at → i ≡ get_or world at i
+    → ((id : ℕ) → IsPlaceOf world id at → UsedFlaw world id (Some flaw)) → fault ≡ fault_of i.id flaw → FaultAt world at fault
+fault_there world w at i flaw fault k r e h t =
+    let s = (k.sound at).used r in
+    let n : i.id ≡ s.id = ap (λ (j : Instance). j.id) e ∙ s.place.number i in
+    record { id = s.id; place = s.place; used = s.used; flaw = flaw; flawed = h s.id s.place; told = t ∙ ap (λ m. fault_of m flaw) n }
+
+-- the first place that has a fault has the least number
+pub least_there : (world : List Instance) (at : ℕ) (fault : UploadFault) → IsSortedByKey (λ (i : Instance). i.id) nat_cmp world → FaultAt world at fault
+    → ((k : ℕ) → k < at → (id : ℕ) → IsPlaceOf world id k → Used world id → UsedFlaw world id None) → StageFive world fault
+least_there world at fault rises f before = record {
+  id = f.id;
+  used = f.used;
+  flaw = f.flaw;
+  flawed = f.flawed;
+  told = f.told;
+  least = λ n lt u.
+      let g = used_found world n u in
+      let p = place_found world n g.instance g.found in
+      before p.at (earlier world rises n f.id p.at at p.place f.place lt) n p.place u;
+}
+
+pub all_checked : (world : List Instance) (at : ℕ) → length world ≤ at → ((k : ℕ) → k < at → (id : ℕ) → IsPlaceOf world id k → Used world id → UsedFlaw world id None)
+    → (id : ℕ) → Used world id → UsedFlaw world id None
+all_checked world at le before id u =
+    let g = used_found world id u in
+    let p = place_found world id g.instance g.found in
+    let w = p.place.within in
+    before p.at (omega arith) id p.place u
+
+subject_root : (e : Option Entity) (b : Bool) → (is_subject e && b) ≡ true → is_root e ≡ true
+subject_root (Some Subject) b h = refl
+subject_root _ b h = cc
+
+-- an element that has a body is used
+pub element_used : (world : List Instance) (id : ℕ) → IsModelElement world id → Used world id
+element_used world id h = root id h.instance h.found (subject_root (entity_at h.instance) (has_body world h.instance) h.element)
+
+pub no_element : (world : List Instance) (at : ℕ) (i : Instance) → i ≡ get_or world at i → is_model_element world i ≡ false → (id : ℕ) → IsPlaceOf world id at → IsModelElement world id → ⊥
+no_element world at i e f id p h =
+    let same : h.instance ≡ i = (let g = look_there world id at i p e in let k = h.found in cc) in
+    let a = ap (is_model_element world) same in
+    let b = h.element in cc
+
+pub element_there : (world : List Instance) (id at : ℕ) (i : Instance) → IsPlaceOf world id at → i ≡ get_or world at i → is_model_element world i ≡ true → IsModelElement world id
+element_there world id at i p e t = record { instance = i; found = look_there world id at i p e; element = t }
+
+-- one more number, of the instance at the place
+pub push_there : (world : List Instance) (at : ℕ) (i : Instance) (s : ℕ) (P : ℕ → Type 0) (ids new : List ℕ) → IsSortedByKey (λ (i : Instance). i.id) nat_cmp world → IsPlaceOf world s at → i ≡ get_or world at i
+    → P s → Lists (Below world at P) ids → new ≡ ids ++ i.id ∷ [] → Lists (Below world (at + 1) P) new
+push_there world at i s P ids new rises p e h ls n =
+    let same : i.id ≡ s = ap (λ (j : Instance). j.id) e ∙ p.number i in
+    let q : new ≡ ids ++ s ∷ [] = n ∙ ap (λ m. ids ++ m ∷ []) same in
+    rw q (lists_more world at s P ids rises p h ls)

@@ -9,7 +9,7 @@ use Rattle.ifc_schema.specs.declared.flaw.Flaw.TheVariants.{Dangling, BadShape}
 use Rattle.ifc_schema.specs.declared.form.Attribute.{Attribute}
 use Rattle.ifc_schema.specs.declared.form.Targets.{Targets}
 use Rattle.ifc_schema.specs.declared.form.Leaf.{Leaf}
-use Rattle.ifc_schema.specs.declared.form.Leaf.TheVariants.{Number, Whole, Text, Identifier, Enumeration, Reference, AnyReference, Anything}
+use Rattle.ifc_schema.specs.declared.form.Leaf.TheVariants.{Number, Whole, Text, Enumeration, Reference, AnyReference, Anything}
 use Rattle.ifc_schema.specs.declared.form.Count.{Count}
 use Rattle.ifc_schema.specs.declared.form.Shape.{Shape}
 use Rattle.ifc_schema.specs.declared.form.Shape.TheVariants as shape
@@ -56,7 +56,6 @@ abbrev pub LeafFlaw : List Instance → Leaf → Value21 → Option Flaw → Typ
 LeafFlaw world Number v f = MatchOption (number_of v) (f ≡ Some BadShape) (λ bs. NumberFlaw bs f)
 LeafFlaw world Whole v f = MatchOption (number_of v) (f ≡ Some BadShape) (λ bs. WholeFlaw bs f)
 LeafFlaw world Text v f = f ≡ bad_unless (is_some (words_of v))
-LeafFlaw world Identifier v f = f ≡ bad_unless (some_passes says_guid (words_of v))
 LeafFlaw world Enumeration v f = f ≡ bad_unless (is_enumeration v)
 LeafFlaw world (Reference wanted) v f = f ≡ reference_flaw (wanted_flaw wanted world) (reference_of v)
 LeafFlaw world (AnyReference _) v f = f ≡ reference_flaw (any_flaw world) (reference_of v)
@@ -84,6 +83,7 @@ ListFlaw count FlawOf v f = MatchOption (items_of v) (f ≡ Some BadShape) (λ v
 
 abbrev pub ShapeFlaw : List Instance → Leaf → Shape → Value21 → Option Flaw → Type 0
 ShapeFlaw world leaf shape.One v f = LeafFlaw world leaf v f
+ShapeFlaw world leaf shape.Identifier v f = f ≡ bad_unless (some_passes says_guid (words_of v))
 ShapeFlaw world leaf (shape.List count) v f = ListFlaw count (LeafFlaw world leaf) v f
 ShapeFlaw world leaf (shape.Table outer inner) v f = ListFlaw outer (ListFlaw inner (LeafFlaw world leaf)) v f
 

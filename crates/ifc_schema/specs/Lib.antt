@@ -10,3 +10,4 @@ pub mod Flaws
 pub mod Used
 pub mod StageFive
 pub mod Marks
+pub mod Steps

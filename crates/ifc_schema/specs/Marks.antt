@@ -17,6 +17,11 @@ rank Unseen = 0
 rank Met = 1
 rank Mapped = 2
 
+abbrev pub is_seen : Mark → Bool
+is_seen Unseen = false
+is_seen Met = true
+is_seen Mapped = true
+
 abbrev pub is_mapped : Mark → Bool
 is_mapped Unseen = false
 is_mapped Met = false

@@ -37,7 +37,7 @@ row_of entity.Containment =
     attribute 4 Always Must (shape.List (AtLeast 0)) (leaf.AnyReference targets.Nothing) ∷
     attribute 5 Always Must shape.One (leaf.AnyReference targets.Nothing) ∷ []
 row_of entity.Subject =
-    attribute 0 Always Must shape.One leaf.Identifier ∷
+    attribute 0 Always Must shape.Identifier leaf.Text ∷
     attribute 2 Always OrAbsent shape.One leaf.Text ∷
     attribute 5 WithBody OrAbsent shape.One (leaf.Reference (targets.One entity.Placement)) ∷
     attribute 6 Always OrAbsent shape.One (leaf.Reference (targets.One entity.ProductShape)) ∷

@@ -25,6 +25,7 @@ SomeItem P v = MatchOption (items_of v) ⊥ (Any P)
 -- a reference stands in a value, where the shape has its leaves
 abbrev pub StandsIn : ℕ → Shape → Value21 → Type 0
 StandsIn to shape.One v = RefersTo to v
+StandsIn to shape.Identifier v = ⊥
 StandsIn to (shape.List _) v = SomeItem (RefersTo to) v
 StandsIn to (shape.Table _ _) v = SomeItem (SomeItem (RefersTo to)) v
 

@@ -1,9 +1,10 @@
 //! The survey of a file: whether all that is used has the form of its row.
-ghost use Rattle.std.specs.Prelude.{◌≡◌, ◌<◌, ℕ, IfOk, IfErr, IfSome, IfNone, None};
+ghost use Rattle.std.specs.Prelude.{◌≡◌, ◌+◌, ◌<◌, ℕ, length, IfOk, IfErr, OnOk};
 ghost use Rattle.ifc_schema.specs.Places.{IsPlaceOf};
 ghost use Rattle.ifc_schema.specs.Used.{Used};
 ghost use Rattle.ifc_schema.specs.Marks.{Known, rank_at};
-ghost use Rattle.ifc_schema.specs.StageFive.{UsedFlaw, StageFive, IsModelElement, Lists, Surveyed, IsSurveyError, is_model_element, fault_of};
+ghost use Rattle.ifc_schema.specs.Steps.{CheckedAt, Checked, Below};
+ghost use Rattle.ifc_schema.specs.StageFive.{UsedFlaw, IsModelElement, Lists, Surveyed, IsSurveyError, is_model_element, fault_of};
 
 use crate::body::has_body;
 use crate::entity::Entity;
@@ -27,30 +28,81 @@ fn fault_of(id: u64, flaw: Flaw) -> UploadFault
 }
 
 /// What is wrong first with the instance at a place, which is used.
-fn flaw_at(exchange: &Exchange, work: &Work, at: usize) -> Option<Flaw>
+fn flaw_at(
+    alloc: Global,
+    exchange: &Exchange,
+    work: &Work,
+    at: usize,
+) -> Result<Option<Flaw>, AllocError>
     requires known { Known exchange.now work.now }
     requires marked { 0 < rank_at work.now at }
-    ensures { (id : ℕ) → IsPlaceOf exchange.now id at → UsedFlaw exchange.now id result }
+    ensures { IfOk result (λ flaw. (id : ℕ) → IsPlaceOf exchange.now id at → UsedFlaw exchange.now id flaw) }
 {
     let mapped = work.marks[at].is_mapped();
-    instance_flaw(exchange, mapped, &exchange.instances()[at])
+    let flaw = instance_flaw(alloc, exchange, mapped, &exchange.instances()[at])?;
+    Ok(flaw)
+}
+
+/// The fault of the instance at a place, where it is used.
+fn fault_at(
+    alloc: Global,
+    exchange: &Exchange,
+    work: &Work,
+    at: usize,
+) -> Result<Option<UploadFault>, AllocError>
+    requires known { Known exchange.now work.now }
+    requires within { at < length exchange.now }
+    ensures { IfOk result (CheckedAt exchange.now at) }
+{
+    if !work.marks[at].is_seen() {
+        return Ok(None);
+    }
+    let flaw = flaw_at(alloc, exchange, work, at)?;
+    match flaw {
+        Some(flaw) => {
+            let fault = fault_of(exchange.instances()[at].id, flaw);
+            Ok(Some(fault))
+        }
+        None => Ok(None),
+    }
 }
 
 /// The fault of the least instance that is used and lacks the form of its row.
-fn least_fault(exchange: &Exchange, work: &Work) -> Option<UploadFault>
+fn least_fault(
+    alloc: Global,
+    exchange: &Exchange,
+    work: &Work,
+) -> Result<Option<UploadFault>, AllocError>
     requires { Known exchange.now work.now }
-    ensures fault { IfSome result (StageFive exchange.now) }
-    ensures none { IfNone result ((id : ℕ) → Used exchange.now id → UsedFlaw exchange.now id None) }
+    ensures { IfOk result (Checked exchange.now) }
 {
-    let instances = exchange.instances();
-    for at in 0..instances.len() {
-        if work.marks[at].is_seen() {
-            if let Some(flaw) = flaw_at(exchange, work, at) {
-                return Some(fault_of(instances[at].id, flaw));
-            }
+    for at in 0..exchange.instances().len() {
+        let fault = fault_at(alloc, exchange, work, at)?;
+        if fault.is_some() {
+            return Ok(fault);
         }
     }
-    None
+    Ok(None)
+}
+
+/// Adds the number of the instance at a place, where it is used.
+fn push_used(
+    exchange: &Exchange,
+    work: &Work,
+    at: usize,
+    ids: &mut Vec<u64>,
+) -> Result<(), AllocError>
+    requires known { Known exchange.now work.now }
+    requires within { at < length exchange.now }
+    requires ids { Lists (Below exchange.now at (Used exchange.now)) ids.old.items }
+    ensures { OnOk result (Lists (Below exchange.now (at + 1) (Used exchange.now)) ids.new.items) }
+{
+    if !work.marks[at].is_seen() {
+        return Ok(());
+    }
+    let id = exchange.instances()[at].id;
+    ids.push(id)?;
+    Ok(())
 }
 
 /// The numbers of the instances that are used.
@@ -58,24 +110,50 @@ fn list_used(alloc: Global, exchange: &Exchange, work: &Work) -> Result<Vec<u64>
     requires { Known exchange.now work.now }
     ensures { IfOk result (λ ids. Lists (Used exchange.now) ids.items) }
 {
-    let instances = exchange.instances();
     let mut ids = Vec::new(alloc);
-    for at in 0..instances.len() {
-        if work.marks[at].is_seen() {
-            ids.push(instances[at].id)?;
-        }
+    for at in 0..exchange.instances().len() {
+        push_used(exchange, work, at, &mut ids)?;
     }
     Ok(ids)
 }
 
 /// Whether it is an element that has a body.
-fn is_model_element(exchange: &Exchange, instance: &Instance) -> bool
-    ensures { result ≡ is_model_element exchange.now instance.now }
+fn is_model_element(
+    alloc: Global,
+    exchange: &Exchange,
+    instance: &Instance,
+) -> Result<bool, AllocError>
+    ensures { IfOk result (λ element. element ≡ is_model_element exchange.now instance.now) }
 {
     match entity_at(instance) {
-        Some(Entity::Subject) => has_body(exchange, instance),
-        _ => false,
+        Some(Entity::Subject) => has_body(alloc, exchange, instance),
+        _ => Ok(false),
     }
+}
+
+/// Adds the number of the instance at a place, where it is an element that has a body.
+fn push_element(
+    alloc: Global,
+    exchange: &Exchange,
+    work: &Work,
+    at: usize,
+    ids: &mut Vec<u64>,
+) -> Result<(), AllocError>
+    requires known { Known exchange.now work.now }
+    requires within { at < length exchange.now }
+    requires ids { Lists (Below exchange.now at (IsModelElement exchange.now)) ids.old.items }
+    ensures { OnOk result (Lists (Below exchange.now (at + 1) (IsModelElement exchange.now)) ids.new.items) }
+{
+    if !work.marks[at].is_seen() {
+        return Ok(());
+    }
+    let element = is_model_element(alloc, exchange, &exchange.instances()[at])?;
+    if !element {
+        return Ok(());
+    }
+    let id = exchange.instances()[at].id;
+    ids.push(id)?;
+    Ok(())
 }
 
 /// The numbers of the elements that have a body.
@@ -83,14 +161,9 @@ fn list_elements(alloc: Global, exchange: &Exchange, work: &Work) -> Result<Vec<
     requires { Known exchange.now work.now }
     ensures { IfOk result (λ ids. Lists (IsModelElement exchange.now) ids.items) }
 {
-    let instances = exchange.instances();
     let mut ids = Vec::new(alloc);
-    for at in 0..instances.len() {
-        if work.marks[at].is_seen() {
-            if is_model_element(exchange, &instances[at]) {
-                ids.push(instances[at].id)?;
-            }
-        }
+    for at in 0..exchange.instances().len() {
+        push_element(alloc, exchange, work, at, &mut ids)?;
     }
     Ok(ids)
 }
@@ -102,7 +175,8 @@ pub fn survey(alloc: Global, exchange: &Exchange) -> Result<Survey, BuildError>
     ensures fault { IfErr result (IsSurveyError exchange.now) }
 {
     let work = mark_used(alloc, exchange)?;
-    if let Some(fault) = least_fault(exchange, &work) {
+    let fault = least_fault(alloc, exchange, &work)?;
+    if let Some(fault) = fault {
         return Err(BuildError::Fault(fault));
     }
     let used = list_used(alloc, exchange, &work)?;

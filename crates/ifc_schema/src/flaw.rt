@@ -1,5 +1,5 @@
 //! What is wrong first with an instance.
-ghost use Rattle.std.specs.Prelude.{◌≡◌};
+ghost use Rattle.std.specs.Prelude.{◌≡◌, IfOk};
 ghost use Rattle.ifc_schema.specs.Forms.{fits, holds, allows_absent, allows_missing};
 ghost use Rattle.ifc_schema.specs.Flaws.{bad_unless, wanted_flaw, any_flaw, reference_flaw, LeafFlaw, FirstFlaw, ItemsFlaw, ListFlaw, ShapeFlaw,
     ValueFlaw, PlaceFlaw, AttributeFlaw, InstanceFlaw};
@@ -13,6 +13,7 @@ use crate::look::{look, row_at};
 use crate::value::{is_absent, is_enumeration, items_of, number_of, reference_of, words_of};
 use crate::words::{is_number, is_whole, says_guid};
 use p21_reader::{Exchange, Instance, Value21};
+use std::alloc::{AllocError, Global};
 
 /// What is wrong with an instance that lacks the form of its row.
 #[derive(Clone, Copy)]
@@ -47,12 +48,15 @@ fn whole_flaw(exchange: &Exchange, value: &Value21) -> Option<Flaw>
     }
 }
 
-fn identifier_flaw(value: &Value21) -> Option<Flaw>
-    ensures { result ≡ bad_unless (some_passes says_guid (words_of value.now)) }
+fn identifier_flaw(alloc: Global, value: &Value21) -> Result<Option<Flaw>, AllocError>
+    ensures { IfOk result (λ flaw. flaw ≡ bad_unless (some_passes says_guid (words_of value.now))) }
 {
     match words_of(value) {
-        Some(spelled) => bad_unless(says_guid(spelled)),
-        None => Some(Flaw::BadShape),
+        Some(spelled) => {
+            let says = says_guid(alloc, spelled)?;
+            Ok(bad_unless(says))
+        }
+        None => Ok(Some(Flaw::BadShape)),
     }
 }
 
@@ -88,7 +92,6 @@ fn leaf_flaw(exchange: &Exchange, leaf: Leaf, value: &Value21) -> Option<Flaw>
         Leaf::Number => number_flaw(exchange, value),
         Leaf::Whole => whole_flaw(exchange, value),
         Leaf::Text => bad_unless(words_of(value).is_some()),
-        Leaf::Identifier => identifier_flaw(value),
         Leaf::Enumeration => bad_unless(is_enumeration(value)),
         Leaf::Reference(wanted) => wanted_flaw(exchange, wanted, value),
         Leaf::AnyReference(_) => any_flaw(exchange, value),
@@ -158,53 +161,72 @@ fn table_flaw(
     }
 }
 
-fn shape_flaw(exchange: &Exchange, leaf: Leaf, shape: Shape, value: &Value21) -> Option<Flaw>
-    ensures { ShapeFlaw exchange.now leaf shape value.now result }
+fn shape_flaw(
+    alloc: Global,
+    exchange: &Exchange,
+    leaf: Leaf,
+    shape: Shape,
+    value: &Value21,
+) -> Result<Option<Flaw>, AllocError>
+    ensures { IfOk result (ShapeFlaw exchange.now leaf shape value.now) }
 {
     match shape {
-        Shape::One => leaf_flaw(exchange, leaf, value),
-        Shape::List(count) => list_flaw(exchange, leaf, count, value),
-        Shape::Table(outer, inner) => table_flaw(exchange, leaf, outer, inner, value),
+        Shape::One => Ok(leaf_flaw(exchange, leaf, value)),
+        Shape::Identifier => identifier_flaw(alloc, value),
+        Shape::List(count) => Ok(list_flaw(exchange, leaf, count, value)),
+        Shape::Table(outer, inner) => Ok(table_flaw(exchange, leaf, outer, inner, value)),
     }
 }
 
-fn value_flaw(exchange: &Exchange, attribute: Attribute, value: &Value21) -> Option<Flaw>
-    ensures { ValueFlaw exchange.now attribute value.now result }
+fn value_flaw(
+    alloc: Global,
+    exchange: &Exchange,
+    attribute: Attribute,
+    value: &Value21,
+) -> Result<Option<Flaw>, AllocError>
+    ensures { IfOk result (ValueFlaw exchange.now attribute value.now) }
 {
     if attribute.need.allows_absent() && is_absent(value) {
-        None
+        Ok(None)
     } else {
-        shape_flaw(exchange, attribute.leaf, attribute.shape, value)
+        shape_flaw(alloc, exchange, attribute.leaf, attribute.shape, value)
     }
 }
 
 /// What is wrong with an attribute of an instance.
 fn attribute_flaw(
+    alloc: Global,
     exchange: &Exchange,
     mapped: bool,
     instance: &Instance,
     attribute: Attribute,
-) -> Option<Flaw>
-    ensures { AttributeFlaw exchange.now mapped instance.now attribute result }
+) -> Result<Option<Flaw>, AllocError>
+    ensures { IfOk result (AttributeFlaw exchange.now mapped instance.now attribute) }
 {
-    if !applies(exchange, mapped, instance, attribute.when) {
-        return None;
+    let applied = applies(alloc, exchange, mapped, instance, attribute.when)?;
+    if !applied {
+        return Ok(None);
     }
     match instance.values.as_slice().get(attribute.at) {
-        Some(value) => value_flaw(exchange, attribute, value),
-        None => bad_unless(attribute.need.allows_missing()),
+        Some(value) => value_flaw(alloc, exchange, attribute, value),
+        None => Ok(bad_unless(attribute.need.allows_missing())),
     }
 }
 
 /// What is wrong first with an instance; whether it is mapped is given. None where it has the form of its row.
-pub fn instance_flaw(exchange: &Exchange, mapped: bool, instance: &Instance) -> Option<Flaw>
-    ensures { InstanceFlaw exchange.now mapped instance.now result }
+pub fn instance_flaw(
+    alloc: Global,
+    exchange: &Exchange,
+    mapped: bool,
+    instance: &Instance,
+) -> Result<Option<Flaw>, AllocError>
+    ensures { IfOk result (InstanceFlaw exchange.now mapped instance.now) }
 {
     for attribute in row_at(instance) {
-        let flaw = attribute_flaw(exchange, mapped, instance, *attribute);
+        let flaw = attribute_flaw(alloc, exchange, mapped, instance, *attribute)?;
         if flaw.is_some() {
-            return flaw;
+            return Ok(flaw);
         }
     }
-    None
+    Ok(None)
 }

@@ -11,7 +11,7 @@ use crate::look::{entity_at, place_of};
 use crate::value::{items_of, reference_of};
 use crate::work::{Mark, Work};
 use p21_reader::{Exchange, Instance, Value21};
-use std::alloc::AllocError;
+use std::alloc::{AllocError, Global};
 
 /// Gives an instance this mark, or leaves it a higher one, where it is of one of these entities.
 fn mark_target(
@@ -138,6 +138,7 @@ fn follow_shape(
 {
     match shape {
         Shape::One => follow_value(exchange, targets, value, work),
+        Shape::Identifier => Ok(()),
         Shape::List(_) => follow_list(exchange, targets, value, work),
         Shape::Table(_, _) => follow_table(exchange, targets, value, work),
     }
@@ -145,6 +146,7 @@ fn follow_shape(
 
 /// Marks what an attribute of an instance names.
 fn follow_attribute(
+    alloc: Global,
     exchange: &Exchange,
     mapped: bool,
     instance: &Instance,
@@ -160,7 +162,7 @@ fn follow_attribute(
     if targets.is_nothing() {
         return Ok(());
     }
-    if !applies(exchange, mapped, instance, attribute.when) {
+    if !applies(alloc, exchange, mapped, instance, attribute.when)? {
         return Ok(());
     }
     match instance.values.as_slice().get(attribute.at) {
@@ -171,6 +173,7 @@ fn follow_attribute(
 
 /// Marks what the attributes of an instance name.
 pub fn follow_attributes(
+    alloc: Global,
     exchange: &Exchange,
     mapped: bool,
     instance: &Instance,
@@ -183,7 +186,7 @@ pub fn follow_attributes(
     ensures marked { OnOk result ((to : ℕ) → Any (λ a. NamesBy exchange.now mapped instance.now a to) row.now → IsMarked exchange.now work.new 0 to) }
 {
     for attribute in row {
-        follow_attribute(exchange, mapped, instance, *attribute, work)?;
+        follow_attribute(alloc, exchange, mapped, instance, *attribute, work)?;
     }
     Ok(())
 }

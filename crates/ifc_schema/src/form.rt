@@ -24,8 +24,6 @@ pub enum Leaf {
     /// A number whose value is whole.
     Whole,
     Text,
-    /// A text whose value is a globally unique identifier.
-    Identifier,
     Enumeration,
     /// A reference to an instance of one of these entities, which are followed.
     Reference(Targets),
@@ -46,6 +44,8 @@ pub enum Count {
 #[derive(Clone, Copy)]
 pub enum Shape {
     One,
+    /// In none, and a text also has a globally unique identifier as its value.
+    Identifier,
     List(Count),
     /// A list of lists.
     Table(Count, Count),

@@ -91,8 +91,8 @@ const SUBJECT: [Attribute; 5] = [
         at: 0,
         when: When::Always,
         need: Need::Must,
-        shape: Shape::One,
-        leaf: Leaf::Identifier,
+        shape: Shape::Identifier,
+        leaf: Leaf::Text,
     },
     Attribute {
         at: 2,

@@ -18,6 +18,7 @@ use std::alloc::{AllocError, Global};
 
 /// Marks what an instance names.
 fn follow(
+    alloc: Global,
     exchange: &Exchange,
     mapped: bool,
     instance: &Instance,
@@ -30,12 +31,12 @@ fn follow(
     ensures grows { OnOk result (Grows exchange.now work.old work.new) }
     ensures followed { OnOk result (IsFollowed exchange.now work.new mapped instance.now) }
 {
-    follow_attributes(exchange, mapped, instance, row_at(instance), work)?;
+    follow_attributes(alloc, exchange, mapped, instance, row_at(instance), work)?;
     follow_map(exchange, instance, work)
 }
 
 /// Marks what the instance at a place names.
-fn visit(exchange: &Exchange, at: usize, work: &mut Work) -> Result<(), AllocError>
+fn visit(alloc: Global, exchange: &Exchange, at: usize, work: &mut Work) -> Result<(), AllocError>
     requires size { length work.old.marks.items ≡ length exchange.now }
     requires sound { SoundAt exchange.now at (mark_at work.old at) }
     requires marked { 0 < rank_at work.old at }
@@ -43,7 +44,7 @@ fn visit(exchange: &Exchange, at: usize, work: &mut Work) -> Result<(), AllocErr
     ensures followed { OnOk result (FollowedAt exchange.now work.new (is_mapped (mark_at work.old at)) at) }
 {
     let mapped = work.marks[at].is_mapped();
-    follow(exchange, mapped, &exchange.instances()[at], work)
+    follow(alloc, exchange, mapped, &exchange.instances()[at], work)
 }
 
 /// Marks the instance at a place, where it is used wherever it stands.
@@ -86,14 +87,14 @@ fn is_first(instances: &[Instance], at: usize) -> bool
 }
 
 /// Follows rows until none is left to follow.
-fn follow_all(exchange: &Exchange, work: &mut Work) -> Result<(), AllocError>
+fn follow_all(alloc: Global, exchange: &Exchange, work: &mut Work) -> Result<(), AllocError>
     requires { Going exchange.now work.old }
     ensures going { OnOk result (Going exchange.now work.new) }
     ensures done { OnOk result (work.new.stack.items ≡ []) }
     ensures grows { OnOk result ((at : ℕ) → 0 < rank_at work.old at → 0 < rank_at work.new at) }
 {
     while let Some(at) = work.stack.pop() {
-        visit(exchange, at, work)?;
+        visit(alloc, exchange, at, work)?;
     }
     Ok(())
 }
@@ -104,6 +105,6 @@ pub fn mark_used(alloc: Global, exchange: &Exchange) -> Result<Work, AllocError>
 {
     let mut work = Work::new(alloc, exchange.instances().len())?;
     mark_roots(exchange, &mut work)?;
-    follow_all(exchange, &mut work)?;
+    follow_all(alloc, exchange, &mut work)?;
     Ok(work)
 }

@@ -1,6 +1,6 @@
 //! Which instances were met, and whose rows are still to be followed.
-ghost use Rattle.std.specs.Prelude.{◌≡◌, ◌<◌, ◌++◌, ◌∷◌, [], length, OnOk, IsTrue, ◌↔◌, nat_lt, slice_set, if◌then◌else◌, replicate, IfOk};
-ghost use Rattle.ifc_schema.specs.Marks.{rank, rank_at, is_mapped};
+ghost use Rattle.std.specs.Prelude.{◌≡◌, ◌<◌, ◌++◌, ◌∷◌, [], length, OnOk, nat_lt, slice_set, if◌then◌else◌, replicate, IfOk};
+ghost use Rattle.ifc_schema.specs.Marks.{rank, rank_at, is_seen, is_mapped};
 
 use std::alloc::{AllocError, Global};
 
@@ -25,8 +25,9 @@ impl Mark {
         }
     }
 
+    /// Whether it was met.
     pub fn is_seen(self) -> bool
-        ensures { IsTrue result ↔ (0 < rank self) }
+        ensures { result ≡ is_seen self }
     {
         !matches!(self, Mark::Unseen)
     }

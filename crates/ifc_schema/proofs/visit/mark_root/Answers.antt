@@ -1,4 +1,4 @@
-use Rattle.std.proofs.Common.{◌≡◌, ◌<◌, ℕ, Bool, true, false, not, length, get_or, sym, ap, ◌∙◌, refl}
+use Rattle.std.proofs.Common.{◌≡◌, ◌<◌, ℕ, Bool, true, false, length, get_or, sym, ap, ◌∙◌}
 use Rattle.std.specs.Bool.{OnTrue, OnFalse}
 use Rattle.p21_reader.specs.declared.value.Instance.{Instance}
 use Rattle.ifc_schema.specs.declared.work.Mark.TheVariants.{Used as Met}
@@ -10,14 +10,6 @@ use Rattle.ifc_schema.proofs.Results.{on_ok2}
 use Rattle.ifc_schema.proofs.Growing.{raise_grows}
 use Rattle.ifc_schema.proofs.Following.{no_root, root_sound}
 use Rattle.ifc_schema.proofs.visit.mark_root.Goals as goal
-
-not_true : (b : Bool) → not b ≡ true → b ≡ false
-not_true true h = cc
-not_true false h = refl
-
-not_false : (b : Bool) → not b ≡ false → b ≡ true
-not_false true h = refl
-not_false false h = cc
 
 on_false : (b : Bool) {P : Type 0} → b ≡ false → OnFalse b P → P
 on_false true h p = cc
@@ -31,21 +23,21 @@ pub returns-then-not-is_root-clause-root : goal.returns-then-not-is_root-clause-
 returns-then-not-is_root-clause-root c = λ r.
     let i = c.index-instances-at.result in
     let e : i ≡ get_or c.args.exchange.now c.args.at i = rw (← c.instances-instances.ensures.same) c.index-instances-at.is in
-    let f : is_root (entity_at i) ≡ false = ap is_root (sym c.entity_at.ensures) ∙ (sym c.is_root.ensures ∙ not_true c.is_root.result c.if-not-is_root.true) in
+    let f : is_root (entity_at i) ≡ false = ap is_root (sym c.entity_at.ensures) ∙ (sym c.is_root.ensures ∙ c.if-not-is_root.true) in
     absurd (no_root c.args.exchange.now c.args.at i e f r)
 
 pub returns-then-not-is_first-clause-root : goal.returns-then-not-is_first-clause-root
 returns-then-not-is_first-clause-root c = λ r.
-    let other : (id : ℕ) → IsPlaceOf c.instances-instances.result.now id c.args.at → ⊥ = on_false c.is_first.result (not_true c.is_first.result c.if-not-is_first.true) c.is_first.ensures.other in
+    let other : (id : ℕ) → IsPlaceOf c.instances-instances.result.now id c.args.at → ⊥ = on_false c.is_first.result c.if-not-is_first.true c.is_first.ensures.other in
     absurd (other r.id (rw c.instances-instances.ensures.same r.place))
 
 pub returns-clause-grows : goal.returns-clause-grows
 returns-clause-grows c =
     let i = c.index-instances-at.result in
     let e : i ≡ get_or c.args.exchange.now c.args.at i = rw (← c.instances-instances.ensures.same) c.index-instances-at.is in
-    let t : is_root (entity_at i) ≡ true = ap is_root (sym c.entity_at.ensures) ∙ (sym c.is_root.ensures ∙ not_false c.is_root.result c.if-not-is_root.false) in
+    let t : is_root (entity_at i) ≡ true = ap is_root (sym c.entity_at.ensures) ∙ (sym c.is_root.ensures ∙ c.if-not-is_root.false) in
     let first : (j : Instance) → IsPlaceOf c.instances-instances.result.now (get_or c.instances-instances.result.now c.args.at j).id c.args.at =
-        on_true c.is_first.result (not_false c.is_first.result c.if-not-is_first.false) c.is_first.ensures.first in
+        on_true c.is_first.result c.if-not-is_first.false c.is_first.ensures.first in
     let p : IsPlaceOf c.args.exchange.now i.id c.args.at = rw (e, ← c.instances-instances.ensures.same) (first i) in
     on_ok2 c.raise.result (λ m k. (raise_grows c.args.exchange.now c.args.work.now c.raise.new.self c.args.at Met (rw c.requires.size c.requires.within)
         (root_sound c.args.exchange.now c.args.at i p e t) m k).grows) c.raise.ensures.marks c.raise.ensures.stack
