@@ -1,5 +1,5 @@
 -- The numbers of instances are listed place by place.
-use Rattle.std.proofs.Common.{◌≡◌, ◌≢◌, ℕ, ◌+◌, ◌<◌, ◌≤◌, ◌⊎◌, inl, inr, Bool, true, false, IsTrue, ◌↔◌, List, [], ◌∷◌, ◌++◌, ◌&&◌, length, get_or, Option, Some, None, Contains, refl, sym, ap, ◌∙◌, subst, arith, length-append}
+use Rattle.std.proofs.Common.{◌≡◌, ◌≢◌, ℕ, ◌+◌, ◌<◌, ◌≤◌, ◌⊎◌, inl, inr, Bool, true, false, IsTrue, ◌↔◌, List, [], ◌∷◌, ◌++◌, ◌&&◌, length, get_or, Option, Some, None, is_some, Contains, refl, sym, ap, ◌∙◌, subst, arith, length-append}
 use Rattle.std.specs.List.Sorted.{IsNonDecreasingBy, IsSortedByKey, IsStrictlyIncreasing}
 use Rattle.std.specs.Ordering.{nat_cmp}
 use Rattle.std.proofs.lemmas.List.{get_or_default, get_or-append-add, append-nil}
@@ -17,7 +17,7 @@ use Rattle.ifc_schema.specs.Used.{Used, root, named, mapped, IsMapped}
 use Rattle.ifc_schema.specs.Marks.{rank, rank_at, mark_at, is_seen, is_mapped, SoundAt, Known}
 use Rattle.ifc_schema.specs.Flaws.{InstanceFlaw}
 use Rattle.ifc_schema.specs.StageFive.{UsedFlaw, StageFive, IsModelElement, is_model_element, is_subject, Lists, fault_of}
-use Rattle.ifc_schema.specs.Steps.{FaultAt, CheckedAt, Below}
+use Rattle.ifc_schema.specs.Steps.{FaultAt, CheckedAt, Checked, Below}
 use Rattle.ifc_schema.specs.Entities.{is_root}
 use Rattle.ifc_schema.specs.Bodies.{has_body}
 use Rattle.ifc_schema.proofs.PlaceLemmas.{PlaceFound, place_found, found_at, place_once, some_instance}
@@ -234,3 +234,13 @@ push_there world at i s P ids new rises p e h ls n =
     let same : i.id ≡ s = ap (λ (j : Instance). j.id) e ∙ p.number i in
     let q : new ≡ ids ++ s ∷ [] = n ∙ ap (λ m. ids ++ m ∷ []) same in
     rw q (lists_more world at s P ids rises p h ls)
+
+-- what one place answers, and what is known after it
+pub checked_some : (world : List Instance) (at : ℕ) (o : Option UploadFault) → IsSortedByKey (λ (i : Instance). i.id) nat_cmp world → is_some o ≡ true → CheckedAt world at o
+    → ((k : ℕ) → k < at → (id : ℕ) → IsPlaceOf world id k → Used world id → UsedFlaw world id None) → Checked world o
+checked_some world at None rises h k before = cc
+checked_some world at (Some fault) rises h k before = least_there world at fault rises k before
+
+pub checked_none : (world : List Instance) (at : ℕ) (o : Option UploadFault) → is_some o ≡ false → CheckedAt world at o → (id : ℕ) → IsPlaceOf world id at → Used world id → UsedFlaw world id None
+checked_none world at None h k = k
+checked_none world at (Some fault) h k = cc

@@ -11,6 +11,8 @@ mod form;
 mod look;
 mod outcome;
 mod table;
+#[cfg(test)]
+mod tests;
 mod value;
 mod visit;
 mod words;
