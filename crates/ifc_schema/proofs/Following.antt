@@ -128,7 +128,7 @@ going_on world old taken new at g em es grows f =
                 | inl d ↦ inl (grows.keeps k d)
                 | inr p ↦ inr (let q : is_mapped (mark_at taken at) ≡ is_mapped (mark_at new k) = ap (λ j. is_mapped (mark_at taken j)) p ∙ ap is_mapped (sym e) in
                     subst (λ j. FollowedAt world new (is_mapped (mark_at new k)) j) p (subst (λ b. FollowedAt world new b at) q f))
-                ]
+              ]
               | inr h ↦ inr (λ i t.
                   let n : IsFollowed world old (is_mapped (mark_at old k)) i = h i t in
                   let q : is_mapped (mark_at old k) ≡ is_mapped (mark_at new k) = ap is_mapped (sym (e ∙ same k)) in
@@ -137,8 +137,8 @@ going_on world old taken new at g em es grows f =
                     maps = λ to s a p. let x = n.maps to s a p in let y = ap rank (same a) in let z = grows.rises a in omega arith;
                   } in
                   subst (λ b. IsFollowed world new b i) q on)
-              ])
-        ];
+            ])
+      ];
     }
 
 -- At first nothing is marked.
@@ -148,6 +148,7 @@ nothing_met n k = elim (side k n) [ inl lt ↦ get_or-replicate n k Unseen Unsee
   where
     side : (k n : ℕ) → (k < n) ⊎ (n ≤ k)
     side k n = grind arith
+
     past : (n k : ℕ) → n ≤ k → get_or (replicate n Unseen) k Unseen ≡ Unseen
     past n k le = get_or_past (replicate n Unseen) k Unseen (rw length-replicate le)
 
@@ -161,7 +162,7 @@ going_first world first new n en em es g =
       pending = λ k r. elim (g.pending k) [
         | inl e ↦ (let x = ap rank (e ∙ unseen k) in absurd (omega arith))
         | inr c ↦ inl c
-        ];
+      ];
     }
 
 -- At the end all that is used is marked, since nothing is left to follow.
@@ -170,7 +171,7 @@ done : (world : List Instance) (w : Work) → Going world w → w.stack.items �
 done world w g s at r = elim (g.pending at r) [
   | inl c ↦ (let d : Contains {X = ℕ} [] at = rw s at c in let lt = d.1 in absurd (omega arith))
   | inr f ↦ f
-  ]
+]
 
 followed_there : (world : List Instance) (w : Work) (id : ℕ) (i : Instance) (least : ℕ) → Going world w → w.stack.items ≡ [] → look world id ≡ Some i → IsMarked world w least id
     → (m : Mark) × (least < rank m) × IsFollowed world w (is_mapped m) i
@@ -203,6 +204,7 @@ first_there xs at d e some lt rises = by (nat_eq (get_or xs (at - 1) d).id (get_
   where
     up : IsNonDecreasingBy (λ (i : Instance). i.id) xs
     up = IsNonDecreasingBy-from_sort (λ (i : Instance). i.id) xs rises
+
     by : (b : Bool) → nat_eq (get_or xs (at - 1) d).id (get_or xs at e).id ≡ b → OnTrue (not b) ((i : Instance) → IsPlaceOf xs (get_or xs at i).id at)
     by true h = tt
     by false h = λ i. record {
@@ -223,6 +225,7 @@ flag_there w at r d = ap is_mapped (get_or_default w.marks.items at d Unseen (wi
   where
     side : (k n : ℕ) → (k < n) ⊎ (n ≤ k)
     side k n = grind arith
+
     within : (ms : List Mark) (at : ℕ) → 0 < rank (get_or ms at Unseen) → at < length ms
     within ms at r = elim (side at (length ms)) [ inl lt ↦ lt | inr le ↦ (let e = ap rank (get_or_past ms at Unseen le) in absurd (omega arith)) ]
 
@@ -243,7 +246,7 @@ going_same world old new g em es =
               maps = λ to s a p. let x = n.maps to s a p in let y = ap rank (same a) in omega arith;
             } in
             subst (λ b. IsFollowed world new b i) (ap is_mapped (sym (same k))) on)
-        ];
+      ];
     }
 
 -- One root: it is marked, or the place is none.

@@ -37,7 +37,7 @@ grows_trans world a b c p q = record {
   pending = λ at. elim (q.pending at) [
     | inr k ↦ inr k
     | inl e ↦ elim (p.pending at) [ inl f ↦ inl (e ∙ f) | inr k ↦ inr (q.keeps at k) ]
-    ];
+  ];
   keeps = λ at h. q.keeps at (p.keeps at h);
   weight = let x = p.weight in let y = q.weight in omega arith;
 }
@@ -63,27 +63,27 @@ raised world old new at mark lt up s em es =
       sound = λ h k. elim (same k at) [
         | inl e ↦ subst (λ j. SoundAt world j (mark_at new j)) (sym e) (subst (λ m. SoundAt world at m) (sym here) s)
         | inr n ↦ subst (λ m. SoundAt world k m) (sym (other k n)) (h k)
-        ];
+      ];
       stacked = λ h k c. elim (same k at) [
         | inl e ↦ (let f = ap rank here in rw e (omega arith))
         | inr n ↦ elim (Contains-push_cases old.stack.items at k (rw es at c)) [
           | inl c2 ↦ (let f = ap rank (other k n) in let g = h k c2 in omega arith)
           | inr e ↦ absurd (n (sym e))
-          ]
-        ];
+        ]
+      ];
       rises = λ k. elim (same k at) [
         | inl e ↦ (let f = ap rank here in rw e (omega arith))
         | inr n ↦ (let f = ap rank (other k n) in omega arith)
-        ];
+      ];
       pending = λ k. elim (same k at) [
         | inl e ↦ inr (rw e on)
         | inr n ↦ inl (other k n)
-        ];
+      ];
       keeps = λ k c. rw es (Contains-append_left old.stack.items (at ∷ []) k c);
       weight =
-        let f = sum_by-set (λ m. 4 - 2 * rank m) old.marks.items at mark Unseen lt in
-        let g = rank_most mark in
-        rw (em, es) (omega (arith, length-append old.stack.items (at ∷ [])));
+          let f = sum_by-set (λ m. 4 - 2 * rank m) old.marks.items at mark Unseen lt in
+          let g = rank_most mark in
+          rw (em, es) (omega (arith, length-append old.stack.items (at ∷ [])));
     }
   where
     same : (k n : ℕ) → (k ≡ n) ⊎ (k ≢ n)
@@ -123,7 +123,7 @@ raise_grows world old new at mark lt s em es = elim (order (rank_at old at) (ran
         };
         reached = let g = ap rank (same at) in let h = f.0 in omega arith;
       })
-  ]
+]
 
 -- a number leads to the instance at its place, which is meant
 pub meant_there : (world : List Instance) (targets : Targets) (to at : ℕ) (i : Instance) → IsPlaceOf world to at → i ≡ get_or world at i → holds targets i.keyword ≡ true → LeadsTo world targets to
@@ -148,7 +148,7 @@ pub one_more : {X : Type 0} (D : Work → X → Type 0) (xs : List X) (old new :
 one_more D xs old new i x lt e on before here k l d = elim (last k i l) [
   | inl m ↦ on (get_or xs k d) (before k m d)
   | inr f ↦ (let g : x ≡ get_or xs k d = e ∙ (get_or_default xs i x d lt ∙ ap (λ j. get_or xs j d) (sym f)) in subst (D new) g here)
-  ]
+]
   where
     last : (k i : ℕ) → k < i + 1 → (k < i) ⊎ (k ≡ i)
     last k i l = grind arith

@@ -60,7 +60,7 @@ earlier world rises a b k at p q lt =
     elim (side k at) [
       | inl l ↦ l
       | inr g ↦ (let w = p.within in let x = up at k some_instance g w in absurd (omega arith))
-      ]
+    ]
   where
     side : (k n : ℕ) → (k < n) ⊎ (n ≤ k)
     side k n = grind arith
@@ -79,7 +79,7 @@ below_last : (world : List Instance) (at : ℕ) (P : ℕ → Type 0) (id : ℕ) 
 below_last world at P id b = elim (last b.place at b.below) [
   | inl l ↦ inl (record { place = b.place; below = l; there = b.there; holds = b.holds })
   | inr e ↦ inr (subst (IsPlaceOf world id) e b.there, b.holds)
-  ]
+]
   where
     last : (k n : ℕ) → k < n + 1 → (k < n) ⊎ (k ≡ n)
     last k n h = grind arith
@@ -99,19 +99,20 @@ lists_more world at id P ids rises p h ls = record {
         let c : Contains ids (get_or ids k 0) = (k, omega arith, get_or_default ids k (get_or ids k 0) 0 (omega arith)) in
         let w = ls.each (get_or ids k 0) c in
         let x = lower world rises (get_or ids k 0) id w.place at w.there p w.below in omega arith)
-    ];
+  ];
   each = λ n c. elim (Contains-push_cases ids id n c) [
     | inl d ↦ below_on world at P n (ls.each n d)
     | inr e ↦ subst (Below world (at + 1) P) e (record { place = at; below = omega arith; there = p; holds = h })
-    ];
+  ];
   all = λ n b. elim (below_last world at P n b) [
     | inl d ↦ Contains-append_left ids (id ∷ []) n (ls.all n d)
     | inr q ↦ subst (Contains (ids ++ id ∷ [])) (number_once world id n at p q.0) (Contains-push ids id)
-    ];
+  ];
 }
   where
     last : (k n : ℕ) → k + 1 < n + 1 → (k + 1 < n) ⊎ (k + 1 ≡ n)
     last k n h = grind arith
+
     seam : (ids : List ℕ) (id : ℕ) → get_or (ids ++ id ∷ []) (length ids) 0 ≡ id
     seam ids id = (let e = get_or-append-add ids (id ∷ []) 0 0 in ap (λ j. get_or (ids ++ id ∷ []) j 0) (zero_more (length ids)) ∙ e)
       where
@@ -126,7 +127,7 @@ lists_same world at P ids none ls = record {
   all = λ n b. elim (below_last world at P n b) [
     | inl d ↦ ls.all n d
     | inr q ↦ absurd (none n q.0 q.1)
-    ];
+  ];
 }
 
 -- all numbers

@@ -64,7 +64,7 @@ place_found (j ∷ js) id i h = elim (tells (j.id == id)) [
         };
         there = λ d. r.there d;
       })
-  ]
+]
   where
     later : (js : List Instance) (j : Instance) (id at : ℕ) → (j.id == id) ≡ false → ((k : ℕ) → k < at → HoldsAt (λ (i : Instance). i.id ≢ id) js k) → (n : ℕ) → n < suc at → HoldsAt (λ (i : Instance). i.id ≢ id) (j ∷ js) n
     later js j id at f h zero l = λ d e. (let g = eq_is j.id id e in cc)
@@ -77,8 +77,8 @@ place_once world id a b p q = elim (order a b) [
   | inr r ↦ elim r [
     | inl e ↦ e
     | inr gt ↦ absurd (p.first b gt some_instance (q.number some_instance))
-    ]
   ]
+]
   where
     order : (a b : ℕ) → (a < b) ⊎ ((a ≡ b) ⊎ (b < a))
     order a b = grind arith
@@ -103,7 +103,7 @@ halved_none world id at rises below above other = none_found world id (λ k d lt
       let u = rises at k some_instance g lt in
       let v = ap (λ (i : Instance). i.id) (get_or_default world k d some_instance lt) in
       other (omega arith) (grind (arith, nat_tests)))
-  ])
+])
   where
     side : (k n : ℕ) → (k < n) ⊎ (n ≤ k)
     side k n = grind arith

@@ -78,11 +78,7 @@ fn is_body_shape(alloc: Global, exchange: &Exchange, shape: &Instance) -> Result
 
 /// Whether an element has a body: one of the representations of its shape has the identifier `Body`.
 #[tactic(auto, unfolding(crate::specs::Bodies::has_body))]
-pub fn has_body(
-    alloc: Global,
-    exchange: &Exchange,
-    element: &Instance,
-) -> Result<bool, AllocError>
+pub fn has_body(alloc: Global, exchange: &Exchange, element: &Instance) -> Result<bool, AllocError>
     ensures { IfOk result (λ body. body ≡ has_body exchange.now element.now) }
 {
     match element.values.as_slice().get(6) {

@@ -1,8 +1,21 @@
 //! What is wrong first with an instance.
 ghost use Rattle.std.specs.Prelude.{◌≡◌, IfOk};
 ghost use Rattle.ifc_schema.specs.Forms.{fits, holds, allows_absent, allows_missing};
-ghost use Rattle.ifc_schema.specs.Flaws.{bad_unless, wanted_flaw, any_flaw, reference_flaw, LeafFlaw, FirstFlaw, ItemsFlaw, ListFlaw, ShapeFlaw,
-    ValueFlaw, PlaceFlaw, AttributeFlaw, InstanceFlaw};
+ghost use Rattle.ifc_schema.specs.Flaws.{
+  bad_unless,
+  wanted_flaw,
+  any_flaw,
+  reference_flaw,
+  LeafFlaw,
+  FirstFlaw,
+  ItemsFlaw,
+  ListFlaw,
+  ShapeFlaw,
+  ValueFlaw,
+  PlaceFlaw,
+  AttributeFlaw,
+  InstanceFlaw,
+};
 ghost use Rattle.ifc_schema.specs.Words.{says_guid};
 ghost use Rattle.ifc_schema.specs.Bodies.{some_passes};
 ghost use Rattle.ifc_schema.specs.Values.{words_of, reference_of};

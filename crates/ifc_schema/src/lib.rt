@@ -1,5 +1,5 @@
-//! The entities of IFC that a coordination model is read from (IFC4 ADD2 TC1): which attributes are followed and what form they have, which
-//! instances of a file are used, and views of single instances.
+//! The entities of IFC that a coordination model is read from (IFC4 ADD2 TC1): which attributes are followed and what form they have, and which
+//! instances of a file are used.
 #![tactic(auto)]
 
 mod body;
@@ -21,4 +21,3 @@ mod work;
 pub use checks::survey;
 pub use entity::Entity;
 pub use outcome::Survey;
-

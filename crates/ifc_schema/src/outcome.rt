@@ -31,4 +31,3 @@ impl Survey {
         self.elements.as_slice()
     }
 }
-

@@ -418,7 +418,11 @@ fn file_of(alloc: Global, case: Case) -> Result<Vec<u8>, AllocError> {
 
 fn told(answer: Result<Survey, BuildError>) -> [u64; 3] {
     match answer {
-        Ok(survey) => [0, survey.used().len() as u64, survey.elements().len() as u64],
+        Ok(survey) => [
+            0,
+            survey.used().len() as u64,
+            survey.elements().len() as u64,
+        ],
         Err(BuildError::Fault(UploadFault::Dangling { id, to })) => [6, id, to],
         Err(BuildError::Fault(UploadFault::BadShape { id })) => [7, id, 0],
         Err(_) => [1, 0, 0],

@@ -14,7 +14,7 @@ returns-then-not-is_seen c =
     let m = c.index.result.now in
     let s : is_seen m ≡ false = sym c.is_seen.ensures ∙ c.if-not-is_seen.true in
     lists_same world c.args.at (IsModelElement world) c.args.ids.now.items
-        (λ id p h. unseen_there world work c.args.at m c.requires.known c.requires.within c.index.ensures s id p (element_used world id h)) c.requires.ids
+    (λ id p h. unseen_there world work c.args.at m c.requires.known c.requires.within c.index.ensures s id p (element_used world id h)) c.requires.ids
 
 pub returns-then-not-element : goal.returns-then-not-element
 returns-then-not-element c =

@@ -32,4 +32,4 @@ pub returns-clause-marked : goal.returns-clause-marked
 returns-clause-marked c = λ to a.
     let world = c.args.exchange.now in
     any_of (λ (v : Attribute). NamesBy world c.args.mapped c.args.instance.now v to) (IsMarked world c.loop-attribute.work 0 to) c.args.row.now c.loop-attribute.attribute-index c.loop-attribute-test.false
-        (λ k lt d s. c.loop-attribute.invariant.marked k lt d to s) a
+    (λ k lt d s. c.loop-attribute.invariant.marked k lt d to s) a

@@ -23,4 +23,4 @@ pub returns-clause-marked : goal.returns-clause-marked
 returns-clause-marked c = λ to a l.
     let world = c.args.exchange.now in
     any_of (λ (v : Value21). RefersTo to v) (IsMarked world c.loop-item.work 0 to) c.args.items.now c.loop-item.item-index c.loop-item-test.false
-        (λ k lt d s. c.loop-item.invariant.marked k lt d to s l) a
+    (λ k lt d s. c.loop-item.invariant.marked k lt d to s l) a

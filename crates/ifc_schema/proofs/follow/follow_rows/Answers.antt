@@ -23,4 +23,4 @@ pub returns-clause-marked : goal.returns-clause-marked
 returns-clause-marked c = λ to a l.
     let world = c.args.exchange.now in
     any_of (λ (v : Value21). SomeItem (RefersTo to) v) (IsMarked world c.loop-row.work 0 to) c.args.rows.now c.loop-row.row-index c.loop-row-test.false
-        (λ k lt d s. c.loop-row.invariant.marked k lt d to s l) a
+    (λ k lt d s. c.loop-row.invariant.marked k lt d to s l) a

@@ -23,9 +23,9 @@ returns-then-holds-clause-marked c =
     let i = c.index-instances-at.result in
     let p : IsPlaceOf world c.args.to c.in-Some.at = c.in-Some.ensures in
     on_ok2 c.raise.result (λ m k l q at_q.
-        reached_there world c.raise.new.self c.args.to c.in-Some.at (rank c.args.mark) p
-        (raise_grows world c.args.work.now c.raise.new.self c.in-Some.at c.args.mark (rw c.requires.size p.within) (c.requires.sound l c.in-Some.at p) m k).reached q at_q)
-        c.raise.ensures.marks c.raise.ensures.stack
+    reached_there world c.raise.new.self c.args.to c.in-Some.at (rank c.args.mark) p
+    (raise_grows world c.args.work.now c.raise.new.self c.in-Some.at c.args.mark (rw c.requires.size p.within) (c.requires.sound l c.in-Some.at p) m k).reached q at_q)
+    c.raise.ensures.marks c.raise.ensures.stack
 
 pub returns-else-holds-clause-marked : goal.returns-else-holds-clause-marked
 returns-else-holds-clause-marked c = λ l q at_q.

@@ -10,7 +10,7 @@ returns-then-instances-at c =
     let up = IsNonDecreasingBy-from_sort (λ (i : Instance). i.id) _ c.instances-instances.ensures.rises in
     let point = IsPartitionPoint-from_clause (λ (i : Instance). nat_lt i.id c.args.id) _ _ c.partition_point-at.ensures.partitioned (IsPartitionedBy-ltb (λ (i : Instance). i.id) _ c.args.id up) (λ a r q k. search rules) in
     let e : (get_or c.instances-instances.result.now c.partition_point-at.result some_instance).id ≡ c.args.id =
-        ap (λ (i : Instance). i.id) (get_or_default c.instances-instances.result.now c.partition_point-at.result some_instance c.index-instances-at.result c.if-at-instances.true) ∙ c.if-instances-at.true in
+    ap (λ (i : Instance). i.id) (get_or_default c.instances-instances.result.now c.partition_point-at.result some_instance c.index-instances-at.result c.if-at-instances.true) ∙ c.if-instances-at.true in
     rw (← c.instances-instances.ensures.same) (halved_place c.instances-instances.result.now c.args.id c.partition_point-at.result point.0 c.if-at-instances.true e)
 
 pub returns-else-instances-at : goal.returns-else-instances-at

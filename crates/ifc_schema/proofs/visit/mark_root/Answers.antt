@@ -37,7 +37,7 @@ returns-clause-grows c =
     let e : i ≡ get_or c.args.exchange.now c.args.at i = rw (← c.instances-instances.ensures.same) c.index-instances-at.is in
     let t : is_root (entity_at i) ≡ true = ap is_root (sym c.entity_at.ensures) ∙ (sym c.is_root.ensures ∙ c.if-not-is_root.false) in
     let first : (j : Instance) → IsPlaceOf c.instances-instances.result.now (get_or c.instances-instances.result.now c.args.at j).id c.args.at =
-        on_true c.is_first.result c.if-not-is_first.false c.is_first.ensures.first in
+    on_true c.is_first.result c.if-not-is_first.false c.is_first.ensures.first in
     let p : IsPlaceOf c.args.exchange.now i.id c.args.at = rw (e, ← c.instances-instances.ensures.same) (first i) in
     on_ok2 c.raise.result (λ m k. (raise_grows c.args.exchange.now c.args.work.now c.raise.new.self c.args.at Met (rw c.requires.size c.requires.within)
-        (root_sound c.args.exchange.now c.args.at i p e t) m k).grows) c.raise.ensures.marks c.raise.ensures.stack
+    (root_sound c.args.exchange.now c.args.at i p e t) m k).grows) c.raise.ensures.marks c.raise.ensures.stack

@@ -15,5 +15,5 @@ loop-at-preserved c =
       roots = λ k l r. elim (last k c.loop-at.at l) [
         | inl lt ↦ (let x = c.loop-at.invariant.roots k lt r in let y = grows.rises k in omega arith)
         | inr e ↦ subst (λ j. 0 < rank_at c.mark_root.new.work j) (sym e) (c.in_ok-mark_root.ensures.root (subst (IsRootAt world) e r))
-        ];
+      ];
     }
