@@ -2,12 +2,12 @@
 use Rattle.std.proofs.Common.{◌≡◌, ℕ, zero, suc, ◌+◌, ◌-◌, ◌*◌, ◌/◌, ◌%◌, ◌^◌, ◌<◌, ◌≤◌, ◌==◌, ◌&&◌, not, nat_le, nat_lt, List, [], ◌∷◌, ◌++◌, length, get_or, take, drop, Bool, true, false, refl, sym, ap, ◌∙◌, add-one, arith, append_assoc, drop-cons, inl, inr, ◌⊎◌}
 use Rattle.std.specs.List.{list_all}
 use Rattle.std.specs.Str.{IsUtf8, IsAscii, is_utf8}
-use Rattle.std.proofs.lemmas.Bool.{le-leb, lt-leb, ne_eqb, eqb-true, leb-true, ltb-true, lt-ltb, le-ltb}
+use Rattle.std.proofs.lemmas.Bool.{eqb-true, leb-true, ltb-true}
 use Rattle.std.proofs.lemmas.Bool.Decides.{nat_tests}
 use Rattle.std.proofs.lemmas.List.{append-nil, drop-drop, length-drop, take-append-drop}
 use Rattle.std.proofs.lemmas.Str.{IsUtf8-from_ascii}
 use Rattle.bim_text.proofs.Cleaning.{cleaned_nil, cleaned_kept}
-use Rattle.bim_text.specs.Texts.{Row, sequence_len, row_of, escape_row, high_row, wide_row, is_code, is_wide, is_shifted, is_page, are_groups, is_hexadecimal, run, rows_within, rows, cleaned, unpaired, is_plain, is_clean, text_of_spelling}
+use Rattle.bim_text.specs.Texts.{Row, sequence_len, row_of, escape_row, high_row, wide_row, is_code, is_wide, is_shifted, is_page, is_hexadecimal, run, rows_within, rows, cleaned, is_plain, is_clean, text_of_spelling}
 use Rattle.bim_text.proofs.Truths.{tells, and_left, and_right}
 use Rattle.bim_text.proofs.Fronts.{drop_past}
 

@@ -1,10 +1,8 @@
 -- Cleaned texts.
 use Rattle.std.proofs.Common.{◌≡◌, ℕ, zero, suc, ◌+◌, ◌-◌, ◌<◌, ◌≤◌, ◌==◌, ◌&&◌, not, nat_le, List, [], ◌∷◌, ◌++◌, length, get_or, take, drop, filter, Bool, true, false, refl, sym, ap, ◌∙◌, add-one, arith, append_assoc, drop-cons, inl, inr, ◌⊎◌}
-use Rattle.std.specs.List.{list_all}
-use Rattle.std.proofs.lemmas.Bool.{le-leb, lt-leb, ne_eqb, eqb-true}
-use Rattle.std.proofs.lemmas.Bool.Decides.{nat_tests}
+use Rattle.std.proofs.lemmas.Bool.{le-leb, lt-leb, eqb-true}
 use Rattle.std.proofs.lemmas.List.{append-nil, length-drop, get_or-drop}
-use Rattle.bim_text.specs.Texts.{unpaired, is_kept, cleaned, is_clean}
+use Rattle.bim_text.specs.Texts.{unpaired, cleaned}
 use Rattle.bim_text.proofs.Truths.{tells, and_left, and_right}
 use Rattle.bim_text.proofs.Fronts.{drop_past}
 

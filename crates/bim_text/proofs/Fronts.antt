@@ -1,9 +1,9 @@
 -- The digits at the front of bytes, and the number that digits write.
-use Rattle.std.proofs.Common.{◌≡◌, ℕ, ◌+◌, ◌-◌, ◌*◌, ◌<◌, ◌≤◌, List, [], ◌∷◌, ◌++◌, length, get_or, take, drop, Bool, true, false, suc, zero, refl, sym, ap, add-one, arith, drop-cons, Option, Some, None, All}
+use Rattle.std.proofs.Common.{◌≡◌, ℕ, ◌+◌, ◌-◌, ◌*◌, ◌<◌, ◌≤◌, List, [], ◌∷◌, length, get_or, drop, true, false, suc, zero, refl, add-one, arith, drop-cons, Some, None}
 use Rattle.std.specs.List.{list_all}
-use Rattle.std.proofs.lemmas.Bool.{eqb-true, ne_eqb}
+use Rattle.std.proofs.lemmas.Bool.{ne_eqb}
 use Rattle.bim_text.specs.Numbers.{Unsigned, Plus, Minus, sign_bytes}
-use Rattle.bim_text.specs.Numbers.{is_digit, value_after, AreDigits}
+use Rattle.bim_text.specs.Numbers.{is_digit, value_after}
 use Rattle.bim_text.specs.Scanning.{front, sign_at, fraction_at, exponent_at}
 
 pub drop_past : (bs : List ℕ) (i : ℕ) → length bs ≤ i → drop i bs ≡ []

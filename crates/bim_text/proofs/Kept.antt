@@ -1,5 +1,5 @@
 -- What is kept of digits says what they write, and is there exactly where at most 34 are significant.
-use Rattle.std.proofs.Common.{◌≡◌, ℕ, zero, suc, ◌+◌, ◌-◌, ◌*◌, ◌%◌, ◌^◌, ◌<◌, ◌≤◌, ◌==◌, ◌&&◌, ◌⊎◌, inl, inr, List, [], ◌∷◌, ◌++◌, length, Bool, true, false, nat_lt, refl, sym, ap, subst, ◌∙◌, add-one, arith, Option, Some, None, option_and_then, lt-ltb, le-ltb}
+use Rattle.std.proofs.Common.{◌≡◌, ℕ, ◌+◌, ◌-◌, ◌*◌, ◌%◌, ◌^◌, ◌<◌, ◌≤◌, ◌==◌, ◌⊎◌, inl, inr, List, [], ◌∷◌, ◌++◌, length, true, false, nat_lt, refl, ap, add-one, arith, Option, Some, None, option_and_then, lt-ltb, le-ltb}
 use Rattle.std.proofs.Math.Nat.{pow-suc, pow-le-pow_right}
 use Rattle.std.proofs.lemmas.Bool.{eqb-true, ltb-true, ltb-false}
 use Rattle.std.proofs.lemmas.Bool.Decides.{nat_tests}
@@ -8,8 +8,8 @@ use Rattle.std.proofs.lemmas.List.Folds.{list_all-append}
 use Rattle.bim_text.specs.declared.digits.Digits.{Digits}
 use Rattle.bim_text.specs.Numbers.{is_digit, value_after, AreDigits, from_first, significant}
 use Rattle.bim_text.specs.Scanning.{kept_zero, kept_digit, kept_step, kept_after}
-use Rattle.bim_text.proofs.Truths.{tells, and_left, and_right, and_both, digit_low, digit_high}
-use Rattle.bim_text.proofs.Significant.{value_snoc, significant_digit, significant_zero, significant_grows, significant_most, snoc_cons, value_low, value_high}
+use Rattle.bim_text.proofs.Truths.{tells, and_left, and_right, digit_low, digit_high}
+use Rattle.bim_text.proofs.Significant.{value_snoc, significant_digit, significant_zero, significant_grows, snoc_cons, value_low, value_high}
 
 pub record Describes (ds : List ℕ) (k : Digits) : Type 0 where
   pub digits : AreDigits ds

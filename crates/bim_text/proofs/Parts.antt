@@ -1,11 +1,11 @@
 -- Bytes are their parts, and a number has these parts alone.
-use Rattle.std.proofs.Common.{◌≡◌, ℕ, zero, suc, ◌+◌, ◌<◌, ◌≤◌, ◌==◌, ◌&&◌, ◌⊎◌, inl, inr, List, [], ◌∷◌, ◌++◌, length, drop, Bool, true, false, refl, sym, ap, subst, ◌∙◌, arith, Option, Some, None, append_assoc}
+use Rattle.std.proofs.Common.{◌≡◌, ℕ, ◌<◌, ◌==◌, ◌⊎◌, inl, inr, List, [], ◌∷◌, ◌++◌, length, true, false, refl, ap, ◌∙◌, arith, Option, Some, None}
 use Rattle.std.proofs.Math.Seq.{drop-append_seam}
 use Rattle.std.proofs.lemmas.Bool.{eqb-true}
 use Rattle.std.proofs.lemmas.Bool.Decides.{nat_tests}
 use Rattle.bim_text.specs.Numbers.{Sign, Unsigned, Plus, Minus, Exponent, Spelling, sign_bytes, fraction_bytes, exponent_bytes, bytes_of, is_digit, AreDigits, fraction_digits, IsExponent, IsNumber}
 use Rattle.bim_text.specs.Scanning.{front, sign_at, fraction_at, exponent_at, unsigned, behind_front, behind_fraction, parts}
-use Rattle.bim_text.proofs.Truths.{tells, and_left, and_right, and_both, digit_low, digit_high}
+use Rattle.bim_text.proofs.Truths.{tells, and_left, and_right}
 
 -- The parts are the bytes.
 

@@ -1,11 +1,11 @@
 -- What the steps of the reader say of the number that bytes spell.
-use Rattle.std.proofs.Common.{◌≡◌, ℕ, zero, suc, ◌+◌, ◌-◌, ◌*◌, ◌%◌, ◌^◌, ◌<◌, ◌≤◌, List, [], ◌∷◌, ◌++◌, length, drop, Bool, true, false, refl, sym, ap, subst, ◌∙◌, arith, Option, Some, None, IfNone, ℤ, pos, negsuc, ◌-ℤ◌, ◌≤ℤ◌}
+use Rattle.std.proofs.Common.{◌≡◌, ℕ, ◌+◌, ◌*◌, ◌^◌, ◌<◌, ◌≤◌, List, [], length, drop, Bool, refl, sym, ap, subst, ◌∙◌, arith, Option, Some, None, IfNone, ℤ, pos, negsuc, ◌-ℤ◌, ◌≤ℤ◌}
 use Rattle.std.proofs.lemmas.List.{drop-drop}
 use Rattle.bim_text.specs.declared.digits.Digits.{Digits}
 use Rattle.bim_text.specs.declared.decimal.Decimal.{Decimal}
-use Rattle.bim_text.specs.Values.{Scaled, signed, SameValue}
-use Rattle.bim_text.specs.Numbers.{Spelling, sign_bytes, fraction_bytes, is_digit, AreDigits, fraction_digits, IsExponent, IsNumber, IsRead, exponent_of, written, digits_of, significant, value_after, is_minus}
-use Rattle.bim_text.specs.Decimals.{Reads, value_of}
+use Rattle.bim_text.specs.Values.{signed, SameValue}
+use Rattle.bim_text.specs.Numbers.{Spelling, sign_bytes, fraction_bytes, fraction_digits, IsExponent, IsRead, exponent_of, written, digits_of, significant, is_minus}
+use Rattle.bim_text.specs.Decimals.{value_of}
 use Rattle.bim_text.specs.Scanning.{front, sign_at, fraction_at, exponent_at, unsigned, behind_front, behind_fraction, parts, kept_after}
 use Rattle.bim_text.proofs.Significant.{significant_grows}
 use Rattle.bim_text.proofs.Kept.{Describes, Kept, kept_all}

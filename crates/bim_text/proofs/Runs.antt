@@ -1,5 +1,5 @@
 -- How many bytes from a place on are all such.
-use Rattle.std.proofs.Common.{◌≡◌, ℕ, ◌+◌, ◌<◌, ◌≤◌, List, [], ◌∷◌, length, get_or, drop, Bool, true, false, suc, zero, refl, add-one, arith, drop-cons}
+use Rattle.std.proofs.Common.{◌≡◌, ℕ, ◌+◌, ◌<◌, ◌≤◌, List, length, get_or, drop, Bool, true, false, refl, add-one, drop-cons}
 use Rattle.bim_text.specs.Texts.{run}
 use Rattle.bim_text.proofs.Fronts.{drop_past}
 

@@ -1,7 +1,6 @@
 -- Tests and what they say.
-use Rattle.std.proofs.Common.{◌≡◌, ℕ, ◌≤◌, ◌==◌, ◌&&◌, ◌⊎◌, inl, inr, Bool, true, false, refl, arith}
-use Rattle.std.proofs.lemmas.Bool.{eqb-true, leb-true}
-use Rattle.std.proofs.lemmas.Bool.Decides.{nat_tests}
+use Rattle.std.proofs.Common.{◌≡◌, ℕ, ◌≤◌, ◌&&◌, ◌⊎◌, inl, inr, Bool, true, false, refl}
+use Rattle.std.proofs.lemmas.Bool.{leb-true}
 use Rattle.bim_text.specs.Numbers.{is_digit}
 
 pub tells : (b : Bool) → (b ≡ true) ⊎ (b ≡ false)

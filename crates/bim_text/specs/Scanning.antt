@@ -1,5 +1,5 @@
 -- What the functions of the reader compute, from the left. No public contract cites it.
-use Rattle.std.specs.Prelude.{ℕ, ◌+◌, ◌-◌, ◌*◌, ◌^◌, ◌==◌, nat_lt, Bool, if◌then◌else◌, List, [], ◌∷◌, length, drop, Option, Some, None, option_map, option_and_then}
+use Rattle.std.specs.Prelude.{ℕ, ◌+◌, ◌-◌, ◌*◌, ◌^◌, ◌==◌, nat_lt, if◌then◌else◌, List, [], ◌∷◌, length, drop, Option, Some, None, option_and_then}
 use Rattle.bim_text.specs.declared.digits.Digits.{Digits}
 use Rattle.bim_text.specs.Numbers.{Sign, Unsigned, Plus, Minus, Exponent, Spelling, is_digit, sign_bytes, fraction_bytes}
 

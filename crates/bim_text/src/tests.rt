@@ -1,4 +1,5 @@
 use crate::{Decimal, print_i64, text_of};
+use bim_model::Text;
 use std::cmp::Ordering;
 use std::test::Fail;
 
@@ -342,10 +343,6 @@ const WORDS: [Words; 35] = [
     },
 ];
 
-fn are_same(one: &str, other: &str) -> bool {
-    one == other
-}
-
 #[test]
 fn decimals_and_texts(rt: HostRuntime) -> Result<(), Fail> {
     for row in SPELLINGS {
@@ -354,7 +351,8 @@ fn decimals_and_texts(rt: HostRuntime) -> Result<(), Fail> {
     }
     for row in WORDS {
         let text = text_of(rt.alloc(), row.spelled)?;
-        assert!(rt; are_same(text.as_str(), row.text), "{:?}", row.spelled);
+        let wanted = Text::of(rt.alloc(), row.text)?;
+        assert_eq!(rt; text.as_str(), wanted.as_str());
     }
     Ok(())
 }

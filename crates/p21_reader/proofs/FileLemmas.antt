@@ -11,13 +11,15 @@ use Rattle.p21_reader.specs.declared.piece.Kind.{Kind}
 use Rattle.p21_reader.specs.declared.piece.Kind.TheVariants as kinds
 use Rattle.p21_reader.specs.declared.value.Instance.{Instance}
 use Rattle.p21_reader.specs.declared.instance.Made.{Made}
-use Rattle.p21_reader.specs.Grammar.{Class, Name, Semi, Equals, Word, EndSec, EndIso, Sign, T, Body, Instances, IsViable, header, file}
+use Rattle.p21_reader.specs.Grammar.{Class, Name, Semi, Equals, Word, EndSec, EndIso, Sign, T, Body, Statements, Iso, Header, Instances, IsViable, file}
 use Rattle.p21_reader.specs.Machine.{run, next, bind}
 use Rattle.p21_reader.specs.Lexemes.{Lexeme, lexeme_of, class_of, Ending}
 use Rattle.p21_reader.specs.Reading.{Cuts, classes, Goes, Stops, Fails, kind_of, IsStuck, Expects}
 use Rattle.p21_reader.specs.Heading.{ReadsHeader}
+use Rattle.p21_reader.specs.declared.header.Head.{Head}
+use Rattle.p21_reader.specs.Uploads.{BeginsAt, Judges}
 use Rattle.p21_reader.specs.Instances.{SpellsInstance, SpellsAll, MakesInstance}
-use Rattle.p21_reader.specs.Files.{SpellsFile, HoldsFile, HasFile, Reaches, FaultAt, ReadsClosing, ReadsLast, ReadsSection}
+use Rattle.p21_reader.specs.Files.{SpellsFile, HoldsFile, Reaches, FaultAt, ReadsClosing, ReadsWord, ReadsSection}
 use Rattle.p21_reader.proofs.Viable.{run_append, sound, viable_iff, file_iff}
 use Rattle.p21_reader.proofs.Steps.{classes_append, goes_here, goes_one, goes_trans, goes_under, fails_after, fails_under, after_fails, fails_past}
 
@@ -93,11 +95,6 @@ closing_no (Word EndSec) h a = absurd (a refl)
 closing_no (Word m) h a = refl
 closing_no c h a = cc
 
-pub last_no : (c : Class) → (c ≡ Word EndIso → ⊥) → next (T (Word EndIso)) c ≡ None
-last_no (Word EndIso) a = absurd (a refl)
-last_no (Word m) a = refl
-last_no c a = refl
-
 abbrev rest_of : List Sign
 rest_of = T Semi ∷ T (Word EndIso) ∷ T Semi ∷ []
 
@@ -108,13 +105,7 @@ pub closing_last : (bytes : List ℕ) (at mid : ℕ) (f : ReadFault) → Goes (T
 closing_last bytes at mid f h k =
     fails_after (T Semi ∷ T (Word EndIso) ∷ T Semi ∷ []) (T (Word EndIso) ∷ T Semi ∷ []) bytes at mid (Ending ∷ []) f (goes_under (T Semi ∷ []) [] (T (Word EndIso) ∷ T Semi ∷ []) bytes at mid (Ending ∷ []) h) k
 
-last_next : (c : Class) → c ≡ Word EndIso → next (T (Word EndIso)) c ≡ Some []
-last_next c e = rw e refl
-
-pub last_read : (bytes : List ℕ) (at : ℕ) (u : Token) → CutsFrom bytes at (Ok (Some u)) → class_of (lexeme_of bytes u) ≡ Word EndIso → ReadsLast bytes at (Ok u.end)
-last_read bytes at u h e = (lexeme_of bytes u, e, goes_one (T (Word EndIso)) [] bytes at u h (last_next (class_of (lexeme_of bytes u)) e))
-
-pub closing_made : (bytes : List ℕ) (mid last : ℕ) (t : Token) (r : Result ℕ ReadFault) → class_of (lexeme_of bytes t) ≡ Word EndSec → Goes (T Semi ∷ []) [] bytes t.end mid (Ending ∷ []) → ReadsLast bytes mid (Ok last)
+pub closing_made : (bytes : List ℕ) (mid last : ℕ) (t : Token) (r : Result ℕ ReadFault) → class_of (lexeme_of bytes t) ≡ Word EndSec → Goes (T Semi ∷ []) [] bytes t.end mid (Ending ∷ []) → ReadsWord EndIso bytes mid (Ok last)
     → Expects kinds.Semicolon bytes last r → ReadsClosing bytes t r
 closing_made bytes mid last t (Ok end) e h k x =
     let two = goes_trans (T (Word EndIso) ∷ T Semi ∷ []) (T Semi ∷ []) [] bytes mid last end (k.0 ∷ []) (Ending ∷ []) (goes_under (T (Word EndIso) ∷ []) [] (T Semi ∷ []) bytes mid last (k.0 ∷ []) k.2) x in (
@@ -135,34 +126,58 @@ closing_word bytes mid t f e h k =
 
 -- A whole file.
 
-abbrev pub Both : List ℕ → ℕ → List Instance → Result ℕ ReadFault → Type 0
-Both bytes at found (Ok end) = (ls : List Lexeme) × Cuts bytes at ls end × SpellsFile found ls
-Both bytes at found (Err f) = Fails file bytes at f
+abbrev begins : List Sign
+begins = T (Word Iso) ∷ T Semi ∷ []
 
-pub file_fails : (bytes : List ℕ) (at : ℕ) (f : ReadFault) → Fails header bytes at f → Fails file bytes at f
-file_fails bytes at f k = fails_under header (Instances ∷ []) bytes at f k
+-- behind the first two tokens
+abbrev begun : List Sign
+begun = T (Word Header) ∷ T Semi ∷ Statements ∷ []
 
-pub file_section : (bytes : List ℕ) (at mid : ℕ) (f : ReadFault) (ls : List Lexeme) → Goes header [] bytes at mid ls → Fails (Instances ∷ []) bytes mid f → Fails file bytes at f
-file_section bytes at mid f ls h k = fails_after file (Instances ∷ []) bytes at mid ls f (goes_under header [] (Instances ∷ []) bytes at mid ls h) k
+begun_goes : (bytes : List ℕ) (at : ℕ) (b : BeginsAt bytes at) → Goes file (T (Word Header) ∷ T Semi ∷ Statements ∷ Instances ∷ []) bytes (start_of bytes) at b.0
+begun_goes bytes at b = goes_under begins [] (T (Word Header) ∷ T Semi ∷ Statements ∷ Instances ∷ []) bytes (start_of bytes) at b.0 b.2
 
-pub file_holds : (bytes : List ℕ) (mid end : ℕ) (found : List Instance) (ls : List Lexeme) → Goes header [] bytes (start_of bytes) mid ls → ReadsSection bytes mid found (Ok end) → HoldsFile bytes found
-file_holds bytes mid end found ls h s =
-    let g = goes_trans file (Instances ∷ []) [] bytes (start_of bytes) mid end ls (s.0 ++ s.1) (goes_under header [] (Instances ∷ []) bytes (start_of bytes) mid ls h) s.4 in
-    record {
-      said = ls ++ (s.0 ++ s.1);
-      end = end;
-      cuts = g.cuts;
-      spells = record {
-        heading = ls;
-        data_section = s.0;
-        closing = s.1;
-        whole = refl;
-        is_file = sound file (classes (ls ++ (s.0 ++ s.1))) (g.leads []);
-        is_heading = sound header (classes ls) (h.leads []);
-        spelled = s.2;
-        is_closing = s.3;
-      };
-    }
+pub file_fails : (bytes : List ℕ) (at : ℕ) (f : ReadFault) → BeginsAt bytes at → ReadsHeader bytes at (Err f) → Fails file bytes (start_of bytes) f
+file_fails bytes at f b k =
+    fails_after file (T (Word Header) ∷ T Semi ∷ Statements ∷ Instances ∷ []) bytes (start_of bytes) at b.0 f (begun_goes bytes at b) (fails_under begun (Instances ∷ []) bytes at f k)
+
+header_goes : (bytes : List ℕ) (at : ℕ) (head : Head) (b : BeginsAt bytes at) (h : ReadsHeader bytes at (Ok head)) → Goes file (Instances ∷ []) bytes (start_of bytes) head.end (b.0 ++ (h.1 ++ (h.2 ++ h.3)))
+header_goes bytes at head b h =
+    goes_trans file (T (Word Header) ∷ T Semi ∷ Statements ∷ Instances ∷ []) (Instances ∷ []) bytes (start_of bytes) at head.end b.0 (h.1 ++ (h.2 ++ h.3)) (begun_goes bytes at b)
+    (goes_under begun [] (Instances ∷ []) bytes at head.end (h.1 ++ (h.2 ++ h.3)) h.7)
+
+pub file_section : (bytes : List ℕ) (at : ℕ) (head : Head) (f : ReadFault) → BeginsAt bytes at → ReadsHeader bytes at (Ok head) → Fails (Instances ∷ []) bytes head.end f → Fails file bytes (start_of bytes) f
+file_section bytes at head f b h k = fails_after file (Instances ∷ []) bytes (start_of bytes) head.end (b.0 ++ (h.1 ++ (h.2 ++ h.3))) f (header_goes bytes at head b h) k
+
+pub file_holds : (bytes : List ℕ) (at end : ℕ) (head : Head) (found : List Instance) → BeginsAt bytes at → ReadsHeader bytes at (Ok head) → ReadsSection bytes head.end found (Ok end) → Judges bytes found head.is_ifc4
+file_holds bytes at end head found b h s =
+    let heading : List Lexeme = b.0 ++ (h.1 ++ (h.2 ++ h.3)) in
+    let g = goes_trans file (Instances ∷ []) [] bytes (start_of bytes) head.end end heading (s.0 ++ s.1) (header_goes bytes at head b h) s.4 in (
+      h.0,
+      record {
+        said = heading ++ (s.0 ++ s.1);
+        end = end;
+        cuts = g.cuts;
+        spells = record {
+          heading = heading;
+          data_section = s.0;
+          closing = s.1;
+          whole = refl;
+          is_file = sound file (classes (heading ++ (s.0 ++ s.1))) (g.leads []);
+          headed = record {
+            opening = b.0 ++ h.1;
+            middle = h.2;
+            closing = h.3;
+            whole = sym (append_assoc b.0 h.1 (h.2 ++ h.3));
+            is_opening = classes_append b.0 h.1 ∙ ap (λ x. x ++ classes h.1) b.1 ∙ ap (λ x. (Word Iso ∷ Semi ∷ []) ++ x) h.4;
+            spelled = h.5;
+            is_closing = h.6;
+          };
+          spelled = s.2;
+          is_closing = s.3;
+        };
+      },
+      h.8,
+    )
 
 some : {A : Type 0} (o : Option A) (x : A) → o ≡ Some x → IsSome o
 some o x h = rw h refl
@@ -197,10 +212,7 @@ fault_at bytes (faults.BadStatement p) k = (
 )
 fault_at bytes faults.Memory k = tt
 
-pub header_from : (bytes : List ℕ) (at : ℕ) (r : Result ℕ ReadFault) → at ≡ start_of bytes → ReadsHeader bytes at r → ReadsHeader bytes (start_of bytes) r
-header_from bytes at r e h = let P : ℕ → Type 0 = λ n. ReadsHeader bytes n r in subst P e h
-
--- Where a fault is, no file is.
+-- Tokens from one place.
 
 token_or : Token → Result (Option Token) LexFault → Token
 token_or d (Ok (Some t)) = t
@@ -219,7 +231,7 @@ fronts_step : (bytes : List ℕ) (l : Lexeme) (ls ms : List Lexeme) (mid : ℕ) 
 fronts_step bytes l ls ms mid (longer x rest e t h k) = longer x rest (ap (λ y. l ∷ y) e) t h k
 fronts_step bytes l ls ms mid (shorter rest e) = shorter rest (ap (λ y. l ∷ y) e)
 
-fronts : (bytes : List ℕ) (at mid end : ℕ) (ls ms : List Lexeme) → Cuts bytes at ls mid → Cuts bytes at ms end → Fronts bytes ls ms mid
+pub fronts : (bytes : List ℕ) (at mid end : ℕ) (ls ms : List Lexeme) → Cuts bytes at ls mid → Cuts bytes at ms end → Fronts bytes ls ms mid
 fronts bytes at mid end ls [] h k = shorter ls refl
 fronts bytes at mid end [] (m ∷ ms) h k = longer m ms refl k.0 (let P : ℕ → Type 0 = λ n. CutsFrom bytes n (Ok (Some k.0)) in subst P h k.1) k.2
 fronts bytes at mid end (l ∷ ls) (m ∷ ms) h k =
@@ -228,42 +240,3 @@ fronts bytes at mid end (l ∷ ls) (m ∷ ms) h k =
     let rest : Cuts bytes h.0.end ms end = (let P : Token → Type 0 = λ t. Cuts bytes t.end ms end in subst P (sym e) k.3) in
     let f = fronts_step bytes l ls ms mid (fronts bytes h.0.end mid end ls ms h.3 rest) in
     let P : Lexeme → Type 0 = λ x. Fronts bytes (l ∷ ls) (x ∷ ms) mid in subst P same f
-
-run_nothing : (xs : List Class) (s : Sign) (σ : List Sign) → run [] xs ≡ Some (s ∷ σ) → ⊥
-run_nothing [] s σ h = cc
-run_nothing (x ∷ xs) s σ h = cc
-
--- what leads on isn't longer than a file
-not_shorter : (ls rest : List Lexeme) (s : Sign) (σ : List Sign) → run file (classes ls) ≡ Some [] → run file (classes (ls ++ rest)) ≡ Some (s ∷ σ) → ⊥
-not_shorter ls rest s σ h k =
-    let e = ap (λ x. run file x) (classes_append ls rest) ∙ run_append file (classes ls) (classes rest) ∙ ap (λ o. bind o (λ β. run β (classes rest))) h in
-    run_nothing (classes rest) s σ (sym e ∙ k)
-
-no_more : (ls rest : List Lexeme) (l : Lexeme) (s : Sign) (σ : List Sign) → run file (classes ls) ≡ Some (s ∷ σ) → next s (class_of l) ≡ None → run file (classes (ls ++ l ∷ rest)) ≡ Some [] → ⊥
-no_more ls rest l s σ h n k =
-    let e = ap (λ x. run file x) (classes_append ls (l ∷ rest)) ∙ run_append file (classes ls) (class_of l ∷ classes rest) ∙ ap (λ o. bind o (λ β. run β (class_of l ∷ classes rest))) h in
-    let none : bind (Some (s ∷ σ)) (λ β. run β (class_of l ∷ classes rest)) ≡ None = rw n refl in
-    let f : None ≡ Some [] = sym none ∙ sym e ∙ k in cc
-
-stuck_there : (bytes : List ℕ) (place : ℕ) (s : Sign) (f : ReadFault) (t : Token) → (f ≡ faults.Memory → ⊥) → IsStuck s bytes place f → CutsFrom bytes place (Ok (Some t)) → next s (class_of (lexeme_of bytes t)) ≡ None
-stuck_there bytes place s (faults.BadToken p) t m h k = absurd (let e = one_answer bytes place (Err (lex.BadToken p)) (Ok (Some t)) h k in cc)
-stuck_there bytes place s (faults.BadStatement p) t m h k = elim h [
-  | inl r ↦ absurd (let e = one_answer bytes place (Ok None) (Ok (Some t)) r.0 k in cc)
-  | inr r ↦ (let e : r.0 ≡ t = one_token bytes place r.0 t r.1 k in let P : Token → Type 0 = λ u. next s (class_of (lexeme_of bytes u)) ≡ None in subst P e r.3)
-]
-stuck_there bytes place s faults.Memory t m h k = absurd (m refl)
-
-stops_file : (bytes : List ℕ) (f : ReadFault) → (f ≡ faults.Memory → ⊥) → Stops file bytes (start_of bytes) f → HasFile bytes → ⊥
-stops_file bytes f m k h =
-    let done : run file (classes h.said) ≡ Some [] = (file_iff (classes h.said)).0 h.is_file in
-    elim (fronts bytes (start_of bytes) k.place h.end k.before h.said k.goes.cuts h.cuts) [
-      | longer l rest e t c same ↦
-          (let n : next k.sign (class_of l) ≡ None = (let P : Lexeme → Type 0 = λ x. next k.sign (class_of x) ≡ None in subst P same (stuck_there bytes k.place k.sign f t m k.stuck c)) in
-          no_more k.before rest l k.sign (k.later ++ []) (k.goes.leads []) n (ap (λ x. run file (classes x)) (sym e) ∙ done))
-      | shorter rest e ↦ not_shorter h.said rest k.sign (k.later ++ []) done (ap (λ x. run file (classes x)) (sym e) ∙ k.goes.leads [])
-    ]
-
-pub no_file : (bytes : List ℕ) (f : ReadFault) → Fails file bytes (start_of bytes) f → (f ≡ faults.Memory) ⊎ (HasFile bytes → ⊥)
-no_file bytes (faults.BadToken p) k = inr (stops_file bytes (faults.BadToken p) (λ e. cc) k)
-no_file bytes (faults.BadStatement p) k = inr (stops_file bytes (faults.BadStatement p) (λ e. cc) k)
-no_file bytes faults.Memory k = inl refl

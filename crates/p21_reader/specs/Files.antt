@@ -1,45 +1,38 @@
-use Rattle.std.specs.Prelude.{◌≡◌, ℕ, List, [], ◌∷◌, ◌++◌, Some, None, Result, Ok, Err, length, ◌⊎◌, IsPermutation}
+use Rattle.std.specs.Prelude.{◌≡◌, ℕ, List, [], ◌∷◌, ◌++◌, Some, None, Result, Ok, Err, length, ◌⊎◌}
 use Rattle.p21_lexer.specs.declared.token.Token.{Token}
 use Rattle.p21_lexer.specs.declared.token.LexFault.TheVariants as lex
 use Rattle.p21_lexer.specs.Cutting.{CutsFrom, start_of}
 use Rattle.p21_reader.specs.declared.fault.ReadFault.{ReadFault}
 use Rattle.p21_reader.specs.declared.fault.ReadFault.TheVariants as faults
 use Rattle.p21_reader.specs.declared.value.Instance.{Instance}
-use Rattle.p21_reader.specs.Grammar.{T, Word, EndSec, EndIso, Semi, Instances, Derives, IsFile, IsViable, header}
+use Rattle.bim_model.specs.declared.upload.BuildError.{BuildError}
+use Rattle.bim_model.specs.declared.upload.BuildError.TheVariants as errors
+use Rattle.bim_model.specs.declared.upload.UploadFault.TheVariants as uploads
+use Rattle.p21_reader.specs.Grammar.{Mark, T, Word, EndSec, EndIso, Semi, Instances, IsFile, IsViable}
 use Rattle.p21_reader.specs.Lexemes.{Lexeme, lexeme_of, class_of}
 use Rattle.p21_reader.specs.Reading.{Cuts, classes, Goes, Fails, FailsAfter}
 use Rattle.p21_reader.specs.Instances.{SpellsAll}
+use Rattle.p21_reader.specs.Schema.{Statement, SpellsHeading}
 
 -- Files, their instances, and the place where bytes can't go on to one.
 
--- These tokens are a file with these instances in its DATA section, in this order.
-pub record SpellsFile (instances : List Instance) (ls : List Lexeme) : Type 0 where
+-- These tokens are a file with these statements in its header and these instances in its DATA section, in this order.
+pub record SpellsFile (statements : List Statement) (instances : List Instance) (ls : List Lexeme) : Type 0 where
   pub heading : List Lexeme
   pub data_section : List Lexeme
   pub closing : List Lexeme
   pub whole : ls ≡ heading ++ (data_section ++ closing)
   pub is_file : IsFile (classes ls)
-  pub is_heading : Derives header (classes heading)
+  pub headed : SpellsHeading statements heading
   pub spelled : SpellsAll instances data_section
   pub is_closing : classes closing ≡ Word EndSec ∷ Semi ∷ Word EndIso ∷ Semi ∷ []
 
--- the tokens of these bytes, from the first on, are a file with these instances; what follows them isn't looked at
-pub record HoldsFile (bytes : List ℕ) (instances : List Instance) : Type 0 where
+-- the tokens of these bytes, from the first on, are a file with these statements and instances; what follows them isn't looked at
+pub record HoldsFile (bytes : List ℕ) (statements : List Statement) (instances : List Instance) : Type 0 where
   pub said : List Lexeme
   pub end : ℕ
   pub cuts : Cuts bytes (start_of bytes) said end
-  pub spells : SpellsFile instances said
-
--- the same, the instances in some order
-abbrev pub ReadsAs : List ℕ → List Instance → Type 0
-ReadsAs bytes instances = (found : List Instance) × HoldsFile bytes found × IsPermutation found instances
-
--- some first tokens of these bytes are a file
-pub record HasFile (bytes : List ℕ) : Type 0 where
-  pub said : List Lexeme
-  pub end : ℕ
-  pub cuts : Cuts bytes (start_of bytes) said end
-  pub is_file : IsFile (classes said)
+  pub spells : SpellsFile statements instances said
 
 -- The tokens up to this place begin a file and are none.
 pub record Reaches (bytes : List ℕ) (said : List Lexeme) (at : ℕ) : Type 0 where
@@ -69,10 +62,15 @@ abbrev pub ReadsClosing : List ℕ → Token → Result ℕ ReadFault → Type 0
 ReadsClosing bytes t (Ok end) = (rest : List Lexeme) × (classes (lexeme_of bytes t ∷ rest) ≡ Word EndSec ∷ Semi ∷ Word EndIso ∷ Semi ∷ []) × Goes (T Semi ∷ T (Word EndIso) ∷ T Semi ∷ []) [] bytes t.end end rest
 ReadsClosing bytes t (Err fault) = FailsAfter Instances bytes t fault
 
-abbrev pub ReadsLast : List ℕ → ℕ → Result ℕ ReadFault → Type 0
-ReadsLast bytes at (Ok end) = (l : Lexeme) × (class_of l ≡ Word EndIso) × Goes (T (Word EndIso) ∷ []) [] bytes at end (l ∷ [])
-ReadsLast bytes at (Err fault) = Fails (T (Word EndIso) ∷ []) bytes at fault
+abbrev pub ReadsWord : Mark → List ℕ → ℕ → Result ℕ ReadFault → Type 0
+ReadsWord m bytes at (Ok end) = (l : Lexeme) × (class_of l ≡ Word m) × Goes (T (Word m) ∷ []) [] bytes at end (l ∷ [])
+ReadsWord m bytes at (Err fault) = Fails (T (Word m) ∷ []) bytes at fault
 
 abbrev pub ReadsSection : List ℕ → ℕ → List Instance → Result ℕ ReadFault → Type 0
 ReadsSection bytes at found (Ok end) = (ls closing : List Lexeme) × SpellsAll found ls × (classes closing ≡ Word EndSec ∷ Semi ∷ Word EndIso ∷ Semi ∷ []) × Goes (Instances ∷ []) [] bytes at end (ls ++ closing)
 ReadsSection bytes at found (Err fault) = Fails (Instances ∷ []) bytes at fault
+
+abbrev pub error_of : ReadFault → BuildError
+error_of (faults.BadToken p) = errors.Fault (uploads.BadToken p)
+error_of (faults.BadStatement p) = errors.Fault (uploads.BadStatement p)
+error_of faults.Memory = errors.Memory

@@ -1,3 +1,4 @@
+pub mod Counting
 pub mod Files
 pub mod Grammar
 pub mod Heading
@@ -7,3 +8,5 @@ pub mod Machine
 pub mod Printing
 pub mod Reading
 pub mod Saying
+pub mod Schema
+pub mod Uploads

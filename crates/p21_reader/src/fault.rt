@@ -1,3 +1,4 @@
+use bim_model::{BuildError, UploadFault};
 use std::alloc::{AllocError, AllocFailed};
 
 /// Why bytes aren't read. Places count bytes from the first one.
@@ -30,5 +31,20 @@ impl<T: Drop> From<AllocFailed<T>> for ReadFault {
 
     fn from(_error: AllocFailed<T>) -> ReadFault {
         ReadFault::Memory
+    }
+}
+
+impl From<ReadFault> for BuildError {
+    ghost use Rattle.std.specs.Prelude.{◌≡◌};
+    ghost use Rattle.p21_reader.specs.Files.{error_of};
+
+    ghost from_gives = { λ fault error. error ≡ error_of fault };
+
+    fn from(fault: ReadFault) -> BuildError {
+        match fault {
+            ReadFault::BadToken { at } => BuildError::Fault(UploadFault::BadToken { at }),
+            ReadFault::BadStatement { at } => BuildError::Fault(UploadFault::BadStatement { at }),
+            ReadFault::Memory => BuildError::Memory,
+        }
     }
 }

@@ -1,150 +1,104 @@
-ghost use Rattle.std.specs.Prelude.{◌≡◌, ◌≤◌, [], length, Some, None, IfOk, IfErr, OnOk, MatchOption};
-ghost use Rattle.std.specs.Prelude.{true, false};
-ghost use Rattle.p21_reader.specs.Grammar.{header};
-ghost use Rattle.p21_reader.specs.Machine.{next};
-ghost use Rattle.p21_reader.specs.Lexemes.{lexeme_of, class_of};
+ghost use Rattle.std.specs.Prelude.{◌≡◌, ◌≤◌, length, IfOk};
+ghost use Rattle.p21_reader.specs.Heading.{ReadsData, ReadsPart, ReadsStatements, ReadsHeader};
 ghost use Rattle.p21_reader.specs.Reading.{IsPiece};
-ghost use Rattle.p21_reader.specs.Heading.{sign_of, signs_of, class_seen, Follows, FollowsNot, ReadsHeader};
 
 use crate::fault::ReadFault;
-use crate::piece::{Piece, refused, take};
-use crate::word::{Mark, Seen, look};
+use crate::nested::pass_values;
+use crate::piece::{Kind, Piece, expect, refused, take};
+use crate::schema::{Schema, judge};
+use crate::word::{Mark, Seen, expect_word, look};
 use std::alloc::Global;
 
-/// What is wanted next in a header.
+/// What stands next among the statements of a header.
 #[derive(Clone, Copy)]
-pub enum Want {
-    Iso,
-    Header,
-    Data,
-    Semicolon,
-    Open,
-    Close,
-    Statements,
-    AfterEnd,
-    Value,
-    Inside,
-    After,
+pub enum Part {
+    /// A statement: its keyword, and the places behind its opening parenthesis and its semicolon.
+    Statement {
+        word: Piece,
+        inside: usize,
+        end: usize,
+    },
+    /// The end of the header, and the place behind it.
+    Data {
+        end: usize,
+    },
 }
 
-/// What is wanted after a token where a value is wanted, the last first.
-fn after_value(found: Seen) -> Option<&'static [Want]>
-    ensures { MatchOption result (next (sign_of Want.Value) (class_seen found) ≡ None) (λ wants. next (sign_of Want.Value) (class_seen found) ≡ Some (signs_of wants.now)) }
+/// Whether a header names IFC4, and the place behind it.
+#[derive(Clone, Copy)]
+pub struct Head {
+    pub is_ifc4: bool,
+    pub end: usize,
+}
+
+/// Passes over DATA and its semicolon.
+fn data(bytes: &[u8], at: usize) -> Result<usize, ReadFault>
+    requires { at ≤ length bytes.now }
+    ensures data { ReadsData bytes.now at result }
+    ensures within { IfOk result (λ end. end ≤ length bytes.now) }
 {
-    match found {
-        Seen::Simple => Some(&[]),
-        Seen::Name => Some(&[]),
-        Seen::Open => Some(&[Want::Inside]),
-        Seen::Word(_) => Some(&[Want::Close, Want::Value, Want::Open]),
-        _ => None,
+    let word = expect_word(bytes, at, Mark::Data)?;
+    expect(bytes, word, Kind::Semicolon)
+}
+
+/// Passes over a statement, or over what ends the header.
+fn next_part(alloc: Global, bytes: &[u8], at: usize) -> Result<Part, ReadFault>
+    requires { at ≤ length bytes.now }
+    ensures part { ReadsPart bytes.now at result }
+{
+    let word = take(bytes, at)?;
+    if word.kind != Kind::Word {
+        return Err(refused(word));
     }
-}
-
-/// The same behind an opening parenthesis.
-fn after_open(found: Seen) -> Option<&'static [Want]>
-    ensures { MatchOption result (next (sign_of Want.Inside) (class_seen found) ≡ None) (λ wants. next (sign_of Want.Inside) (class_seen found) ≡ Some (signs_of wants.now)) }
-{
-    match found {
-        Seen::Close => Some(&[]),
-        Seen::Simple => Some(&[Want::After]),
-        Seen::Name => Some(&[Want::After]),
-        Seen::Open => Some(&[Want::After, Want::Inside]),
-        Seen::Word(_) => Some(&[Want::After, Want::Close, Want::Value, Want::Open]),
-        _ => None,
-    }
-}
-
-/// The same where a statement or ENDSEC is wanted.
-fn after_statements(found: Seen) -> Option<&'static [Want]>
-    ensures { MatchOption result (next (sign_of Want.Statements) (class_seen found) ≡ None) (λ wants. next (sign_of Want.Statements) (class_seen found) ≡ Some (signs_of wants.now)) }
-{
-    match found {
-        Seen::Word(Mark::EndSec) => Some(&[Want::AfterEnd]),
-        Seen::Word(_) => Some(&[Want::Statements, Want::Semicolon, Want::Inside, Want::Open]),
-        _ => None,
-    }
-}
-
-/// The same where one token alone is wanted.
-fn after_one(is_wanted: bool) -> Option<&'static [Want]>
-    ensures { MatchOption result (is_wanted ≡ false) (λ wants. (is_wanted ≡ true) × (wants.now ≡ [])) }
-{
-    if is_wanted { Some(&[]) } else { None }
-}
-
-/// What is wanted after a token in place of what was wanted, the last first.
-fn after(want: Want, found: Seen) -> Option<&'static [Want]>
-    ensures { MatchOption result (next (sign_of want) (class_seen found) ≡ None) (λ wants. next (sign_of want) (class_seen found) ≡ Some (signs_of wants.now)) }
-{
-    match want {
-        Want::Iso => after_one(matches!(found, Seen::Word(Mark::Iso))),
-        Want::Header => after_one(matches!(found, Seen::Word(Mark::Header))),
-        Want::Data => after_one(matches!(found, Seen::Word(Mark::Data))),
-        Want::Semicolon => after_one(matches!(found, Seen::Semicolon)),
-        Want::Open => after_one(matches!(found, Seen::Open)),
-        Want::Close => after_one(matches!(found, Seen::Close)),
-        Want::Statements => after_statements(found),
-        Want::AfterEnd => match found {
-            Seen::Open => Some(&[Want::Statements, Want::Semicolon, Want::Inside]),
-            Seen::Semicolon => Some(&[Want::Semicolon, Want::Data]),
-            _ => None,
+    let next = take(bytes, word.token.end)?;
+    match next.kind {
+        Kind::Open => {
+            let inside = next.token.end;
+            let close = pass_values(alloc, bytes, inside)?;
+            let end = expect(bytes, close, Kind::Semicolon)?;
+            Ok(Part::Statement { word, inside, end })
+        }
+        Kind::Semicolon => match look(bytes, word) {
+            Seen::Word(Mark::EndSec) => Ok(Part::Data {
+                end: data(bytes, next.token.end)?,
+            }),
+            _ => Err(refused(next)),
         },
-        Want::Value => after_value(found),
-        Want::Inside => after_open(found),
-        Want::After => match found {
-            Seen::Close => Some(&[]),
-            Seen::Comma => Some(&[Want::After, Want::Value]),
-            _ => None,
-        },
+        _ => Err(refused(next)),
     }
 }
 
-/// Passes over a token.
-fn follow(bytes: &[u8], piece: Piece, want: Want, wants: &mut Vec<Want>) -> Result<(), ReadFault>
-    requires { IsPiece bytes.now piece }
-    ensures follows { OnOk result (Follows (sign_of want) (class_of (lexeme_of bytes.now piece.token)) (signs_of wants.old.items) (signs_of wants.new.items)) }
-    ensures fault { IfErr result (λ fault. FollowsNot (sign_of want) bytes.now piece.token fault) }
+/// Reads the statements of a header, up to and with the semicolon behind DATA.
+fn statements(alloc: Global, bytes: &[u8], at: usize) -> Result<Head, ReadFault>
+    requires { at ≤ length bytes.now }
+    ensures statements { ReadsStatements bytes.now at result }
+    ensures within { IfOk result (λ head. head.end ≤ length bytes.now) }
 {
-    match after(want, look(bytes, piece)) {
-        None => Err(refused(piece)),
-        Some(later) => {
-            wants.extend_from_slice(later)?;
-            Ok(())
+    let mut schema = Schema::Unnamed;
+    let mut place = at;
+    loop {
+        match next_part(alloc, bytes, place)? {
+            Part::Statement { word, inside, end } => {
+                schema = judge(alloc, bytes, schema, word, inside)?;
+                place = end;
+            }
+            Part::Data { end } => {
+                return Ok(Head {
+                    is_ifc4: matches!(schema, Schema::Ifc4),
+                    end,
+                });
+            }
         }
     }
 }
 
-/// What a header is, the last first.
-fn header_wants(alloc: Global) -> Result<Vec<Want>, ReadFault>
-    ensures wants { IfOk result (λ wants. signs_of wants.items ≡ header) }
-    ensures fault { IfErr result (λ fault. fault ≡ ReadFault.Memory) }
-{
-    let made = Vec::from_slice(
-        alloc,
-        &[
-            Want::Statements,
-            Want::Semicolon,
-            Want::Header,
-            Want::Semicolon,
-            Want::Iso,
-        ],
-    )?;
-    Ok(made)
-}
-
-/// Passes over the header, up to and with the semicolon behind DATA. Its parentheses nest without limit, so what is wanted lies on a
-/// stack of its own.
-pub fn header(alloc: Global, bytes: &[u8], at: usize) -> Result<usize, ReadFault>
+/// Reads a header from its word HEADER on, up to and with the semicolon behind DATA.
+pub fn header(alloc: Global, bytes: &[u8], at: usize) -> Result<Head, ReadFault>
     requires { at ≤ length bytes.now }
     ensures header { ReadsHeader bytes.now at result }
-    ensures within { IfOk result (λ end. end ≤ length bytes.now) }
+    ensures within { IfOk result (λ head. head.end ≤ length bytes.now) }
 {
-    let mut wants = header_wants(alloc)?;
-    let mut end = at;
-    while let Some(want) = wants.pop() {
-        let piece = take(bytes, end)?;
-        follow(bytes, piece, want, &mut wants)?;
-        end = piece.token.end;
-    }
-    Ok(end)
+    let word = expect_word(bytes, at, Mark::Header)?;
+    let begun = expect(bytes, word, Kind::Semicolon)?;
+    statements(alloc, bytes, begun)
 }

@@ -1,13 +1,18 @@
 //! Instances of the clear text encoding of the exchange structure (ISO 10303-21): the grammar of a file, and its reader.
 #![tactic(auto)]
 
+mod ahead;
+mod counting;
+mod double;
 mod exchange;
 mod fault;
 mod file;
 mod header;
 mod instance;
 mod law;
+mod nested;
 mod piece;
+mod schema;
 mod section;
 mod simple;
 #[cfg(test)]
@@ -17,6 +22,5 @@ mod values;
 mod word;
 
 pub use exchange::{Exchange, read};
-pub use fault::ReadFault;
-pub use law::table_is_grammar;
+pub use law::{files_have_one_reading, table_is_grammar, uploads_have_one_answer};
 pub use value::{Instance, Value21};

@@ -1,12 +1,12 @@
 ghost use Rattle.std.specs.Prelude.{◌≡◌, ◌≤◌, [], length, IfOk};
 ghost use Rattle.p21_reader.specs.Reading.{IsPiece};
-ghost use Rattle.p21_reader.specs.Files.{ReadsClosing, ReadsLast, ReadsSection};
+ghost use Rattle.p21_reader.specs.Files.{ReadsClosing, ReadsSection};
 
 use crate::fault::ReadFault;
 use crate::instance::instance;
 use crate::piece::{Kind, Piece, expect, refused, take};
 use crate::value::Instance;
-use crate::word::{Mark, Seen, look};
+use crate::word::{Mark, Seen, expect_word, look};
 use std::alloc::Global;
 
 /// Reads the end of a file, from its word ENDSEC on.
@@ -21,21 +21,8 @@ fn closing(bytes: &[u8], word: Piece) -> Result<usize, ReadFault>
         _ => return Err(refused(word)),
     }
     let semicolon = expect(bytes, word.token.end, Kind::Semicolon)?;
-    let last = last_word(bytes, semicolon)?;
+    let last = expect_word(bytes, semicolon, Mark::EndIso)?;
     expect(bytes, last, Kind::Semicolon)
-}
-
-/// The end of the word END-ISO-10303-21.
-fn last_word(bytes: &[u8], at: usize) -> Result<usize, ReadFault>
-    requires { at ≤ length bytes.now }
-    ensures last { ReadsLast bytes.now at result }
-    ensures within { IfOk result (λ end. end ≤ length bytes.now) }
-{
-    let last = take(bytes, at)?;
-    match look(bytes, last) {
-        Seen::Word(Mark::EndIso) => Ok(last.token.end),
-        _ => Err(refused(last)),
-    }
 }
 
 /// Reads the instances of a DATA section and the end of the file.

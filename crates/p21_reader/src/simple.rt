@@ -63,7 +63,7 @@ pub fn keyword_of(alloc: Global, bytes: &[u8], piece: Piece) -> Result<Text, All
 }
 
 /// What is between the marks.
-fn inner(spelled: &[u8]) -> &[u8]
+pub fn inner(spelled: &[u8]) -> &[u8]
     requires { 2 ≤ length spelled.now }
     ensures { result.now ≡ inner_of spelled.now }
 {

@@ -1,4 +1,5 @@
-use crate::{Exchange, ReadFault, Value21, read};
+use crate::{Exchange, Value21, read};
+use bim_model::{BuildError, Many, UploadFault};
 use std::alloc::{AllocError, Global};
 use std::process::Abort;
 use std::test::Fail;
@@ -7,62 +8,76 @@ const HEAD: &[u8] = b"ISO-10303-21;HEADER;FILE_SCHEMA(('IFC4'));ENDSEC;DATA;";
 
 const TAIL: &[u8] = b"ENDSEC;END-ISO-10303-21;";
 
-/// Bytes, and where they can't go on.
+/// Bytes, and their fault.
+#[derive(Clone, Copy)]
+struct Faulty {
+    text: &'static [u8],
+    fault: UploadFault,
+}
+
+/// Whole texts.
+const TEXTS: [Faulty; 13] = [
+    Faulty {
+        text: b"",
+        fault: UploadFault::NotPart21,
+    },
+    Faulty {
+        text: b"ISO-10303-21,",
+        fault: UploadFault::NotPart21,
+    },
+    Faulty {
+        text: b"ISO-10303-21",
+        fault: UploadFault::NotPart21,
+    },
+    Faulty {
+        text: b" HEADER;ISO-10303-21;",
+        fault: UploadFault::NotPart21,
+    },
+    Faulty {
+        text: b"?ISO-10303-21;HEADER;",
+        fault: UploadFault::NotPart21,
+    },
+    Faulty {
+        text: b"iso-10303-21 /* */ ;",
+        fault: UploadFault::BadStatement { at: 20 },
+    },
+    Faulty {
+        text: b"ISO-10303-21;HEADER;FILE_NAME('ab",
+        fault: UploadFault::BadToken { at: 30 },
+    },
+    Faulty {
+        text: b"ISO-10303-21;HEADER;ENDSEC;DATA;",
+        fault: UploadFault::BadStatement { at: 32 },
+    },
+    Faulty {
+        text: b"ISO-10303-21;HEADER;A(B(1,2));",
+        fault: UploadFault::BadStatement { at: 25 },
+    },
+    Faulty {
+        text: b"ISO-10303-21;HEADER;A((1,2)",
+        fault: UploadFault::BadStatement { at: 27 },
+    },
+    Faulty {
+        text: b"ISO-10303-21;HEADER;ENDSEC;ENDSEC;",
+        fault: UploadFault::BadStatement { at: 27 },
+    },
+    Faulty {
+        text: b"ISO-10303-21;HEADER;ENDSEC();%",
+        fault: UploadFault::BadToken { at: 29 },
+    },
+    Faulty {
+        text: b"\xef\xbb\xbfISO-10303-21;HEADER;ENDSEC;DATA;#1=A(1 2);",
+        fault: UploadFault::BadStatement { at: 42 },
+    },
+];
+
+/// A byte that can't go on, or a token.
 #[derive(Clone, Copy)]
 struct Row {
     text: &'static [u8],
     token: bool,
     at: u64,
 }
-
-/// Whole texts.
-const PLACES: [Row; 9] = [
-    Row {
-        text: b"",
-        token: false,
-        at: 0,
-    },
-    Row {
-        text: b"ISO-10303-21;HEADER;FILE_NAME('ab",
-        token: true,
-        at: 30,
-    },
-    Row {
-        text: b"ISO-10303-21;HEADER;ENDSEC;DATA;",
-        token: false,
-        at: 32,
-    },
-    Row {
-        text: b"ISO-10303-21,",
-        token: false,
-        at: 12,
-    },
-    Row {
-        text: b"ISO-10303-21;HEADER;A(B(1,2));",
-        token: false,
-        at: 25,
-    },
-    Row {
-        text: b"ISO-10303-21;HEADER;A((1,2)",
-        token: false,
-        at: 27,
-    },
-    Row {
-        text: b"ISO-10303-21;HEADER;ENDSEC;ENDSEC;",
-        token: false,
-        at: 27,
-    },
-    Row {
-        text: b"ISO-10303-21;HEADER;ENDSEC();%",
-        token: true,
-        at: 29,
-    },
-    Row {
-        text: b"\xef\xbb\xbfISO-10303-21;HEADER;ENDSEC;DATA;#1=A(1 2);",
-        token: false,
-        at: 42,
-    },
-];
 
 /// What stands behind `DATA;`, from its first byte on.
 const SECTIONS: [Row; 12] = [
@@ -136,29 +151,189 @@ fn joined(alloc: Global, parts: [&[u8]; 3]) -> Result<Vec<u8>, AllocError> {
     Ok(whole)
 }
 
-fn assert_place(rt: &impl Abort, alloc: Global, bytes: &[u8], row: Row, from: u64) {
+fn assert_fault(rt: &impl Abort, alloc: Global, bytes: &[u8], fault: UploadFault) {
     match read(alloc, bytes) {
-        Err(ReadFault::BadToken { at }) => {
-            assert!(rt; row.token);
-            assert_eq!(rt; at, row.at.wrapping_add(from));
-        }
-        Err(ReadFault::BadStatement { at }) => {
-            assert!(rt; !row.token);
-            assert_eq!(rt; at, row.at.wrapping_add(from));
-        }
-        _ => assert!(rt; false, "it was read"),
+        Err(BuildError::Fault(found)) => assert_eq!(rt; found, fault),
+        _ => assert!(rt; false, "no fault"),
     }
 }
 
 #[test]
 fn places(rt: HostRuntime) -> Result<(), Fail> {
-    for row in PLACES {
-        assert_place(&rt, rt.alloc(), row.text, row, 0);
+    for row in TEXTS {
+        assert_fault(&rt, rt.alloc(), row.text, row.fault);
     }
     for row in SECTIONS {
         let bytes = joined(rt.alloc(), [HEAD, row.text, b""])?;
-        assert_place(&rt, rt.alloc(), bytes.as_slice(), row, HEAD.len() as u64);
+        let at = row.at.wrapping_add(HEAD.len() as u64);
+        let fault = if row.token {
+            UploadFault::BadToken { at }
+        } else {
+            UploadFault::BadStatement { at }
+        };
+        assert_fault(&rt, rt.alloc(), bytes.as_slice(), fault);
     }
+    Ok(())
+}
+
+/// The statements of a header, the instances behind it, and the fault of the whole; none where it is read.
+#[derive(Clone, Copy)]
+struct Whole {
+    header: &'static [u8],
+    section: &'static [u8],
+    fault: Option<UploadFault>,
+}
+
+const IFC4: &[u8] = b"FILE_SCHEMA(('IFC4'));";
+
+const WRONG: Option<UploadFault> = Some(UploadFault::WrongSchema);
+
+const WHOLES: [Whole; 23] = [
+    Whole {
+        header: IFC4,
+        section: b"",
+        fault: None,
+    },
+    Whole {
+        header: b"ENDSEC(); A(FILE_SCHEMA('IFC2X3')); file_Schema /* */ ( ( 'iFc4' ) ) ; FILE_SCHEMAS(('X'));",
+        section: b"",
+        fault: None,
+    },
+    Whole {
+        header: b"FILE_SCHEMA(('IFC4\n'));",
+        section: b"",
+        fault: None,
+    },
+    Whole {
+        header: b"FILE_SCHEMA(('\\X\\49F\\X2\\00430034\\X0\\'));",
+        section: b"",
+        fault: None,
+    },
+    Whole {
+        header: b"",
+        section: b"",
+        fault: WRONG,
+    },
+    Whole {
+        header: b"FILE_SCHEMA(('IFC2X3'));",
+        section: b"",
+        fault: WRONG,
+    },
+    Whole {
+        header: b"FILE_SCHEMA(('IFC4 '));",
+        section: b"",
+        fault: WRONG,
+    },
+    Whole {
+        header: b"FILE_SCHEMA(('IFC4'));FILE_SCHEMA(('IFC4'));",
+        section: b"",
+        fault: WRONG,
+    },
+    Whole {
+        header: b"FILE_SCHEMA(('IFC2X3'));FILE_SCHEMA(('IFC4'));",
+        section: b"",
+        fault: WRONG,
+    },
+    Whole {
+        header: b"FILE_SCHEMA('IFC4');",
+        section: b"",
+        fault: WRONG,
+    },
+    Whole {
+        header: b"FILE_SCHEMA(('IFC4','IFC4'));",
+        section: b"",
+        fault: WRONG,
+    },
+    Whole {
+        header: b"FILE_SCHEMA(('IFC4'),$);",
+        section: b"",
+        fault: WRONG,
+    },
+    Whole {
+        header: b"FILE_SCHEMA((('IFC4')));",
+        section: b"",
+        fault: WRONG,
+    },
+    Whole {
+        header: b"FILE_SCHEMA(X('IFC4'));",
+        section: b"",
+        fault: WRONG,
+    },
+    Whole {
+        header: b"FILE_SCHEMA((.IFC4.));",
+        section: b"",
+        fault: WRONG,
+    },
+    Whole {
+        header: b"FILE_SCHEMA();",
+        section: b"",
+        fault: WRONG,
+    },
+    Whole {
+        header: b"FILE_SCHEMA(());",
+        section: b"",
+        fault: WRONG,
+    },
+    Whole {
+        header: b"A('FILE_SCHEMA((''IFC4''));');",
+        section: b"",
+        fault: WRONG,
+    },
+    Whole {
+        header: IFC4,
+        section: b"#2=A();#1=B();#3=C();#2=D();#1=E();",
+        fault: Some(UploadFault::DoubleId { id: 1 }),
+    },
+    Whole {
+        header: IFC4,
+        section: b"#9=A();#8=B();#9=C();#7=D();#9=E();",
+        fault: Some(UploadFault::DoubleId { id: 9 }),
+    },
+    Whole {
+        header: IFC4,
+        section: b"#1=(A()B());#0001=B();",
+        fault: Some(UploadFault::DoubleId { id: 1 }),
+    },
+    Whole {
+        header: b"FILE_SCHEMA(('IFC2X3'));",
+        section: b"#1=A();#1=A();",
+        fault: WRONG,
+    },
+    Whole {
+        header: b"FILE_SCHEMA(('IFC2X3'));",
+        section: b"#1=A();#1=A(;",
+        fault: Some(UploadFault::BadStatement { at: 68 }),
+    },
+];
+
+fn file_of(alloc: Global, row: Whole) -> Result<Vec<u8>, AllocError> {
+    let mut bytes = Vec::from_slice(alloc, b"ISO-10303-21;HEADER;")?;
+    bytes.extend_from_slice(row.header)?;
+    bytes.extend_from_slice(b"ENDSEC;DATA;")?;
+    bytes.extend_from_slice(row.section)?;
+    bytes.extend_from_slice(TAIL)?;
+    Ok(bytes)
+}
+
+#[test]
+fn stages(rt: HostRuntime) -> Result<(), Fail> {
+    for row in WHOLES {
+        let bytes = file_of(rt.alloc(), row)?;
+        match row.fault {
+            Some(fault) => assert_fault(&rt, rt.alloc(), bytes.as_slice(), fault),
+            None => assert!(rt; read(rt.alloc(), bytes.as_slice()).is_ok()),
+        }
+    }
+    Ok(())
+}
+
+#[test]
+fn limits(rt: HostRuntime) -> Result<(), Fail> {
+    let mut blanks = vec![in rt.alloc(); b' '; 33_554_432]?;
+    assert_fault(&rt, rt.alloc(), blanks.as_slice(), UploadFault::NotPart21);
+    blanks.push(b' ')?;
+    let bytes = UploadFault::TooMany { what: Many::Bytes };
+    assert_fault(&rt, rt.alloc(), blanks.as_slice(), bytes);
     Ok(())
 }
 

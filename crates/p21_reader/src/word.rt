@@ -1,14 +1,16 @@
-ghost use Rattle.std.specs.Prelude.{◌≡◌, map};
+ghost use Rattle.std.specs.Prelude.{◌≡◌, ◌≤◌, length, map, IfOk};
 ghost use Rattle.std.specs.Char.{to_ascii_uppercase};
 ghost use Rattle.std.specs.Str.{bytes_eq};
 ghost use Rattle.p21_reader.specs.Lexemes.{lexeme_of, class_of, mark_of};
 ghost use Rattle.p21_reader.specs.Reading.{IsPiece};
 ghost use Rattle.p21_reader.specs.Heading.{mark_seen, class_seen};
+ghost use Rattle.p21_reader.specs.Files.{ReadsWord};
 
-use crate::piece::{Kind, Piece};
+use crate::fault::ReadFault;
+use crate::piece::{Kind, Piece, refused, take};
 
 /// The words that the grammar names; each other word is `Other`.
-#[derive(Clone, Copy)]
+#[derive(Clone, Copy, PartialEq, Eq)]
 pub enum Mark {
     Iso,
     Header,
@@ -19,7 +21,7 @@ pub enum Mark {
 }
 
 /// What the grammar sees of a token, words told apart.
-#[derive(Clone, Copy)]
+#[derive(Clone, Copy, PartialEq, Eq)]
 pub enum Seen {
     Simple,
     Name,
@@ -32,7 +34,7 @@ pub enum Seen {
 }
 
 /// Whether the bytes are this word, in letters of either case.
-fn is_word(bytes: &[u8], word: &[u8]) -> bool
+pub fn is_word(bytes: &[u8], word: &[u8]) -> bool
     ensures { result ≡ bytes_eq (map to_ascii_uppercase bytes.now) word.now }
 {
     if bytes.len() != word.len() {
@@ -82,5 +84,19 @@ pub fn look(bytes: &[u8], piece: Piece) -> Seen
         Kind::Comma => Seen::Comma,
         Kind::Semicolon => Seen::Semicolon,
         Kind::Equals => Seen::Equals,
+    }
+}
+
+/// The end of a word that is wanted.
+pub fn expect_word(bytes: &[u8], at: usize, wanted: Mark) -> Result<usize, ReadFault>
+    requires { at ≤ length bytes.now }
+    ensures word { ReadsWord (mark_seen wanted) bytes.now at result }
+    ensures within { IfOk result (λ end. end ≤ length bytes.now) }
+{
+    let piece = take(bytes, at)?;
+    if look(bytes, piece) == Seen::Word(wanted) {
+        Ok(piece.token.end)
+    } else {
+        Err(refused(piece))
     }
 }

@@ -1,25 +1,21 @@
-use Rattle.p21_reader.specs.Heading.{sign_of, signs_of}
-use Rattle.p21_reader.proofs.Steps.{residual, fails_none}
-use Rattle.p21_reader.proofs.Headers.{heads_fail, heads_step, follow_fail}
+use Rattle.std.proofs.Common.{◌∷◌, [], Ok, Err}
+use Rattle.p21_reader.specs.Grammar.{T, Word, Header, Semi, Statements}
+use Rattle.p21_reader.proofs.Steps.{residual, fails_under}
+use Rattle.p21_reader.proofs.Statements.{word_semicolon, header_whole}
 use Rattle.p21_reader.proofs.header.header.Goals as goal
 
-pub returns-in_err-piece-clause-header : goal.returns-in_err-piece-clause-header
-returns-in_err-piece-clause-header c =
-    let f = c.in_err-piece.field-0.0 in
-    rw (residual _ _ c.from_residual-in_err-piece.ensures.1)
-    (heads_fail c.args.bytes.now c.args.at c.loop-want.end c.loop-want.wants.items c.pop.new.self.items c.in-Some.want f c.loop-want.invariant.read c.in-Some.ensures.items
-    (fails_none (sign_of c.in-Some.want) (signs_of c.pop.new.self.items) c.args.bytes.now c.loop-want.end f c.in_err-piece.ensures.fault))
+pub returns-in_err-word-clause-header : goal.returns-in_err-word-clause-header
+returns-in_err-word-clause-header c =
+    rw (residual _ _ c.from_residual.ensures.1) (fails_under (T (Word Header) ∷ []) (T Semi ∷ Statements ∷ []) c.args.bytes.now c.args.at c.in_err-word.field-0.0 c.in_err-word.ensures.word)
 
-pub returns-in_err-follow-clause-header : goal.returns-in_err-follow-clause-header
-returns-in_err-follow-clause-header c =
-    let f = c.in_err-follow.field-0.0 in
-    rw (residual _ _ c.from_residual-in_err-follow.ensures.1)
-    (heads_fail c.args.bytes.now c.args.at c.loop-want.end c.loop-want.wants.items c.pop.new.self.items c.in-Some.want f c.loop-want.invariant.read c.in-Some.ensures.items
-    (follow_fail (sign_of c.in-Some.want) (signs_of c.pop.new.self.items) c.args.bytes.now c.loop-want.end c.in_ok-piece.piece.token f c.in_ok-piece.ensures.cuts c.in_err-follow.ensures.fault))
+pub returns-clause-header : goal.returns-clause-header
+returns-clause-header c =
+    header_whole c.args.bytes.now c.args.at c.in_ok-begun.begun c.statements.result (word_semicolon Header c.args.bytes.now c.args.at c.in_ok-word.word (Ok c.in_ok-begun.begun) c.in_ok-word.ensures.word c.in_ok-begun.ensures.expects)
+    c.statements.ensures.statements
 
-pub loop-want-preserved : goal.loop-want-preserved
-loop-want-preserved c = record {
-  within = c.in_ok-piece.ensures.piece.within;
-  read = heads_step c.args.bytes.now c.args.at c.loop-want.end c.loop-want.wants.items c.pop.new.self.items c.follow.new.wants.items c.in-Some.want c.in_ok-piece.piece.token
-      c.loop-want.invariant.read c.in-Some.ensures.items c.in_ok-piece.ensures.cuts c.in_ok-follow.ensures.follows;
-}
+pub returns-in_err-begun-clause-header : goal.returns-in_err-begun-clause-header
+returns-in_err-begun-clause-header c =
+    let f = c.in_err-begun.field-0.0 in
+    rw (residual _ _ c.from_residual-in_err-begun.ensures.1)
+    (fails_under (T (Word Header) ∷ T Semi ∷ []) (Statements ∷ []) c.args.bytes.now c.args.at f
+    (word_semicolon Header c.args.bytes.now c.args.at c.in_ok-word.word (Err f) c.in_ok-word.ensures.word c.in_err-begun.ensures.expects))

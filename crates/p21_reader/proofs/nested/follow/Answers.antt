@@ -2,7 +2,7 @@ use Rattle.std.proofs.Common.{sym, ap, ◌∙◌}
 use Rattle.p21_reader.specs.Machine.{next}
 use Rattle.p21_reader.specs.Heading.{sign_of, signs_of}
 use Rattle.p21_reader.proofs.Headers.{signs_append}
-use Rattle.p21_reader.proofs.header.follow.Goals as goal
+use Rattle.p21_reader.proofs.nested.follow.Goals as goal
 
 pub returns-in_ok-extend_from_slice-in-Some-clause-follows : goal.returns-in_ok-extend_from_slice-in-Some-clause-follows
 returns-in_ok-extend_from_slice-in-Some-clause-follows c = (

@@ -1,6 +1,6 @@
 use Rattle.std.proofs.Common.{◌-◌, ◌≤◌, length}
 use Rattle.p21_reader.proofs.Headers.{Heads}
-use Rattle.p21_reader.proofs.header.header.Given as goal
+use Rattle.p21_reader.proofs.nested.pass_values.Given as goal
 
 abbrev pub invariant-loop-want : goal.invariant-loop-want
 invariant-loop-want l = record {
