@@ -2,14 +2,13 @@
 use Rattle.std.proofs.Common.{◌≡◌, ◌≢◌, ℕ, zero, suc, ◌+◌, ◌-◌, ◌<◌, ◌≤◌, ◌⊎◌, inl, inr, Bool, true, false, not, nat_eq, List, [], ◌∷◌, ◌++◌, length, get_or, replicate, Option, Some, None, Contains, Any, refl, sym, ap, ◌∙◌, subst, arith}
 use Rattle.std.specs.Bool.{OnTrue}
 use Rattle.std.specs.List.{slice_get}
-use Rattle.std.specs.List.Sorted.{IsNonDecreasingBy, IsSortedByKey}
-use Rattle.std.specs.Ordering.{nat_cmp}
+use Rattle.std.specs.List.Sorted.{IsNonDecreasingBy}
 use Rattle.std.proofs.lemmas.Bool.{eqb-false}
 use Rattle.std.proofs.lemmas.Option.{slice_get-get_or, get_or_from_slice_get}
 use Rattle.std.proofs.lemmas.List.{get_or_default, get_or_past, get_or-replicate, length-replicate}
-use Rattle.std.proofs.lemmas.List.Sorted.{IsNonDecreasingBy-from_sort}
 use Rattle.std.proofs.lemmas.List.Elements.{Contains-append_left, Contains-push_cases}
 use Rattle.p21_reader.specs.declared.value.Instance.{Instance}
+use Rattle.p21_reader.specs.Uploads.{Rises}
 use Rattle.ifc_schema.specs.declared.entity.Entity.{Entity}
 use Rattle.ifc_schema.specs.declared.entity.Entity.TheVariants.{RepresentationMap, Representation}
 use Rattle.ifc_schema.specs.declared.form.Attribute.{Attribute}
@@ -29,7 +28,7 @@ use Rattle.ifc_schema.specs.Places.{IsPlaceOf}
 use Rattle.ifc_schema.specs.Bodies.{applies, is_body, has_body}
 use Rattle.ifc_schema.specs.Used.{Used, root, named, mapped, IsMapped, Names, NamesBy, Maps}
 use Rattle.ifc_schema.specs.Marks.{rank, rank_at, mark_at, is_mapped, weight, SoundAt, UsedAt, MappedAt, Grows, IsMarked, IsFollowed, FollowedAt, IsRootAt, Going, Known}
-use Rattle.ifc_schema.proofs.PlaceLemmas.{PlaceFound, place_found, found_at, place_once, some_instance}
+use Rattle.ifc_schema.proofs.PlaceLemmas.{rising, PlaceFound, place_found, found_at, place_once, some_instance}
 use Rattle.ifc_schema.proofs.Growing.{marked_on}
 
 -- The instance at a place.
@@ -198,12 +197,12 @@ all_mapped world w g s r id h =
 
 -- The first of its number.
 
-pub first_there : (xs : List Instance) (at : ℕ) (d e : Instance) → 0 < at → at < length xs → IsSortedByKey (λ (i : Instance). i.id) nat_cmp xs
+pub first_there : (xs : List Instance) (at : ℕ) (d e : Instance) → 0 < at → at < length xs → Rises xs
     → OnTrue (not (nat_eq (get_or xs (at - 1) d).id (get_or xs at e).id)) ((i : Instance) → IsPlaceOf xs (get_or xs at i).id at)
 first_there xs at d e some lt rises = by (nat_eq (get_or xs (at - 1) d).id (get_or xs at e).id) refl
   where
     up : IsNonDecreasingBy (λ (i : Instance). i.id) xs
-    up = IsNonDecreasingBy-from_sort (λ (i : Instance). i.id) xs rises
+    up = rising xs rises
 
     by : (b : Bool) → nat_eq (get_or xs (at - 1) d).id (get_or xs at e).id ≡ b → OnTrue (not b) ((i : Instance) → IsPlaceOf xs (get_or xs at i).id at)
     by true h = tt

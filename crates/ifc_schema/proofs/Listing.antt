@@ -1,12 +1,11 @@
 -- The numbers of instances are listed place by place.
 use Rattle.std.proofs.Common.{◌≡◌, ◌≢◌, ℕ, ◌+◌, ◌<◌, ◌≤◌, ◌⊎◌, inl, inr, Bool, true, false, IsTrue, ◌↔◌, List, [], ◌∷◌, ◌++◌, ◌&&◌, length, get_or, Option, Some, None, is_some, Contains, refl, sym, ap, ◌∙◌, subst, arith, length-append}
-use Rattle.std.specs.List.Sorted.{IsNonDecreasingBy, IsSortedByKey, IsStrictlyIncreasing}
-use Rattle.std.specs.Ordering.{nat_cmp}
+use Rattle.std.specs.List.Sorted.{IsNonDecreasingBy, IsStrictlyIncreasing}
 use Rattle.std.proofs.lemmas.List.{get_or_default, get_or-append-add, append-nil}
 use Rattle.std.proofs.Math.ListN.{get_or-append}
-use Rattle.std.proofs.lemmas.List.Sorted.{IsNonDecreasingBy-from_sort}
 use Rattle.std.proofs.lemmas.List.Elements.{Contains-append_left, Contains-push, Contains-push_cases}
 use Rattle.p21_reader.specs.declared.value.Instance.{Instance}
+use Rattle.p21_reader.specs.Uploads.{Rises}
 use Rattle.ifc_schema.specs.declared.flaw.Flaw.{Flaw}
 use Rattle.ifc_schema.specs.declared.work.Mark.{Mark}
 use Rattle.ifc_schema.specs.declared.work.Mark.TheVariants.{Unseen, Used as Met, Mapped}
@@ -20,7 +19,7 @@ use Rattle.ifc_schema.specs.StageFive.{UsedFlaw, StageFive, IsModelElement, is_m
 use Rattle.ifc_schema.specs.Steps.{FaultAt, CheckedAt, Checked, Below}
 use Rattle.ifc_schema.specs.Entities.{is_root}
 use Rattle.ifc_schema.specs.Bodies.{has_body}
-use Rattle.ifc_schema.proofs.PlaceLemmas.{PlaceFound, place_found, found_at, place_once, some_instance}
+use Rattle.ifc_schema.proofs.PlaceLemmas.{rising, PlaceFound, place_found, found_at, place_once, some_instance}
 use Rattle.ifc_schema.proofs.Following.{look_there, number_once, mapped_rank, rank_mapped}
 use Rattle.bim_model.specs.declared.upload.UploadFault.{UploadFault}
 use Rattle.ifc_schema.specs.declared.entity.Entity.{Entity}
@@ -38,9 +37,9 @@ used_found world _ (named from to i u f n) = record { instance = n.names.leads.t
 used_found world _ (mapped by from to m i u fm h f n) = record { instance = n.names.leads.target; found = n.names.leads.found }
 
 -- an earlier place has a lower number
-lower : (world : List Instance) → IsSortedByKey (λ (i : Instance). i.id) nat_cmp world → (a b k at : ℕ) → IsPlaceOf world a k → IsPlaceOf world b at → k < at → a < b
+lower : (world : List Instance) → Rises world → (a b k at : ℕ) → IsPlaceOf world a k → IsPlaceOf world b at → k < at → a < b
 lower world rises a b k at p q lt =
-    let up = IsNonDecreasingBy-from_sort (λ (i : Instance). i.id) world rises in
+    let up = rising world rises in
     let w = q.within in
     let x = up k at some_instance (omega arith) w in
     let y = p.number some_instance in
@@ -52,9 +51,9 @@ lower world rises a b k at p q lt =
     strict a b h n = grind arith
 
 -- a lower number has an earlier place
-pub earlier : (world : List Instance) → IsSortedByKey (λ (i : Instance). i.id) nat_cmp world → (a b k at : ℕ) → IsPlaceOf world a k → IsPlaceOf world b at → a < b → k < at
+pub earlier : (world : List Instance) → Rises world → (a b k at : ℕ) → IsPlaceOf world a k → IsPlaceOf world b at → a < b → k < at
 earlier world rises a b k at p q lt =
-    let up = IsNonDecreasingBy-from_sort (λ (i : Instance). i.id) world rises in
+    let up = rising world rises in
     let y = p.number some_instance in
     let z = q.number some_instance in
     elim (side k at) [
@@ -85,7 +84,7 @@ below_last world at P id b = elim (last b.place at b.below) [
     last k n h = grind arith
 
 -- one more number
-pub lists_more : (world : List Instance) (at id : ℕ) (P : ℕ → Type 0) (ids : List ℕ) → IsSortedByKey (λ (i : Instance). i.id) nat_cmp world → IsPlaceOf world id at → P id
+pub lists_more : (world : List Instance) (at id : ℕ) (P : ℕ → Type 0) (ids : List ℕ) → Rises world → IsPlaceOf world id at → P id
     → Lists (Below world at P) ids → Lists (Below world (at + 1) P) (ids ++ id ∷ [])
 lists_more world at id P ids rises p h ls = record {
   rises = λ k l. elim (last k (length ids) (let e = length-append ids (id ∷ []) in omega arith)) [
@@ -189,7 +188,7 @@ fault_there world w at i flaw fault k r e h t =
     record { id = s.id; place = s.place; used = s.used; flaw = flaw; flawed = h s.id s.place; told = t ∙ ap (λ m. fault_of m flaw) n }
 
 -- the first place that has a fault has the least number
-pub least_there : (world : List Instance) (at : ℕ) (fault : UploadFault) → IsSortedByKey (λ (i : Instance). i.id) nat_cmp world → FaultAt world at fault
+pub least_there : (world : List Instance) (at : ℕ) (fault : UploadFault) → Rises world → FaultAt world at fault
     → ((k : ℕ) → k < at → (id : ℕ) → IsPlaceOf world id k → Used world id → UsedFlaw world id None) → StageFive world fault
 least_there world at fault rises f before = record {
   id = f.id;
@@ -229,7 +228,7 @@ pub element_there : (world : List Instance) (id at : ℕ) (i : Instance) → IsP
 element_there world id at i p e t = record { instance = i; found = look_there world id at i p e; element = t }
 
 -- one more number, of the instance at the place
-pub push_there : (world : List Instance) (at : ℕ) (i : Instance) (s : ℕ) (P : ℕ → Type 0) (ids new : List ℕ) → IsSortedByKey (λ (i : Instance). i.id) nat_cmp world → IsPlaceOf world s at → i ≡ get_or world at i
+pub push_there : (world : List Instance) (at : ℕ) (i : Instance) (s : ℕ) (P : ℕ → Type 0) (ids new : List ℕ) → Rises world → IsPlaceOf world s at → i ≡ get_or world at i
     → P s → Lists (Below world at P) ids → new ≡ ids ++ i.id ∷ [] → Lists (Below world (at + 1) P) new
 push_there world at i s P ids new rises p e h ls n =
     let same : i.id ≡ s = ap (λ (j : Instance). j.id) e ∙ p.number i in
@@ -237,7 +236,7 @@ push_there world at i s P ids new rises p e h ls n =
     rw q (lists_more world at s P ids rises p h ls)
 
 -- what one place answers, and what is known after it
-pub checked_some : (world : List Instance) (at : ℕ) (o : Option UploadFault) → IsSortedByKey (λ (i : Instance). i.id) nat_cmp world → is_some o ≡ true → CheckedAt world at o
+pub checked_some : (world : List Instance) (at : ℕ) (o : Option UploadFault) → Rises world → is_some o ≡ true → CheckedAt world at o
     → ((k : ℕ) → k < at → (id : ℕ) → IsPlaceOf world id k → Used world id → UsedFlaw world id None) → Checked world o
 checked_some world at None rises h k before = cc
 checked_some world at (Some fault) rises h k before = least_there world at fault rises k before

@@ -1,11 +1,13 @@
 -- How the place of an instance and what a number leads to belong together.
-use Rattle.std.proofs.Common.{◌≡◌, ◌≢◌, ℕ, zero, suc, ◌+◌, ◌<◌, ◌≤◌, ◌==◌, nat_lt, ◌⊎◌, inl, inr, Bool, true, false, List, [], ◌∷◌, length, get_or, Option, Some, None, refl, sym, ap, ◌∙◌, subst, arith}
+use Rattle.std.proofs.Common.{◌≡◌, ◌≢◌, ℕ, zero, suc, ◌+◌, ◌<◌, ◌≤◌, ◌==◌, nat_lt, ◌⊎◌, inl, inr, Bool, true, false, List, [], ◌∷◌, length, get_or, Option, Some, None, refl, sym, ap, map, ◌∙◌, subst, arith}
 use Rattle.std.proofs.lemmas.Bool.{eqb-true, eqb-false, ne_eqb}
 use Rattle.std.proofs.lemmas.Bool.Decides.{nat_tests}
-use Rattle.std.proofs.lemmas.List.{get_or_default}
+use Rattle.std.proofs.lemmas.List.{get_or_default, get_or-map, length-map}
 use Rattle.std.specs.List.{HoldsAt}
 use Rattle.std.specs.List.Sorted.{IsNonDecreasingBy}
+use Rattle.std.proofs.lemmas.Map.Keys.{non_decreasing_from_sorted}
 use Rattle.p21_reader.specs.declared.value.Instance.{Instance}
+use Rattle.p21_reader.specs.Uploads.{Rises}
 use Rattle.ifc_schema.specs.Looking.{look}
 use Rattle.ifc_schema.specs.Places.{IsPlaceOf}
 
@@ -107,3 +109,12 @@ halved_none world id at rises below above other = none_found world id (λ k d lt
   where
     side : (k n : ℕ) → (k < n) ⊎ (n ≤ k)
     side k n = grind arith
+
+-- the numbers of instances that rise don't fall
+pub rising : (world : List Instance) → Rises world → IsNonDecreasingBy (λ (i : Instance). i.id) world
+rising world r = λ i j d le lt.
+    let f : Instance → ℕ = λ (k : Instance). k.id in
+    let u = non_decreasing_from_sorted (map f world) r i j d.id le (rw length-map lt) in
+    let a = get_or-map f world i d d.id (omega arith) in
+    let b = get_or-map f world j d d.id lt in
+    rw (← a, ← b) u

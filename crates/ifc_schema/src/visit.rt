@@ -1,8 +1,7 @@
 //! The instances that are used are met, one after another.
 ghost use Rattle.std.specs.Prelude.{◌≡◌, ◌<◌, ◌≤◌, ℕ, [], length, OnOk, IfOk, Any, slice_index_or};
 ghost use Rattle.std.specs.Bool.{OnTrue, OnFalse};
-ghost use Rattle.std.specs.List.Sorted.{IsSortedByKey};
-ghost use Rattle.std.specs.Ordering.{nat_cmp};
+ghost use Rattle.p21_reader.specs.Uploads.{Rises};
 ghost use Rattle.p21_reader.specs.declared.value.Instance.{Instance};
 ghost use Rattle.ifc_schema.specs.Places.{IsPlaceOf};
 ghost use Rattle.ifc_schema.specs.Used.{Used, IsMapped, Maps, NamesBy};
@@ -79,7 +78,7 @@ fn mark_roots(exchange: &Exchange, work: &mut Work) -> Result<(), AllocError>
 /// Whether the instance at a place is the first of its number.
 fn is_first(instances: &[Instance], at: usize) -> bool
     requires within { at < length instances.now }
-    requires rises { IsSortedByKey (λ (i : Instance). i.id) nat_cmp instances.now }
+    requires rises { Rises instances.now }
     ensures first { OnTrue result ((i : Instance) → IsPlaceOf instances.now (slice_index_or instances.now at i).id at) }
     ensures other { OnFalse result ((id : ℕ) → IsPlaceOf instances.now id at → ⊥) }
 {

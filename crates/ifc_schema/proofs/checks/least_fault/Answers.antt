@@ -1,6 +1,5 @@
 use Rattle.std.proofs.Common.{length, ap, arith, below_more, sym, ◌∙◌}
-use Rattle.std.specs.List.Sorted.{IsSortedByKey}
-use Rattle.std.specs.Ordering.{nat_cmp}
+use Rattle.p21_reader.specs.Uploads.{Rises}
 use Rattle.p21_reader.specs.declared.value.Instance.{Instance}
 use Rattle.ifc_schema.specs.Steps.{CheckedAt}
 use Rattle.ifc_schema.proofs.Listing.{all_checked, checked_some, checked_none}
@@ -9,7 +8,7 @@ use Rattle.ifc_schema.proofs.checks.least_fault.Goals as goal
 pub returns-then-is_some : goal.returns-then-is_some
 returns-then-is_some c =
     let world = c.args.exchange.now in
-    let rises : IsSortedByKey (λ (j : Instance). j.id) nat_cmp world = rw (← c.instances-at-end.ensures.same) c.instances-at-end.ensures.rises in
+    let rises : Rises world = rw (← c.instances-at-end.ensures.same) c.instances-at-end.ensures.rises in
     let k : CheckedAt world c.loop-at.at c.in_ok-fault.fault = c.in_ok-fault.ensures in
     checked_some world c.loop-at.at c.in_ok-fault.fault rises (sym c.is_some.ensures ∙ c.if-is_some.true) k c.loop-at.invariant
 

@@ -1,6 +1,5 @@
 use Rattle.std.proofs.Common.{◌≡◌, ◌<◌, ◌++◌, ◌∷◌, [], false, true, get_or, sym, ◌∙◌}
-use Rattle.std.specs.List.Sorted.{IsSortedByKey}
-use Rattle.std.specs.Ordering.{nat_cmp}
+use Rattle.p21_reader.specs.Uploads.{Rises}
 use Rattle.p21_reader.specs.declared.value.Instance.{Instance}
 use Rattle.ifc_schema.specs.StageFive.{IsModelElement, is_model_element}
 use Rattle.ifc_schema.specs.Marks.{is_seen, rank_at}
@@ -38,6 +37,6 @@ returns c =
     let h = element_there world u.id c.args.at i u.place e (sym t ∙ c.if-not-element.false) in
     let j = c.index-instances-at-2.result in
     let f : j ≡ get_or world c.args.at j = rw (← c.instances-2.ensures.same) c.index-instances-at-2.is in
-    let rises : IsSortedByKey (λ (k : Instance). k.id) nat_cmp world = rw (← c.instances-2.ensures.same) c.instances-2.ensures.rises in
+    let rises : Rises world = rw (← c.instances-2.ensures.same) c.instances-2.ensures.rises in
     let n : c.push.new.self.items ≡ c.args.ids.now.items ++ j.id ∷ [] = cc (c.in_ok-push.ensures.items, c.index-instances-at-2.is) in
     push_there world c.args.at j u.id (IsModelElement world) c.args.ids.now.items c.push.new.self.items rises u.place f h c.requires.ids n

@@ -1,6 +1,5 @@
 use Rattle.std.proofs.Common.{◌≡◌, ◌<◌, ◌++◌, ◌∷◌, [], false, true, get_or, sym, ◌∙◌}
-use Rattle.std.specs.List.Sorted.{IsSortedByKey}
-use Rattle.std.specs.Ordering.{nat_cmp}
+use Rattle.p21_reader.specs.Uploads.{Rises}
 use Rattle.p21_reader.specs.declared.value.Instance.{Instance}
 use Rattle.ifc_schema.specs.Used.{Used}
 use Rattle.ifc_schema.specs.Marks.{is_seen, rank_at}
@@ -25,6 +24,6 @@ returns c =
     let u = (c.requires.known.sound c.args.at).used r in
     let i = c.index-instances-at.result in
     let e : i ≡ get_or world c.args.at i = rw (← c.instances.ensures.same) c.index-instances-at.is in
-    let rises : IsSortedByKey (λ (j : Instance). j.id) nat_cmp world = rw (← c.instances.ensures.same) c.instances.ensures.rises in
+    let rises : Rises world = rw (← c.instances.ensures.same) c.instances.ensures.rises in
     let n : c.push.new.self.items ≡ c.args.ids.now.items ++ i.id ∷ [] = cc (c.in_ok-push.ensures.items, c.index-instances-at.is) in
     push_there world c.args.at i u.id (Used world) c.args.ids.now.items c.push.new.self.items rises u.place e u.used c.requires.ids n
