@@ -1,0 +1,6 @@
+pub mod PlaceLemmas
+pub mod Firsts
+pub mod Results
+pub mod Growing
+pub mod Following
+pub mod Listing

@@ -1,0 +1,42 @@
+use Rattle.std.proofs.Common.{◌≡◌, ◌<◌, ◌++◌, ◌∷◌, [], false, true, get_or, sym, ◌∙◌}
+use Rattle.p21_reader.specs.Uploads.{Rises}
+use Rattle.p21_reader.specs.declared.value.Instance.{Instance}
+use Rattle.ifc_schema.specs.StageFive.{IsModelElement, is_model_element}
+use Rattle.ifc_schema.specs.Marks.{is_seen, rank_at}
+use Rattle.ifc_schema.proofs.Listing.{lists_same, unseen_there, seen_there, push_there, element_used, no_element, element_there}
+use Rattle.ifc_schema.proofs.checks.push_element.Goals as goal
+
+pub returns-then-not-is_seen : goal.returns-then-not-is_seen
+returns-then-not-is_seen c =
+    let world = c.args.exchange.now in
+    let work = c.args.work.now in
+    let m = c.index.result.now in
+    let s : is_seen m ≡ false = sym c.is_seen.ensures ∙ c.if-not-is_seen.true in
+    lists_same world c.args.at (IsModelElement world) c.args.ids.now.items
+    (λ id p h. unseen_there world work c.args.at m c.requires.known c.requires.within c.index.ensures s id p (element_used world id h)) c.requires.ids
+
+pub returns-then-not-element : goal.returns-then-not-element
+returns-then-not-element c =
+    let world = c.args.exchange.now in
+    let i = c.index-instances-at.result in
+    let e : i ≡ get_or world c.args.at i = rw (← c.instances.ensures.same) c.index-instances-at.is in
+    let t : c.in_ok-element.element ≡ is_model_element world i = c.in_ok-element.ensures in
+    lists_same world c.args.at (IsModelElement world) c.args.ids.now.items (no_element world c.args.at i e (sym t ∙ c.if-not-element.true)) c.requires.ids
+
+pub returns : goal.returns
+returns c =
+    let world = c.args.exchange.now in
+    let work = c.args.work.now in
+    let m = c.index.result.now in
+    let s : is_seen m ≡ true = sym c.is_seen.ensures ∙ c.if-not-is_seen.false in
+    let r : 0 < rank_at work c.args.at = seen_there world work c.args.at m c.requires.known c.requires.within c.index.ensures s in
+    let u = (c.requires.known.sound c.args.at).used r in
+    let i = c.index-instances-at.result in
+    let e : i ≡ get_or world c.args.at i = rw (← c.instances.ensures.same) c.index-instances-at.is in
+    let t : c.in_ok-element.element ≡ is_model_element world i = c.in_ok-element.ensures in
+    let h = element_there world u.id c.args.at i u.place e (sym t ∙ c.if-not-element.false) in
+    let j = c.index-instances-at-2.result in
+    let f : j ≡ get_or world c.args.at j = rw (← c.instances-2.ensures.same) c.index-instances-at-2.is in
+    let rises : Rises world = rw (← c.instances-2.ensures.same) c.instances-2.ensures.rises in
+    let n : c.push.new.self.items ≡ c.args.ids.now.items ++ j.id ∷ [] = cc (c.in_ok-push.ensures.items, c.index-instances-at-2.is) in
+    push_there world c.args.at j u.id (IsModelElement world) c.args.ids.now.items c.push.new.self.items rises u.place f h c.requires.ids n

@@ -1,0 +1,29 @@
+use Rattle.std.proofs.Common.{◌≡◌, ◌<◌, ◌++◌, ◌∷◌, [], false, true, get_or, sym, ◌∙◌}
+use Rattle.p21_reader.specs.Uploads.{Rises}
+use Rattle.p21_reader.specs.declared.value.Instance.{Instance}
+use Rattle.ifc_schema.specs.Used.{Used}
+use Rattle.ifc_schema.specs.Marks.{is_seen, rank_at}
+use Rattle.ifc_schema.proofs.Listing.{lists_same, unseen_there, seen_there, push_there}
+use Rattle.ifc_schema.proofs.checks.push_used.Goals as goal
+
+pub returns-then-not-is_seen : goal.returns-then-not-is_seen
+returns-then-not-is_seen c =
+    let world = c.args.exchange.now in
+    let work = c.args.work.now in
+    let m = c.index.result.now in
+    let s : is_seen m ≡ false = sym c.is_seen.ensures ∙ c.if-not-is_seen.true in
+    lists_same world c.args.at (Used world) c.args.ids.now.items (unseen_there world work c.args.at m c.requires.known c.requires.within c.index.ensures s) c.requires.ids
+
+pub returns : goal.returns
+returns c =
+    let world = c.args.exchange.now in
+    let work = c.args.work.now in
+    let m = c.index.result.now in
+    let s : is_seen m ≡ true = sym c.is_seen.ensures ∙ c.if-not-is_seen.false in
+    let r : 0 < rank_at work c.args.at = seen_there world work c.args.at m c.requires.known c.requires.within c.index.ensures s in
+    let u = (c.requires.known.sound c.args.at).used r in
+    let i = c.index-instances-at.result in
+    let e : i ≡ get_or world c.args.at i = rw (← c.instances.ensures.same) c.index-instances-at.is in
+    let rises : Rises world = rw (← c.instances.ensures.same) c.instances.ensures.rises in
+    let n : c.push.new.self.items ≡ c.args.ids.now.items ++ i.id ∷ [] = cc (c.in_ok-push.ensures.items, c.index-instances-at.is) in
+    push_there world c.args.at i u.id (Used world) c.args.ids.now.items c.push.new.self.items rises u.place e u.used c.requires.ids n

@@ -1,0 +1,37 @@
+use Rattle.std.proofs.Common.{◌≡◌, ◌≤◌, length, get_or, sym, ap, ◌∙◌, Result, Ok, Err, OnOk, true, false}
+use Rattle.p21_reader.specs.declared.value.Instance.{Instance}
+use Rattle.ifc_schema.specs.Places.{IsPlaceOf}
+use Rattle.ifc_schema.specs.Forms.{holds}
+use Rattle.ifc_schema.specs.Marks.{rank, rank_at, Grows}
+use Rattle.ifc_schema.proofs.Growing.{meant_there, not_meant, reached_there, raise_grows, Raised}
+use Rattle.ifc_schema.proofs.Results.{on_ok2}
+use Rattle.ifc_schema.proofs.follow.mark_target.Goals as goal
+
+pub returns-then-holds-clause-grows : goal.returns-then-holds-clause-grows
+returns-then-holds-clause-grows c =
+    let world = c.args.exchange.now in
+    let i = c.index-instances-at.result in
+    let p : IsPlaceOf world c.args.to c.in-Some.at = c.in-Some.ensures in
+    let is : i ≡ get_or world c.in-Some.at i = rw (← c.instances.ensures.same) c.index-instances-at.is in
+    let meant : holds c.args.targets i.keyword ≡ true = rw c.index-instances-at.is (sym c.holds.ensures ∙ c.if-holds.true) in
+    let s = c.requires.sound (meant_there world c.args.targets c.args.to c.in-Some.at i p is meant) c.in-Some.at p in
+    on_ok2 c.raise.result (λ m k. (raise_grows world c.args.work.now c.raise.new.self c.in-Some.at c.args.mark (rw c.requires.size p.within) s m k).grows) c.raise.ensures.marks c.raise.ensures.stack
+
+pub returns-then-holds-clause-marked : goal.returns-then-holds-clause-marked
+returns-then-holds-clause-marked c =
+    let world = c.args.exchange.now in
+    let i = c.index-instances-at.result in
+    let p : IsPlaceOf world c.args.to c.in-Some.at = c.in-Some.ensures in
+    on_ok2 c.raise.result (λ m k l q at_q.
+    reached_there world c.raise.new.self c.args.to c.in-Some.at (rank c.args.mark) p
+    (raise_grows world c.args.work.now c.raise.new.self c.in-Some.at c.args.mark (rw c.requires.size p.within) (c.requires.sound l c.in-Some.at p) m k).reached q at_q)
+    c.raise.ensures.marks c.raise.ensures.stack
+
+pub returns-else-holds-clause-marked : goal.returns-else-holds-clause-marked
+returns-else-holds-clause-marked c = λ l q at_q.
+    let world = c.args.exchange.now in
+    let i = c.index-instances-at.result in
+    let p : IsPlaceOf world c.args.to c.in-Some.at = c.in-Some.ensures in
+    let is : i ≡ get_or world c.in-Some.at i = rw (← c.instances.ensures.same) c.index-instances-at.is in
+    let other : holds c.args.targets i.keyword ≡ false = rw c.index-instances-at.is (sym c.holds.ensures ∙ c.if-holds.false) in
+    absurd (not_meant world c.args.targets c.args.to c.in-Some.at i p is other l)

@@ -1,0 +1,7 @@
+use Rattle.std.proofs.Common.{arith}
+use Rattle.ifc_schema.proofs.Following.{first_there}
+use Rattle.ifc_schema.proofs.visit.is_first.Goals as goal
+
+pub returns-else-at-eq0-clause-first : goal.returns-else-at-eq0-clause-first
+returns-else-at-eq0-clause-first c =
+    first_there c.args.instances.now c.args.at c.index-instances-at.result c.index-instances-at-else-at-eq0.result (omega arith) c.requires.within c.requires.rises

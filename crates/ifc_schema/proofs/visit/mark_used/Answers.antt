@@ -1,0 +1,20 @@
+use Rattle.std.proofs.Common.{◌≡◌, ℕ, ◌<◌, length, ap}
+use Rattle.ifc_schema.specs.Marks.{IsRootAt, rank_at}
+use Rattle.ifc_schema.proofs.Following.{going_first, all_used, all_mapped}
+use Rattle.ifc_schema.proofs.visit.mark_used.Goals as goal
+
+pub follow_all-requires : goal.follow_all-requires
+follow_all-requires c =
+    going_first c.args.exchange.now c.in_ok-work.work c.mark_roots.new.work (length c.instances.result.now) (ap length c.instances.ensures.same) c.in_ok-work.ensures.marks c.in_ok-work.ensures.stack c.in_ok-mark_roots.ensures.grows
+
+pub returns : goal.returns
+returns c =
+    let g = c.in_ok-follow_all.ensures.going in
+    let s = c.in_ok-follow_all.ensures.done in
+    let r : (at : ℕ) → IsRootAt c.args.exchange.now at → 0 < rank_at c.follow_all.new.work at = λ at h. c.in_ok-follow_all.ensures.grows at (c.in_ok-mark_roots.ensures.roots at h) in
+    record {
+      size = g.size;
+      sound = g.sound;
+      used = all_used c.args.exchange.now c.follow_all.new.work g s r;
+      mapped = all_mapped c.args.exchange.now c.follow_all.new.work g s r;
+    }

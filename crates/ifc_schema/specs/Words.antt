@@ -1,0 +1,36 @@
+-- The words on spelled numbers and texts that forms are made of.
+use Rattle.std.specs.Prelude.{◌==◌, ◌&&◌, ◌⊎◌, Bool, ℕ, List, length, codes, pos, ◌≤ℤ◌, ◌<ℤ◌}
+use Rattle.std.specs.List.{list_all}
+use Rattle.std.specs.Str.{bytes_eq}
+use Rattle.bim_model.specs.Guids.{is_guid_char}
+use Rattle.bim_text.specs.declared.decimal.Decimal.{Decimal}
+use Rattle.bim_text.specs.Numbers.{Spelling, IsRead}
+use Rattle.bim_text.specs.Decimals.{Reads}
+use Rattle.bim_text.specs.Texts.{text_of_spelling}
+
+-- the bytes are a number that is read
+abbrev pub IsNumber : List ℕ → Type 0
+IsNumber bs = (d : Decimal) × Reads bs d
+
+abbrev pub IsNoNumber : List ℕ → Type 0
+IsNoNumber bs = (s : Spelling) → IsRead s bs → ⊥
+
+-- The bytes are a number that is read, and its value is whole: a decimal's digits don't end in 0, so its power of ten isn't negative.
+abbrev pub IsWhole : List ℕ → Type 0
+IsWhole bs = (d : Decimal) × Reads bs d × (pos 0 ≤ℤ d.exp)
+
+-- they are none, or its value isn't whole
+abbrev pub IsNotWhole : List ℕ → Type 0
+IsNotWhole bs = IsNoNumber bs ⊎ ((d : Decimal) × Reads bs d × (d.exp <ℤ pos 0))
+
+-- a spelled text says `Body`
+unfoldable pub says_body : List ℕ → Bool
+says_body bs = bytes_eq (text_of_spelling bs) (codes "Body")
+
+-- a text is a globally unique identifier
+abbrev pub is_guid : List ℕ → Bool
+is_guid text = (length text == 22) && list_all is_guid_char text
+
+-- a spelled text says a globally unique identifier
+unfoldable pub says_guid : List ℕ → Bool
+says_guid bs = is_guid (text_of_spelling bs)

@@ -1,0 +1,245 @@
+//! What is wrong first with an instance.
+ghost use Rattle.std.specs.Prelude.{◌≡◌, IfOk};
+ghost use Rattle.ifc_schema.specs.Forms.{fits, holds, allows_absent, allows_missing};
+ghost use Rattle.ifc_schema.specs.Flaws.{
+  bad_unless,
+  wanted_flaw,
+  any_flaw,
+  reference_flaw,
+  LeafFlaw,
+  FirstFlaw,
+  ItemsFlaw,
+  ListFlaw,
+  ShapeFlaw,
+  ValueFlaw,
+  PlaceFlaw,
+  AttributeFlaw,
+  InstanceFlaw,
+};
+ghost use Rattle.ifc_schema.specs.Words.{says_guid};
+ghost use Rattle.ifc_schema.specs.Bodies.{some_passes};
+ghost use Rattle.ifc_schema.specs.Values.{words_of, reference_of};
+
+use crate::body::applies;
+use crate::form::{Attribute, Count, Leaf, Shape, Targets};
+use crate::look::{look, row_at};
+use crate::value::{is_absent, is_enumeration, items_of, number_of, reference_of, words_of};
+use crate::words::{is_number, is_whole, says_guid};
+use p21_reader::{Exchange, Instance, Value21};
+use std::alloc::{AllocError, Global};
+
+/// What is wrong with an instance that lacks the form of its row.
+#[derive(Clone, Copy)]
+pub enum Flaw {
+    /// A reference leads to no instance of that number.
+    Dangling(u64),
+    /// A value hasn't the form that its attribute has.
+    BadShape,
+}
+
+fn bad_unless(good: bool) -> Option<Flaw>
+    ensures { result ≡ bad_unless good }
+{
+    if good { None } else { Some(Flaw::BadShape) }
+}
+
+fn number_flaw(exchange: &Exchange, value: &Value21) -> Option<Flaw>
+    ensures { LeafFlaw exchange.now Leaf.Number value.now result }
+{
+    match number_of(value) {
+        Some(bytes) => bad_unless(is_number(bytes)),
+        None => Some(Flaw::BadShape),
+    }
+}
+
+fn whole_flaw(exchange: &Exchange, value: &Value21) -> Option<Flaw>
+    ensures { LeafFlaw exchange.now Leaf.Whole value.now result }
+{
+    match number_of(value) {
+        Some(bytes) => bad_unless(is_whole(bytes)),
+        None => Some(Flaw::BadShape),
+    }
+}
+
+fn identifier_flaw(alloc: Global, value: &Value21) -> Result<Option<Flaw>, AllocError>
+    ensures { IfOk result (λ flaw. flaw ≡ bad_unless (some_passes says_guid (words_of value.now))) }
+{
+    match words_of(value) {
+        Some(spelled) => {
+            let says = says_guid(alloc, spelled)?;
+            Ok(bad_unless(says))
+        }
+        None => Ok(Some(Flaw::BadShape)),
+    }
+}
+
+fn wanted_flaw(exchange: &Exchange, wanted: Targets, value: &Value21) -> Option<Flaw>
+    ensures { result ≡ reference_flaw (wanted_flaw wanted exchange.now) (reference_of value.now) }
+{
+    match reference_of(value) {
+        Some(to) => match look(exchange, to) {
+            Some(instance) => bad_unless(wanted.holds(&instance.keyword)),
+            None => Some(Flaw::Dangling(to)),
+        },
+        None => Some(Flaw::BadShape),
+    }
+}
+
+fn any_flaw(exchange: &Exchange, value: &Value21) -> Option<Flaw>
+    ensures { result ≡ reference_flaw (any_flaw exchange.now) (reference_of value.now) }
+{
+    match reference_of(value) {
+        Some(to) => match look(exchange, to) {
+            Some(_) => None,
+            None => Some(Flaw::Dangling(to)),
+        },
+        None => Some(Flaw::BadShape),
+    }
+}
+
+/// What is wrong with a value where this leaf is wanted.
+fn leaf_flaw(exchange: &Exchange, leaf: Leaf, value: &Value21) -> Option<Flaw>
+    ensures { LeafFlaw exchange.now leaf value.now result }
+{
+    match leaf {
+        Leaf::Number => number_flaw(exchange, value),
+        Leaf::Whole => whole_flaw(exchange, value),
+        Leaf::Text => bad_unless(words_of(value).is_some()),
+        Leaf::Enumeration => bad_unless(is_enumeration(value)),
+        Leaf::Reference(wanted) => wanted_flaw(exchange, wanted, value),
+        Leaf::AnyReference(_) => any_flaw(exchange, value),
+        Leaf::Anything => None,
+    }
+}
+
+fn leaves_flaw(exchange: &Exchange, leaf: Leaf, items: &[Value21]) -> Option<Flaw>
+    ensures { FirstFlaw (LeafFlaw exchange.now leaf) items.now result }
+{
+    for item in items {
+        let flaw = leaf_flaw(exchange, leaf, item);
+        if flaw.is_some() {
+            return flaw;
+        }
+    }
+    None
+}
+
+/// What is wrong with a list of leaves.
+fn list_flaw(exchange: &Exchange, leaf: Leaf, count: Count, value: &Value21) -> Option<Flaw>
+    ensures { ListFlaw count (LeafFlaw exchange.now leaf) value.now result }
+{
+    match items_of(value) {
+        Some(items) => {
+            if count.fits(items.len()) {
+                leaves_flaw(exchange, leaf, items)
+            } else {
+                Some(Flaw::BadShape)
+            }
+        }
+        None => Some(Flaw::BadShape),
+    }
+}
+
+fn lists_flaw(exchange: &Exchange, leaf: Leaf, inner: Count, rows: &[Value21]) -> Option<Flaw>
+    ensures { FirstFlaw (ListFlaw inner (LeafFlaw exchange.now leaf)) rows.now result }
+{
+    for row in rows {
+        let flaw = list_flaw(exchange, leaf, inner, row);
+        if flaw.is_some() {
+            return flaw;
+        }
+    }
+    None
+}
+
+/// What is wrong with a list of lists of leaves.
+fn table_flaw(
+    exchange: &Exchange,
+    leaf: Leaf,
+    outer: Count,
+    inner: Count,
+    value: &Value21,
+) -> Option<Flaw>
+    ensures { ListFlaw outer (ListFlaw inner (LeafFlaw exchange.now leaf)) value.now result }
+{
+    match items_of(value) {
+        Some(rows) => {
+            if outer.fits(rows.len()) {
+                lists_flaw(exchange, leaf, inner, rows)
+            } else {
+                Some(Flaw::BadShape)
+            }
+        }
+        None => Some(Flaw::BadShape),
+    }
+}
+
+fn shape_flaw(
+    alloc: Global,
+    exchange: &Exchange,
+    leaf: Leaf,
+    shape: Shape,
+    value: &Value21,
+) -> Result<Option<Flaw>, AllocError>
+    ensures { IfOk result (ShapeFlaw exchange.now leaf shape value.now) }
+{
+    match shape {
+        Shape::One => Ok(leaf_flaw(exchange, leaf, value)),
+        Shape::Identifier => identifier_flaw(alloc, value),
+        Shape::List(count) => Ok(list_flaw(exchange, leaf, count, value)),
+        Shape::Table(outer, inner) => Ok(table_flaw(exchange, leaf, outer, inner, value)),
+    }
+}
+
+fn value_flaw(
+    alloc: Global,
+    exchange: &Exchange,
+    attribute: Attribute,
+    value: &Value21,
+) -> Result<Option<Flaw>, AllocError>
+    ensures { IfOk result (ValueFlaw exchange.now attribute value.now) }
+{
+    if attribute.need.allows_absent() && is_absent(value) {
+        Ok(None)
+    } else {
+        shape_flaw(alloc, exchange, attribute.leaf, attribute.shape, value)
+    }
+}
+
+/// What is wrong with an attribute of an instance.
+fn attribute_flaw(
+    alloc: Global,
+    exchange: &Exchange,
+    mapped: bool,
+    instance: &Instance,
+    attribute: Attribute,
+) -> Result<Option<Flaw>, AllocError>
+    ensures { IfOk result (AttributeFlaw exchange.now mapped instance.now attribute) }
+{
+    let applied = applies(alloc, exchange, mapped, instance, attribute.when)?;
+    if !applied {
+        return Ok(None);
+    }
+    match instance.values.as_slice().get(attribute.at) {
+        Some(value) => value_flaw(alloc, exchange, attribute, value),
+        None => Ok(bad_unless(attribute.need.allows_missing())),
+    }
+}
+
+/// What is wrong first with an instance; whether it is mapped is given. None where it has the form of its row.
+pub fn instance_flaw(
+    alloc: Global,
+    exchange: &Exchange,
+    mapped: bool,
+    instance: &Instance,
+) -> Result<Option<Flaw>, AllocError>
+    ensures { IfOk result (InstanceFlaw exchange.now mapped instance.now) }
+{
+    for attribute in row_at(instance) {
+        let flaw = attribute_flaw(alloc, exchange, mapped, instance, *attribute)?;
+        if flaw.is_some() {
+            return Ok(flaw);
+        }
+    }
+    Ok(None)
+}

@@ -1,0 +1,222 @@
+//! Rows are followed: what they name is marked.
+ghost use Rattle.std.specs.Prelude.{◌≡◌, ◌≤◌, ℕ, length, OnOk, Any};
+ghost use Rattle.ifc_schema.specs.Places.{IsPlaceOf};
+ghost use Rattle.ifc_schema.specs.Used.{Used, IsMapped, RefersTo, SomeItem, StandsIn, LeadsTo, NamesBy, Maps};
+ghost use Rattle.ifc_schema.specs.Marks.{Grows, IsMarked, SoundAt, rank, rank_at};
+
+use crate::body::applies;
+use crate::entity::Entity;
+use crate::form::{Attribute, Shape, Targets};
+use crate::look::{entity_at, place_of};
+use crate::value::{items_of, reference_of};
+use crate::work::{Mark, Work};
+use p21_reader::{Exchange, Instance, Value21};
+use std::alloc::{AllocError, Global};
+
+/// Gives an instance this mark, or leaves it a higher one, where it is of one of these entities.
+fn mark_target(
+    exchange: &Exchange,
+    targets: Targets,
+    to: u64,
+    mark: Mark,
+    work: &mut Work,
+) -> Result<(), AllocError>
+    requires size { length work.old.marks.items ≡ length exchange.now }
+    requires sound { LeadsTo exchange.now targets to → (at : ℕ) → IsPlaceOf exchange.now to at → SoundAt exchange.now at mark }
+    ensures grows { OnOk result (Grows exchange.now work.old work.new) }
+    ensures marked { OnOk result (LeadsTo exchange.now targets to → (at : ℕ) → IsPlaceOf exchange.now to at → rank mark ≤ rank_at work.new at) }
+{
+    match place_of(exchange, to) {
+        Some(at) => {
+            if targets.holds(&exchange.instances()[at].keyword) {
+                work.raise(at, mark)
+            } else {
+                Ok(())
+            }
+        }
+        None => Ok(()),
+    }
+}
+
+fn follow_value(
+    exchange: &Exchange,
+    targets: Targets,
+    value: &Value21,
+    work: &mut Work,
+) -> Result<(), AllocError>
+    requires size { length work.old.marks.items ≡ length exchange.now }
+    requires used { (to : ℕ) → RefersTo to value.now → LeadsTo exchange.now targets to → Used exchange.now to }
+    ensures grows { OnOk result (Grows exchange.now work.old work.new) }
+    ensures marked { OnOk result ((to : ℕ) → RefersTo to value.now → LeadsTo exchange.now targets to → IsMarked exchange.now work.new 0 to) }
+{
+    match reference_of(value) {
+        Some(to) => mark_target(exchange, targets, to, Mark::Used, work),
+        None => Ok(()),
+    }
+}
+
+fn follow_items(
+    exchange: &Exchange,
+    targets: Targets,
+    items: &[Value21],
+    work: &mut Work,
+) -> Result<(), AllocError>
+    requires size { length work.old.marks.items ≡ length exchange.now }
+    requires used { (to : ℕ) → Any (RefersTo to) items.now → LeadsTo exchange.now targets to → Used exchange.now to }
+    ensures grows { OnOk result (Grows exchange.now work.old work.new) }
+    ensures marked { OnOk result ((to : ℕ) → Any (RefersTo to) items.now → LeadsTo exchange.now targets to → IsMarked exchange.now work.new 0 to) }
+{
+    for item in items {
+        follow_value(exchange, targets, item, work)?;
+    }
+    Ok(())
+}
+
+fn follow_list(
+    exchange: &Exchange,
+    targets: Targets,
+    value: &Value21,
+    work: &mut Work,
+) -> Result<(), AllocError>
+    requires size { length work.old.marks.items ≡ length exchange.now }
+    requires used { (to : ℕ) → SomeItem (RefersTo to) value.now → LeadsTo exchange.now targets to → Used exchange.now to }
+    ensures grows { OnOk result (Grows exchange.now work.old work.new) }
+    ensures marked { OnOk result ((to : ℕ) → SomeItem (RefersTo to) value.now → LeadsTo exchange.now targets to → IsMarked exchange.now work.new 0 to) }
+{
+    match items_of(value) {
+        Some(items) => follow_items(exchange, targets, items, work),
+        None => Ok(()),
+    }
+}
+
+fn follow_rows(
+    exchange: &Exchange,
+    targets: Targets,
+    rows: &[Value21],
+    work: &mut Work,
+) -> Result<(), AllocError>
+    requires size { length work.old.marks.items ≡ length exchange.now }
+    requires used { (to : ℕ) → Any (SomeItem (RefersTo to)) rows.now → LeadsTo exchange.now targets to → Used exchange.now to }
+    ensures grows { OnOk result (Grows exchange.now work.old work.new) }
+    ensures marked { OnOk result ((to : ℕ) → Any (SomeItem (RefersTo to)) rows.now → LeadsTo exchange.now targets to → IsMarked exchange.now work.new 0 to) }
+{
+    for row in rows {
+        follow_list(exchange, targets, row, work)?;
+    }
+    Ok(())
+}
+
+fn follow_table(
+    exchange: &Exchange,
+    targets: Targets,
+    value: &Value21,
+    work: &mut Work,
+) -> Result<(), AllocError>
+    requires size { length work.old.marks.items ≡ length exchange.now }
+    requires used { (to : ℕ) → SomeItem (SomeItem (RefersTo to)) value.now → LeadsTo exchange.now targets to → Used exchange.now to }
+    ensures grows { OnOk result (Grows exchange.now work.old work.new) }
+    ensures marked { OnOk result ((to : ℕ) → SomeItem (SomeItem (RefersTo to)) value.now → LeadsTo exchange.now targets to → IsMarked exchange.now work.new 0 to) }
+{
+    match items_of(value) {
+        Some(rows) => follow_rows(exchange, targets, rows, work),
+        None => Ok(()),
+    }
+}
+
+/// Marks what a value refers to, where the shape has its leaves.
+fn follow_shape(
+    exchange: &Exchange,
+    targets: Targets,
+    shape: Shape,
+    value: &Value21,
+    work: &mut Work,
+) -> Result<(), AllocError>
+    requires size { length work.old.marks.items ≡ length exchange.now }
+    requires used { (to : ℕ) → StandsIn to shape value.now → LeadsTo exchange.now targets to → Used exchange.now to }
+    ensures grows { OnOk result (Grows exchange.now work.old work.new) }
+    ensures marked { OnOk result ((to : ℕ) → StandsIn to shape value.now → LeadsTo exchange.now targets to → IsMarked exchange.now work.new 0 to) }
+{
+    match shape {
+        Shape::One => follow_value(exchange, targets, value, work),
+        Shape::Identifier => Ok(()),
+        Shape::List(_) => follow_list(exchange, targets, value, work),
+        Shape::Table(_, _) => follow_table(exchange, targets, value, work),
+    }
+}
+
+/// Marks what an attribute of an instance names.
+fn follow_attribute(
+    alloc: Global,
+    exchange: &Exchange,
+    mapped: bool,
+    instance: &Instance,
+    attribute: Attribute,
+    work: &mut Work,
+) -> Result<(), AllocError>
+    requires size { length work.old.marks.items ≡ length exchange.now }
+    requires used { (to : ℕ) → NamesBy exchange.now mapped instance.now attribute to → Used exchange.now to }
+    ensures grows { OnOk result (Grows exchange.now work.old work.new) }
+    ensures marked { OnOk result ((to : ℕ) → NamesBy exchange.now mapped instance.now attribute to → IsMarked exchange.now work.new 0 to) }
+{
+    let targets = attribute.leaf.followed();
+    if targets.is_nothing() {
+        return Ok(());
+    }
+    if !applies(alloc, exchange, mapped, instance, attribute.when)? {
+        return Ok(());
+    }
+    match instance.values.as_slice().get(attribute.at) {
+        Some(value) => follow_shape(exchange, targets, attribute.shape, value, work),
+        None => Ok(()),
+    }
+}
+
+/// Marks what the attributes of an instance name.
+pub fn follow_attributes(
+    alloc: Global,
+    exchange: &Exchange,
+    mapped: bool,
+    instance: &Instance,
+    row: &[Attribute],
+    work: &mut Work,
+) -> Result<(), AllocError>
+    requires size { length work.old.marks.items ≡ length exchange.now }
+    requires used { (to : ℕ) → Any (λ a. NamesBy exchange.now mapped instance.now a to) row.now → Used exchange.now to }
+    ensures grows { OnOk result (Grows exchange.now work.old work.new) }
+    ensures marked { OnOk result ((to : ℕ) → Any (λ a. NamesBy exchange.now mapped instance.now a to) row.now → IsMarked exchange.now work.new 0 to) }
+{
+    for attribute in row {
+        follow_attribute(alloc, exchange, mapped, instance, *attribute, work)?;
+    }
+    Ok(())
+}
+
+/// Marks the representation that a representation map maps.
+pub fn follow_map(
+    exchange: &Exchange,
+    instance: &Instance,
+    work: &mut Work,
+) -> Result<(), AllocError>
+    requires size { length work.old.marks.items ≡ length exchange.now }
+    requires used { (to : ℕ) → Maps exchange.now instance.now to → Used exchange.now to }
+    requires mapped { (to : ℕ) → Maps exchange.now instance.now to → IsMapped exchange.now to }
+    ensures grows { OnOk result (Grows exchange.now work.old work.new) }
+    ensures marked { OnOk result ((to : ℕ) → Maps exchange.now instance.now to → IsMarked exchange.now work.new 1 to) }
+{
+    let Some(Entity::RepresentationMap) = entity_at(instance) else {
+        return Ok(());
+    };
+    let Some(value) = instance.values.as_slice().get(1) else {
+        return Ok(());
+    };
+    let Some(to) = reference_of(value) else {
+        return Ok(());
+    };
+    mark_target(
+        exchange,
+        Targets::One(Entity::Representation),
+        to,
+        Mark::Mapped,
+        work,
+    )
+}

@@ -1,0 +1,23 @@
+//! The entities of IFC that a coordination model is read from (IFC4 ADD2 TC1): which attributes are followed and what form they have, and which
+//! instances of a file are used.
+#![tactic(auto)]
+
+mod body;
+mod checks;
+mod entity;
+mod flaw;
+mod follow;
+mod form;
+mod look;
+mod outcome;
+mod table;
+#[cfg(test)]
+mod tests;
+mod value;
+mod visit;
+mod words;
+mod work;
+
+pub use checks::survey;
+pub use entity::Entity;
+pub use outcome::Survey;

@@ -1,0 +1,33 @@
+//! What a survey gives.
+ghost use Rattle.std.specs.Prelude.{◌≡◌};
+ghost use Rattle.ifc_schema.specs.StageFive.{used_ids, element_ids};
+
+/// The instances of a file that are used, each with the form of its row.
+#[derive(Drop)]
+pub struct Survey {
+    used: Vec<u64>,
+    elements: Vec<u64>,
+}
+
+impl Survey {
+    pub fn new(used: Vec<u64>, elements: Vec<u64>) -> Survey
+        ensures used { used_ids result ≡ used.items }
+        ensures elements { element_ids result ≡ elements.items }
+    {
+        Survey { used, elements }
+    }
+
+    /// The numbers of the instances that are used, rising.
+    pub fn used(&self) -> &[u64]
+        ensures { result.now ≡ used_ids self.now }
+    {
+        self.used.as_slice()
+    }
+
+    /// The numbers of the elements that have a body, rising.
+    pub fn elements(&self) -> &[u64]
+        ensures { result.now ≡ element_ids self.now }
+    {
+        self.elements.as_slice()
+    }
+}

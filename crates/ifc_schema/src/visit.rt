@@ -1,0 +1,109 @@
+//! The instances that are used are met, one after another.
+ghost use Rattle.std.specs.Prelude.{◌≡◌, ◌<◌, ◌≤◌, ℕ, [], length, OnOk, IfOk, Any, slice_index_or};
+ghost use Rattle.std.specs.Bool.{OnTrue, OnFalse};
+ghost use Rattle.p21_reader.specs.Uploads.{Rises};
+ghost use Rattle.p21_reader.specs.declared.value.Instance.{Instance};
+ghost use Rattle.ifc_schema.specs.Places.{IsPlaceOf};
+ghost use Rattle.ifc_schema.specs.Used.{Used, IsMapped, Maps, NamesBy};
+ghost use Rattle.ifc_schema.specs.Marks.{Grows, SoundAt, mark_at, rank_at, is_mapped, IsFollowed, FollowedAt, IsRootAt, Going, Known};
+ghost use Rattle.ifc_schema.specs.Looking.{row_at};
+
+use crate::entity::is_root;
+use crate::follow::{follow_attributes, follow_map};
+use crate::look::{entity_at, row_at};
+use crate::work::{Mark, Work};
+use p21_reader::{Exchange, Instance};
+use std::alloc::{AllocError, Global};
+
+/// Marks what an instance names.
+fn follow(
+    alloc: Global,
+    exchange: &Exchange,
+    mapped: bool,
+    instance: &Instance,
+    work: &mut Work,
+) -> Result<(), AllocError>
+    requires size { length work.old.marks.items ≡ length exchange.now }
+    requires names { (to : ℕ) → Any (λ a. NamesBy exchange.now mapped instance.now a to) (row_at instance.now) → Used exchange.now to }
+    requires used { (to : ℕ) → Maps exchange.now instance.now to → Used exchange.now to }
+    requires mapped { (to : ℕ) → Maps exchange.now instance.now to → IsMapped exchange.now to }
+    ensures grows { OnOk result (Grows exchange.now work.old work.new) }
+    ensures followed { OnOk result (IsFollowed exchange.now work.new mapped instance.now) }
+{
+    follow_attributes(alloc, exchange, mapped, instance, row_at(instance), work)?;
+    follow_map(exchange, instance, work)
+}
+
+/// Marks what the instance at a place names.
+fn visit(alloc: Global, exchange: &Exchange, at: usize, work: &mut Work) -> Result<(), AllocError>
+    requires size { length work.old.marks.items ≡ length exchange.now }
+    requires sound { SoundAt exchange.now at (mark_at work.old at) }
+    requires marked { 0 < rank_at work.old at }
+    ensures grows { OnOk result (Grows exchange.now work.old work.new) }
+    ensures followed { OnOk result (FollowedAt exchange.now work.new (is_mapped (mark_at work.old at)) at) }
+{
+    let mapped = work.marks[at].is_mapped();
+    follow(alloc, exchange, mapped, &exchange.instances()[at], work)
+}
+
+/// Marks the instance at a place, where it is used wherever it stands.
+fn mark_root(exchange: &Exchange, at: usize, work: &mut Work) -> Result<(), AllocError>
+    requires size { length work.old.marks.items ≡ length exchange.now }
+    requires within { at < length exchange.now }
+    ensures grows { OnOk result (Grows exchange.now work.old work.new) }
+    ensures root { OnOk result (IsRootAt exchange.now at → 0 < rank_at work.new at) }
+{
+    let instances = exchange.instances();
+    if !is_root(entity_at(&instances[at])) {
+        return Ok(());
+    }
+    if !is_first(instances, at) {
+        return Ok(());
+    }
+    work.raise(at, Mark::Used)
+}
+
+/// Marks the instances that are used wherever they stand.
+fn mark_roots(exchange: &Exchange, work: &mut Work) -> Result<(), AllocError>
+    requires size { length work.old.marks.items ≡ length exchange.now }
+    ensures grows { OnOk result (Grows exchange.now work.old work.new) }
+    ensures roots { OnOk result ((at : ℕ) → IsRootAt exchange.now at → 0 < rank_at work.new at) }
+{
+    for at in 0..exchange.instances().len() {
+        mark_root(exchange, at, work)?;
+    }
+    Ok(())
+}
+
+/// Whether the instance at a place is the first of its number.
+fn is_first(instances: &[Instance], at: usize) -> bool
+    requires within { at < length instances.now }
+    requires rises { Rises instances.now }
+    ensures first { OnTrue result ((i : Instance) → IsPlaceOf instances.now (slice_index_or instances.now at i).id at) }
+    ensures other { OnFalse result ((id : ℕ) → IsPlaceOf instances.now id at → ⊥) }
+{
+    at == 0 || instances[at - 1].id != instances[at].id
+}
+
+/// Follows rows until none is left to follow.
+fn follow_all(alloc: Global, exchange: &Exchange, work: &mut Work) -> Result<(), AllocError>
+    requires { Going exchange.now work.old }
+    ensures going { OnOk result (Going exchange.now work.new) }
+    ensures done { OnOk result (work.new.stack.items ≡ []) }
+    ensures grows { OnOk result ((at : ℕ) → 0 < rank_at work.old at → 0 < rank_at work.new at) }
+{
+    while let Some(at) = work.stack.pop() {
+        visit(alloc, exchange, at, work)?;
+    }
+    Ok(())
+}
+
+/// Which instances are used, and which are mapped.
+pub fn mark_used(alloc: Global, exchange: &Exchange) -> Result<Work, AllocError>
+    ensures { IfOk result (Known exchange.now) }
+{
+    let mut work = Work::new(alloc, exchange.instances().len())?;
+    mark_roots(exchange, &mut work)?;
+    follow_all(alloc, exchange, &mut work)?;
+    Ok(work)
+}
