@@ -1,0 +1,4 @@
+pub mod Composing
+pub mod Components
+pub mod Numbers
+pub mod Aligned

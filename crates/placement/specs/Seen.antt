@@ -1,0 +1,6 @@
+-- What the types with references say.
+use Rattle.placement.specs.declared.read.Numbers.{Numbers}
+use Rattle.placement.specs.Directions.{Spelled}
+
+abbrev pub spelled_of : Numbers → Spelled
+spelled_of n = record { x = n.x.now; y = n.y.now; z = n.z.now }

@@ -1,0 +1,70 @@
+//! What a file says of points and directions.
+ghost use Rattle.std.specs.Prelude.{◌≡◌, ℕ, Option, IfSome, IfNone, option_copied, option_map};
+ghost use Rattle.p21_reader.specs.declared.value.Value21.{Value21};
+ghost use Rattle.ifc_schema.specs.Looking.{look};
+ghost use Rattle.placement.specs.Directions.{IsDirection, Directs, Directions, all_three, three_numbers, coordinates, numbers_of};
+ghost use Rattle.placement.specs.Seen.{spelled_of};
+ghost use Rattle.placement.specs.declared.direction.Direction.{Direction};
+
+use crate::direction::Direction;
+use bim_text::Decimal;
+use ifc_schema::{is_absent, items_of, number_of, place_of, reference_of};
+use p21_reader::{Exchange, Instance, Value21};
+
+/// The spelled numbers of a point or a direction.
+#[derive(Clone, Copy)]
+pub struct Numbers<'a> {
+    pub x: &'a [u8],
+    pub y: &'a [u8],
+    pub z: &'a [u8],
+}
+
+/// The instance of that number.
+pub fn fetch(exchange: &Exchange, id: u64) -> Option<&Instance>
+    ensures { option_copied result ≡ look exchange.now id }
+{
+    let at = place_of(exchange, id)?;
+    Some(&exchange.instances()[at])
+}
+
+/// The numbers of the point or the direction of that number.
+pub fn numbers_of(exchange: &Exchange, id: u64) -> Option<Numbers<'_>>
+    ensures { option_map spelled_of result ≡ numbers_of exchange.now id }
+{
+    let instance = fetch(exchange, id)?;
+    coordinates(instance)
+}
+
+fn coordinates(instance: &Instance) -> Option<Numbers<'_>>
+    ensures { option_map spelled_of result ≡ coordinates instance.now }
+{
+    let value = instance.values.as_slice().get(0)?;
+    let items = items_of(value)?;
+    three_numbers(items)
+}
+
+fn three_numbers(items: &[Value21]) -> Option<Numbers<'_>>
+    ensures { option_map spelled_of result ≡ three_numbers items.now }
+{
+    match items {
+        [x, y, z] => Some(Numbers {
+            x: number_of(x)?,
+            y: number_of(y)?,
+            z: number_of(z)?,
+        }),
+        _ => None,
+    }
+}
+
+/// The direction of that number.
+pub fn direction_of(exchange: &Exchange, id: u64) -> Option<Direction>
+    ensures some { IfSome result (IsDirection exchange.now id) }
+    ensures none { IfNone result ((d : Direction) → IsDirection exchange.now id d → ⊥) }
+{
+    let numbers = numbers_of(exchange, id)?;
+    Some(Direction {
+        x: Decimal::read(numbers.x)?,
+        y: Decimal::read(numbers.y)?,
+        z: Decimal::read(numbers.z)?,
+    })
+}

@@ -1,0 +1,11 @@
+pub mod Adding
+pub mod Relating
+pub mod Counting
+pub mod Rounds
+pub mod Marking
+pub mod Settles
+pub mod Stepping
+pub mod Trees
+pub mod World
+pub mod Making
+pub mod Listing

@@ -1,0 +1,5 @@
+use Rattle.spatial_tree.proofs.Listing.{IdsBefore}
+use Rattle.spatial_tree.proofs.build.storeys_of.Given as goal
+
+abbrev pub invariant-loop-instance : goal.invariant-loop-instance
+invariant-loop-instance l = IdsBefore l.instances l.instance-index l.storeys.items

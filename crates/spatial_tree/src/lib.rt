@@ -1,0 +1,15 @@
+//! The spatial tree of a building (IFC4 ADD2 TC1, IfcRelAggregates and IfcRelContainedInSpatialStructure): what stands above each object, and in
+//! which storey it is.
+#![tactic(auto)]
+
+mod build;
+mod link;
+mod mark;
+mod only;
+mod step;
+mod storeys;
+#[cfg(test)]
+mod tests;
+
+pub use build::tree;
+pub use storeys::{Placed, Tree};
