@@ -1,5 +1,5 @@
 -- What a search for the first flaw keeps.
-use Rattle.std.proofs.Common.{◌≡◌, Option, None, Some, Bool, is_some, true, false, subst}
+use Rattle.std.proofs.Common.{◌≡◌, Option, None, Some, is_some, false, subst}
 use Rattle.ifc_schema.specs.declared.flaw.Flaw.{Flaw}
 
 -- an element without a flaw has none

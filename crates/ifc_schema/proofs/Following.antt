@@ -1,10 +1,10 @@
 -- Rows are followed until none is left: then exactly what is used is marked.
-use Rattle.std.proofs.Common.{◌≡◌, ◌≢◌, ℕ, zero, suc, ◌+◌, ◌-◌, ◌<◌, ◌≤◌, ◌⊎◌, inl, inr, Bool, true, false, not, nat_eq, List, [], ◌∷◌, ◌++◌, length, get_or, replicate, Option, Some, None, Contains, Any, refl, sym, ap, ◌∙◌, subst, arith}
+use Rattle.std.proofs.Common.{◌≡◌, ℕ, ◌-◌, ◌<◌, ◌≤◌, ◌⊎◌, inl, inr, Bool, true, false, not, nat_eq, List, [], ◌∷◌, ◌++◌, length, get_or, replicate, Option, Some, Contains, Any, refl, sym, ap, ◌∙◌, subst, arith}
 use Rattle.std.specs.Bool.{OnTrue}
 use Rattle.std.specs.List.{slice_get}
 use Rattle.std.specs.List.Sorted.{IsNonDecreasingBy}
 use Rattle.std.proofs.lemmas.Bool.{eqb-false}
-use Rattle.std.proofs.lemmas.Option.{slice_get-get_or, get_or_from_slice_get}
+use Rattle.std.proofs.lemmas.Option.{slice_get-get_or}
 use Rattle.std.proofs.lemmas.List.{get_or_default, get_or_past, get_or-replicate, length-replicate}
 use Rattle.std.proofs.lemmas.List.Elements.{Contains-append_left, Contains-push_cases}
 use Rattle.p21_reader.specs.declared.value.Instance.{Instance}
@@ -25,10 +25,10 @@ use Rattle.ifc_schema.specs.Entities.{is_root}
 use Rattle.ifc_schema.specs.Table.{row_of, attribute}
 use Rattle.ifc_schema.specs.Looking.{look, entity_at, row_at, row_or_none}
 use Rattle.ifc_schema.specs.Places.{IsPlaceOf}
-use Rattle.ifc_schema.specs.Bodies.{applies, is_body, has_body}
+use Rattle.ifc_schema.specs.Bodies.{applies}
 use Rattle.ifc_schema.specs.Used.{Used, root, named, mapped, IsMapped, Names, NamesBy, Maps}
-use Rattle.ifc_schema.specs.Marks.{rank, rank_at, mark_at, is_mapped, weight, SoundAt, UsedAt, MappedAt, Grows, IsMarked, IsFollowed, FollowedAt, IsRootAt, Going, Known}
-use Rattle.ifc_schema.proofs.PlaceLemmas.{rising, PlaceFound, place_found, found_at, place_once, some_instance}
+use Rattle.ifc_schema.specs.Marks.{rank, rank_at, mark_at, is_mapped, SoundAt, Grows, IsMarked, IsFollowed, FollowedAt, IsRootAt, Going}
+use Rattle.ifc_schema.proofs.PlaceLemmas.{rising, place_found, found_at, some_instance}
 use Rattle.ifc_schema.proofs.Growing.{marked_on}
 
 -- The instance at a place.

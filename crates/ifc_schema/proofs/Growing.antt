@@ -1,6 +1,5 @@
 -- How marks grow.
-use Rattle.std.proofs.Common.{◌≡◌, ◌≢◌, ℕ, ◌+◌, ◌-◌, ◌*◌, ◌<◌, ◌≤◌, ◌⊎◌, inl, inr, Bool, true, false, nat_lt, if◌then◌else◌, List, [], ◌∷◌, ◌++◌, length, get_or, set, Some, None, Contains, Any, sum_by, refl, sym, ap, ◌∙◌, subst, arith, length-append}
-use Rattle.std.specs.List.{slice_get}
+use Rattle.std.proofs.Common.{◌≡◌, ◌≢◌, ℕ, ◌+◌, ◌-◌, ◌*◌, ◌<◌, ◌≤◌, ◌⊎◌, inl, inr, true, false, nat_lt, if◌then◌else◌, List, [], ◌∷◌, ◌++◌, length, get_or, set, Some, None, Contains, Any, refl, sym, ap, ◌∙◌, subst, arith, length-append}
 use Rattle.std.proofs.lemmas.Bool.Decides.{nat_tests}
 use Rattle.std.proofs.lemmas.List.{get_or-set_same, get_or-set_other, get_or_default, length-set}
 use Rattle.std.proofs.lemmas.List.Sums.{sum_by-set}
@@ -13,9 +12,9 @@ use Rattle.ifc_schema.specs.declared.work.Work.{Work}
 use Rattle.ifc_schema.specs.Forms.{holds}
 use Rattle.ifc_schema.specs.Looking.{look}
 use Rattle.ifc_schema.specs.Places.{IsPlaceOf}
-use Rattle.ifc_schema.specs.Used.{Used, IsMapped, LeadsTo}
-use Rattle.ifc_schema.specs.Marks.{rank, rank_at, mark_at, weight, SoundAt, UsedAt, MappedAt, Grows, IsMarked}
-use Rattle.ifc_schema.proofs.PlaceLemmas.{found_at, place_once, place_found, some_instance}
+use Rattle.ifc_schema.specs.Used.{LeadsTo}
+use Rattle.ifc_schema.specs.Marks.{rank, rank_at, mark_at, SoundAt, Grows, IsMarked}
+use Rattle.ifc_schema.proofs.PlaceLemmas.{found_at, place_once}
 
 pub grows_refl : (world : List Instance) (w : Work) → Grows world w w
 grows_refl world w = record {

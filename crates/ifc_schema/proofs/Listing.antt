@@ -1,7 +1,6 @@
 -- The numbers of instances are listed place by place.
-use Rattle.std.proofs.Common.{◌≡◌, ◌≢◌, ℕ, ◌+◌, ◌<◌, ◌≤◌, ◌⊎◌, inl, inr, Bool, true, false, IsTrue, ◌↔◌, List, [], ◌∷◌, ◌++◌, ◌&&◌, length, get_or, Option, Some, None, is_some, Contains, refl, sym, ap, ◌∙◌, subst, arith, length-append}
-use Rattle.std.specs.List.Sorted.{IsNonDecreasingBy, IsStrictlyIncreasing}
-use Rattle.std.proofs.lemmas.List.{get_or_default, get_or-append-add, append-nil}
+use Rattle.std.proofs.Common.{◌≡◌, ℕ, ◌+◌, ◌<◌, ◌≤◌, ◌⊎◌, inl, inr, Bool, true, false, List, [], ◌∷◌, ◌++◌, ◌&&◌, length, get_or, Option, Some, None, is_some, Contains, refl, sym, ap, ◌∙◌, subst, arith, length-append}
+use Rattle.std.proofs.lemmas.List.{get_or_default, get_or-append-add}
 use Rattle.std.proofs.Math.ListN.{get_or-append}
 use Rattle.std.proofs.lemmas.List.Elements.{Contains-append_left, Contains-push, Contains-push_cases}
 use Rattle.p21_reader.specs.declared.value.Instance.{Instance}
@@ -13,13 +12,13 @@ use Rattle.ifc_schema.specs.declared.work.Work.{Work}
 use Rattle.ifc_schema.specs.Looking.{look}
 use Rattle.ifc_schema.specs.Places.{IsPlaceOf}
 use Rattle.ifc_schema.specs.Used.{Used, root, named, mapped, IsMapped}
-use Rattle.ifc_schema.specs.Marks.{rank, rank_at, mark_at, is_seen, is_mapped, SoundAt, Known}
+use Rattle.ifc_schema.specs.Marks.{rank, rank_at, mark_at, is_seen, is_mapped, Known}
 use Rattle.ifc_schema.specs.Flaws.{InstanceFlaw}
 use Rattle.ifc_schema.specs.StageFive.{UsedFlaw, StageFive, IsModelElement, is_model_element, is_subject, Lists, fault_of}
 use Rattle.ifc_schema.specs.Steps.{FaultAt, CheckedAt, Checked, Below}
 use Rattle.ifc_schema.specs.Entities.{is_root}
 use Rattle.ifc_schema.specs.Bodies.{has_body}
-use Rattle.ifc_schema.proofs.PlaceLemmas.{rising, PlaceFound, place_found, found_at, place_once, some_instance}
+use Rattle.ifc_schema.proofs.PlaceLemmas.{rising, place_found, some_instance}
 use Rattle.ifc_schema.proofs.Following.{look_there, number_once, mapped_rank, rank_mapped}
 use Rattle.bim_model.specs.declared.upload.UploadFault.{UploadFault}
 use Rattle.ifc_schema.specs.declared.entity.Entity.{Entity}

@@ -1,5 +1,5 @@
 -- What is wrong first with an instance.
-use Rattle.std.specs.Prelude.{◌≡◌, ℕ, ◌<◌, ◌&&◌, Bool, true, false, if◌then◌else◌, List, length, Option, Some, None, is_some, MatchOption, All}
+use Rattle.std.specs.Prelude.{◌≡◌, ℕ, ◌<◌, ◌&&◌, Bool, if◌then◌else◌, List, length, Option, Some, None, is_some, MatchOption, All}
 use Rattle.std.specs.Bool.{MatchBool}
 use Rattle.std.specs.List.{HoldsAt, slice_get}
 use Rattle.p21_reader.specs.declared.value.Value21.{Value21}

@@ -1,5 +1,5 @@
 -- The forms that attributes have.
-use Rattle.std.specs.Prelude.{ℕ, ◌==◌, ◌||◌, nat_le, Bool, true, false, List, [], ◌∷◌, Option, Some, None}
+use Rattle.std.specs.Prelude.{ℕ, ◌==◌, nat_le, Bool, true, false, List, [], ◌∷◌, Option, Some, None}
 use Rattle.std.specs.List.{list_any}
 use Rattle.ifc_schema.specs.declared.entity.Entity.{Entity}
 use Rattle.ifc_schema.specs.declared.entity.Entity.TheVariants as entity

@@ -1,7 +1,6 @@
 -- What a reference leads to. A world is the list of a file's instances.
-use Rattle.std.specs.Prelude.{ℕ, ◌==◌, Bool, true, false, List, [], ◌∷◌, Option, Some, None, option_and_then}
-use Rattle.std.specs.List.{find, slice_get}
-use Rattle.p21_reader.specs.declared.value.Value21.{Value21}
+use Rattle.std.specs.Prelude.{ℕ, ◌==◌, Bool, false, List, [], Option, Some, None, option_and_then}
+use Rattle.std.specs.List.{find}
 use Rattle.p21_reader.specs.declared.value.Instance.{Instance}
 use Rattle.ifc_schema.specs.declared.entity.Entity.{Entity}
 use Rattle.ifc_schema.specs.declared.form.Attribute.{Attribute}

@@ -1,16 +1,14 @@
 -- What the survey keeps while it follows the rows: a mark for each place, and the places whose rows are still to be followed.
-use Rattle.std.specs.Prelude.{◌≡◌, ℕ, ◌+◌, ◌-◌, ◌*◌, ◌<◌, ◌≤◌, ◌⊎◌, Bool, true, false, List, length, Option, Some, Contains, sum_by, slice_index_or}
+use Rattle.std.specs.Prelude.{◌≡◌, ℕ, ◌+◌, ◌-◌, ◌*◌, ◌<◌, ◌≤◌, ◌⊎◌, Bool, true, false, List, length, Some, Contains, sum_by, slice_index_or}
 use Rattle.std.specs.List.{slice_get}
 use Rattle.p21_reader.specs.declared.value.Instance.{Instance}
-use Rattle.ifc_schema.specs.declared.entity.Entity.TheVariants.{Representation}
-use Rattle.ifc_schema.specs.declared.form.Targets.{Targets}
 use Rattle.ifc_schema.specs.declared.work.Mark.{Mark}
 use Rattle.ifc_schema.specs.declared.work.Mark.TheVariants.{Unseen, Used as Met, Mapped}
 use Rattle.ifc_schema.specs.declared.work.Work.{Work}
 use Rattle.ifc_schema.specs.Entities.{is_root}
 use Rattle.ifc_schema.specs.Looking.{look, entity_at}
 use Rattle.ifc_schema.specs.Places.{IsPlaceOf}
-use Rattle.ifc_schema.specs.Used.{Used, IsMapped, Names, NamesBy, Maps, LeadsTo}
+use Rattle.ifc_schema.specs.Used.{Used, IsMapped, Names, Maps}
 
 abbrev pub rank : Mark → ℕ
 rank Unseen = 0

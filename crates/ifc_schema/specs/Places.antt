@@ -1,5 +1,5 @@
 -- Places in the list of instances.
-use Rattle.std.specs.Prelude.{◌≡◌, ◌≢◌, ℕ, ◌<◌, List, length, Option, Some}
+use Rattle.std.specs.Prelude.{◌≡◌, ◌≢◌, ℕ, ◌<◌, List, length}
 use Rattle.std.specs.List.{HoldsAt}
 use Rattle.p21_reader.specs.declared.value.Instance.{Instance}
 

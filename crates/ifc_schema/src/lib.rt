@@ -20,4 +20,6 @@ mod work;
 
 pub use checks::survey;
 pub use entity::Entity;
+pub use look::{is_a, place_of};
 pub use outcome::Survey;
+pub use value::{is_absent, items_of, number_of, reference_of, words_of};

@@ -1,4 +1,4 @@
-use Rattle.std.proofs.Common.{◌≡◌, ◌<◌, ℕ, true, Some, get_or, sym, ◌∙◌, subst}
+use Rattle.std.proofs.Common.{◌≡◌, ◌<◌, ℕ, true, get_or, sym, ◌∙◌, subst}
 use Rattle.ifc_schema.specs.Places.{IsPlaceOf}
 use Rattle.ifc_schema.specs.Marks.{is_seen, rank_at}
 use Rattle.ifc_schema.specs.StageFive.{UsedFlaw, fault_of}

@@ -1,6 +1,5 @@
 use Rattle.std.proofs.Common.{length, ap, arith, below_more, sym, ◌∙◌}
 use Rattle.p21_reader.specs.Uploads.{Rises}
-use Rattle.p21_reader.specs.declared.value.Instance.{Instance}
 use Rattle.ifc_schema.specs.Steps.{CheckedAt}
 use Rattle.ifc_schema.proofs.Listing.{all_checked, checked_some, checked_none}
 use Rattle.ifc_schema.proofs.checks.least_fault.Goals as goal

@@ -1,4 +1,3 @@
-use Rattle.ifc_schema.specs.Used.{Used}
 use Rattle.ifc_schema.specs.StageFive.{Lists, IsModelElement}
 use Rattle.ifc_schema.specs.Steps.{Below}
 use Rattle.ifc_schema.proofs.checks.list_elements.Given as goal

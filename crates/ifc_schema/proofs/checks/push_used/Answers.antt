@@ -1,6 +1,5 @@
 use Rattle.std.proofs.Common.{◌≡◌, ◌<◌, ◌++◌, ◌∷◌, [], false, true, get_or, sym, ◌∙◌}
 use Rattle.p21_reader.specs.Uploads.{Rises}
-use Rattle.p21_reader.specs.declared.value.Instance.{Instance}
 use Rattle.ifc_schema.specs.Used.{Used}
 use Rattle.ifc_schema.specs.Marks.{is_seen, rank_at}
 use Rattle.ifc_schema.proofs.Listing.{lists_same, unseen_there, seen_there, push_there}

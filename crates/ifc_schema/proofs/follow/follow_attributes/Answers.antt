@@ -1,13 +1,12 @@
 use Rattle.std.proofs.Common.{ℕ, get_or}
 use Rattle.std.proofs.lemmas.List.{get_or_default}
-use Rattle.p21_reader.specs.declared.value.Value21.{Value21}
 use Rattle.ifc_schema.specs.declared.form.Attribute.{Attribute}
 use Rattle.ifc_schema.specs.declared.form.When.TheVariants.{Always}
 use Rattle.ifc_schema.specs.declared.form.Need.TheVariants.{Must}
 use Rattle.ifc_schema.specs.declared.form.Shape.TheVariants.{One}
 use Rattle.ifc_schema.specs.declared.form.Leaf.TheVariants.{Number}
 use Rattle.ifc_schema.specs.declared.work.Work.{Work}
-use Rattle.ifc_schema.specs.Used.{RefersTo, SomeItem, LeadsTo, NamesBy}
+use Rattle.ifc_schema.specs.Used.{NamesBy}
 use Rattle.ifc_schema.specs.Marks.{IsMarked}
 use Rattle.ifc_schema.proofs.Growing.{grows_trans, marked_on, one_more, any_of}
 use Rattle.ifc_schema.proofs.follow.follow_attributes.Goals as goal

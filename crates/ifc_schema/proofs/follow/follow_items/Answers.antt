@@ -1,8 +1,7 @@
-use Rattle.std.proofs.Common.{ℕ, refl}
+use Rattle.std.proofs.Common.{ℕ}
 use Rattle.p21_reader.specs.declared.value.Value21.{Value21}
-use Rattle.ifc_schema.specs.declared.form.Attribute.{Attribute}
 use Rattle.ifc_schema.specs.declared.work.Work.{Work}
-use Rattle.ifc_schema.specs.Used.{RefersTo, SomeItem, LeadsTo, NamesBy}
+use Rattle.ifc_schema.specs.Used.{RefersTo, LeadsTo}
 use Rattle.ifc_schema.specs.Marks.{IsMarked}
 use Rattle.ifc_schema.proofs.Growing.{grows_trans, marked_on, one_more, any_of}
 use Rattle.ifc_schema.proofs.follow.follow_items.Goals as goal

@@ -1,6 +1,6 @@
 use Rattle.std.proofs.Common.{ℕ, ◌<◌, get_or}
 use Rattle.p21_reader.specs.declared.value.Value21.{Value21}
-use Rattle.ifc_schema.specs.Used.{RefersTo, SomeItem, LeadsTo}
+use Rattle.ifc_schema.specs.Used.{RefersTo, LeadsTo}
 use Rattle.ifc_schema.specs.Marks.{Grows, IsMarked}
 use Rattle.ifc_schema.proofs.follow.follow_items.Given as goal
 

@@ -1,9 +1,8 @@
-use Rattle.std.proofs.Common.{◌≡◌, ◌≤◌, length, get_or, sym, ap, ◌∙◌, Result, Ok, Err, OnOk, true, false}
-use Rattle.p21_reader.specs.declared.value.Instance.{Instance}
+use Rattle.std.proofs.Common.{◌≡◌, get_or, sym, ◌∙◌, true, false}
 use Rattle.ifc_schema.specs.Places.{IsPlaceOf}
 use Rattle.ifc_schema.specs.Forms.{holds}
-use Rattle.ifc_schema.specs.Marks.{rank, rank_at, Grows}
-use Rattle.ifc_schema.proofs.Growing.{meant_there, not_meant, reached_there, raise_grows, Raised}
+use Rattle.ifc_schema.specs.Marks.{rank}
+use Rattle.ifc_schema.proofs.Growing.{meant_there, not_meant, reached_there, raise_grows}
 use Rattle.ifc_schema.proofs.Results.{on_ok2}
 use Rattle.ifc_schema.proofs.follow.mark_target.Goals as goal
 

@@ -1,4 +1,4 @@
-use Rattle.std.proofs.Common.{rules, nat_lt, arith, length, get_or, ap, ◌∙◌, sym, ◌≡◌, ◌<◌}
+use Rattle.std.proofs.Common.{rules, nat_lt, arith, get_or, ap, ◌∙◌, ◌≡◌}
 use Rattle.std.proofs.lemmas.List.{get_or_default}
 use Rattle.std.proofs.lemmas.List.Sorted.{IsPartitionedBy-ltb, IsPartitionPoint-from_clause}
 use Rattle.p21_reader.specs.declared.value.Instance.{Instance}

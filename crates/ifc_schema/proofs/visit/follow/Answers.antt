@@ -1,6 +1,3 @@
-use Rattle.std.proofs.Common.{sym, subst, Any}
-use Rattle.ifc_schema.specs.declared.form.Attribute.{Attribute}
-use Rattle.ifc_schema.specs.Used.{NamesBy}
 use Rattle.ifc_schema.proofs.Results.{on_ok, on_ok2}
 use Rattle.ifc_schema.proofs.Growing.{grows_trans, marked_on}
 use Rattle.ifc_schema.proofs.Following.{names_any}

@@ -1,4 +1,4 @@
-use Rattle.std.proofs.Common.{◌≡◌, ℕ, ◌<◌, length, ap}
+use Rattle.std.proofs.Common.{ℕ, ◌<◌, length, ap}
 use Rattle.ifc_schema.specs.Marks.{IsRootAt, rank_at}
 use Rattle.ifc_schema.proofs.Following.{going_first, all_used, all_mapped}
 use Rattle.ifc_schema.proofs.visit.mark_used.Goals as goal

@@ -1,9 +1,5 @@
-use Rattle.std.proofs.Common.{◌≡◌, ◌<◌, ℕ, Bool, length, get_or, sym, ap, ◌∙◌, subst, Some, arith}
-use Rattle.std.specs.List.{slice_get}
-use Rattle.std.proofs.lemmas.List.{get_or_default, get_or_past}
+use Rattle.std.proofs.Common.{◌≡◌, get_or, ap, ◌∙◌, subst}
 use Rattle.std.proofs.lemmas.Option.{get_or_from_slice_get}
-use Rattle.p21_reader.specs.declared.value.Instance.{Instance}
-use Rattle.ifc_schema.specs.declared.work.Mark.TheVariants.{Unseen}
 use Rattle.ifc_schema.specs.Used.{Names}
 use Rattle.ifc_schema.specs.Marks.{is_mapped, mark_at, IsFollowed}
 use Rattle.ifc_schema.proofs.Results.{on_ok}
