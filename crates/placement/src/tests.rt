@@ -271,9 +271,18 @@ fn carries_points(rt: HostRuntime) {
     let point = Point { x: 1, y: 2, z: 3 };
     assert_eq!(rt; Frame::identity().place(point), Some(point));
     let outer = Frame {
-        x: axis(2),
-        y: axis(-1),
-        z: axis(3),
+        x: Axis {
+            direction: 1,
+            negative: false,
+        },
+        y: Axis {
+            direction: 0,
+            negative: true,
+        },
+        z: Axis {
+            direction: 2,
+            negative: false,
+        },
         offset: Offset {
             x: 100,
             y: 200,
@@ -281,9 +290,18 @@ fn carries_points(rt: HostRuntime) {
         },
     };
     let inner = Frame {
-        x: axis(3),
-        y: axis(1),
-        z: axis(2),
+        x: Axis {
+            direction: 2,
+            negative: false,
+        },
+        y: Axis {
+            direction: 0,
+            negative: false,
+        },
+        z: Axis {
+            direction: 1,
+            negative: false,
+        },
         offset: Offset {
             x: 10,
             y: 20,
