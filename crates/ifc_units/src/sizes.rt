@@ -1,0 +1,74 @@
+//! Lengths without their signs, brought to the grid.
+ghost use Rattle.std.specs.Prelude.{◌≡◌, ℕ, ◌+◌, ◌*◌, ◌^◌, ◌<◌, ◌≤◌, IfSome, IfNone, IfOk, IfErr};
+ghost use Rattle.ifc_units.specs.Sizes.{IsSize};
+
+use bim_model::{Mode, PER_MM};
+
+/// Grid numbers in a millimetre.
+pub const UNITS: u128 = PER_MM as u128;
+
+/// The greatest size of a grid number: 800,000 millimetres.
+pub const MOST: u128 = 800_000 * UNITS;
+
+/// The size for a fraction of a grid number, by its numerator and its denominator. None where it lies between two.
+#[tactic(auto, using(crate::proofs::Rounding::roundings))]
+pub fn round(count: u128, parts: u128, mode: Mode) -> Option<u128>
+    requires some { 0 < parts }
+    requires parts { parts ≤ 10 ^ 37 }
+    requires count { count ≤ 10 ^ 37 }
+    ensures size { IfSome result (λ g. IsSize mode UNITS count parts g) }
+    ensures none { IfNone result ((g : ℕ) → IsSize mode UNITS count parts g → ⊥) }
+    ensures exact { IfNone result (mode ≡ Mode.Exact) }
+{
+    let whole = count / parts;
+    let below = count % parts;
+    let above = parts - below;
+    match mode {
+        Mode::Snap => Some(if below < above { whole } else { whole + 1 }),
+        Mode::Exact => {
+            let tolerance = (UNITS * parts + 999) / 1000;
+            if below < tolerance {
+                Some(whole)
+            } else if above < tolerance {
+                Some(whole + 1)
+            } else {
+                None
+            }
+        }
+    }
+}
+
+/// The size for so many digits with zeros behind them. None where it is beyond the greatest.
+#[tactic(auto, using(crate::proofs::Rounding::whole_sizes))]
+pub fn whole_size(digits: u128, zeros: u64) -> Option<u128>
+    requires { digits < 10 ^ 34 }
+    ensures size { IfSome result (λ g. g ≡ UNITS * (digits * 10 ^ zeros)) }
+    ensures within { IfSome result (λ g. g ≤ MOST) }
+    ensures none { IfNone result (MOST < UNITS * (digits * 10 ^ zeros)) }
+{
+    if digits == 0 {
+        return Some(0);
+    }
+    if digits > MOST {
+        return None;
+    }
+    if zeros > 7 {
+        return None;
+    }
+    let size = UNITS * (digits * 10u128.pow(zeros as u32));
+    if size <= MOST { Some(size) } else { None }
+}
+
+/// The size for so many digits of which the last `places` stand behind the point. None where it lies between two grid numbers.
+#[tactic(auto, using(crate::proofs::Rounding::part_sizes))]
+pub fn part_size(digits: u128, places: u64, mode: Mode) -> Option<u128>
+    requires { digits < 10 ^ 34 }
+    ensures size { IfSome result (λ g. IsSize mode UNITS (UNITS * digits) (10 ^ places) g) }
+    ensures none { IfNone result ((g : ℕ) → IsSize mode UNITS (UNITS * digits) (10 ^ places) g → ⊥) }
+    ensures exact { IfNone result (mode ≡ Mode.Exact) }
+{
+    if places > 37 {
+        return Some(0);
+    }
+    round(UNITS * digits, 10u128.pow(places as u32), mode)
+}
