@@ -1,0 +1,5 @@
+pub mod Stages
+pub mod Finding
+pub mod Texts
+pub mod Items
+pub mod Named

@@ -1,0 +1,22 @@
+-- Faults by stages: a file has the fault of the first stage that has one.
+use Rattle.std.specs.Prelude.{ℕ, ◌<◌, ◌⊎◌}
+use Rattle.bim_model.specs.declared.upload.UploadFault.{UploadFault}
+
+-- a stage says which fault it has, if it has one
+abbrev pub Stage : Type 1
+Stage = UploadFault → Type 0
+
+-- it has none
+abbrev pub IsClear : Stage → Type 0
+IsClear S = (fault : UploadFault) → S fault → ⊥
+
+-- the fault of the first stage; where it has none, that of what comes after it
+abbrev pub Then : Stage → Stage → Stage
+Then S Rest fault = S fault ⊎ (IsClear S × Rest fault)
+
+-- of the numbers of which Of holds, the least one that has a fault, and its fault
+pub record LeastFault (Of : ℕ → Type 0) (FaultOf : ℕ → UploadFault → Type 0) (fault : UploadFault) : Type 0 where
+  pub id : ℕ
+  pub of : Of id
+  pub here : FaultOf id fault
+  pub lower : (k : ℕ) → k < id → Of k → (other : UploadFault) → FaultOf k other → ⊥

@@ -1,0 +1,47 @@
+-- What is told of an element in texts (IFC4 ADD2 TC1, IfcRoot).
+use Rattle.std.specs.Prelude.{◌≡◌, ℕ, ◌<◌, List, [], Contains, Option, Some, None, option_map, option_and_then}
+use Rattle.std.specs.List.{slice_get}
+use Rattle.bim_model.specs.declared.upload.UploadFault.{UploadFault}
+use Rattle.bim_model.specs.declared.upload.UploadFault.TheVariants as faults
+use Rattle.bim_text.specs.Texts.{text_of_spelling}
+use Rattle.p21_reader.specs.declared.value.Instance.{Instance}
+use Rattle.ifc_schema.specs.Looking.{look}
+use Rattle.ifc_schema.specs.Values.{words_of}
+use Rattle.model_build.specs.Finding.{Finds}
+
+-- the text that is the attribute of that number, if there is one
+abbrev pub text_at : Instance → ℕ → Option (List ℕ)
+text_at i at = option_map text_of_spelling (option_and_then words_of (slice_get i.values at))
+
+abbrev pub or_empty : Option (List ℕ) → List ℕ
+or_empty None = []
+or_empty (Some text) = text
+
+-- its global identifier
+abbrev pub guid_of : Instance → Option (List ℕ)
+guid_of i = text_at i 0
+
+-- its name, which is empty where none is given
+abbrev pub name_of : Instance → List ℕ
+name_of i = or_empty (text_at i 2)
+
+-- the name of an instance, by its number
+abbrev pub name_at : List Instance → ℕ → Option (List ℕ)
+name_at world id = option_map name_of (look world id)
+
+-- Global identifiers that stand twice.
+
+abbrev pub HasGuid : List Instance → ℕ → List ℕ → Type 0
+HasGuid world id guid = Finds world id (λ i. guid_of i ≡ Some guid)
+
+-- one of lower number has the same global identifier
+pub record RepeatsGuid (world : List Instance) (Of : ℕ → Type 0) (id : ℕ) : Type 0 where
+  pub guid : List ℕ
+  pub here : HasGuid world id guid
+  pub lower : ℕ
+  pub below : lower < id
+  pub of : Of lower
+  pub there : HasGuid world lower guid
+
+abbrev pub GuidFault : List Instance → (ℕ → Type 0) → ℕ → UploadFault → Type 0
+GuidFault world Of id fault = (fault ≡ faults.DoubleGuid id) × RepeatsGuid world Of id

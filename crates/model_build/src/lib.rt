@@ -1,0 +1,4 @@
+//! The model of a file (IFC4 ADD2 TC1, in the clear text encoding of ISO 10303-21), or its first fault.
+#![tactic(auto)]
+
+mod find;
