@@ -1,3 +1,6 @@
 pub mod Rounding
 pub mod Signs
 pub mod Unique
+pub mod Firsts
+pub mod LengthFacts
+pub mod PointFacts

@@ -1,13 +1,17 @@
 //! The length unit of a building model and the grid that its lengths are brought to (IFC4 ADD2 TC1).
 #![tactic(auto)]
 
+mod fault;
 mod grid;
 mod laws;
+mod lengths;
 mod scale;
 mod sizes;
 
-pub use grid::{GridFault, to_grid};
+pub use fault::{GridFault, LengthError};
+pub use grid::to_grid;
 pub use laws::one_grid_number;
+pub use lengths::{length, point, points, points_fault};
 pub use scale::Scale;
 
 #[cfg(test)]
