@@ -80,4 +80,4 @@ module _ {X Y : Type 0} (R : X → Y → Type 0) (IsRefused : X → GridFault �
   one_row one [] (y ∷ ys) zs h k = absurd h
   one_row one (x ∷ xs) [] zs h k = absurd h
   one_row one (x ∷ xs) (y ∷ ys) [] h k = absurd k
-  one_row one (x ∷ xs) (y ∷ ys) (z ∷ zs) h k = ap₂ (λ a as. a ∷ as) (one x y z h.0 k.0) (one_row one xs ys zs h.1 k.1)
+  one_row one (x ∷ xs) (y ∷ ys) (z ∷ zs) h k = ap₂ (λ u us. u ∷ us) (one x y z h.0 k.0) (one_row one xs ys zs h.1 k.1)

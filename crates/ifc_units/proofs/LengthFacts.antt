@@ -5,6 +5,7 @@ use Rattle.bim_model.specs.declared.upload.Mode.{Mode}
 use Rattle.bim_text.specs.declared.decimal.Decimal.{Decimal}
 use Rattle.bim_text.specs.Values.{Scaled}
 use Rattle.bim_text.specs.Decimals.{Reads}
+use Rattle.bim_text.proofs.Unique.{one_decimal}
 use Rattle.p21_reader.specs.declared.value.Value21.{Value21}
 use Rattle.ifc_schema.specs.Values.{number_of}
 use Rattle.ifc_units.specs.declared.scale.Scale.{Scale}
@@ -13,9 +14,6 @@ use Rattle.ifc_units.specs.declared.fault.GridFault.TheVariants.{OffGrid, TooFar
 use Rattle.ifc_units.specs.Grid.{IsGridNumber, length_of}
 use Rattle.ifc_units.specs.Lengths.{units, reach, IsLength, HasFault, LengthRefused}
 use Rattle.ifc_units.proofs.Unique.{unique}
-
-one_decimal : (text : List ℕ) (d e : Decimal) → Reads text d → Reads text e → (d.negative ≡ e.negative) × (d.digits ≡ e.digits) × (d.exp ≡ e.exp)
-one_decimal text d e h k = ?
 
 same_length : (d e : Decimal) (s : Scale) → d.negative ≡ e.negative → d.digits ≡ e.digits → d.exp ≡ e.exp → length_of d s ≡ length_of e s
 same_length d e s a b c = rw (a, b, c) refl

@@ -4,3 +4,4 @@ pub mod Unique
 pub mod Firsts
 pub mod LengthFacts
 pub mod PointFacts
+pub mod InstanceFacts

@@ -1,5 +1,5 @@
 -- A value is one point at most, or has one fault; and so for lists of points.
-use Rattle.std.proofs.Common.{◌≡◌, ℕ, ◌<◌, ◌≤◌, ℤ, pos, ◌-ℤ◌, ◌≤ℤ◌, List, [], ◌∷◌, length, get_or, Some, None, Option, refl, sym, subst, arith}
+use Rattle.std.proofs.Common.{◌≡◌, ℕ, ◌<◌, ◌≤◌, ℤ, pos, ◌-ℤ◌, ◌≤ℤ◌, List, [], ◌∷◌, ◌++◌, ◌+◌, take, length, get_or, MatchOption, Some, None, Option, Result, Ok, Err, MatchResult, IsErrAnd, refl, sym, subst, arith}
 use Rattle.std.specs.Prelude.{unsigned_abs}
 use Rattle.std.specs.List.{AllZip}
 use Rattle.std.proofs.lemmas.Int.{ints}
@@ -14,7 +14,8 @@ use Rattle.ifc_units.specs.declared.fault.LengthError.{LengthError}
 use Rattle.ifc_units.specs.declared.fault.LengthError.TheVariants as error
 use Rattle.ifc_units.specs.Lengths.{reach, IsLength, LengthRefused, HasLength, FirstRefused, IsPoint, PointRefused, HasPoint, ArePoints, PointsRefused, IsUnread, Fails}
 use Rattle.ifc_units.proofs.LengthFacts.{one_length, length_apart, one_length_fault}
-use Rattle.ifc_units.proofs.Firsts.{never_refused, one_first, one_row}
+use Rattle.ifc_units.proofs.Firsts.{never_refused, one_first, one_row, fails_here, more, whole}
+use Rattle.ifc_units.specs.Faults.{fault_in}
 
 -- points are equal by their coordinates
 same_point : (p q : Point) → p.x ≡ q.x → p.y ≡ q.y → p.z ≡ q.z → p ≡ q
@@ -53,22 +54,34 @@ point_fails s mode v a b c error.Unread is h = record {
   unrefused = λ f k. h.unrefused f (refusal_of s mode v a b c f is k);
 }
 
--- a value that isn't a list of three
-pub no_three : (s : Scale) (mode : Mode) (v : Value21) → ((a b c : Value21) → items_of v ≡ Some (a ∷ b ∷ c ∷ []) → ⊥) → Fails (IsPoint s mode v) (PointRefused s mode v) error.Unread
-no_three s mode v no = record { none = λ p k. no k.a k.b k.c k.three; unrefused = λ f k. no k.a k.b k.c k.three }
-
-pub no_list : (s : Scale) (mode : Mode) (v : Value21) → items_of v ≡ None → Fails (IsPoint s mode v) (PointRefused s mode v) error.Unread
-no_list s mode v e = no_three s mode v (λ a b c is. cc)
-
-pub other_length : (s : Scale) (mode : Mode) (v : Value21) (vs : List Value21) → items_of v ≡ Some vs → (length vs ≡ 3 → ⊥) → Fails (IsPoint s mode v) (PointRefused s mode v) error.Unread
-other_length s mode v vs e no = no_three s mode v (λ a b c is. no (let same : vs ≡ a ∷ b ∷ c ∷ [] = cc in rw same refl))
-
 pub three_of : (vs : List Value21) (a b c : Value21) → length vs ≡ 3 → a ≡ get_or vs 0 a → b ≡ get_or vs 1 b → c ≡ get_or vs 2 c → vs ≡ a ∷ b ∷ c ∷ []
 three_of [] a b c e p q r = absurd (omega (arith, e))
 three_of (x ∷ []) a b c e p q r = absurd (omega (arith, e))
 three_of (x ∷ y ∷ []) a b c e p q r = absurd (omega (arith, e))
 three_of (x ∷ y ∷ z ∷ []) a b c e p q r = rw (p, q, r) refl
 three_of (x ∷ y ∷ z ∷ w ∷ vs) a b c e p q r = absurd (omega (arith, e))
+
+-- the three lengths one after another
+
+pub point_error : (s : Scale) (mode : Mode) (a b c : Value21) (r : Result Point LengthError) (e : LengthError) → IsErrAnd r (λ x. x ≡ e) → Fails (Lengths s mode (a ∷ b ∷ c ∷ [])) (Refusal s mode (a ∷ b ∷ c ∷ [])) e
+    → MatchResult r (λ p. Lengths s mode (a ∷ b ∷ c ∷ []) (coordinates p)) (Fails (Lengths s mode (a ∷ b ∷ c ∷ [])) (Refusal s mode (a ∷ b ∷ c ∷ [])))
+point_error s mode a b c (Ok p) e is h = absurd is
+point_error s mode a b c (Err x) e is h = rw is h
+
+pub first_fails : (s : Scale) (mode : Mode) (a b c : Value21) (e : LengthError) → Fails (IsLength s mode a) (LengthRefused s mode a) e → Fails (Lengths s mode (a ∷ b ∷ c ∷ [])) (Refusal s mode (a ∷ b ∷ c ∷ [])) e
+first_fails s mode a b c e h = fails_here (IsLength s mode) (LengthRefused s mode) (length_apart s mode) (a ∷ b ∷ c ∷ []) 0 [] a e (omega arith) refl tt h
+
+pub second_fails : (s : Scale) (mode : Mode) (a b c : Value21) (x : ℤ) (e : LengthError) → IsLength s mode a x → Fails (IsLength s mode b) (LengthRefused s mode b) e → Fails (Lengths s mode (a ∷ b ∷ c ∷ [])) (Refusal s mode (a ∷ b ∷ c ∷ [])) e
+second_fails s mode a b c x e at h = fails_here (IsLength s mode) (LengthRefused s mode) (length_apart s mode) (a ∷ b ∷ c ∷ []) 1 (x ∷ []) b e (omega arith) refl (at, tt) h
+
+pub third_fails : (s : Scale) (mode : Mode) (a b c : Value21) (x y : ℤ) (e : LengthError) → IsLength s mode a x → IsLength s mode b y → Fails (IsLength s mode c) (LengthRefused s mode c) e → Fails (Lengths s mode (a ∷ b ∷ c ∷ [])) (Refusal s mode (a ∷ b ∷ c ∷ [])) e
+third_fails s mode a b c x y e at up h = fails_here (IsLength s mode) (LengthRefused s mode) (length_apart s mode) (a ∷ b ∷ c ∷ []) 2 (x ∷ y ∷ []) c e (omega arith) refl (at, (up, tt)) h
+
+pub point_match : (s : Scale) (mode : Mode) (v a b c : Value21) (r : Result Point LengthError) → items_of v ≡ Some (a ∷ b ∷ c ∷ [])
+    → MatchResult r (λ p. Lengths s mode (a ∷ b ∷ c ∷ []) (coordinates p)) (Fails (Lengths s mode (a ∷ b ∷ c ∷ [])) (Refusal s mode (a ∷ b ∷ c ∷ [])))
+    → MatchResult r (IsPoint s mode v) (Fails (IsPoint s mode v) (PointRefused s mode v))
+point_match s mode v a b c (Ok p) e h = point_here s mode v a b c p e h
+point_match s mode v a b c (Err x) e h = point_fails s mode v a b c x e h
 
 -- one point
 
@@ -111,3 +124,21 @@ points_apart s mode = never_refused (IsPoint s mode) (PointRefused s mode) (poin
 
 pub one_points_fault : (s : Scale) (mode : Mode) (vs : List Value21) (f g : GridFault) → PointsRefused s mode vs f → PointsRefused s mode vs g → f ≡ g
 one_points_fault s mode = one_first (IsPoint s mode) (PointRefused s mode) (point_apart s mode) (one_point_fault s mode)
+
+-- a list of points, one after another
+
+pub points_fail : (s : Scale) (mode : Mode) (vs : List Value21) (i : ℕ) (ps : List Point) (v : Value21) (e : LengthError) → i < length vs → v ≡ get_or vs i v → ArePoints s mode (take i vs) ps
+    → Fails (IsPoint s mode v) (PointRefused s mode v) e → Fails (ArePoints s mode vs) (PointsRefused s mode vs) e
+points_fail s mode vs i ps v e lt at are h = fails_here (IsPoint s mode) (PointRefused s mode) (point_apart s mode) vs i ps v e lt at are h
+
+pub points_more : (s : Scale) (mode : Mode) (vs : List Value21) (i : ℕ) (old new : List Point) (v : Value21) (p : Point) → i < length vs → v ≡ get_or vs i v → IsPoint s mode v p → new ≡ old ++ p ∷ []
+    → ArePoints s mode (take i vs) old → ArePoints s mode (take (i + 1) vs) new
+points_more s mode = more (IsPoint s mode) (PointRefused s mode)
+
+pub fault_told : (s : Scale) (mode : Mode) (vs : List Value21) (e : LengthError) (r : Option GridFault) → r ≡ fault_in e → Fails (ArePoints s mode vs) (PointsRefused s mode vs) e
+    → MatchOption r ((f : GridFault) → PointsRefused s mode vs f → ⊥) (PointsRefused s mode vs)
+fault_told s mode vs error.Unread r is h = rw is h.unrefused
+fault_told s mode vs (error.Refused f) r is h = rw is h
+
+pub never_told : (s : Scale) (mode : Mode) (vs : List Value21) (i : ℕ) (ps : List Point) → length vs ≤ i → ArePoints s mode (take i vs) ps → (f : GridFault) → PointsRefused s mode vs f → ⊥
+never_told s mode vs i ps le are f h = points_apart s mode vs ps f (whole (IsPoint s mode) (PointRefused s mode) vs i ps le are) h

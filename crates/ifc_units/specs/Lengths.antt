@@ -1,5 +1,5 @@
 -- The lengths and points that values of a file are on the grid (IFC4 ADD2 TC1, IfcCartesianPoint, IfcCartesianPointList3D).
-use Rattle.std.specs.Prelude.{◌≡◌, ℕ, ◌*◌, ◌<◌, ◌≤◌, ◌⊎◌, true, ℤ, unsigned_abs, List, [], ◌∷◌, Some}
+use Rattle.std.specs.Prelude.{◌≡◌, ℕ, ◌*◌, ◌<◌, ◌≤◌, ◌⊎◌, true, ℤ, unsigned_abs, List, [], ◌∷◌, Some, MatchOption}
 use Rattle.std.specs.List.{slice_get, AllZip}
 use Rattle.bim_model.specs.declared.geometry.Point.{Point}
 use Rattle.bim_model.specs.declared.geometry.TheConstants.{PER_MM}
@@ -105,21 +105,12 @@ Fails Is IsRefused (Refused fault) = IsRefused fault
 
 -- Of an instance.
 
--- its attribute of that number is a point with that fault
-pub record AttributeRefused (scale : Scale) (mode : Mode) (i : Instance) (at : ℕ) (fault : GridFault) : Type 0 where
-  pub value : Value21
-  pub there : slice_get i.values at ≡ Some value
-  pub refused : PointRefused scale mode value fault
+-- a value is a list of values, and these are points with that fault
+abbrev pub ListRefused : Scale → Mode → Value21 → GridFault → Type 0
+ListRefused scale mode v fault = MatchOption (items_of v) ⊥ (λ vs. PointsRefused scale mode vs fault)
 
--- its attribute of that number is a list of points with that fault
-pub record ListRefused (scale : Scale) (mode : Mode) (i : Instance) (at : ℕ) (fault : GridFault) : Type 0 where
-  pub value : Value21
-  pub there : slice_get i.values at ≡ Some value
-  pub items : List Value21
-  pub lists : items_of value ≡ Some items
-  pub refused : PointsRefused scale mode items fault
-
--- an instance is a point or a list of points that has that fault
+-- An instance is a point, and its attribute 0 has that fault; or it is a list of points, and that attribute's points have it.
 abbrev pub InstanceRefused : Scale → Mode → Instance → GridFault → Type 0
 InstanceRefused scale mode i fault =
-    ((is_a entity.Point i ≡ true) × AttributeRefused scale mode i 0 fault) ⊎ ((is_a entity.PointList i ≡ true) × ListRefused scale mode i 0 fault)
+    ((is_a entity.Point i ≡ true) × MatchOption (slice_get i.values 0) ⊥ (λ v. PointRefused scale mode v fault))
+    ⊎ ((is_a entity.PointList i ≡ true) × MatchOption (slice_get i.values 0) ⊥ (λ v. ListRefused scale mode v fault))
