@@ -10,3 +10,4 @@ pub mod Runs
 pub mod RowLemmas
 pub mod Cleaning
 pub mod AllRows
+pub mod Unique

@@ -17,3 +17,8 @@ pub fn one_value()
 pub fn plain_texts()
     ensures { (text : List ℕ) → list_all is_plain text ≡ true → text_of_spelling text ≡ text }
 {}
+
+/// Bytes are read to one decimal.
+pub fn one_decimal()
+    ensures { (text : List ℕ) (d e : Decimal) → Reads text d → Reads text e → (d.negative ≡ e.negative) × (d.digits ≡ e.digits) × (d.exp ≡ e.exp) }
+{}

@@ -12,7 +12,7 @@ mod spelling;
 mod text;
 
 pub use decimal::Decimal;
-pub use laws::{one_value, plain_texts};
+pub use laws::{one_decimal, one_value, plain_texts};
 pub use print::print_i64;
 pub use text::text_of;
 

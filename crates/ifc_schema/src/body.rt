@@ -22,7 +22,7 @@ fn target<'a>(exchange: &'a Exchange, value: &Value21) -> Option<&'a Instance>
 
 /// Whether the identifier of a representation is `Body`.
 #[tactic(auto, unfolding(crate::specs::Bodies::is_body))]
-fn is_body(alloc: Global, instance: &Instance) -> Result<bool, AllocError>
+pub fn is_body(alloc: Global, instance: &Instance) -> Result<bool, AllocError>
     ensures { IfOk result (λ body. body ≡ is_body instance.now) }
 {
     match instance.values.as_slice().get(1) {

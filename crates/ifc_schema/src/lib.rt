@@ -18,6 +18,7 @@ mod visit;
 mod words;
 mod work;
 
+pub use body::is_body;
 pub use checks::survey;
 pub use entity::Entity;
 pub use look::{is_a, place_of};
