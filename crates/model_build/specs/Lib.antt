@@ -3,3 +3,4 @@ pub mod Finding
 pub mod Texts
 pub mod Items
 pub mod Named
+pub mod PointTables
