@@ -9,6 +9,7 @@ mod laws;
 mod lengths;
 mod scale;
 mod sizes;
+mod units;
 
 pub use fault::{GridFault, LengthError};
 pub use grid::to_grid;
