@@ -1,6 +1,6 @@
 -- The length unit of a file (IFC4 ADD2 TC1, IfcProject, IfcUnitAssignment, IfcSIUnit). A world is the list of its instances. Only values are
 -- looked at, also of instances that lack their own form.
-use Rattle.std.specs.Prelude.{◌≡◌, ℕ, ◌≤◌, ◌&&◌, Bool, true, if◌then◌else◌, ℤ, pos, negsuc, codes, List, [], ◌∷◌, Option, Some, None, option_and_then, option_map, All, Any}
+use Rattle.std.specs.Prelude.{◌≡◌, ◌≢◌, ℕ, ◌≤◌, ◌&&◌, Bool, true, if◌then◌else◌, ℤ, pos, negsuc, codes, List, [], ◌∷◌, Option, Some, None, option_and_then, option_map, All, Any}
 use Rattle.std.specs.List.{slice_get, filter, find}
 use Rattle.std.specs.Option.{unwrap_or}
 use Rattle.std.specs.Str.{bytes_eq}
@@ -98,18 +98,28 @@ pub record IsOnly (P : ℕ → Type 0) (number : ℕ) : Type 0 where
   pub holds : P number
   pub only : (other : ℕ) → P other → other ≡ number
 
--- The file has exactly one project, and the units that this one is assigned hold exactly one unit of length; this is a metre, with the prefix
--- that makes the scale.
+-- a value refers to a unit of length of another number
+pub record RefersToOther (world : List Instance) (id : ℕ) (v : Value21) : Type 0 where
+  pub other : ℕ
+  pub names : RefersToUnit world other v
+  pub differs : other ≢ id
+
+-- An assignment holds exactly one unit of length, whatever its name and its prefix, and this is a metre with a prefix that makes that power of
+-- ten of a millimetre.
+pub record AssignsPower (world : List Instance) (assignment : Instance) (power : ℤ) : Type 0 where
+  pub id : ℕ
+  pub one_unit : IsOnly (IsUnitAmong world (listed assignment 0)) id
+  pub unit : Instance
+  pub found : look world id ≡ Some unit
+  pub reads : unit_power unit ≡ Some power
+
+-- the file has exactly one project, and the units that it is assigned make the scale
 pub record IsLengthUnit (world : List Instance) (scale : Scale) : Type 0 where
   pub project : Instance
   pub one_project : projects world ≡ project ∷ []
   pub assignment : Instance
   pub assigned : assignment_of world project ≡ Some assignment
-  pub id : ℕ
-  pub one_unit : IsOnly (IsUnitAmong world (listed assignment 0)) id
-  pub unit : Instance
-  pub found : look world id ≡ Some unit
-  pub reads : unit_power unit ≡ Some scale.power
+  pub makes : AssignsPower world assignment scale.power
 
 -- the least number of the instances, or 0 where there are none
 abbrev pub IsLeastNumber : List Instance → ℕ → Type 0

@@ -17,6 +17,7 @@ pub use instances::fault_of_points;
 pub use laws::{one_grid_number, one_instance_fault, one_length, one_list_of_points, one_point};
 pub use lengths::{length, point, points, points_fault};
 pub use scale::Scale;
+pub use units::length_unit;
 
 #[cfg(test)]
 mod tests;
