@@ -20,4 +20,6 @@ pub use scale::Scale;
 pub use units::length_unit;
 
 #[cfg(test)]
+mod file_tests;
+#[cfg(test)]
 mod tests;

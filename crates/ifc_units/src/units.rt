@@ -196,11 +196,7 @@ fn unit_named(exchange: &Exchange, value: &Value21) -> Option<u64>
     let Some(unit) = fetch(exchange, id) else {
         return None;
     };
-    if is_length_unit(unit) {
-        Some(id)
-    } else {
-        None
-    }
+    if is_length_unit(unit) { Some(id) } else { None }
 }
 
 // The number of the first unit of length among the items.
