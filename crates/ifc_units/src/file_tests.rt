@@ -171,7 +171,8 @@ const POINTS: [(&[u8], Option<GridFault>); 11] = [
 fn faults_of_points(rt: HostRuntime) -> Result<(), Fail> {
     for (text, wanted) in POINTS {
         let exchange = file(rt.alloc(), text)?;
-        let told = fault_of_points(&exchange.instances()[0], Scale { power: 0 }, Mode::Exact);
+        let instance = exchange.instances().first().ok_or("no instance")?;
+        let told = fault_of_points(instance, Scale { power: 0 }, Mode::Exact);
         assert_eq!(rt; told, wanted);
     }
     Ok(())
@@ -184,8 +185,10 @@ fn points_of_a_list(rt: HostRuntime) -> Result<(), Fail> {
         b"#1=IFCCARTESIANPOINTLIST3D(((0.,1.,2.),(-3.0004,4.,5.E-3)));",
     )?;
     let scale = Scale { power: 3 };
-    let list = &exchange.instances()[0].values.as_slice()[0];
-    let items = items_of(list).ok_or("no list")?;
+    let instance = exchange.instances().first().ok_or("no instance")?;
+    let list = instance.values.as_slice().first().ok_or("no list")?;
+    let items = items_of(list).ok_or("no items")?;
+    let item = items.first().ok_or("no item")?;
     let wanted = [
         Point {
             x: 0,
@@ -206,7 +209,7 @@ fn points_of_a_list(rt: HostRuntime) -> Result<(), Fail> {
         Ok(_) => assert!(rt; false),
         Err(error) => assert_eq!(rt; error, LengthError::Refused(GridFault::OffGrid)),
     }
-    assert_eq!(rt; point(&items[0], scale, Mode::Exact), Ok(wanted[0]));
+    assert_eq!(rt; point(item, scale, Mode::Exact), Ok(wanted[0]));
     assert_eq!(rt; point(list, scale, Mode::Exact), Err(LengthError::Unread));
     assert_eq!(rt;
         length(&Value21::Absent, scale, Mode::Exact),
