@@ -5,3 +5,4 @@ pub mod Aligned
 pub mod Walking
 pub mod Visiting
 pub mod Chaining
+pub mod Square

@@ -3,6 +3,7 @@ use Rattle.std.specs.Prelude.{◌≢◌, ℕ, ◌<◌, ◌==◌, if◌then◌els
 use Rattle.bim_model.specs.declared.geometry.Point.{Point}
 use Rattle.bim_model.specs.Models.{farthest}
 use Rattle.placement.specs.declared.axis.Axis.{Axis}
+use Rattle.placement.specs.declared.axes.Axes.{Axes}
 use Rattle.placement.specs.declared.frame.Offset.{Offset}
 use Rattle.placement.specs.declared.frame.Frame.{Frame}
 
@@ -31,6 +32,10 @@ carried f p = record {
   y = f.offset.y +ℤ component f (lengths_of p) 1;
   z = f.offset.z +ℤ component f (lengths_of p) 2;
 }
+
+-- the frame of these axes whose zero point lies there
+abbrev pub frame_at : Axes → Offset → Frame
+frame_at axes offset = record { x = axes.x; y = axes.y; z = axes.z; offset = offset }
 
 -- the axes lie in three different directions of 0, 1 and 2
 pub record IsFrame (f : Frame) : Type 0 where
