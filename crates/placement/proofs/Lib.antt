@@ -6,3 +6,5 @@ pub mod Walking
 pub mod Visiting
 pub mod Chaining
 pub mod Square
+pub mod Owning
+pub mod Composed

@@ -118,7 +118,7 @@ same_directions world id a b c d r s =
     (same_directs world s.first a c (subst (λ (v : Value21). Directs world v a) first r.first_says) s.first_says,
      same_directs world s.second b d (subst (λ (v : Value21). Directs world v b) second r.second_says) s.second_says)
 
-square : (world : List Instance) (id : ℕ) (axes : Axes) → HasAxes world id axes → Oblique world id → ⊥
+pub square : (world : List Instance) (id : ℕ) (axes : Axes) → HasAxes world id axes → Oblique world id → ⊥
 square world id axes h o =
     let same = same_directions world id h.axis h.reference o.axis o.reference h.directions o.directions in
     let g = h.given in

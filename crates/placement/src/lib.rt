@@ -6,6 +6,8 @@ mod axis;
 mod chains;
 mod direction;
 mod frame;
+mod frames;
+mod own;
 mod read;
 #[cfg(test)]
 mod tests;
@@ -15,3 +17,5 @@ pub use axes::{Axes, axes_of};
 pub use axis::Axis;
 pub use chains::Chains;
 pub use frame::{Frame, Offset};
+pub use frames::Frames;
+pub use own::{axis_frame, location_of, own_frame};
