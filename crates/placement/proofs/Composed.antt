@@ -88,10 +88,10 @@ pub stands_on : (world : List Instance) (ids : List ℕ) (frames : ℕ → Optio
 stands_on world ids frames k first lt all = elim (first k 0 lt) [
   | inl none ↦ inl none
   | inr r ↦ (
-    let lj : r.2.0 < k = omega (arith, r.2.1, length-take-le k ids (omega arith)) in
-    let same : get_or ids r.2.0 0 ≡ r.0 = get_or_default ids r.2.0 0 r.0 (omega (arith, lj, lt)) ∙ sym (get_or-take k ids r.2.0 r.0 lj) ∙ r.2.2 in
-    let there = all r.2.0 lj in
-    inr (r.0, there.0, r.1, ap frames (sym same) ∙ there.1))
+      let lj : r.2.0 < k = omega (arith, r.2.1, length-take-le k ids (omega arith)) in
+      let same : get_or ids r.2.0 0 ≡ r.0 = get_or_default ids r.2.0 0 r.0 (omega (arith, lj, lt)) ∙ sym (get_or-take k ids r.2.0 r.0 lj) ∙ r.2.2 in
+      let there = all r.2.0 lj in
+      inr (r.0, there.0, r.1, ap frames (sym same) ∙ there.1))
 ]
 
 pub are_frames : (world : List Instance) (s : Scale) (mode : Mode) (ids : List ℕ) (frames : ℕ → Option Frame) → AllPlaced world s mode frames → ((id : ℕ) (f : Frame) → frames id ≡ Some f → Contains ids id)

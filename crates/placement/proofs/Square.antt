@@ -114,9 +114,10 @@ same_directions : (world : List Instance) (id : ℕ) (a b c d : Option Direction
 same_directions world id a b c d r s =
     let i = one _ r.instance s.instance r.found s.found in
     let first = one _ r.first s.first (subst (λ (t : Instance). slice_get t.values 1 ≡ Some r.first) i r.first_there) s.first_there in
-    let second = one _ r.second s.second (subst (λ (t : Instance). slice_get t.values 2 ≡ Some r.second) i r.second_there) s.second_there in
-    (same_directs world s.first a c (subst (λ (v : Value21). Directs world v a) first r.first_says) s.first_says,
-     same_directs world s.second b d (subst (λ (v : Value21). Directs world v b) second r.second_says) s.second_says)
+    let second = one _ r.second s.second (subst (λ (t : Instance). slice_get t.values 2 ≡ Some r.second) i r.second_there) s.second_there in (
+      same_directs world s.first a c (subst (λ (v : Value21). Directs world v a) first r.first_says) s.first_says,
+      same_directs world s.second b d (subst (λ (v : Value21). Directs world v b) second r.second_says) s.second_says,
+    )
 
 pub square : (world : List Instance) (id : ℕ) (axes : Axes) → HasAxes world id axes → Oblique world id → ⊥
 square world id axes h o =

@@ -1,8 +1,11 @@
-//! Where the elements of a model lie: signed axes and frames (IFC4 ADD2 TC1, IfcAxis2Placement3D).
+//! Where the elements of a model lie: signed axes, chains of placements, and frames (IFC4 ADD2 TC1, IfcLocalPlacement and
+//! IfcAxis2Placement3D).
 #![tactic(auto)]
 
 mod axes;
 mod axis;
+#[cfg(test)]
+mod chain_tests;
 mod chains;
 mod direction;
 mod frame;
