@@ -2,3 +2,8 @@
 #![tactic(auto)]
 
 mod find;
+mod guids;
+mod named;
+mod order;
+mod storeys;
+mod texts;
