@@ -1,0 +1,4 @@
+pub mod Naming
+pub mod Repeating
+pub mod Ordering
+pub mod Placed
