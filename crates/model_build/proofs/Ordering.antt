@@ -1,5 +1,5 @@
 -- The order of elements by their identifiers.
-use Rattle.std.proofs.Common.{◌≡◌, ◌≢◌, ℕ, ◌+◌, ◌<◌, ◌≤◌, ◌⊎◌, inl, inr, Bool, true, false, List, [], ◌∷◌, length, map, rules, get_or, refl, sym, ap, ◌∙◌, subst, arith}
+use Rattle.std.proofs.Common.{◌≡◌, ◌≢◌, ℕ, ◌<◌, ◌⊎◌, inl, inr, Bool, true, false, List, [], ◌∷◌, length, map, rules, get_or, refl, sym, ◌∙◌, subst, arith}
 use Rattle.std.specs.Bool.{IsTrue}
 use Rattle.std.specs.List.{AllPairs}
 use Rattle.std.specs.List.Sorted.{IsSortedByKey, IsPermutation}
@@ -37,7 +37,7 @@ keys_differ : (xs ys : List (List ℕ)) → IsPermutation xs ys → AllPairs (λ
 keys_differ xs ys p d = AllPairs-from_IsDistinct bytes_eq-Decides ys (IsDistinct-IsPermutation bytes_eq flips xs ys p (IsDistinct-from_AllPairs bytes_eq-Decides xs d))
 
 to_keys : {X : Type 0} (key : X → List ℕ) (xs : List X) → AllPairs (λ x y. key x ≢ key y) xs → AllPairs (λ a b. a ≢ b) (map key xs)
-to_keys key [] h i j d lt within = absurd (omega arith)
+to_keys key [] h i j d lt within same = absurd (omega arith)
 to_keys key (x ∷ xs) h i j d lt within same =
     let m : j < length (x ∷ xs) = subst (λ n. j < n) (length-map (x ∷ xs) key) within in
     let n : i < length (x ∷ xs) = omega arith in

@@ -1,5 +1,5 @@
 -- How the first global identifier that stands twice is found.
-use Rattle.std.proofs.Common.{◌≡◌, ℕ, ◌+◌, ◌<◌, ◌≤◌, ◌⊎◌, inl, inr, Bool, true, false, not, cond, List, length, get_or, Some, Contains, refl, sym, ap, ◌∙◌, subst, arith}
+use Rattle.std.proofs.Common.{◌≡◌, ℕ, ◌+◌, ◌<◌, ◌≤◌, ◌⊎◌, inl, inr, Bool, true, false, cond, List, length, get_or, Some, Contains, refl, sym, ap, ◌∙◌, subst, arith}
 use Rattle.std.specs.Ordering.{nat_cmp, is_eq}
 use Rattle.std.specs.Cmp.Lexicographic.{slice_cmp}
 use Rattle.std.specs.declared.cmp.Ordering.{Ordering}
@@ -11,7 +11,6 @@ use Rattle.std.proofs.lemmas.List.Kept.{AllPairs-from_increasing}
 use Rattle.std.proofs.lemmas.List.Elements.{Contains-get_or}
 use Rattle.std.proofs.lemmas.Map.Lookups.{exact_bytes}
 use Rattle.p21_reader.specs.declared.value.Instance.{Instance}
-use Rattle.ifc_schema.specs.Looking.{look}
 use Rattle.model_build.specs.Texts.{guid_of, HasGuid, RepeatsGuid, IsIdentified, HasNoGuid, NoneRepeats, IsFirstRepeated}
 
 abbrev pub by_bytes : List ℕ → List ℕ → Ordering
@@ -56,12 +55,12 @@ earlier : (ids : List ℕ) (at id k : ℕ) → IsStrictlyIncreasing ids → at <
 earlier ids at id k up lt is below c =
     let there : get_or ids c.0 0 ≡ k = get_or_default ids c.0 0 k c.1 ∙ c.2 in
     elim (order c.0 at) [
-    | inl l ↦ (c.0, l, there)
-    | inr r ↦ elim r [
-      | inl e ↦ absurd (let f : get_or ids c.0 0 ≡ get_or ids at 0 = ap (λ n. get_or ids n 0) e in omega arith)
-      | inr g ↦ absurd (let h = AllPairs-from_increasing ids up at c.0 0 g c.1 in omega arith)
+      | inl l ↦ (c.0, l, there)
+      | inr r ↦ elim r [
+        | inl e ↦ absurd (let f : get_or ids c.0 0 ≡ get_or ids at 0 = ap (λ n. get_or ids n 0) e in omega arith)
+        | inr g ↦ absurd (let h = AllPairs-from_increasing ids up at c.0 0 g c.1 in omega arith)
+      ]
     ]
-  ]
   where
     order : (a b : ℕ) → (a < b) ⊎ ((a ≡ b) ⊎ (b < a))
     order a b = grind arith

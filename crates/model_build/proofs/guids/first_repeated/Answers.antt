@@ -1,4 +1,4 @@
-use Rattle.std.proofs.Common.{◌≡◌, ◌+◌, get_or, true, false, not, Bool, ap, subst, sym, refl, ◌∙◌, Option, Some, None, MatchOption}
+use Rattle.std.proofs.Common.{◌≡◌, ◌+◌, get_or, true, false, not, Bool, subst, sym, refl, Option, Some, None, MatchOption}
 use Rattle.bim_model.specs.declared.guid.Guid.{Guid}
 use Rattle.std.specs.BTreeSet.{contains}
 use Rattle.model_build.specs.Texts.{HasThatGuid, HasNoGuid}
