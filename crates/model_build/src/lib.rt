@@ -3,3 +3,8 @@
 
 mod find;
 mod points;
+mod guids;
+mod named;
+mod order;
+mod storeys;
+mod texts;
