@@ -1,3 +1,4 @@
 pub mod Keywords
 pub mod Attributes
 pub mod Shaped
+pub mod Bodied

@@ -67,16 +67,14 @@ pub record NamesUsed (world : List Instance) (X : Entity) (v : Value21) : Type 0
   pub is : IsUsed X world to
 
 -- what a reference that is followed leads to is used
-pub used_one : (world : List Instance) (from : ℕ) (i : Instance) (at : ℕ) (w : When) (n : Need) (X : Entity) (v : Value21) → Used world from → look world from ≡ Some i
+pub one_used : (world : List Instance) (from : ℕ) (i : Instance) (at : ℕ) (w : When) (n : Need) (X : Entity) (v : Value21) → Used world from → look world from ≡ Some i
+    → Contains (row_at i) (attribute at w n shape.One (leaf.Reference (targets.One X))) → applies world false i w ≡ true → slice_get i.values at ≡ Some v → (r : RefersToA world X v) → Used world r.to
+one_used world from i at w n X v u e c t s r =
+    follows world from r.to i (attribute at w n shape.One (leaf.Reference (targets.One X))) v u e c t s r.refers (record { target = r.target; found = r.found; meant = is_a_held X r.target r.is })
+
+used_one : (world : List Instance) (from : ℕ) (i : Instance) (at : ℕ) (w : When) (n : Need) (X : Entity) (v : Value21) → Used world from → look world from ≡ Some i
     → Contains (row_at i) (attribute at w n shape.One (leaf.Reference (targets.One X))) → applies world false i w ≡ true → slice_get i.values at ≡ Some v → RefersToA world X v → NamesUsed world X v
-used_one world from i at w n X v u e c t s r = record {
-  to = r.to;
-  refers = r.refers;
-  is = (
-    follows world from r.to i (attribute at w n shape.One (leaf.Reference (targets.One X))) v u e c t s r.refers (record { target = r.target; found = r.found; meant = is_a_held X r.target r.is }),
-    record { instance = r.target; found = r.found; holds = r.is },
-  );
-}
+used_one world from i at w n X v u e c t s r = record { to = r.to; refers = r.refers; is = (one_used world from i at w n X v u e c t s r, record { instance = r.target; found = r.found; holds = r.is }) }
 
 -- an attribute that must refer to an instance of that entity
 used_must : (world : List Instance) (from : ℕ) (i : Instance) (at : ℕ) (X : Entity) → Shaped world → Used world from → look world from ≡ Some i → Contains (row_at i) (attribute at Always Must shape.One (leaf.Reference (targets.One X)))
