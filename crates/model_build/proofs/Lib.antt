@@ -2,3 +2,4 @@ pub mod Keywords
 pub mod Attributes
 pub mod Shaped
 pub mod Bodied
+pub mod Sets
