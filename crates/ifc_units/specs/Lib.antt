@@ -1,2 +1,4 @@
 pub mod Grid
 pub mod Sizes
+pub mod Faults
+pub mod Lengths

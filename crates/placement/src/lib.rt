@@ -3,12 +3,15 @@
 
 mod axes;
 mod axis;
+mod chains;
 mod direction;
 mod frame;
 mod read;
 #[cfg(test)]
 mod tests;
+mod walk;
 
 pub use axes::{Axes, axes_of};
 pub use axis::Axis;
+pub use chains::Chains;
 pub use frame::{Frame, Offset};
