@@ -3,3 +3,5 @@ pub mod Finding
 pub mod Texts
 pub mod Items
 pub mod Named
+pub mod Counting
+pub mod Least
