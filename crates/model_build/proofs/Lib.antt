@@ -4,3 +4,8 @@ pub mod Naming
 pub mod Repeating
 pub mod Ordering
 pub mod Placed
+pub mod Keywords
+pub mod Attributes
+pub mod Shaped
+pub mod Bodied
+pub mod Sets

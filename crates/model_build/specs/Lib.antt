@@ -6,3 +6,5 @@ pub mod Order
 pub mod Items
 pub mod Named
 pub mod PointTables
+pub mod Counting
+pub mod Least

@@ -8,3 +8,4 @@ mod named;
 mod order;
 mod storeys;
 mod texts;
+mod items;
