@@ -6,5 +6,9 @@ pub mod Order
 pub mod Items
 pub mod Named
 pub mod PointTables
+pub mod Surfaces
+pub mod Elements
+pub mod Sound
+pub mod Profile
 pub mod Counting
 pub mod Least
