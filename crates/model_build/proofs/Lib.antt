@@ -2,3 +2,4 @@ pub mod Naming
 pub mod Repeating
 pub mod Ordering
 pub mod Placed
+pub mod Told
