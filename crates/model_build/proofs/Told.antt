@@ -47,6 +47,13 @@ zip_at R (x ∷ xs) [] i d e z lt = absurd z
 zip_at R (x ∷ xs) (y ∷ ys) zero d e z lt = z.0
 zip_at R (x ∷ xs) (y ∷ ys) (suc i) d e z lt = zip_at R xs ys i d e z.1 (omega arith)
 
+-- what holds of each pair of two lists makes another thing hold of it
+pub zip_by : {A B : Type 0} (R Q : A → B → Type 0) (xs : List A) (ys : List B) → ((x : A) (y : B) → R x y → Q x y) → AllZip R xs ys → AllZip Q xs ys
+zip_by R Q [] [] f z = z
+zip_by R Q [] (y ∷ ys) f z = absurd z
+zip_by R Q (x ∷ xs) [] f z = absurd z
+zip_by R Q (x ∷ xs) (y ∷ ys) f z = (f x y z.0, zip_by R Q xs ys f z.1)
+
 -- elements with the identifiers of listed instances, none of which repeats one, differ by them
 pub made_differ : (world : List Instance) (ids : List ℕ) (made : List Element) → IsStrictlyIncreasing ids → NoneRepeats world ids → AllZip (λ id (e : Element). HasGuid world id e.guid.chars) ids made → Differ made
 made_differ world ids made up n z i j d lt within same =
