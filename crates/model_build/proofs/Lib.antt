@@ -1,5 +1,12 @@
+pub mod Tables
+pub mod Leasts
 pub mod Naming
 pub mod Repeating
 pub mod Ordering
 pub mod Placed
 pub mod Told
+pub mod Keywords
+pub mod Attributes
+pub mod Shaped
+pub mod Bodied
+pub mod Sets

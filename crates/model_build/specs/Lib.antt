@@ -5,3 +5,6 @@ pub mod Storeys
 pub mod Order
 pub mod Items
 pub mod Named
+pub mod PointTables
+pub mod Counting
+pub mod Least
