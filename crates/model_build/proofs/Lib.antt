@@ -3,3 +3,4 @@ pub mod Attributes
 pub mod Shaped
 pub mod Bodied
 pub mod Sets
+pub mod Collecting
