@@ -1,3 +1,9 @@
+pub mod Tables
+pub mod Leasts
+pub mod Naming
+pub mod Repeating
+pub mod Ordering
+pub mod Placed
 pub mod Keywords
 pub mod Attributes
 pub mod Shaped

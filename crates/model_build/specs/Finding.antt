@@ -1,5 +1,5 @@
 -- Instances by their numbers. A world is the list of a file's instances.
-use Rattle.std.specs.Prelude.{◌≡◌, ℕ, true, List, [], filter_map, Option, Some, None, option_and_then}
+use Rattle.std.specs.Prelude.{◌≡◌, ℕ, true, List, filter_map, Option, Some, option_and_then}
 use Rattle.std.specs.List.{slice_get}
 use Rattle.p21_reader.specs.declared.value.Value21.{Value21}
 use Rattle.p21_reader.specs.declared.value.Instance.{Instance}

@@ -1,7 +1,6 @@
 -- The items of bodies (IFC4 ADD2 TC1, IfcProduct, IfcShapeRepresentation, IfcTriangulatedFaceSet).
 use Rattle.std.specs.Prelude.{◌≡◌, ℕ, ◌<◌, ◌&&◌, Bool, true, false, List, [], length, filter, flat_map, sum_by, Option, Some, None}
 use Rattle.std.specs.List.{slice_get, list_all}
-use Rattle.bim_model.specs.declared.upload.UploadFault.{UploadFault}
 use Rattle.bim_model.specs.declared.upload.UploadFault.TheVariants as faults
 use Rattle.bim_model.specs.declared.upload.Many.TheVariants as many
 use Rattle.p21_reader.specs.declared.value.Value21.{Value21}

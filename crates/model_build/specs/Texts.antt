@@ -3,6 +3,8 @@ use Rattle.std.specs.Prelude.{◌≡◌, ℕ, ◌<◌, List, [], Contains, Optio
 use Rattle.std.specs.List.{slice_get}
 use Rattle.bim_model.specs.declared.upload.UploadFault.{UploadFault}
 use Rattle.bim_model.specs.declared.upload.UploadFault.TheVariants as faults
+use Rattle.bim_model.specs.declared.guid.Guid.{Guid}
+use Rattle.bim_model.specs.Guids.{IsGuid}
 use Rattle.bim_text.specs.Texts.{text_of_spelling}
 use Rattle.p21_reader.specs.declared.value.Instance.{Instance}
 use Rattle.ifc_schema.specs.Looking.{look}
@@ -29,6 +31,14 @@ name_of i = or_empty (text_at i 2)
 abbrev pub name_at : List Instance → ℕ → Option (List ℕ)
 name_at world id = option_map name_of (look world id)
 
+-- what was read as its global identifier
+abbrev pub IsRead : Instance → Guid → Type 0
+IsRead i guid = (guid_of i ≡ Some guid.chars) × IsGuid guid.chars
+
+-- it has no text as its global identifier, or one that isn't one
+abbrev pub IsUnread : Instance → Type 0
+IsUnread i = (guid : List ℕ) → guid_of i ≡ Some guid → IsGuid guid → ⊥
+
 -- Global identifiers that stand twice.
 
 abbrev pub HasGuid : List Instance → ℕ → List ℕ → Type 0
@@ -42,6 +52,26 @@ pub record RepeatsGuid (world : List Instance) (Of : ℕ → Type 0) (id : ℕ) 
   pub below : lower < id
   pub of : Of lower
   pub there : HasGuid world lower guid
+
+-- its global identifier is one
+abbrev pub IsIdentified : List Instance → ℕ → Type 0
+IsIdentified world id = Finds world id (λ i. (guid : List ℕ) × (guid_of i ≡ Some guid) × IsGuid guid)
+
+abbrev pub HasThatGuid : List Instance → ℕ → Guid → Type 0
+HasThatGuid world id guid = HasGuid world id guid.chars
+
+abbrev pub HasNoGuid : List Instance → ℕ → Type 0
+HasNoGuid world id = IsIdentified world id → ⊥
+
+-- none of the list has the global identifier of a lower one
+abbrev pub NoneRepeats : List Instance → List ℕ → Type 0
+NoneRepeats world ids = (id : ℕ) → Contains ids id → RepeatsGuid world (Contains ids) id → ⊥
+
+-- the least one of the list that has the global identifier of a lower one
+pub record IsFirstRepeated (world : List Instance) (ids : List ℕ) (id : ℕ) : Type 0 where
+  pub listed : Contains ids id
+  pub repeats : RepeatsGuid world (Contains ids) id
+  pub least : (k : ℕ) → k < id → Contains ids k → RepeatsGuid world (Contains ids) k → ⊥
 
 abbrev pub GuidFault : List Instance → (ℕ → Type 0) → ℕ → UploadFault → Type 0
 GuidFault world Of id fault = (fault ≡ faults.DoubleGuid id) × RepeatsGuid world Of id

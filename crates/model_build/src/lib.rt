@@ -2,4 +2,10 @@
 #![tactic(auto)]
 
 mod find;
+mod points;
+mod guids;
+mod named;
+mod order;
+mod storeys;
+mod texts;
 mod items;

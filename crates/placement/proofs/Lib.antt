@@ -5,3 +5,6 @@ pub mod Aligned
 pub mod Walking
 pub mod Visiting
 pub mod Chaining
+pub mod Square
+pub mod Owning
+pub mod Composed

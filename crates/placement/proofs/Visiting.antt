@@ -14,17 +14,21 @@ pub settle_one : (world : List Instance) (order met : List ℕ) (start k : ℕ) 
 settle_one world order met start k rests le lt s =
     let stands : StandsIn world order (get_or met k 0) = elim (rests k le lt) [
       | inl none ↦ inl none
-      | inr r ↦ inr (get_or met r.0 0, r.3, elim r.2 [
-        | inl before ↦ s.ordered r.0 r.1 (inl before)
-        | inr next ↦ (let from : k + 1 ≤ r.0 = omega (arith, next) in s.ordered r.0 r.1 (inr from))
-        ])
+      | inr r ↦ inr (
+        get_or met r.0 0,
+        r.3,
+        elim r.2 [
+          | inl before ↦ s.ordered r.0 r.1 (inl before)
+          | inr next ↦ (let from : k + 1 ≤ r.0 = omega (arith, next) in s.ordered r.0 r.1 (inr from))
+        ],
+      )
     ] in
     record {
       first = first_push world order (get_or met k 0) s.first stands;
       ordered = λ j lj w. elim (same_or j k) [
         | inl e ↦ subst (λ n. Contains (order ++ get_or met k 0 ∷ []) (get_or met n 0)) (sym e) (Contains-push order (get_or met k 0))
         | inr n ↦ Contains-append_left order (get_or met k 0 ∷ []) (get_or met j 0) (s.ordered j lj (elim w [ inl a ↦ inl a | inr b ↦ inr (omega (arith, b, n)) ]))
-        ];
+      ];
     }
 
 -- what was put at the end came from there on
@@ -44,15 +48,15 @@ ends_below : (world : List Instance) (ids : List ℕ) → ParentsFirst world ids
 ends_below world ids h zero le k lt = absurd (omega (arith, lt))
 ends_below world ids h (suc n) le k lt = elim (same_or k n) [
   | inl e ↦ (
-    let l : n < length ids = omega (arith, le) in
-    let s = h n 0 l in
-    subst (λ m. Ends world (get_or ids m 0)) (sym e) (elim s [
-      | inl none ↦ here (get_or ids n 0) none
-      | inr r ↦ (
-        let lj : r.2.0 < n = omega (arith, r.2.1, length-take-le n ids (omega arith)) in
-        let same : get_or ids r.2.0 0 ≡ r.0 = get_or_default ids r.2.0 0 r.0 (omega (arith, lj, l)) ∙ sym (get_or-take n ids r.2.0 r.0 lj) ∙ r.2.2 in
-        above (get_or ids n 0) r.0 r.1 (subst (λ m. Ends world m) same (ends_below world ids h n (omega (arith, le)) r.2.0 lj)))
-    ]))
+      let l : n < length ids = omega (arith, le) in
+      let s = h n 0 l in
+      subst (λ m. Ends world (get_or ids m 0)) (sym e) (elim s [
+        | inl none ↦ here (get_or ids n 0) none
+        | inr r ↦ (
+            let lj : r.2.0 < n = omega (arith, r.2.1, length-take-le n ids (omega arith)) in
+            let same : get_or ids r.2.0 0 ≡ r.0 = get_or_default ids r.2.0 0 r.0 (omega (arith, lj, l)) ∙ sym (get_or-take n ids r.2.0 r.0 lj) ∙ r.2.2 in
+            above (get_or ids n 0) r.0 r.1 (subst (λ m. Ends world m) same (ends_below world ids h n (omega (arith, le)) r.2.0 lj)))
+      ]))
   | inr n2 ↦ ends_below world ids h n (omega (arith, le)) k (omega (arith, lt, n2))
 ]
 
@@ -104,7 +108,7 @@ visited world old middle new id s ranked o longer kept climbed r m count grows s
       ordered = λ k lk w. elim w [
         | inl a ↦ subst (λ ids. Contains ids (get_or middle.met.items k 0)) (sym o) (subst (λ n. Contains old.order.items n) (sym (kept k a)) (s.ordered k a))
         | inr b ↦ absurd (omega (arith, lk, b))
-        ];
+      ];
     } in
     let after = settle world climbed.rests before in
     let all : (k : ℕ) → k < length middle.met.items → Contains new.order.items (get_or middle.met.items k 0) = λ k lk. after.ordered k lk (split k (length old.met.items)) in
@@ -121,7 +125,7 @@ visited world old middle new id s ranked o longer kept climbed r m count grows s
       reached = λ named listed all other h. elim (sound other h) [
         | inl before ↦ all other (subst (λ ids. Contains ids other) o before)
         | inr from ↦ from_reached world named middle.met.items (length old.met.items) id other climbed.linked listed from
-        ];
+      ];
     }
   where
     split : (k n : ℕ) → (k < n) ⊎ (n ≤ k)
@@ -132,8 +136,8 @@ settled_first world walk r m o = record {
   ranked = record {
     size = ap length r ∙ length-replicate (length world) None;
     sound = λ id at rank p e. absurd (
-      let w = p.within in
-      let n : None ≡ Some rank = sym (get_or-replicate (length world) at None None p.within) ∙ ap (λ ranks. get_or ranks at None) (sym r) ∙ e in cc);
+        let w = p.within in
+        let n : None ≡ Some rank = sym (get_or-replicate (length world) at None None p.within) ∙ ap (λ ranks. get_or ranks at None) (sym r) ∙ e in cc);
     room = let s = ap (λ ranks. sum_by is_new ranks) r ∙ sum_by-replicate is_new (length world) None in let e = ap length m in omega arith;
   };
   first = λ k d lt. absurd (let e = ap length o in omega (arith, lt));

@@ -62,22 +62,22 @@ met_one world ranks met id at r p e =
       size = length-set ranks at (Some (length met)) ∙ r.size;
       sound = λ other k rank q f. elim (same_or k at) [
         | inl s ↦ (
-          let g : rank ≡ length met = some_same rank (length met) (sym f ∙ ap (rank_at (set ranks at (Some (length met)))) s ∙ get_or-set_same ranks at (Some (length met)) None lt) in
-          let same = one_number world id other at p (subst (λ j. IsPlaceOf world other j) s q) in
-          let l = length_push met id in
-          (omega arith, get_or_push met id 0 rank (sym g) ∙ same))
+            let g : rank ≡ length met = some_same rank (length met) (sym f ∙ ap (rank_at (set ranks at (Some (length met)))) s ∙ get_or-set_same ranks at (Some (length met)) None lt) in
+            let same = one_number world id other at p (subst (λ j. IsPlaceOf world other j) s q) in
+            let l = length_push met id in
+            (omega arith, get_or_push met id 0 rank (sym g) ∙ same))
         | inr n ↦ (
-          let old = r.sound other k rank q (sym (get_or-set_other ranks at k (Some (length met)) None n) ∙ f) in
-          let l = length_push met id in
-          let lt2 = old.0 in
-          (omega arith, get_or_append_left met (id ∷ []) 0 rank old.0 ∙ old.1))
-        ];
+            let old = r.sound other k rank q (sym (get_or-set_other ranks at k (Some (length met)) None n) ∙ f) in
+            let l = length_push met id in
+            let lt2 = old.0 in
+            (omega arith, get_or_append_left met (id ∷ []) 0 rank old.0 ∙ old.1))
+      ];
       room =
-        let s = sum_by-set is_new ranks at (Some (length met)) None lt in
-        let g = ap is_new e in
-        let l = length_push met id in
-        let room = r.room in
-        omega arith;
+          let s = sum_by-set is_new ranks at (Some (length met)) None lt in
+          let g = ap is_new e in
+          let l = length_push met id in
+          let room = r.room in
+          omega arith;
     }
 
 pub fewer : (ranks : List (Option ℕ)) (at n : ℕ) → at < length ranks → rank_at ranks at ≡ None → sum_by is_new (set ranks at (Some n)) < sum_by is_new ranks
@@ -103,10 +103,10 @@ climbs_on world met start current p id c e =
       first = next_push met current p start c.begun ∙ c.first;
       stands = λ k le lt. elim (below_or k (length met)) [
         | inl in_old ↦ (let le2 : k + 1 ≤ length met = omega arith in
-          ap (parent_of world) (get_or_append_left met (current ∷ []) 0 k in_old) ∙ c.stands k le in_old ∙ ap (λ n. Some (Some n)) (sym (next_push met current p (k + 1) le2)))
+            ap (parent_of world) (get_or_append_left met (current ∷ []) 0 k in_old) ∙ c.stands k le in_old ∙ ap (λ n. Some (Some n)) (sym (next_push met current p (k + 1) le2)))
         | inr ge ↦ (let k_is : length met ≡ k = omega arith in let past : length (met ++ current ∷ []) ≤ k + 1 = omega arith in
-          ap (parent_of world) (get_or_push met current 0 k k_is) ∙ e ∙ ap (λ n. Some (Some n)) (sym (get_or_past (met ++ current ∷ []) (k + 1) p past)))
-        ];
+            ap (parent_of world) (get_or_push met current 0 k k_is) ∙ e ∙ ap (λ n. Some (Some n)) (sym (get_or_past (met ++ current ∷ []) (k + 1) p past)))
+      ];
     }
 
 pub climbs_first : (world : List Instance) (met : List ℕ) (id : ℕ) → Climbs world met (length met) id id
@@ -126,14 +126,18 @@ climbed_top world met start current id c e =
       linked = record {
         first = λ lt. next_push met current 0 start c.begun ∙ c.first;
         next = λ k le lt. (let in_old : k < length met = omega arith in let le2 : k + 1 ≤ length met = omega arith in
-          ap (parent_of world) (get_or_append_left met (current ∷ []) 0 k in_old) ∙ c.stands k le in_old ∙ ap (λ n. Some (Some n)) (sym (next_push met current 0 (k + 1) le2)));
+            ap (parent_of world) (get_or_append_left met (current ∷ []) 0 k in_old) ∙ c.stands k le in_old ∙ ap (λ n. Some (Some n)) (sym (next_push met current 0 (k + 1) le2)));
       };
       rests = λ k le lt. elim (below_or k (length met)) [
         | inl in_old ↦ (let le2 : k + 1 ≤ length met = omega arith in
-          inr (k + 1, omega arith, inr refl,
-            ap (parent_of world) (get_or_append_left met (current ∷ []) 0 k in_old) ∙ c.stands k le in_old ∙ ap (λ n. Some (Some n)) (sym (next_push met current 0 (k + 1) le2))))
+            inr (
+              k + 1,
+              omega arith,
+              inr refl,
+              ap (parent_of world) (get_or_append_left met (current ∷ []) 0 k in_old) ∙ c.stands k le in_old ∙ ap (λ n. Some (Some n)) (sym (next_push met current 0 (k + 1) le2)),
+            ))
         | inr ge ↦ (let k_is : length met ≡ k = omega arith in inl (ap (parent_of world) (get_or_push met current 0 k k_is) ∙ e))
-        ];
+      ];
     }
 
 -- the last one stands in one that was met before
@@ -145,7 +149,7 @@ climbed_known world met start current id rank c lt e =
       found = elim (below_or start (length met)) [
         | inl l ↦ (start, l, get_or_default met start id current l ∙ c.first)
         | inr ge ↦ (rank, lr, get_or_default met rank id 0 lr ∙ e ∙ sym (get_or_past met start current ge) ∙ c.first)
-        ];
+      ];
       linked = record {
         first = λ l. get_or_default met start 0 current l ∙ c.first;
         next = λ k le l. (let lk : k < length met = omega arith in c.stands k le lk ∙ ap (λ n. Some (Some n)) (get_or_default met (k + 1) current 0 l));
@@ -153,7 +157,7 @@ climbed_known world met start current id rank c lt e =
       rests = λ k le lk. elim (below_or (k + 1) (length met)) [
         | inl l ↦ inr (k + 1, l, inr refl, c.stands k le lk ∙ ap (λ n. Some (Some n)) (get_or_default met (k + 1) current 0 l))
         | inr ge ↦ inr (rank, lr, inl lt, c.stands k le lk ∙ ap (λ n. Some (Some n)) (get_or_past met (k + 1) current ge ∙ sym e))
-        ];
+      ];
     }
 
 -- Ways that never end.
@@ -209,13 +213,13 @@ first_push world ids x h s k d lt =
     let l = length_push ids x in
     elim (below_or k (length ids)) [
       | inl in_old ↦ (
-        let le : k ≤ length ids = omega arith in
-        let front : take k (ids ++ x ∷ []) ≡ take k ids = take-append-le k ids (x ∷ []) le in
-        let item : get_or (ids ++ x ∷ []) k d ≡ get_or ids k d = get_or_append_left ids (x ∷ []) d k in_old in
-        subst (λ n. StandsIn world (take k (ids ++ x ∷ [])) n) (sym item) (subst (λ f. StandsIn world f (get_or ids k d)) (sym front) (h k d in_old)))
+          let le : k ≤ length ids = omega arith in
+          let front : take k (ids ++ x ∷ []) ≡ take k ids = take-append-le k ids (x ∷ []) le in
+          let item : get_or (ids ++ x ∷ []) k d ≡ get_or ids k d = get_or_append_left ids (x ∷ []) d k in_old in
+          subst (λ n. StandsIn world (take k (ids ++ x ∷ [])) n) (sym item) (subst (λ f. StandsIn world f (get_or ids k d)) (sym front) (h k d in_old)))
       | inr ge ↦ (
-        let e : length ids ≡ k = omega arith in
-        let front : take k (ids ++ x ∷ []) ≡ ids = take_at ids (x ∷ []) k e in
-        let item : get_or (ids ++ x ∷ []) k d ≡ x = get_or_push ids x d k e in
-        subst (λ n. StandsIn world (take k (ids ++ x ∷ [])) n) (sym item) (subst (λ f. StandsIn world f x) (sym front) s))
+          let e : length ids ≡ k = omega arith in
+          let front : take k (ids ++ x ∷ []) ≡ ids = take_at ids (x ∷ []) k e in
+          let item : get_or (ids ++ x ∷ []) k d ≡ x = get_or_push ids x d k e in
+          subst (λ n. StandsIn world (take k (ids ++ x ∷ [])) n) (sym item) (subst (λ f. StandsIn world f x) (sym front) s))
     ]

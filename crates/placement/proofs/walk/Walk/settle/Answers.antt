@@ -17,7 +17,7 @@ loop-k-preserved c =
     let same = ap length i.met in
     let lt : k - 1 < length c.loop-k.self.met.items = omega arith in
     let e : c.push.new.self.items ≡ order ++ get_or met (k - 1) 0 ∷ [] =
-        c.in_ok-push.ensures.items ∙ ap (λ (x : ℕ). order ++ x ∷ []) (c.index.ensures ∙ get_or_default c.loop-k.self.met.items (k - 1) c.index.result.now 0 lt ∙ ap (λ (m : List ℕ). get_or m (k - 1) 0) i.met) in
+    c.in_ok-push.ensures.items ∙ ap (λ (x : ℕ). order ++ x ∷ []) (c.index.ensures ∙ get_or_default c.loop-k.self.met.items (k - 1) c.index.result.now 0 lt ∙ ap (λ (m : List ℕ). get_or m (k - 1) 0) i.met) in
     let long = ap length e in
     let more = length_push order (get_or met (k - 1) 0) in
     let count = i.count in

@@ -1,0 +1,54 @@
+-- The points of a file, and the lengths of it that aren't on the grid.
+use Rattle.std.specs.Prelude.{◌≡◌, ℕ, true, List, Option, Some, None}
+use Rattle.std.specs.List.{AllZip, slice_get}
+use Rattle.bim_model.specs.declared.upload.Mode.{Mode}
+use Rattle.bim_model.specs.declared.upload.UploadFault.{UploadFault}
+use Rattle.bim_model.specs.declared.upload.UploadFault.TheVariants as faults
+use Rattle.bim_model.specs.declared.geometry.Point.{Point}
+use Rattle.p21_reader.specs.declared.value.Instance.{Instance}
+use Rattle.ifc_schema.specs.declared.entity.Entity.TheVariants.{PointList}
+use Rattle.ifc_schema.specs.Looking.{is_a}
+use Rattle.ifc_units.specs.declared.scale.Scale.{Scale}
+use Rattle.ifc_units.specs.declared.fault.GridFault.{GridFault}
+use Rattle.ifc_units.specs.declared.fault.GridFault.TheVariants.{OffGrid, TooFar}
+use Rattle.ifc_units.specs.Lengths.{ArePoints, InstanceRefused}
+use Rattle.faceset.specs.Sets.{listed}
+use Rattle.model_build.specs.Finding.{Finds}
+
+-- an instance is a list of points, and these are they
+pub record IsListOf (scale : Scale) (mode : Mode) (i : Instance) (points : List Point) : Type 0 where
+  pub kind : is_a PointList i ≡ true
+  pub are : ArePoints scale mode (listed i 0) points
+
+-- In a table there is a place for each instance, where the points of a list of points stand.
+
+abbrev pub Tabled : Scale → Mode → Instance → Option (List Point) → Type 0
+Tabled scale mode i None = (points : List Point) → IsListOf scale mode i points → ⊥
+Tabled scale mode i (Some points) = IsListOf scale mode i points
+
+abbrev pub IsTable : List Instance → Scale → Mode → List (Option (List Point)) → Type 0
+IsTable world scale mode table = AllZip (Tabled scale mode) world table
+
+-- what stands at a place, if there is one
+abbrev pub kept_in : Option (Option (List Point)) → Option (List Point)
+kept_in None = None
+kept_in (Some kept) = kept
+
+abbrev pub kept_at : List (Option (List Point)) → ℕ → Option (List Point)
+kept_at table at = kept_in (slice_get table at)
+
+-- the instance of that number is a list of points, and these are they
+abbrev pub ListsPoints : List Instance → Scale → Mode → ℕ → List Point → Type 0
+ListsPoints world scale mode id points = Finds world id (λ i. IsListOf scale mode i points)
+
+-- Faults: the first number of a point or of a list of points that isn't on the grid, or is beyond the reach.
+
+abbrev pub Refuses : List Instance → Scale → Mode → ℕ → GridFault → Type 0
+Refuses world scale mode id refused = Finds world id (λ i. InstanceRefused scale mode i refused)
+
+abbrev pub told_of : ℕ → GridFault → UploadFault
+told_of id OffGrid = faults.OffGrid id
+told_of id TooFar = faults.TooFar id
+
+abbrev pub LengthFault : List Instance → Scale → Mode → ℕ → UploadFault → Type 0
+LengthFault world scale mode id fault = (refused : GridFault) × (fault ≡ told_of id refused) × Refuses world scale mode id refused
