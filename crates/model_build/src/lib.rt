@@ -9,3 +9,4 @@ mod order;
 mod storeys;
 mod texts;
 mod items;
+mod least;
