@@ -11,3 +11,4 @@ pub mod Bodied
 pub mod Sets
 pub mod Collecting
 pub mod LeastOf
+pub mod Staged
