@@ -10,3 +10,6 @@ pub mod Attributes
 pub mod Shaped
 pub mod Bodied
 pub mod Sets
+pub mod Collecting
+pub mod LeastOf
+pub mod Staged
