@@ -13,7 +13,8 @@ ghost use Rattle.model_build.specs.Profile.{LoopFault, ObliqueFault, IndexFault}
 ghost use Rattle.model_build.specs.Outcomes.{IsErrorOf, AreServed, HasChains};
 
 use crate::guids::first_repeated;
-use crate::items::{count_triangles, first_bad_index, first_oblique, has_other};
+use crate::items::{count_triangles, has_other};
+use crate::least::{first_bad_index, first_oblique};
 use crate::named::placements;
 use bim_model::{BuildError, Many, UploadFault};
 use ifc_schema::Survey;
