@@ -4,6 +4,7 @@ pub mod Naming
 pub mod Repeating
 pub mod Ordering
 pub mod Placed
+pub mod Told
 pub mod Keywords
 pub mod Attributes
 pub mod Shaped

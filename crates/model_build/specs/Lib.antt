@@ -6,5 +6,10 @@ pub mod Order
 pub mod Items
 pub mod Named
 pub mod PointTables
+pub mod Surfaces
+pub mod Elements
+pub mod Sound
+pub mod Outcomes
+pub mod Profile
 pub mod Counting
 pub mod Least

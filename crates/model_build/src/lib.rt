@@ -3,6 +3,7 @@
 
 mod find;
 mod points;
+mod surface;
 mod guids;
 mod named;
 mod order;
