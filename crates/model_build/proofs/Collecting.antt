@@ -1,5 +1,5 @@
 -- The sets of bodies, collected value by value.
-use Rattle.std.proofs.Common.{◌≡◌, ℕ, ◌+◌, ◌<◌, ◌≤◌, Bool, true, false, cond, not, List, [], ◌∷◌, ◌++◌, length, get_or, take, take_all, map, filter, filter_map, flat_map, sum_by, Option, Some, None, option_copied, option_and_then, refl, sym, ap, ◌∙◌, subst, append_assoc, append-nil, arith}
+use Rattle.std.proofs.Common.{◌≡◌, ℕ, ◌+◌, ◌<◌, ◌≤◌, true, false, List, [], ◌∷◌, ◌++◌, length, get_or, take, take_all, map, filter, filter_map, flat_map, sum_by, Option, Some, None, option_and_then, refl, sym, ap, ◌∙◌, append_assoc, append-nil}
 use Rattle.std.specs.List.{cons_option}
 use Rattle.std.proofs.lemmas.List.{take_more, map-append}
 use Rattle.std.proofs.lemmas.List.Elements.{filter-append, filter_map-append}
@@ -11,7 +11,7 @@ use Rattle.ifc_schema.specs.Values.{reference_of}
 use Rattle.ifc_schema.specs.Looking.{look}
 use Rattle.ifc_schema.specs.Bodies.{is_body_representation}
 use Rattle.model_build.specs.Finding.{led_to, target_at}
-use Rattle.model_build.specs.Items.{items_of_body, bodies, body_items, body_sets, listed_by, row_count, counted, count_of}
+use Rattle.model_build.specs.Items.{items_of_body, body_sets, listed_by, row_count, counted, count_of}
 use Rattle.model_build.specs.Counting.{sets_in, Number, rows_of, rows_at}
 
 led_append : (world : List Instance) (xs ys : List Value21) → led_to world (xs ++ ys) ≡ led_to world xs ++ led_to world ys
@@ -31,7 +31,7 @@ more : (f : List Value21 → List Instance) → ((xs ys : List Value21) → f (x
 more f parts vs k v start old new lt at e n =
     let t : take (k + 1) vs ≡ take k vs ++ v ∷ [] = take_more vs k v lt ∙ ap (λ x. take k vs ++ x ∷ []) (sym at) in
     let joined : map Some (f (take (k + 1) vs)) ≡ map Some (f (take k vs)) ++ map Some (f (v ∷ [])) =
-        ap (λ xs. map Some (f xs)) t ∙ ap (map Some) (parts (take k vs) (v ∷ [])) ∙ map-append Some (f (take k vs)) (f (v ∷ [])) in
+    ap (λ xs. map Some (f xs)) t ∙ ap (map Some) (parts (take k vs) (v ∷ [])) ∙ map-append Some (f (take k vs)) (f (v ∷ [])) in
     n ∙ ap (λ xs. xs ++ map Some (f (v ∷ []))) e ∙ append_assoc start (map Some (f (take k vs))) (map Some (f (v ∷ []))) ∙ ap (λ xs. start ++ xs) (sym joined)
 
 pub led_more : (world : List Instance) (vs : List Value21) (k : ℕ) (v : Value21) (start old new : List (Option Instance)) → k < length vs → v ≡ get_or vs k v

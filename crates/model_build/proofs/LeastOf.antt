@@ -1,24 +1,23 @@
 -- The first of numbers that rise is the least.
-use Rattle.std.proofs.Common.{◌≡◌, ℕ, ◌+◌, ◌<◌, ◌≤◌, ◌⊎◌, inl, inr, true, List, length, get_or, take, take_all, Contains, refl, sym, ap, ◌∙◌, subst, arith}
+use Rattle.std.proofs.Common.{◌≡◌, ℕ, ◌<◌, ◌≤◌, ◌⊎◌, inl, inr, true, List, length, get_or, take, take_all, Contains, refl, ap, ◌∙◌, subst, arith}
 use Rattle.std.specs.List.{All}
 use Rattle.std.specs.List.Sorted.{IsStrictlyIncreasing}
 use Rattle.std.proofs.lemmas.List.{get_or-take, length-take, get_or_default}
 use Rattle.std.proofs.lemmas.List.Elements.{All-contains, Contains-get_or}
 use Rattle.std.proofs.lemmas.List.Kept.{AllPairs-from_increasing}
 use Rattle.p21_reader.specs.declared.value.Instance.{Instance}
-use Rattle.bim_model.specs.declared.upload.UploadFault.{UploadFault}
 use Rattle.bim_model.specs.declared.upload.UploadFault.TheVariants as faults
 use Rattle.ifc_schema.specs.declared.entity.Entity.TheVariants.{AxisPlacement, TriangulatedFaceSet}
-use Rattle.ifc_schema.specs.Looking.{look, is_a}
+use Rattle.ifc_schema.specs.Looking.{is_a}
 use Rattle.ifc_schema.specs.Used.{Used}
 use Rattle.ifc_schema.specs.StageFive.{Lists}
 use Rattle.faceset.specs.Sets.{HasBadIndex}
 use Rattle.placement.specs.declared.axes.Axes.{Axes}
 use Rattle.placement.specs.Directions.{HasAxes, HasDirections, Oblique}
 use Rattle.placement.proofs.Square.{square}
-use Rattle.model_build.specs.Stages.{Stage, IsClear, LeastFault}
+use Rattle.model_build.specs.Stages.{IsClear, LeastFault}
 use Rattle.model_build.specs.Finding.{Finds, IsUsed}
-use Rattle.model_build.specs.Least.{IsLeastOf, NoneOf, IsBadSet, IsAxisPlacement, IsOblique}
+use Rattle.model_build.specs.Least.{IsLeastOf, NoneOf, IsBadSet, IsOblique}
 
 -- what stands in the list and is lower stands before
 before : (ids : List ℕ) (i k : ℕ) → IsStrictlyIncreasing ids → i < length ids → (c : Contains ids k) → k < get_or ids i 0 → c.0 < i

@@ -1,10 +1,8 @@
 -- What the searches of items say of the stages of a file.
-use Rattle.std.proofs.Common.{◌≡◌, ℕ, zero, suc, ◌+◌, ◌<◌, ◌≤◌, ◌⊎◌, inl, inr, List, [], ◌∷◌, length, get_or, sum_by, Contains, refl, sym, ap, ◌∙◌, subst, arith}
+use Rattle.std.proofs.Common.{◌≡◌, ℕ, zero, suc, ◌<◌, ◌≤◌, ◌⊎◌, inl, inr, List, [], ◌∷◌, get_or, sum_by, Contains, refl, sym, ap, subst, arith}
 use Rattle.std.specs.List.{Any, AllPairs}
-use Rattle.std.specs.List.Sorted.{IsStrictlyIncreasing}
 use Rattle.std.proofs.lemmas.List.Kept.{AllPairs-from_increasing}
 use Rattle.p21_reader.specs.declared.value.Instance.{Instance}
-use Rattle.bim_model.specs.declared.upload.UploadFault.{UploadFault}
 use Rattle.bim_model.specs.declared.upload.UploadFault.TheVariants as faults
 use Rattle.bim_model.specs.declared.upload.Many.TheVariants as many
 use Rattle.ifc_schema.specs.Used.{Used}
@@ -12,7 +10,7 @@ use Rattle.ifc_schema.specs.StageFive.{Lists, IsModelElement}
 use Rattle.placement.specs.Directions.{HasDirections}
 use Rattle.model_build.specs.Stages.{IsClear}
 use Rattle.model_build.specs.Finding.{Finds}
-use Rattle.model_build.specs.Items.{HasOther, ItemStage, count_of, HasTriangles, most_triangles, TrianglesStage}
+use Rattle.model_build.specs.Items.{HasOther, ItemStage, count_of, most_triangles, TrianglesStage}
 use Rattle.model_build.specs.Least.{IsAxisPlacement}
 use Rattle.model_build.proofs.Attributes.{Shaped}
 use Rattle.model_build.proofs.Shaped.{has_directions}

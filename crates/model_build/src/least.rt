@@ -86,9 +86,9 @@ pub fn first_oblique(exchange: &Exchange, used: &[u64]) -> Option<u64>
     requires read { (id : ℕ) → Contains used.now id → IsAxisPlacement exchange.now id → HasDirections exchange.now id }
     ensures { MatchOption result (NoneOf used.now (IsOblique exchange.now)) (IsLeastOf used.now (IsOblique exchange.now)) }
 {
-    for id in used {
-        if is_oblique(exchange, *id) {
-            return Some(*id);
+    for placement in used {
+        if is_oblique(exchange, *placement) {
+            return Some(*placement);
         }
     }
     None

@@ -1,9 +1,7 @@
-use Rattle.std.proofs.Common.{rules, ◌≡◌, ◌++◌, ◌∷◌, [], map, false, true, Some, OnOk, sym, ap, subst, ◌∙◌}
-use Rattle.p21_reader.specs.declared.value.Instance.{Instance}
+use Rattle.std.proofs.Common.{rules, ◌≡◌, ◌++◌, ◌∷◌, [], map, false, true, Some, OnOk, ap, subst, ◌∙◌}
 use Rattle.ifc_schema.specs.Looking.{look}
 use Rattle.ifc_schema.specs.Bodies.{is_body_representation}
 use Rattle.model_build.specs.Finding.{led_to}
-use Rattle.model_build.specs.Items.{items_of_body}
 use Rattle.model_build.specs.Counting.{sets_in}
 use Rattle.model_build.proofs.Collecting.{adds_nothing, adds_no_body, body_adds}
 use Rattle.model_build.proofs.items.add_body.Goals as goal

@@ -1,7 +1,5 @@
-use Rattle.std.proofs.Common.{◌≡◌, map, take, Some, length, [], refl, rules, ap, ◌∙◌, sym}
-use Rattle.p21_reader.specs.declared.value.Instance.{Instance}
+use Rattle.std.proofs.Common.{map, Some, rules, ap, ◌∙◌, sym}
 use Rattle.ifc_schema.specs.Looking.{look}
-use Rattle.model_build.specs.Counting.{sets_in}
 use Rattle.model_build.proofs.Collecting.{sets_none, sets_more, sets_all}
 use Rattle.model_build.proofs.items.body_sets.Goals as goal
 

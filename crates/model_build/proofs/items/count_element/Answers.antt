@@ -1,6 +1,6 @@
-use Rattle.std.proofs.Common.{◌≡◌, ◌<◌, ◌≤◌, ◌+◌, sum_by, Some, subst, ap, ◌∙◌, sym}
+use Rattle.std.proofs.Common.{◌≡◌, ◌<◌, ◌≤◌, ◌+◌, sum_by, subst, ap, ◌∙◌}
 use Rattle.std.specs.Option.{IfSome, IfNone}
-use Rattle.model_build.specs.Items.{count_of, most_triangles}
+use Rattle.model_build.specs.Items.{most_triangles}
 use Rattle.model_build.specs.Counting.{rows_at}
 use Rattle.model_build.proofs.Collecting.{counts_element}
 use Rattle.model_build.proofs.items.count_element.Goals as goal

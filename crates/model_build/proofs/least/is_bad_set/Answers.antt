@@ -1,4 +1,4 @@
-use Rattle.std.proofs.Common.{◌≡◌, ℕ, Bool, true, false, List, Option, Some, subst, sym, ◌∙◌}
+use Rattle.std.proofs.Common.{◌≡◌, ℕ, Bool, true, false, List, Some, subst, sym, ◌∙◌}
 use Rattle.std.specs.Bool.{MatchBool}
 use Rattle.p21_reader.specs.declared.value.Instance.{Instance}
 use Rattle.ifc_schema.specs.declared.entity.Entity.TheVariants.{TriangulatedFaceSet}
