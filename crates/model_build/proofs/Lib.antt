@@ -10,3 +10,7 @@ pub mod Attributes
 pub mod Shaped
 pub mod Bodied
 pub mod Sets
+pub mod OneAxes
+pub mod OneFrame
+pub mod OneSet
+pub mod OneSurface
