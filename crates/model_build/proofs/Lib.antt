@@ -14,3 +14,6 @@ pub mod OneAxes
 pub mod OneFrame
 pub mod OneSet
 pub mod OneSurface
+pub mod Collecting
+pub mod LeastOf
+pub mod Staged

@@ -10,3 +10,4 @@ mod order;
 mod storeys;
 mod texts;
 mod items;
+mod least;
