@@ -10,3 +10,4 @@ pub mod Attributes
 pub mod Shaped
 pub mod Bodied
 pub mod Sets
+pub mod Surfaced
