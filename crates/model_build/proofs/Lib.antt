@@ -17,3 +17,4 @@ pub mod OneSurface
 pub mod Collecting
 pub mod LeastOf
 pub mod Staged
+pub mod Surfaced

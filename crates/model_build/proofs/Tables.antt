@@ -1,5 +1,5 @@
 -- Tables of points.
-use Rattle.std.proofs.Common.{◌≡◌, ℕ, zero, suc, ◌+◌, ◌<◌, ◌≤◌, inl, inr, Bool, true, false, List, [], ◌∷◌, ◌++◌, length, get_or, take, take_all, Option, Some, None, refl, sym, ap, ◌∙◌, subst, arith}
+use Rattle.std.proofs.Common.{◌≡◌, ℕ, ◌+◌, ◌<◌, ◌≤◌, inl, inr, List, [], ◌∷◌, ◌++◌, length, get_or, take, take_all, Option, Some, None, sym, ap, ◌∙◌, subst}
 use Rattle.std.specs.Option.{MatchOption, IsSomeAnd, unwrap_or, option_and_then}
 use Rattle.std.specs.List.{AllZip, slice_get}
 use Rattle.std.proofs.lemmas.Option.{slice_get-get_or}
@@ -21,7 +21,7 @@ use Rattle.ifc_units.specs.declared.fault.LengthError.TheVariants as error
 use Rattle.ifc_units.proofs.PointFacts.{points_apart}
 use Rattle.ifc_units.proofs.InstanceFacts.{not_both}
 use Rattle.faceset.specs.Sets.{listed}
-use Rattle.model_build.specs.PointTables.{IsListOf, Tabled, IsTable, kept_in, kept_at, ListsPoints, Refuses}
+use Rattle.model_build.specs.PointTables.{IsListOf, Tabled, IsTable, kept_at, ListsPoints, Refuses}
 
 -- what stands at one place of both
 pub zipped_at : {A B : Type 0} (R : A → B → Type 0) (xs : List A) (ys : List B) (k : ℕ) (x : A) (y : B) → AllZip R xs ys → slice_get xs k ≡ Some x → slice_get ys k ≡ Some y → R x y

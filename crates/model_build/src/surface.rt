@@ -62,16 +62,21 @@ pub fn own_triangles(
 }
 
 /// The triangle in the building. None where a corner isn't in reach.
-fn moved(frame: &Frame, triangle: Triangle) -> Option<Triangle>
+fn moved(frame: &Frame, triangle: &Triangle) -> Option<Triangle>
     requires frame { IsFrame frame.now }
     requires near { AreWithin most frame.now.offset }
-    ensures { MatchOption result (Any IsOut (corners_of (moved frame.now triangle ∷ []))) (λ there. (there ≡ moved frame.now triangle) × All IsInReach (corners_of (there ∷ []))) }
+    ensures { MatchOption result (Any IsOut (corners_of (moved frame.now triangle.now ∷ []))) (λ there. (there ≡ moved frame.now triangle.now) × All IsInReach (corners_of (there ∷ []))) }
 {
-    Some(Triangle {
-        a: frame.place(triangle.a)?,
-        b: frame.place(triangle.b)?,
-        c: frame.place(triangle.c)?,
-    })
+    let Some(a) = frame.place(triangle.a) else {
+        return None;
+    };
+    let Some(b) = frame.place(triangle.b) else {
+        return None;
+    };
+    let Some(c) = frame.place(triangle.c) else {
+        return None;
+    };
+    Some(Triangle { a, b, c })
 }
 
 /// The triangles in the building. None where a corner isn't in reach.
@@ -86,7 +91,7 @@ pub fn all_moved(
 {
     let mut made = Vec::with_capacity(alloc, own.len())?;
     for triangle in own {
-        match moved(frame, *triangle) {
+        match moved(frame, triangle) {
             Some(there) => made.push(there)?,
             None => return Ok(None),
         }
