@@ -9,7 +9,7 @@ use Rattle.bim_model.specs.declared.element.Element.{Element}
 use Rattle.bim_model.specs.declared.geometry.Triangle.{Triangle}
 use Rattle.bim_model.specs.Guids.{IsGuid}
 use Rattle.bim_model.specs.Boxes.{corners_of}
-use Rattle.bim_model.specs.Models.{IsInReach, IsModelled}
+use Rattle.bim_model.specs.Models.{IsInReach}
 use Rattle.p21_reader.specs.declared.value.Value21.{Value21}
 use Rattle.p21_reader.specs.declared.value.Instance.{Instance}
 use Rattle.ifc_schema.specs.Values.{reference_of, is_absent}
@@ -25,7 +25,7 @@ use Rattle.model_build.specs.Finding.{Finds}
 use Rattle.model_build.specs.Texts.{guid_of, NoneRepeats}
 use Rattle.model_build.specs.Least.{NoneOf, IsOblique}
 use Rattle.model_build.specs.PointTables.{LengthFault}
-use Rattle.model_build.specs.Items.{HasOther, body_sets, row_count}
+use Rattle.model_build.specs.Items.{HasOther, body_sets, row_count, count_of}
 use Rattle.model_build.specs.Named.{ListsNamed}
 use Rattle.model_build.specs.Surfaces.{IsPlacedBy, IsSurface, IsBeyond}
 use Rattle.model_build.specs.Elements.{IsElement}
@@ -76,7 +76,9 @@ pub record IsNearSurface (world : List Instance) (scale : Scale) (mode : Mode) (
 -- the element of that number, in reach
 pub record IsNearElement (world : List Instance) (scale : Scale) (mode : Mode) (id : ℕ) (element : Element) : Type 0 where
   pub is_element : IsElement world scale mode id element
-  pub modelled : IsModelled element
+  pub guid : IsGuid element.guid.chars
+  pub near : All IsInReach (corners_of element.triangles)
+  pub count : length element.triangles ≡ count_of world id
 
 abbrev pub Lacks : List Instance → Scale → Mode → List ℕ → Instance → Lack → Type 0
 Lacks world scale mode placements i Beyond = IsBeyond world scale mode i

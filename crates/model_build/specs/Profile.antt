@@ -75,7 +75,7 @@ FileFault world mode =
     (λ fault. (scale : Scale) × IsLengthUnit world scale × AfterUnit world scale mode fault))
 
 -- The bytes make the model; or they have that fault, as a spelled file or by its instances.
-abbrev pub Profile : List ℕ → Mode → Result (List Element) UploadFault → Type 0
+unfoldable pub Profile : List ℕ → Mode → Result (List Element) UploadFault → Type 0
 Profile bytes mode (Ok elements) = (world : List Instance) × SpellsExchange bytes world × IsClear (FileFault world mode) × IsModelOf world mode elements
 Profile bytes mode (Err fault) = HasFault bytes fault ⊎ ((world : List Instance) × SpellsExchange bytes world × FileFault world mode fault)
 
