@@ -5,3 +5,5 @@ pub mod Firsts
 pub mod LengthFacts
 pub mod PointFacts
 pub mod InstanceFacts
+pub mod Scans
+pub mod UnitFacts

@@ -2,6 +2,7 @@
 ghost use Rattle.std.specs.Prelude.{◌≡◌, ◌<◌, ℕ, ℤ, List};
 ghost use Rattle.bim_model.specs.declared.geometry.Point.{Point};
 ghost use Rattle.bim_model.specs.declared.upload.Mode.{Mode};
+ghost use Rattle.bim_model.specs.declared.upload.UploadFault.{UploadFault};
 ghost use Rattle.bim_model.specs.Models.{IsInReach};
 ghost use Rattle.bim_text.specs.Values.{Scaled};
 ghost use Rattle.p21_reader.specs.declared.value.Value21.{Value21};
@@ -10,6 +11,7 @@ ghost use Rattle.ifc_units.specs.declared.scale.Scale.{Scale};
 ghost use Rattle.ifc_units.specs.declared.fault.GridFault.{GridFault};
 ghost use Rattle.ifc_units.specs.Grid.{IsGridNumber};
 ghost use Rattle.ifc_units.specs.Lengths.{IsLength, LengthRefused, IsPoint, PointRefused, ArePoints, PointsRefused, InstanceRefused};
+ghost use Rattle.ifc_units.specs.Units.{IsLengthUnit, LengthUnitFault};
 
 /// A length has at most one grid number, while there are fewer than 500 to a millimetre. So `to_grid` gives a number exactly where it
 /// is the length's and within 800,000 mm.
@@ -42,4 +44,11 @@ pub fn one_list_of_points()
 /// The numbers of an instance have one fault at most.
 pub fn one_instance_fault()
     ensures { (scale : Scale) (mode : Mode) (i : Instance) (f g : GridFault) → InstanceRefused scale mode i f → InstanceRefused scale mode i g → f ≡ g }
+{}
+
+/// A file has one length unit at most, or has one fault.
+pub fn one_length_unit()
+    ensures unit { (world : List Instance) (s t : Scale) → IsLengthUnit world s → IsLengthUnit world t → s ≡ t }
+    ensures fault { (world : List Instance) (f g : UploadFault) → LengthUnitFault world f → LengthUnitFault world g → f ≡ g }
+    ensures apart { (world : List Instance) (s : Scale) (f : UploadFault) → IsLengthUnit world s → LengthUnitFault world f → ⊥ }
 {}

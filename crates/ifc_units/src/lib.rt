@@ -9,6 +9,7 @@ mod laws;
 mod lengths;
 mod scale;
 mod sizes;
+mod units;
 
 pub use fault::{GridFault, LengthError};
 pub use grid::to_grid;
@@ -16,6 +17,9 @@ pub use instances::fault_of_points;
 pub use laws::{one_grid_number, one_instance_fault, one_length, one_list_of_points, one_point};
 pub use lengths::{length, point, points, points_fault};
 pub use scale::Scale;
+pub use units::length_unit;
 
+#[cfg(test)]
+mod file_tests;
 #[cfg(test)]
 mod tests;
