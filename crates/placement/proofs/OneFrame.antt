@@ -1,5 +1,5 @@
 -- An axis placement has one frame.
-use Rattle.std.proofs.Common.{◌≡◌, ℕ, List, Option, Some, refl, sym, ap, ◌∙◌, subst}
+use Rattle.std.proofs.Common.{◌≡◌, ℕ, List, Option, Some, None, refl, sym, ap, ◌∙◌, subst}
 use Rattle.bim_model.specs.declared.geometry.Point.{Point}
 use Rattle.bim_model.specs.declared.upload.Mode.{Mode}
 use Rattle.p21_reader.specs.declared.value.Value21.{Value21}
@@ -11,9 +11,10 @@ use Rattle.placement.specs.declared.axis.Axis.{Axis}
 use Rattle.placement.specs.declared.axes.Axes.{Axes}
 use Rattle.placement.specs.declared.direction.Vector.{Vector}
 use Rattle.placement.specs.declared.frame.Frame.{Frame}
-use Rattle.placement.specs.Frames.{lengths_of, frame_at}
+use Rattle.placement.specs.Frames.{carried, lengths_of, frame_at}
+use Rattle.placement.specs.Chains.{parent_of}
 use Rattle.placement.specs.Directions.{HasAxes, LiesAlong, without, cross, unit, first_direction, second_direction}
-use Rattle.placement.specs.Placed.{value_at, referred_at, IsLocation, AxisFrame, OwnFrame}
+use Rattle.placement.specs.Placed.{value_at, referred_at, IsLocation, AxisFrame, OwnFrame, IsComposed, FrameOf, outermost, within}
 use Rattle.placement.proofs.Aligned.{one_axis}
 use Rattle.placement.proofs.Square.{same_directions}
 
@@ -52,3 +53,26 @@ pub one_own_frame : (world : List Instance) (s : Scale) (mode : Mode) (id : ℕ)
 one_own_frame world s mode id f g a b =
     let same = one (referred_at world id 1) a.to b.to a.refers b.refers in
     one_axis_frame world s mode b.to f g (subst (λ (n : ℕ). AxisFrame world s mode n f) same a.given) b.given
+
+-- In the building: one place for each point.
+
+none_some : {A : Type 0} (o : Option (Option ℕ)) (a : ℕ) → o ≡ Some None → o ≡ Some (Some a) → A
+none_some o a e f = absurd (cc)
+
+same_parent : (o : Option (Option ℕ)) (a b : ℕ) → o ≡ Some (Some a) → o ≡ Some (Some b) → a ≡ b
+same_parent o a b e f = let g : Some (Some a) ≡ Some (Some b) = sym e ∙ f in cc
+
+top_carried : (world : List Instance) (s : Scale) (mode : Mode) (id : ℕ) (g : Frame) → FrameOf world s mode id g → (f : Frame) → parent_of world id ≡ Some None → OwnFrame world s mode id f → (p : Point) → carried f p ≡ carried g p
+top_carried world s mode _ _ (outermost id g d q) f e o p = ap (λ (h : Frame). carried h p) (one_own_frame world s mode id f g o q)
+top_carried world s mode _ _ (within id parent own outer g d q up c) f e o p = none_some (parent_of world id) parent e d
+
+inner_carried : (world : List Instance) (s : Scale) (mode : Mode) (id : ℕ) (g : Frame) → FrameOf world s mode id g → (parent : ℕ) (own outer f : Frame) → parent_of world id ≡ Some (Some parent) → OwnFrame world s mode id own → IsComposed outer own f
+    → ((h : Frame) → FrameOf world s mode parent h → (p : Point) → carried outer p ≡ carried h p) → (p : Point) → carried f p ≡ carried g p
+inner_carried world s mode _ _ (outermost id g d q) parent own outer f e o c ih p = none_some (parent_of world id) parent d e
+inner_carried world s mode _ _ (within id above other further g d q up k) parent own outer f e o c ih p =
+    let same = same_parent (parent_of world id) above parent d e in
+    c p ∙ ih further (subst (λ (n : ℕ). FrameOf world s mode n further) same up) (carried own p) ∙ ap (λ (h : Frame). carried further (carried h p)) (one_own_frame world s mode id own other o q) ∙ sym (k p)
+
+pub one_carried : (world : List Instance) (s : Scale) (mode : Mode) (id : ℕ) (f g : Frame) → FrameOf world s mode id f → FrameOf world s mode id g → (p : Point) → carried f p ≡ carried g p
+one_carried world s mode _ _ g (outermost id f e o) b p = top_carried world s mode id g b f e o p
+one_carried world s mode _ _ g (within id parent own outer f e o up c) b p = inner_carried world s mode id g b parent own outer f e o c (λ h k q. one_carried world s mode parent outer h up k q) p
