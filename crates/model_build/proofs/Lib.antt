@@ -11,3 +11,4 @@ pub mod Shaped
 pub mod Bodied
 pub mod Sets
 pub mod Surfaced
+pub mod Readable
