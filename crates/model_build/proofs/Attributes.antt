@@ -1,8 +1,8 @@
 -- What follows for an attribute of an instance that has no flaw.
-use Rattle.std.proofs.Common.{◌≡◌, ◌≢◌, ℕ, ◌+◌, ◌<◌, ◌≤◌, ◌==◌, nat_le, ◌⊎◌, inl, inr, Bool, true, false, ◌&&◌, ◌||◌, if◌then◌else◌, List, [], ◌∷◌, length, get_or, Option, Some, None, is_some, Contains, IsTrue, ◌↔◌, refl, sym, ap, ◌∙◌, subst, arith}
+use Rattle.std.proofs.Common.{◌≡◌, ℕ, ◌⊎◌, inl, inr, Bool, true, false, if◌then◌else◌, List, length, get_or, Option, Some, None, is_some, Contains, refl, sym, subst}
 use Rattle.std.specs.Bool.{MatchBool}
 use Rattle.std.specs.Option.{MatchOption}
-use Rattle.std.specs.List.{slice_get, All, Any}
+use Rattle.std.specs.List.{slice_get, All}
 use Rattle.std.proofs.lemmas.List.Elements.{All-contains}
 use Rattle.p21_reader.specs.declared.value.Value21.{Value21}
 use Rattle.p21_reader.specs.declared.value.Instance.{Instance}
@@ -15,23 +15,19 @@ use Rattle.ifc_schema.specs.declared.form.Targets.TheVariants as targets
 use Rattle.ifc_schema.specs.declared.form.Leaf.{Leaf}
 use Rattle.ifc_schema.specs.declared.form.Leaf.TheVariants as leaf
 use Rattle.ifc_schema.specs.declared.form.Count.{Count}
-use Rattle.ifc_schema.specs.declared.form.Count.TheVariants.{Exactly, AtLeast}
 use Rattle.ifc_schema.specs.declared.form.Shape.{Shape}
-use Rattle.ifc_schema.specs.declared.form.Shape.TheVariants as shape
-use Rattle.ifc_schema.specs.declared.form.Need.TheVariants.{Must, OrAbsent, OrMissing}
+use Rattle.ifc_schema.specs.declared.form.Need.TheVariants.{Must, OrAbsent}
 use Rattle.ifc_schema.specs.declared.form.When.{When}
-use Rattle.ifc_schema.specs.declared.form.When.TheVariants.{Always, WithBody, WithItems}
 use Rattle.ifc_schema.specs.Words.{IsNumber, IsWhole}
 use Rattle.ifc_schema.specs.Forms.{fits, holds, followed}
 use Rattle.ifc_schema.specs.Table.{row_of, attribute}
 use Rattle.ifc_schema.specs.Values.{number_of, words_of, reference_of, items_of, is_absent}
 use Rattle.ifc_schema.specs.Looking.{look, entity_at, is_a, row_at, row_or_none}
 use Rattle.ifc_schema.specs.Bodies.{applies}
-use Rattle.ifc_schema.specs.Flaws.{LeafFlaw, NumberFlaw, WholeFlaw, FirstFlaw, ItemsFlaw, ListFlaw, ShapeFlaw, ValueFlaw, PlaceFlaw, AttributeFlaw, InstanceFlaw, bad_unless, target_flaw, wanted_flaw, any_flaw, reference_flaw}
-use Rattle.ifc_schema.specs.Used.{Used, named, Names, NamesBy, LeadsTo, StandsIn}
+use Rattle.ifc_schema.specs.Flaws.{LeafFlaw, NumberFlaw, WholeFlaw, ItemsFlaw, ListFlaw, ShapeFlaw, PlaceFlaw, AttributeFlaw, InstanceFlaw, bad_unless, target_flaw, wanted_flaw, any_flaw, reference_flaw}
+use Rattle.ifc_schema.specs.Used.{Used, named, LeadsTo, StandsIn}
 use Rattle.ifc_schema.specs.StageFive.{UsedFlaw}
-use Rattle.model_build.specs.Finding.{Finds, IsUsed}
-use Rattle.model_build.proofs.Keywords.{held_is_a, is_a_held}
+use Rattle.model_build.proofs.Keywords.{held_is_a}
 
 -- all that is used has the form of its row
 abbrev pub Shaped : List Instance → Type 0

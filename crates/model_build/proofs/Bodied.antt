@@ -1,37 +1,33 @@
 -- The bodies of elements and their items, where all that is used has the form of its row.
-use Rattle.std.proofs.Common.{◌≡◌, ℕ, ◌+◌, ◌<◌, ◌≤◌, ◌⊎◌, inl, inr, Bool, true, false, cond, ◌&&◌, ◌||◌, List, [], ◌∷◌, ◌++◌, length, get_or, filter, filter_map, flat_map, Option, Some, None, option_and_then, Contains, refl, sym, ap, ◌∙◌, subst, arith}
-use Rattle.std.specs.Option.{MatchOption, unwrap_or}
+use Rattle.std.proofs.Common.{◌≡◌, ℕ, ◌<◌, ◌⊎◌, inl, inr, Bool, true, false, ◌&&◌, List, [], ◌∷◌, length, get_or, filter, filter_map, Option, Some, None, option_and_then, Contains, refl, sym, ap, ◌∙◌, subst, arith}
 use Rattle.std.specs.List.{slice_get, list_all, list_any, All, Any, cons_option}
 use Rattle.std.proofs.lemmas.List.{get_or_default}
-use Rattle.std.proofs.lemmas.List.Elements.{All-nil, All-cons, All-head, All-tail, All-append}
+use Rattle.std.proofs.lemmas.List.Elements.{All-nil, All-cons, All-head, All-tail}
 use Rattle.std.proofs.lemmas.List.Sums.{AllPass-from_list_all}
 use Rattle.p21_reader.specs.declared.value.Value21.{Value21}
 use Rattle.p21_reader.specs.declared.value.Instance.{Instance}
-use Rattle.ifc_schema.specs.declared.entity.Entity.{Entity}
 use Rattle.ifc_schema.specs.declared.entity.Entity.TheVariants as entity
 use Rattle.ifc_schema.specs.declared.form.Attribute.{Attribute}
-use Rattle.ifc_schema.specs.declared.form.Targets.{Targets}
 use Rattle.ifc_schema.specs.declared.form.Targets.TheVariants as targets
 use Rattle.ifc_schema.specs.declared.form.Leaf.TheVariants as leaf
 use Rattle.ifc_schema.specs.declared.form.Count.{Count}
-use Rattle.ifc_schema.specs.declared.form.Count.TheVariants.{Exactly, AtLeast}
+use Rattle.ifc_schema.specs.declared.form.Count.TheVariants.{AtLeast}
 use Rattle.ifc_schema.specs.declared.form.Shape.{Shape}
 use Rattle.ifc_schema.specs.declared.form.Shape.TheVariants as shape
 use Rattle.ifc_schema.specs.declared.form.Need.TheVariants.{Must, OrAbsent}
 use Rattle.ifc_schema.specs.declared.form.When.TheVariants.{Always, WithItems}
 use Rattle.ifc_schema.specs.Forms.{holds, followed}
 use Rattle.ifc_schema.specs.Table.{row_of, attribute}
-use Rattle.ifc_schema.specs.Values.{reference_of, items_of, is_absent}
+use Rattle.ifc_schema.specs.Values.{reference_of, items_of}
 use Rattle.ifc_schema.specs.Looking.{look, entity_at, is_a, row_at, is_keyword_of}
 use Rattle.ifc_schema.specs.Bodies.{applies, some_passes, target_passes, has_body, is_body, is_body_shape, is_body_representation, lists_body}
-use Rattle.ifc_schema.specs.Flaws.{LeafFlaw, ListFlaw, ShapeFlaw}
+use Rattle.ifc_schema.specs.Flaws.{LeafFlaw, ShapeFlaw}
 use Rattle.ifc_schema.specs.Used.{Used, LeadsTo, RefersTo, StandsIn}
-use Rattle.ifc_schema.specs.StageFive.{IsModelElement, is_subject}
-use Rattle.faceset.specs.Sets.{listed}
-use Rattle.model_build.specs.Finding.{Finds, IsUsed, reference_at, target_at, led_to}
-use Rattle.model_build.specs.Items.{bodies, items_of_body, body_items, body_sets, listed_by, is_served, is_served_item, is_missing, HasOther}
+use Rattle.ifc_schema.specs.StageFive.{is_subject}
+use Rattle.model_build.specs.Finding.{target_at, led_to}
+use Rattle.model_build.specs.Items.{bodies, items_of_body, listed_by, is_served, is_served_item, is_missing}
 use Rattle.model_build.proofs.Keywords.{is_shape, is_representation, is_element, is_a_held}
-use Rattle.model_build.proofs.Attributes.{Shaped, Formed, formed_there, At, in_row, attribute_flaw, must_at, at_more, Refers, referred_any, ListOf, list_there, list_more, follows}
+use Rattle.model_build.proofs.Attributes.{Shaped, formed_there, At, in_row, attribute_flaw, must_at, at_more, Refers, referred_any, ListOf, list_there, list_more, follows}
 use Rattle.model_build.proofs.Shaped.{NamesUsed, one_used, listed_there, listed_all, listed_some}
 
 pub both : (a b : Bool) → (a && b) ≡ true → (a ≡ true) × (b ≡ true)
@@ -204,14 +200,14 @@ bodies_used world id i u e is body =
     let c : Contains (row_at s.shape) a = in_row entity.ProductShape s.shape a (is_shape s.shape s.is) (0, omega arith, refl) in
     subst (All (UsedAs world IsBody)) (sym (bodies_are world i s))
     (led_all world is_body_representation (UsedAs world IsBody) s.values
-        (λ k d lt. λ to r f l t. (
-            let m = both (is_a entity.Representation r) (is_body r) t in
-            record {
-              id = to;
-              used = list_used world s.to s.shape a (AtLeast 0) s.list s.values to r k d us s.found c refl refl s.list_there s.items lt f (record { target = r; found = l; meant = is_a_held entity.Representation r m.0 });
-              found = l;
-              holds = t;
-            })))
+    (λ k d lt. λ to r f l t. (
+    let m = both (is_a entity.Representation r) (is_body r) t in
+    record {
+      id = to;
+      used = list_used world s.to s.shape a (AtLeast 0) s.list s.values to r k d us s.found c refl refl s.list_there s.items lt f (record { target = r; found = l; meant = is_a_held entity.Representation r m.0 });
+      found = l;
+      holds = t;
+    })))
 
 -- there is one
 pub bodies_some : (world : List Instance) (i : Instance) → has_body world i ≡ true → 0 < length (bodies world i)
@@ -262,16 +258,15 @@ items_used world id r shaped u e is served =
     let all : All (λ v. is_served_item world v ≡ true) t.holds.values = subst (All (λ v. is_served_item world v ≡ true)) same (AllPass-from_list_all (is_served_item world) (items_of_body r) served) in
     subst (All (λ v. NamesUsed world entity.TriangulatedFaceSet v × (target_passes world is_served v ≡ true))) (sym same)
     (λ k d lt. (
-        let p = passed world is_served (get_or t.holds.values k d) (all k d lt) in
-        let n = both (is_a entity.TriangulatedFaceSet p.target) (is_missing (slice_get p.target.values 4)) p.passes in
-        (
-          record {
-            to = p.to;
-            refers = p.refers;
-            is = (
-              list_used world id r a (AtLeast 1) t.value t.holds.values p.to p.target k d u e c refl (when_body world false r m.1) t.there t.holds.items lt p.refers (record { target = p.target; found = p.found; meant = item_meant p.target n.0 }),
-              record { instance = p.target; found = p.found; holds = n.0 },
-            );
-          },
-          all k d lt,
-        )))
+    let p = passed world is_served (get_or t.holds.values k d) (all k d lt) in
+    let n = both (is_a entity.TriangulatedFaceSet p.target) (is_missing (slice_get p.target.values 4)) p.passes in (
+      record {
+        to = p.to;
+        refers = p.refers;
+        is = (
+          list_used world id r a (AtLeast 1) t.value t.holds.values p.to p.target k d u e c refl (when_body world false r m.1) t.there t.holds.items lt p.refers (record { target = p.target; found = p.found; meant = item_meant p.target n.0 }),
+          record { instance = p.target; found = p.found; holds = n.0 },
+        );
+      },
+      all k d lt,
+    )))

@@ -10,5 +10,12 @@ pub mod Attributes
 pub mod Shaped
 pub mod Bodied
 pub mod Sets
+pub mod OneAxes
+pub mod OneFrame
+pub mod OneSet
+pub mod OneSurface
+pub mod Collecting
+pub mod LeastOf
+pub mod Staged
 pub mod Surfaced
 pub mod Readable

@@ -1,10 +1,9 @@
 -- The sets of elements, where all that is used has the form of its row, and all items are served.
-use Rattle.std.proofs.Common.{◌≡◌, ℕ, suc, ◌+◌, ◌<◌, ◌≤◌, inl, inr, Bool, true, false, ◌&&◌, List, [], ◌∷◌, ◌++◌, length, get_or, filter_map, flat_map, sum_by, Option, Some, None, option_and_then, refl, sym, ap, ◌∙◌, subst, arith, length-append}
-use Rattle.std.specs.List.{slice_get, list_all, All, cons_option}
-use Rattle.std.proofs.lemmas.List.Elements.{All-nil, All-cons, All-head, All-tail, All-append}
+use Rattle.std.proofs.Common.{◌≡◌, ℕ, suc, ◌<◌, inl, inr, true, List, [], ◌∷◌, length, get_or, flat_map, Some, option_and_then, refl, sym, ap, ◌∙◌, subst, arith, length-append}
+use Rattle.std.specs.List.{slice_get, list_all, All}
+use Rattle.std.proofs.lemmas.List.Elements.{All-nil, All-head, All-tail, All-append}
 use Rattle.p21_reader.specs.declared.value.Value21.{Value21}
 use Rattle.p21_reader.specs.declared.value.Instance.{Instance}
-use Rattle.bim_model.specs.declared.upload.UploadFault.{UploadFault}
 use Rattle.bim_model.specs.declared.upload.UploadFault.TheVariants as faults
 use Rattle.ifc_schema.specs.declared.entity.Entity.TheVariants as entity
 use Rattle.ifc_schema.specs.declared.form.Count.TheVariants.{AtLeast}
@@ -20,7 +19,7 @@ use Rattle.model_build.specs.Finding.{Finds, led_to}
 use Rattle.model_build.specs.Items.{bodies, items_of_body, body_items, body_sets, is_served, is_served_item, is_missing, HasOther, ItemStage, row_count}
 use Rattle.model_build.proofs.Attributes.{Shaped, Refers, SpellsNumber, SpellsWhole}
 use Rattle.model_build.proofs.Shaped.{NamesUsed, ThreeOf, listed_some, listed_all, triangles_whole, points_used, list_numbers, three_values}
-use Rattle.model_build.proofs.Bodied.{both, tells, UsedAs, IsBody, Passed, passed, led_each, bodies_used, bodies_some, items_used, items_refer, items_some}
+use Rattle.model_build.proofs.Bodied.{both, tells, UsedAs, IsBody, passed, led_each, bodies_used, bodies_some, items_used, items_refer, items_some}
 
 -- all items of the bodies that are used are served
 abbrev pub NoOther : List Instance → Type 0

@@ -1,7 +1,7 @@
 -- What the instances that are used have, where each has the form of its row.
-use Rattle.std.proofs.Common.{◌≡◌, ℕ, ◌+◌, ◌<◌, ◌≤◌, ◌==◌, nat_le, ◌⊎◌, inl, inr, Bool, true, false, ◌&&◌, ◌||◌, List, [], ◌∷◌, length, get_or, Option, Some, None, option_and_then, Contains, IsTrue, refl, sym, ap, ◌∙◌, subst, arith}
-use Rattle.std.specs.Option.{MatchOption, unwrap_or}
-use Rattle.std.specs.List.{slice_get, list_all, All, Any}
+use Rattle.std.proofs.Common.{◌≡◌, ℕ, ◌<◌, ◌==◌, inl, inr, Bool, true, false, ◌&&◌, List, [], ◌∷◌, length, Option, Some, None, option_and_then, Contains, refl, sym, ap, ◌∙◌, subst, arith}
+use Rattle.std.specs.Option.{unwrap_or}
+use Rattle.std.specs.List.{slice_get, list_all, All}
 use Rattle.std.proofs.lemmas.Bool.{eqb-true}
 use Rattle.std.proofs.lemmas.Bool.Decides.{nat_tests}
 use Rattle.p21_reader.specs.declared.value.Value21.{Value21}
@@ -10,33 +10,30 @@ use Rattle.bim_model.specs.Guids.{IsGuid, is_guid_char}
 use Rattle.bim_text.specs.Texts.{text_of_spelling}
 use Rattle.ifc_schema.specs.declared.entity.Entity.{Entity}
 use Rattle.ifc_schema.specs.declared.entity.Entity.TheVariants as entity
-use Rattle.ifc_schema.specs.declared.form.Attribute.{Attribute}
 use Rattle.ifc_schema.specs.declared.form.Targets.TheVariants as targets
-use Rattle.ifc_schema.specs.declared.form.Leaf.{Leaf}
 use Rattle.ifc_schema.specs.declared.form.Leaf.TheVariants as leaf
 use Rattle.ifc_schema.specs.declared.form.Count.{Count}
 use Rattle.ifc_schema.specs.declared.form.Count.TheVariants.{Exactly, AtLeast}
-use Rattle.ifc_schema.specs.declared.form.Shape.{Shape}
 use Rattle.ifc_schema.specs.declared.form.Shape.TheVariants as shape
 use Rattle.ifc_schema.specs.declared.form.Need.{Need}
-use Rattle.ifc_schema.specs.declared.form.Need.TheVariants.{Must, OrAbsent, OrMissing}
+use Rattle.ifc_schema.specs.declared.form.Need.TheVariants.{Must, OrAbsent}
 use Rattle.ifc_schema.specs.declared.form.When.{When}
-use Rattle.ifc_schema.specs.declared.form.When.TheVariants.{Always, WithBody, WithItems}
-use Rattle.ifc_schema.specs.Words.{IsNumber, IsWhole, says_guid, is_guid}
+use Rattle.ifc_schema.specs.declared.form.When.TheVariants.{Always, WithBody}
+use Rattle.ifc_schema.specs.Words.{IsNumber, says_guid, is_guid}
 use Rattle.ifc_schema.specs.Table.{row_of, attribute}
-use Rattle.ifc_schema.specs.Values.{number_of, words_of, reference_of, items_of, is_absent}
-use Rattle.ifc_schema.specs.Looking.{look, entity_at, is_a, row_at, row_or_none}
-use Rattle.ifc_schema.specs.Bodies.{applies, some_passes, has_body, is_body}
-use Rattle.ifc_schema.specs.Flaws.{LeafFlaw, ListFlaw, ShapeFlaw, AttributeFlaw, bad_unless}
-use Rattle.ifc_schema.specs.Used.{Used, LeadsTo, RefersTo, StandsIn}
-use Rattle.ifc_schema.specs.StageFive.{IsModelElement, is_model_element, is_subject}
+use Rattle.ifc_schema.specs.Values.{words_of, reference_of, items_of}
+use Rattle.ifc_schema.specs.Looking.{look, entity_at, is_a, row_at}
+use Rattle.ifc_schema.specs.Bodies.{applies, some_passes, has_body}
+use Rattle.ifc_schema.specs.Flaws.{LeafFlaw, ListFlaw, ShapeFlaw, bad_unless}
+use Rattle.ifc_schema.specs.Used.{Used}
+use Rattle.ifc_schema.specs.StageFive.{is_subject}
 use Rattle.placement.specs.declared.direction.Direction.{Direction}
-use Rattle.placement.specs.Directions.{Spelled, coordinates, three_numbers, numbers_of, IsDirection, Directs, HasDirections}
+use Rattle.placement.specs.Directions.{Spelled, coordinates, three_numbers, IsDirection, Directs, HasDirections}
 use Rattle.faceset.specs.Sets.{listed, spelled_triangles, HasThree}
-use Rattle.model_build.specs.Finding.{Finds, IsUsed, reference_at, target_at}
-use Rattle.model_build.specs.Texts.{guid_of, text_at}
-use Rattle.model_build.proofs.Keywords.{is_storey, is_shape, is_representation, is_placement, is_axis_placement, is_point, is_direction, is_point_list, is_face_set, is_element, is_a_held}
-use Rattle.model_build.proofs.Attributes.{Shaped, Formed, formed_there, At, OrAway, in_row, attribute_flaw, must_at, absent_at, at_more, away_more, SpellsNumber, SpellsWhole, SpellsText, Refers, RefersToA, number_spelled, whole_spelled, text_spelled, referred, referred_any, ListOf, list_there, list_more, follows}
+use Rattle.model_build.specs.Finding.{IsUsed, reference_at}
+use Rattle.model_build.specs.Texts.{guid_of}
+use Rattle.model_build.proofs.Keywords.{is_storey, is_placement, is_axis_placement, is_point, is_direction, is_point_list, is_face_set, is_element, is_a_held}
+use Rattle.model_build.proofs.Attributes.{Shaped, Formed, formed_there, At, OrAway, in_row, attribute_flaw, must_at, absent_at, at_more, away_more, SpellsNumber, SpellsWhole, SpellsText, RefersToA, number_spelled, whole_spelled, text_spelled, referred, ListOf, list_there, list_more, follows}
 
 -- Values.
 
@@ -129,8 +126,8 @@ list_numbers world id i shaped u e is =
     let c : Contains (row_at i) (attribute 0 Always Must s leaf.Number) = in_row entity.PointList i (attribute 0 Always Must s leaf.Number) (is_point_list i is) (0, omega arith, refl) in
     at_more i 0 (λ v. ShapeFlaw world leaf.Number s v None) (ListOf (AtLeast 1) (ThreeOf SpellsNumber))
     (λ v h. list_more (AtLeast 1) (λ x. ListFlaw (Exactly 3) (LeafFlaw world leaf.Number) x None) (ThreeOf SpellsNumber)
-        (λ x k. three_of SpellsNumber x (list_more (Exactly 3) (λ y. LeafFlaw world leaf.Number y None) SpellsNumber (number_spelled world) x (list_there (Exactly 3) (LeafFlaw world leaf.Number) x k))) v
-        (list_there (AtLeast 1) (ListFlaw (Exactly 3) (LeafFlaw world leaf.Number)) v h))
+    (λ x k. three_of SpellsNumber x (list_more (Exactly 3) (λ y. LeafFlaw world leaf.Number y None) SpellsNumber (number_spelled world) x (list_there (Exactly 3) (LeafFlaw world leaf.Number) x k))) v
+    (list_there (AtLeast 1) (ListFlaw (Exactly 3) (LeafFlaw world leaf.Number)) v h))
     (must_at world f.mapped i 0 Always s leaf.Number refl (attribute_flaw world f.mapped i (attribute 0 Always Must s leaf.Number) f.formed c))
 
 -- Placements.
@@ -190,8 +187,7 @@ coordinates_there i h =
 pub direction_there : (world : List Instance) (id : ℕ) → Shaped world → IsUsed entity.Direction world id → (d : Direction) × IsDirection world id d
 direction_there world id shaped u =
     let i = u.1.instance in
-    let n = coordinates_there i (direction_numbers world id i shaped u.0 u.1.found u.1.holds) in
-    (
+    let n = coordinates_there i (direction_numbers world id i shaped u.0 u.1.found u.1.holds) in (
       record { x = n.x.0; y = n.y.0; z = n.z.0 },
       record { spelled = n.spelled; numbers = ap (option_and_then coordinates) u.1.found ∙ n.are; x = n.x.1; y = n.y.1; z = n.z.1 },
     )
@@ -231,8 +227,8 @@ triangles_whole world id i shaped u e is =
     let c : Contains (row_at i) (attribute 3 Always Must s leaf.Whole) = in_row entity.TriangulatedFaceSet i (attribute 3 Always Must s leaf.Whole) (is_face_set i is) (1, omega arith, refl) in
     at_more i 3 (λ v. ShapeFlaw world leaf.Whole s v None) (ListOf (AtLeast 1) (ThreeOf SpellsWhole))
     (λ v h. list_more (AtLeast 1) (λ x. ListFlaw (Exactly 3) (LeafFlaw world leaf.Whole) x None) (ThreeOf SpellsWhole)
-        (λ x k. three_of SpellsWhole x (list_more (Exactly 3) (λ y. LeafFlaw world leaf.Whole y None) SpellsWhole (whole_spelled world) x (list_there (Exactly 3) (LeafFlaw world leaf.Whole) x k))) v
-        (list_there (AtLeast 1) (ListFlaw (Exactly 3) (LeafFlaw world leaf.Whole)) v h))
+    (λ x k. three_of SpellsWhole x (list_more (Exactly 3) (λ y. LeafFlaw world leaf.Whole y None) SpellsWhole (whole_spelled world) x (list_there (Exactly 3) (LeafFlaw world leaf.Whole) x k))) v
+    (list_there (AtLeast 1) (ListFlaw (Exactly 3) (LeafFlaw world leaf.Whole)) v h))
     (must_at world f.mapped i 3 Always s leaf.Whole refl (attribute_flaw world f.mapped i (attribute 3 Always Must s leaf.Whole) f.formed c))
 
 -- the items of a list that is there

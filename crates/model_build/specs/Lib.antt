@@ -9,6 +9,7 @@ pub mod PointTables
 pub mod Surfaces
 pub mod Elements
 pub mod Sound
+pub mod Outcomes
 pub mod Profile
 pub mod Counting
 pub mod Least

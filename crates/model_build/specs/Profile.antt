@@ -41,24 +41,31 @@ IndexFault world id fault = (fault ≡ faults.BadIndex id) × Finds world id (Ha
 abbrev pub ReachFault : List Instance → Scale → Mode → ℕ → UploadFault → Type 0
 ReachFault world scale mode id fault = (fault ≡ faults.TooFar id) × Finds world id (IsBeyond world scale mode)
 
--- Their order.
+-- Their order. The lengths are in a unit of that scale.
 
--- of the lengths, which are in a unit of that scale
+abbrev pub ReachStage : List Instance → Scale → Mode → Stage
+ReachStage world scale mode = LeastFault (IsModelElement world) (ReachFault world scale mode)
+
+abbrev pub AfterLengths : List Instance → Scale → Mode → Stage
+AfterLengths world scale mode = Then (TrianglesStage world) (ReachStage world scale mode)
+
+abbrev pub AfterIndexes : List Instance → Scale → Mode → Stage
+AfterIndexes world scale mode = Then (LeastFault (Used world) (LengthFault world scale mode)) (AfterLengths world scale mode)
+
 abbrev pub AfterItems : List Instance → Scale → Mode → Stage
-AfterItems world scale mode =
-    Then (LeastFault (IsUsed TriangulatedFaceSet world) (IndexFault world))
-    (Then (LeastFault (Used world) (LengthFault world scale mode))
-    (Then (TrianglesStage world)
-    (LeastFault (IsModelElement world) (ReachFault world scale mode))))
+AfterItems world scale mode = Then (LeastFault (IsUsed TriangulatedFaceSet world) (IndexFault world)) (AfterIndexes world scale mode)
+
+abbrev pub AfterChains : List Instance → Scale → Mode → Stage
+AfterChains world scale mode = Then (LeastFault (IsUsed AxisPlacement world) (ObliqueFault world)) (Then (ItemStage world) (AfterItems world scale mode))
+
+abbrev pub AfterTree : List Instance → Scale → Mode → Stage
+AfterTree world scale mode =
+    Then (LeastFault (IsModelElement world) (GuidFault world (IsModelElement world)))
+    (Then (LeastFault (IsNamed world (IsModelElement world)) (LoopFault world))
+    (AfterChains world scale mode))
 
 abbrev pub AfterUnit : List Instance → Scale → Mode → Stage
-AfterUnit world scale mode =
-    Then (StageSeven world)
-    (Then (LeastFault (IsModelElement world) (GuidFault world (IsModelElement world)))
-    (Then (LeastFault (IsNamed world (IsModelElement world)) (LoopFault world))
-    (Then (LeastFault (IsUsed AxisPlacement world) (ObliqueFault world))
-    (Then (ItemStage world)
-    (AfterItems world scale mode)))))
+AfterUnit world scale mode = Then (StageSeven world) (AfterTree world scale mode)
 
 -- the fault of the file's instances
 abbrev pub FileFault : List Instance → Mode → Stage
@@ -68,7 +75,7 @@ FileFault world mode =
     (λ fault. (scale : Scale) × IsLengthUnit world scale × AfterUnit world scale mode fault))
 
 -- The bytes make the model; or they have that fault, as a spelled file or by its instances.
-abbrev pub Profile : List ℕ → Mode → Result (List Element) UploadFault → Type 0
+unfoldable pub Profile : List ℕ → Mode → Result (List Element) UploadFault → Type 0
 Profile bytes mode (Ok elements) = (world : List Instance) × SpellsExchange bytes world × IsClear (FileFault world mode) × IsModelOf world mode elements
 Profile bytes mode (Err fault) = HasFault bytes fault ⊎ ((world : List Instance) × SpellsExchange bytes world × FileFault world mode fault)
 

@@ -1,12 +1,19 @@
 //! The model of a file (IFC4 ADD2 TC1, in the clear text encoding of ISO 10303-21), or its first fault.
 #![tactic(auto)]
 
+mod checks;
+mod element;
 mod find;
-mod points;
-mod surface;
 mod guids;
+mod items;
+mod lack;
+mod least;
 mod named;
 mod order;
+mod points;
+mod stages;
 mod storeys;
+mod surface;
 mod texts;
-mod items;
+
+pub use stages::build;

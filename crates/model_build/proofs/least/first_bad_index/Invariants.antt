@@ -1,0 +1,6 @@
+use Rattle.std.proofs.Common.{take, All}
+use Rattle.model_build.specs.Least.{IsBadSet}
+use Rattle.model_build.proofs.least.first_bad_index.Given as goal
+
+abbrev pub invariant-loop-id : goal.invariant-loop-id
+invariant-loop-id l = All (λ k. IsBadSet l.exchange k → ⊥) (take l.id-index l.used)

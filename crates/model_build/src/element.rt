@@ -1,0 +1,131 @@
+//! The elements of a model.
+ghost use Rattle.std.specs.Prelude.{◌≡◌, ℕ, List, Some, IfOk, MatchOption, MatchResult};
+ghost use Rattle.std.specs.List.{AllZip};
+ghost use Rattle.std.specs.List.Sorted.{IsStrictlyIncreasing};
+ghost use Rattle.bim_model.specs.declared.upload.Mode.{Mode};
+ghost use Rattle.ifc_units.specs.declared.scale.Scale.{Scale};
+ghost use Rattle.p21_reader.specs.declared.value.Instance.{Instance};
+ghost use Rattle.placement.specs.Placed.{AreFrames, frame_in};
+ghost use Rattle.spatial_tree.specs.Trees.{ListsStoreys};
+ghost use Rattle.ifc_schema.specs.Looking.{look};
+ghost use Rattle.model_build.specs.PointTables.{IsTable};
+ghost use Rattle.model_build.specs.Outcomes.{IsStanding, IsFrameOf, IsNearSurface, IsNearElement, Lacks, LacksAt, IsFirstLacking};
+
+use crate::find::fetch;
+use crate::lack::{Lack, Lacking};
+use crate::items::body_sets;
+use crate::storeys::storey_name;
+use crate::surface::{all_moved, own_triangles};
+use crate::texts::{guid_of, name_of};
+use bim_model::{Duplicate, Element, Items, Point, Triangle};
+use ifc_schema::{is_absent, reference_of};
+use p21_reader::{Exchange, Instance};
+use placement::{Frame, Frames};
+use spatial_tree::Tree;
+use std::alloc::{AllocError, Global};
+
+/// The frame of an element. None where it names a placement that has none.
+fn frame_of(frames: &Frames, instance: &Instance) -> Option<Frame>
+    ensures { (world : List Instance) (scale : Scale) (mode : Mode) (placements : List ℕ) → AreFrames world scale mode placements (frame_in frames.now) → MatchOption result (IsStanding placements instance.now → ⊥) (IsFrameOf world scale mode instance.now) }
+{
+    let value = instance.values.as_slice().get(5)?;
+    if is_absent(value) {
+        return Some(Frame::identity());
+    }
+    let id = reference_of(value)?;
+    frames.get(id)
+}
+
+/// The triangles of an element in the building.
+fn surface_of(
+    alloc: Global,
+    exchange: &Exchange,
+    frames: &Frames,
+    table: &[Option<Items<Point>>],
+    instance: &Instance,
+) -> Result<Result<Vec<Triangle>, Lack>, AllocError>
+    ensures { (scale : Scale) (mode : Mode) (placements : List ℕ) → AreFrames exchange.now scale mode placements (frame_in frames.now) → IsTable exchange.now scale mode table.now → IfOk result (λ made. MatchResult made (λ triangles. IsNearSurface exchange.now scale mode instance.now triangles.items) (Lacks exchange.now scale mode placements instance.now)) }
+{
+    let Some(frame) = frame_of(frames, instance) else {
+        return Ok(Err(Lack::Unready));
+    };
+    let sets = body_sets(alloc, exchange, instance)?;
+    let Some(own) = own_triangles(alloc, exchange, table, &sets)? else {
+        return Ok(Err(Lack::Unready));
+    };
+    match all_moved(alloc, &frame, &own)? {
+        Some(triangles) => Ok(Ok(triangles)),
+        None => Ok(Err(Lack::Beyond)),
+    }
+}
+
+/// The element that an instance is.
+fn element_of(
+    alloc: Global,
+    exchange: &Exchange,
+    tree: &Tree,
+    frames: &Frames,
+    table: &[Option<Items<Point>>],
+    instance: &Instance,
+) -> Result<Result<Element, Lack>, AllocError>
+    requires { ListsStoreys exchange.now tree.now }
+    ensures { (scale : Scale) (mode : Mode) (placements : List ℕ) → look exchange.now instance.now.id ≡ Some instance.now → AreFrames exchange.now scale mode placements (frame_in frames.now) → IsTable exchange.now scale mode table.now → IfOk result (λ made. MatchResult made (IsNearElement exchange.now scale mode instance.now.id) (Lacks exchange.now scale mode placements instance.now)) }
+{
+    let Some(guid) = guid_of(alloc, instance)? else {
+        return Ok(Err(Lack::Unready));
+    };
+    let Some(keyword) = &instance.keyword else {
+        return Ok(Err(Lack::Unready));
+    };
+    match surface_of(alloc, exchange, frames, table, instance)? {
+        Ok(triangles) => Ok(Ok(Element {
+            guid,
+            class: keyword.copy(alloc)?,
+            name: name_of(alloc, instance)?,
+            storey: storey_name(alloc, exchange, tree, instance.id)?,
+            triangles: Items::from_vec(triangles),
+        })),
+        Err(lack) => Ok(Err(lack)),
+    }
+}
+
+/// The element of that number.
+fn element_at(
+    alloc: Global,
+    exchange: &Exchange,
+    tree: &Tree,
+    frames: &Frames,
+    table: &[Option<Items<Point>>],
+    id: u64,
+) -> Result<Result<Element, Lack>, AllocError>
+    requires { ListsStoreys exchange.now tree.now }
+    ensures { (scale : Scale) (mode : Mode) (placements : List ℕ) → AreFrames exchange.now scale mode placements (frame_in frames.now) → IsTable exchange.now scale mode table.now → IfOk result (λ made. MatchResult made (IsNearElement exchange.now scale mode id) (LacksAt exchange.now scale mode placements id)) }
+{
+    match fetch(exchange, id) {
+        Some(instance) => element_of(alloc, exchange, tree, frames, table, instance),
+        None => Ok(Err(Lack::Unready)),
+    }
+}
+
+/// The elements of these numbers, in their order. The first that lacks something decides why there are none.
+pub fn elements_of(
+    alloc: Global,
+    exchange: &Exchange,
+    tree: &Tree,
+    frames: &Frames,
+    table: &[Option<Items<Point>>],
+    ids: &[u64],
+) -> Result<Result<Vec<Element>, Lacking>, AllocError>
+    requires storeys { ListsStoreys exchange.now tree.now }
+    requires rises { IsStrictlyIncreasing ids.now }
+    ensures { (scale : Scale) (mode : Mode) (placements : List ℕ) → AreFrames exchange.now scale mode placements (frame_in frames.now) → IsTable exchange.now scale mode table.now → IfOk result (λ made. MatchResult made (λ elements. AllZip (IsNearElement exchange.now scale mode) ids.now elements.items) (IsFirstLacking exchange.now scale mode placements ids.now)) }
+{
+    let mut made = Vec::with_capacity(alloc, ids.len())?;
+    for id in ids {
+        match element_at(alloc, exchange, tree, frames, table, *id)? {
+            Ok(element) => made.push(element)?,
+            Err(lack) => return Ok(Err(Lacking { id: *id, lack })),
+        }
+    }
+    Ok(Ok(made))
+}

@@ -1,0 +1,220 @@
+//! The model of a file, or its first fault.
+ghost use Rattle.std.specs.Prelude.{Ok, IfOk, IfErr, sum_by, ◌≤◌};
+ghost use Rattle.ifc_schema.specs.StageFive.{Surveyed, used_ids, element_ids};
+ghost use Rattle.ifc_units.specs.Units.{IsLengthUnit};
+ghost use Rattle.spatial_tree.specs.Trees.{ListsStoreys};
+ghost use Rattle.placement.specs.Placed.{AreFrames, frame_in};
+ghost use Rattle.model_build.specs.Stages.{IsClear};
+ghost use Rattle.model_build.specs.Texts.{NoneRepeats};
+ghost use Rattle.model_build.specs.Items.{count_of, most_triangles};
+ghost use Rattle.model_build.specs.Least.{NoneOf, IsBadSet};
+ghost use Rattle.model_build.specs.PointTables.{IsTable};
+ghost use Rattle.model_build.specs.Elements.{IsModelOf};
+ghost use Rattle.model_build.specs.Outcomes.{IsErrorOf, HasChains, IsChecked, AreMeasured, AreReady};
+ghost use Rattle.model_build.specs.Profile.{ReachStage, AfterLengths, AfterIndexes, AfterItems, AfterChains, AfterTree, AfterUnit, FileFault, Profile, IsCause};
+
+use crate::checks::{chains_of, guid_fault, index_fault, item_fault, oblique_fault, triangles_fault};
+use crate::element::elements_of;
+use crate::lack::Lack;
+use crate::order::in_order;
+use crate::points::{first_fault, table_of};
+use bim_model::{BuildError, Items, Mode, Model, Point, UploadFault};
+use ifc_schema::{Survey, survey};
+use ifc_units::{Scale, length_unit};
+use p21_reader::{Exchange, read};
+use placement::{Chains, Frames};
+use spatial_tree::{Tree, tree};
+use std::alloc::{AllocError, Global};
+
+/// The model of elements, the last check made.
+fn model_of(
+    alloc: Global,
+    exchange: &Exchange,
+    survey: &Survey,
+    scale: Scale,
+    mode: Mode,
+    tree: &Tree,
+    chains: &Chains,
+    frames: &Frames,
+    table: &[Option<Items<Point>>],
+) -> Result<Model, BuildError>
+    requires checked { IsChecked exchange.now scale survey.now chains.now }
+    requires storeys { ListsStoreys exchange.now tree.now }
+    requires frames { AreFrames exchange.now scale mode chains.now (frame_in frames.now) }
+    requires table { IsTable exchange.now scale mode table.now }
+    requires ready { AreReady exchange.now scale mode chains.now (element_ids survey.now) }
+    requires few { sum_by (count_of exchange.now) (element_ids survey.now) ≤ most_triangles }
+    ensures model { IfOk result (λ model. IsClear (ReachStage exchange.now scale mode) × IsModelOf exchange.now mode model) }
+    ensures fault { IfErr result (IsErrorOf (ReachStage exchange.now scale mode)) }
+{
+    match elements_of(alloc, exchange, tree, frames, table, survey.elements())? {
+        Ok(elements) => Ok(Model::from_vec(in_order(elements))),
+        Err(lacking) => match lacking.lack {
+            Lack::Beyond => Err(BuildError::Fault(UploadFault::TooFar { id: lacking.id })),
+            Lack::Unready => unreachable!(),
+        },
+    }
+}
+
+/// The checks from the number of triangles on, and the model.
+fn after_lengths(
+    alloc: Global,
+    exchange: &Exchange,
+    survey: &Survey,
+    scale: Scale,
+    mode: Mode,
+    tree: &Tree,
+    chains: &Chains,
+    table: &[Option<Items<Point>>],
+) -> Result<Model, BuildError>
+    requires checked { IsChecked exchange.now scale survey.now chains.now }
+    requires storeys { ListsStoreys exchange.now tree.now }
+    requires indexed { NoneOf (used_ids survey.now) (IsBadSet exchange.now) }
+    requires table { IsTable exchange.now scale mode table.now }
+    requires measured { AreMeasured exchange.now scale mode (used_ids survey.now) }
+    ensures model { IfOk result (λ model. IsClear (AfterLengths exchange.now scale mode) × IsModelOf exchange.now mode model) }
+    ensures fault { IfErr result (IsErrorOf (AfterLengths exchange.now scale mode)) }
+{
+    if let Some(fault) = triangles_fault(alloc, exchange, survey)? {
+        return Err(BuildError::Fault(fault));
+    }
+    let Some(frames) = Frames::of(alloc, exchange, chains, scale, mode)? else {
+        unreachable!()
+    };
+    model_of(
+        alloc, exchange, survey, scale, mode, tree, chains, &frames, table,
+    )
+}
+
+/// The checks from the lengths on, and the model.
+fn after_indexes(
+    alloc: Global,
+    exchange: &Exchange,
+    survey: &Survey,
+    scale: Scale,
+    mode: Mode,
+    tree: &Tree,
+    chains: &Chains,
+) -> Result<Model, BuildError>
+    requires checked { IsChecked exchange.now scale survey.now chains.now }
+    requires storeys { ListsStoreys exchange.now tree.now }
+    requires indexed { NoneOf (used_ids survey.now) (IsBadSet exchange.now) }
+    ensures model { IfOk result (λ model. IsClear (AfterIndexes exchange.now scale mode) × IsModelOf exchange.now mode model) }
+    ensures fault { IfErr result (IsErrorOf (AfterIndexes exchange.now scale mode)) }
+{
+    let table = table_of(alloc, exchange.instances(), scale, mode)?;
+    if let Some(fault) = first_fault(exchange, &table, survey.used(), scale, mode) {
+        return Err(BuildError::Fault(fault));
+    }
+    after_lengths(alloc, exchange, survey, scale, mode, tree, chains, &table)
+}
+
+/// The checks from the indexes on, and the model.
+fn after_items(
+    alloc: Global,
+    exchange: &Exchange,
+    survey: &Survey,
+    scale: Scale,
+    mode: Mode,
+    tree: &Tree,
+    chains: &Chains,
+) -> Result<Model, BuildError>
+    requires checked { IsChecked exchange.now scale survey.now chains.now }
+    requires storeys { ListsStoreys exchange.now tree.now }
+    ensures model { IfOk result (λ model. IsClear (AfterItems exchange.now scale mode) × IsModelOf exchange.now mode model) }
+    ensures fault { IfErr result (IsErrorOf (AfterItems exchange.now scale mode)) }
+{
+    if let Some(fault) = index_fault(exchange, survey) {
+        return Err(BuildError::Fault(fault));
+    }
+    after_indexes(alloc, exchange, survey, scale, mode, tree, chains)
+}
+
+/// The checks from the axes of placements on, and the model.
+fn after_chains(
+    alloc: Global,
+    exchange: &Exchange,
+    survey: &Survey,
+    scale: Scale,
+    mode: Mode,
+    tree: &Tree,
+    chains: &Chains,
+) -> Result<Model, BuildError>
+    requires surveyed { Surveyed exchange.now survey.now }
+    requires unit { IsLengthUnit exchange.now scale }
+    requires storeys { ListsStoreys exchange.now tree.now }
+    requires distinct { NoneRepeats exchange.now (element_ids survey.now) }
+    requires chains { HasChains exchange.now (element_ids survey.now) chains.now }
+    ensures model { IfOk result (λ model. IsClear (AfterChains exchange.now scale mode) × IsModelOf exchange.now mode model) }
+    ensures fault { IfErr result (IsErrorOf (AfterChains exchange.now scale mode)) }
+{
+    if let Some(fault) = oblique_fault(exchange, survey) {
+        return Err(BuildError::Fault(fault));
+    }
+    if let Some(fault) = item_fault(alloc, exchange, survey)? {
+        return Err(BuildError::Fault(fault));
+    }
+    after_items(alloc, exchange, survey, scale, mode, tree, chains)
+}
+
+/// The checks from the global identifiers on, and the model.
+fn after_tree(
+    alloc: Global,
+    exchange: &Exchange,
+    survey: &Survey,
+    scale: Scale,
+    mode: Mode,
+    tree: &Tree,
+) -> Result<Model, BuildError>
+    requires surveyed { Surveyed exchange.now survey.now }
+    requires unit { IsLengthUnit exchange.now scale }
+    requires storeys { ListsStoreys exchange.now tree.now }
+    ensures model { IfOk result (λ model. IsClear (AfterTree exchange.now scale mode) × IsModelOf exchange.now mode model) }
+    ensures fault { IfErr result (IsErrorOf (AfterTree exchange.now scale mode)) }
+{
+    if let Some(fault) = guid_fault(alloc, exchange, survey)? {
+        return Err(BuildError::Fault(fault));
+    }
+    let chains = chains_of(alloc, exchange, survey)?;
+    after_chains(alloc, exchange, survey, scale, mode, tree, &chains)
+}
+
+/// The checks from the tree on, and the model.
+fn after_unit(
+    alloc: Global,
+    exchange: &Exchange,
+    survey: &Survey,
+    scale: Scale,
+    mode: Mode,
+) -> Result<Model, BuildError>
+    requires surveyed { Surveyed exchange.now survey.now }
+    requires unit { IsLengthUnit exchange.now scale }
+    ensures model { IfOk result (λ model. IsClear (AfterUnit exchange.now scale mode) × IsModelOf exchange.now mode model) }
+    ensures fault { IfErr result (IsErrorOf (AfterUnit exchange.now scale mode)) }
+{
+    let tree = tree(alloc, exchange)?;
+    after_tree(alloc, exchange, survey, scale, mode, &tree)
+}
+
+/// The model of the instances of a file, or their first fault.
+fn build_file(alloc: Global, exchange: &Exchange, mode: Mode) -> Result<Model, BuildError>
+    ensures model { IfOk result (λ model. IsClear (FileFault exchange.now mode) × IsModelOf exchange.now mode model) }
+    ensures fault { IfErr result (IsErrorOf (FileFault exchange.now mode)) }
+{
+    let survey = survey(alloc, exchange)?;
+    match length_unit(exchange) {
+        Ok(scale) => after_unit(alloc, exchange, &survey, scale, mode),
+        Err(fault) => Err(BuildError::Fault(fault)),
+    }
+}
+
+/// The model that the bytes of a file make (IFC4 ADD2 TC1, in the clear text encoding of ISO 10303-21): its elements that have a body, with
+/// their surfaces in millimetres. A fault is that of the first check that finds one, in it the one with the least place or number. Lengths
+/// off the grid are refused in exact mode, and rounded in snap mode.
+pub fn build(alloc: Global, bytes: &[u8], mode: Mode) -> Result<Model, BuildError>
+    ensures model { IfOk result (λ model. Profile bytes.now mode (Ok model)) }
+    ensures fault { IfErr result (λ error. IsCause bytes.now mode error) }
+{
+    let exchange = read(alloc, bytes)?;
+    build_file(alloc, &exchange, mode)
+}
