@@ -19,3 +19,4 @@ pub mod LeastOf
 pub mod Staged
 pub mod Surfaced
 pub mod Readable
+pub mod Readied

@@ -33,10 +33,10 @@ pub readable_point : (scale : Scale) (mode : Mode) (v : Value21) → ThreeOf Spe
 readable_point scale mode v h none unrefused =
     readable_number scale mode h.a h.first
     (λ x is_x. readable_number scale mode h.b h.second
-        (λ y is_y. readable_number scale mode h.c h.third
-            (λ z is_z. none (record { x = x; y = y; z = z }) (record { a = h.a; b = h.b; c = h.c; three = h.three; x = is_x; y = is_y; z = is_z }))
-            (λ f r. unrefused f (record { a = h.a; b = h.b; c = h.c; three = h.three; first = inr ((x, is_x), inr ((y, is_y), inl r)) })))
-        (λ f r. unrefused f (record { a = h.a; b = h.b; c = h.c; three = h.three; first = inr ((x, is_x), inl r) })))
+    (λ y is_y. readable_number scale mode h.c h.third
+    (λ z is_z. none (record { x = x; y = y; z = z }) (record { a = h.a; b = h.b; c = h.c; three = h.three; x = is_x; y = is_y; z = is_z }))
+    (λ f r. unrefused f (record { a = h.a; b = h.b; c = h.c; three = h.three; first = inr ((x, is_x), inr ((y, is_y), inl r)) })))
+    (λ f r. unrefused f (record { a = h.a; b = h.b; c = h.c; three = h.three; first = inr ((x, is_x), inl r) })))
     (λ f r. unrefused f (record { a = h.a; b = h.b; c = h.c; three = h.three; first = inl r }))
 
 pub readable_points : (scale : Scale) (mode : Mode) (vs : List Value21) → All (ThreeOf SpellsNumber) vs → ((ps : List Point) → ArePoints scale mode vs ps → ⊥) → ((f : GridFault) → PointsRefused scale mode vs f → ⊥) → ⊥
