@@ -20,3 +20,4 @@ pub mod Staged
 pub mod Surfaced
 pub mod Readable
 pub mod Readied
+pub mod Framed

@@ -1,32 +1,28 @@
 -- What an element has once the stages before its surface have found no fault.
-use Rattle.std.proofs.Common.{◌≡◌, ℕ, ◌+◌, ◌<◌, ◌≤◌, ◌⊎◌, inl, inr, Bool, true, false, List, [], ◌∷◌, length, get_or, sum_by, Option, Some, None, option_and_then, Contains, Any, refl, sym, ap, ◌∙◌, subst, arith}
+use Rattle.std.proofs.Common.{◌≡◌, ℕ, ◌<◌, inl, inr, true, List, [], ◌∷◌, length, get_or, sum_by, Option, Some, None, option_and_then, Contains, refl, sym, ap, ◌∙◌, subst, arith}
 use Rattle.std.specs.Option.{MatchOption}
 use Rattle.std.specs.List.{All, slice_get}
-use Rattle.std.proofs.lemmas.List.Elements.{All-head, All-tail}
+use Rattle.std.proofs.lemmas.List.Elements.{All-head}
 use Rattle.std.proofs.lemmas.List.Sums.{sum_by-cons}
 use Rattle.bim_model.specs.declared.upload.Mode.{Mode}
 use Rattle.bim_model.specs.declared.upload.UploadFault.{UploadFault}
 use Rattle.bim_model.specs.declared.geometry.Point.{Point}
 use Rattle.p21_reader.specs.declared.value.Value21.{Value21}
 use Rattle.p21_reader.specs.declared.value.Instance.{Instance}
-use Rattle.ifc_schema.specs.declared.entity.Entity.{Entity}
 use Rattle.ifc_schema.specs.declared.entity.Entity.TheVariants as entity
 use Rattle.ifc_schema.specs.declared.form.Count.TheVariants.{AtLeast}
 use Rattle.ifc_schema.specs.declared.outcome.Survey.{Survey}
-use Rattle.ifc_schema.specs.Values.{reference_of, items_of, is_absent}
+use Rattle.ifc_schema.specs.Values.{reference_of, items_of}
 use Rattle.ifc_schema.specs.Looking.{look, entity_at, is_a}
 use Rattle.ifc_schema.specs.Used.{Used}
-use Rattle.ifc_schema.specs.StageFive.{IsModelElement, Surveyed, used_ids, element_ids, is_subject}
+use Rattle.ifc_schema.specs.StageFive.{IsModelElement, used_ids, element_ids, is_subject}
 use Rattle.ifc_schema.proofs.Listing.{element_used}
 use Rattle.ifc_schema.proofs.PlaceLemmas.{place_found}
 use Rattle.ifc_units.specs.declared.scale.Scale.{Scale}
 use Rattle.ifc_units.specs.declared.fault.GridFault.{GridFault}
 use Rattle.ifc_units.specs.Lengths.{ArePoints, PointsRefused, ListRefused}
-use Rattle.faceset.specs.Sets.{listed, HasBadIndex}
-use Rattle.model_build.specs.Finding.{Finds, reference_at}
 use Rattle.model_build.specs.PointTables.{IsTable, ListsPoints, LengthFault, told_of, kept_at}
-use Rattle.model_build.specs.Items.{HasOther, body_sets, row_count}
-use Rattle.model_build.specs.Named.{ListsNamed, IsNamed}
+use Rattle.model_build.specs.Items.{body_sets, row_count}
 use Rattle.model_build.specs.Least.{NoneOf, IsBadSet}
 use Rattle.model_build.specs.Sound.{IsSound}
 use Rattle.model_build.specs.Outcomes.{AreServed, HasChains, IsStanding, IsReady, IsChecked, AreMeasured, AreReady}
