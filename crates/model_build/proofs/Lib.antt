@@ -21,3 +21,4 @@ pub mod Surfaced
 pub mod Readable
 pub mod Readied
 pub mod Framed
+pub mod Checking
