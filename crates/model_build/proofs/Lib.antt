@@ -18,4 +18,7 @@ pub mod Collecting
 pub mod LeastOf
 pub mod Staged
 pub mod Surfaced
+pub mod Readable
+pub mod Readied
+pub mod Framed
 pub mod Checking
