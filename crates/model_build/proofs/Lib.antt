@@ -22,3 +22,5 @@ pub mod Readable
 pub mod Readied
 pub mod Framed
 pub mod Checking
+pub mod Thens
+pub mod Modelling
