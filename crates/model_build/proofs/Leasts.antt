@@ -15,7 +15,7 @@ order : (a b : ℕ) → (a < b) ⊎ ((a ≡ b) ⊎ (b < a))
 order a b = grind arith
 
 -- what is listed below a number of the list stands before it
-earlier : (ids : List ℕ) (at id k : ℕ) → IsStrictlyIncreasing ids → at < length ids → get_or ids at 0 ≡ id → k < id → Contains ids k → (place : ℕ) × (place < at) × (get_or ids place 0 ≡ k)
+pub earlier : (ids : List ℕ) (at id k : ℕ) → IsStrictlyIncreasing ids → at < length ids → get_or ids at 0 ≡ id → k < id → Contains ids k → (place : ℕ) × (place < at) × (get_or ids place 0 ≡ k)
 earlier ids at id k up lt is below c =
     let there : get_or ids c.0 0 ≡ k = get_or_default ids c.0 0 k c.1 ∙ c.2 in
     elim (order c.0 at) [

@@ -18,3 +18,4 @@ pub mod Collecting
 pub mod LeastOf
 pub mod Staged
 pub mod Surfaced
+pub mod Made
