@@ -32,6 +32,7 @@ use Rattle.model_build.specs.Texts.{guid_of, name_of}
 use Rattle.model_build.specs.Storeys.{IsStoreyName}
 use Rattle.model_build.specs.Sound.{moved, IsOut}
 use Rattle.model_build.specs.Surfaces.{AreOfSets, placed_by, IsSurface, IsBeyond}
+use Rattle.model_build.specs.Framed.{AllFramed}
 use Rattle.model_build.specs.Outcomes.{IsStanding, IsReady, IsFrameOf, IsNearSurface, IsNearElement, Lacks, LacksAt, IsFirstLacking}
 use Rattle.model_build.specs.declared.lack.Lack.{Lack}
 use Rattle.model_build.specs.declared.lack.Lack.TheVariants.{Beyond, Unready}
@@ -42,7 +43,19 @@ use Rattle.model_build.proofs.Leasts.{earlier}
 use Rattle.model_build.proofs.Tables.{zipped_at}
 use Rattle.model_build.proofs.Bodied.{tells}
 
+-- what is said of nothing, and of a thing that is there
+
+pub of_none : {A : Type 0} (N : Type 0) (S : A → Type 0) (r : Option A) → r ≡ None → MatchOption r N S → N
+of_none N S r e h = subst (λ o. MatchOption o N S) e h
+
+pub of_some : {A : Type 0} (N : Type 0) (S : A → Type 0) (r : Option A) (x : A) → r ≡ Some x → MatchOption r N S → S x
+of_some N S r x e h = subst (λ o. MatchOption o N S) e h
+
 -- The frame of an element.
+
+-- the frames of placements carry points
+pub all_framed : (world : List Instance) (scale : Scale) (mode : Mode) (placements : List ℕ) (frames : ℕ → Option Frame) → AreFrames world scale mode placements frames → AllFramed frames
+all_framed world scale mode placements frames are = λ id f e. (let p = are.sound id f e in (p.is_frame, p.near))
 
 -- an attribute that isn't absent is a reference to one of the placements
 stands : (placements : List ℕ) (i : Instance) (value : Value21) → slice_get i.values 5 ≡ Some value → is_absent value ≡ false → IsStanding placements i

@@ -6,8 +6,8 @@ use Rattle.placement.specs.Placed.{frame_in}
 use Rattle.model_build.proofs.Made.{placed_told}
 use Rattle.model_build.proofs.element.frame_of.Goals as goal
 
-pub returns : goal.returns
-returns c = λ world scale mode placements are.
+pub returns-clause-placed : goal.returns-clause-placed
+returns-clause-placed c = λ world scale mode placements are.
     let h = c.in_ok-value.ensures.lookup in
     let values : slice_get c.as_slice.result.now 5 ≡ Some c.in_ok-value.value.now = slice_get-get_or c.as_slice.result.now 5 c.in_ok-value.value.now h.3.0 ∙ ap Some (sym h.1) in
     let there : slice_get c.args.instance.now.values 5 ≡ Some c.in_ok-value.value.now = ap (λ vs. slice_get vs 5) (sym c.as_slice.ensures) ∙ values in
