@@ -13,7 +13,6 @@ use Rattle.std.proofs.lemmas.List.Elements.{Contains-get_or}
 use Rattle.std.proofs.lemmas.List.Sums.{sum_by-cons}
 use Rattle.std.proofs.lemmas.Slice.Zip.{AllZip-long, all_zipped_more}
 use Rattle.bim_model.specs.Boxes.{corners_of}
-use Rattle.bim_model.specs.Guids.{IsGuid}
 use Rattle.bim_model.specs.Models.{IsInReach}
 use Rattle.bim_model.specs.declared.element.Element.{Element}
 use Rattle.bim_model.specs.declared.geometry.Point.{Point}
@@ -28,8 +27,6 @@ use Rattle.placement.specs.declared.frame.Frame.{Frame}
 use Rattle.placement.specs.Placed.{AreFrames}
 use Rattle.faceset.specs.Sets.{AreTriangles, spelled_triangles}
 use Rattle.model_build.specs.Items.{body_sets, row_count, counted}
-use Rattle.model_build.specs.Texts.{guid_of, name_of}
-use Rattle.model_build.specs.Storeys.{IsStoreyName}
 use Rattle.model_build.specs.Sound.{moved, IsOut}
 use Rattle.model_build.specs.Surfaces.{AreOfSets, placed_by, IsSurface, IsBeyond}
 use Rattle.model_build.specs.Framed.{AllFramed}
@@ -128,23 +125,6 @@ beyond_there world scale mode i frame own f are out = record {
   triangles = map (moved frame) own;
   surface = surface_there world scale mode i frame own (map (moved frame) own) f are refl;
   beyond = out;
-}
-
--- The element that an instance is.
-
-pub never_unread : (world : List Instance) (scale : Scale) (mode : Mode) (placements : List ℕ) (i : Instance) → ((guid : List ℕ) → guid_of i ≡ Some guid → IsGuid guid → ⊥) → IsReady world scale mode placements i → ⊥
-never_unread world scale mode placements i h r = h r.guid.0 r.guid.1 r.guid.2
-
-pub never_classless : (world : List Instance) (scale : Scale) (mode : Mode) (placements : List ℕ) (i : Instance) → i.keyword ≡ None → IsReady world scale mode placements i → ⊥
-never_classless world scale mode placements i none r = let e = r.class.1 in absurd (cc)
-
-pub near_element : (world : List Instance) (scale : Scale) (mode : Mode) (i : Instance) (element : Element) → look world i.id ≡ Some i → (guid_of i ≡ Some element.guid.chars) × IsGuid element.guid.chars → i.keyword ≡ Some element.class
-    → element.name ≡ name_of i → IsStoreyName world i.id element.storey → IsNearSurface world scale mode i element.triangles → IsNearElement world scale mode i.id element
-near_element world scale mode i element found guid class name storey s = record {
-  is_element = record { instance = i; found = found; guid = guid.0; class = class; name = name; storey = storey; surface = s.surface };
-  guid = guid.1;
-  near = s.near;
-  count = s.count ∙ sym (ap (counted world) found);
 }
 
 -- The element of a number.
