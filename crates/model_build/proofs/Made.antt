@@ -48,6 +48,12 @@ of_none N S r e h = subst (λ o. MatchOption o N S) e h
 pub of_some : {A : Type 0} (N : Type 0) (S : A → Type 0) (r : Option A) (x : A) → r ≡ Some x → MatchOption r N S → S x
 of_some N S r x e h = subst (λ o. MatchOption o N S) e h
 
+pub of_ok : {A E : Type 0} (S : A → Type 0) (F : E → Type 0) (r : Result A E) (x : A) → r ≡ Ok x → MatchResult r S F → S x
+of_ok S F r x e h = subst (λ o. MatchResult o S F) e h
+
+pub of_err : {A E : Type 0} (S : A → Type 0) (F : E → Type 0) (r : Result A E) (x : E) → r ≡ Err x → MatchResult r S F → F x
+of_err S F r x e h = subst (λ o. MatchResult o S F) e h
+
 -- The frame of an element.
 
 -- the frames of placements carry points
@@ -133,9 +139,6 @@ lack_there : (world : List Instance) (scale : Scale) (mode : Mode) (placements :
 lack_there world scale mode placements id i Beyond found h = record { instance = i; found = found; holds = h }
 lack_there world scale mode placements id i Unready found h = λ f. h (subst (IsReady world scale mode placements) (one (look world id) f.instance i f.found found) f.holds)
 
-pub never_found : (world : List Instance) (scale : Scale) (mode : Mode) (placements : List ℕ) (id : ℕ) → look world id ≡ None → LacksAt world scale mode placements id Unready
-never_found world scale mode placements id none f = let e = f.found in absurd (cc)
-
 equal : (a b : ℕ) → (a == b) ≡ true → a ≡ b
 equal a b e = grind (arith, nat_tests)
 
@@ -166,9 +169,6 @@ pub made_more : (world : List Instance) (scale : Scale) (mode : Mode) (ids : Lis
 made_more world scale mode ids at old new element lt h grown are =
     let step : take (at + 1) ids ≡ take at ids ++ get_or ids at 0 ∷ [] = take_more ids at 0 lt in
     rw (step, grown) (all_zipped_more (IsNearElement world scale mode) (take at ids) old (get_or ids at 0) element are h)
-
-pub made_whole : (world : List Instance) (scale : Scale) (mode : Mode) (ids : List ℕ) (at : ℕ) (made : List Element) → length ids ≤ at → AllZip (IsNearElement world scale mode) (take at ids) made → AllZip (IsNearElement world scale mode) ids made
-made_whole world scale mode ids at made le are = subst (λ z. AllZip (IsNearElement world scale mode) z made) (take_all at ids le) are
 
 made_before : (world : List Instance) (scale : Scale) (mode : Mode) (ids : List ℕ) (at place : ℕ) (made : List Element) → place < at → at < length ids → AllZip (IsNearElement world scale mode) (take at ids) made
     → (element : Element) × IsNearElement world scale mode (get_or ids place 0) element

@@ -1,5 +1,5 @@
 use Rattle.std.proofs.Common.{sym}
-use Rattle.model_build.proofs.Made.{made_at, never_found}
+use Rattle.model_build.proofs.Made.{made_at}
 use Rattle.model_build.proofs.element.element_at.Goals as goal
 
 pub returns-in-Some : goal.returns-in-Some
