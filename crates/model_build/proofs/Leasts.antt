@@ -35,8 +35,8 @@ least_here FaultOf ids at fault up lt none h =
       of = Contains-get_or ids at 0 lt;
       here = h;
       lower = λ k below listed other f. (
-        let e = earlier ids at id k up lt refl below listed in
-        none e.0 e.1 other (subst (λ n. FaultOf n other) (sym e.2) f));
+          let e = earlier ids at id k up lt refl below listed in
+          none e.0 e.1 other (subst (λ n. FaultOf n other) (sym e.2) f));
     }
 
 split : (k n : ℕ) → k < n + 1 → (k < n) ⊎ (k ≡ n)

@@ -1,5 +1,5 @@
 -- The elements that instances make.
-use Rattle.std.proofs.Common.{◌≡◌, ℕ, ◌+◌, ◌==◌, ◌<◌, ◌≤◌, inl, inr, true, false, List, [], ◌∷◌, ◌++◌, length, get_or, take, take_all, map, sum_by, Option, Some, None, option_and_then, Result, Ok, Err, Contains, refl, sym, ap, ◌∙◌, subst, arith, length-append}
+use Rattle.std.proofs.Common.{◌≡◌, ℕ, ◌+◌, ◌==◌, ◌<◌, inl, inr, true, false, List, [], ◌∷◌, ◌++◌, length, get_or, take, map, sum_by, Option, Some, None, option_and_then, Result, Ok, Err, Contains, refl, sym, ap, ◌∙◌, subst, arith, length-append}
 use Rattle.std.specs.Option.{MatchOption}
 use Rattle.std.specs.declared.alloc.AllocError.{AllocError}
 use Rattle.std.specs.Prelude.{IfOk}
@@ -26,14 +26,14 @@ use Rattle.ifc_units.specs.declared.scale.Scale.{Scale}
 use Rattle.placement.specs.declared.frame.Frame.{Frame}
 use Rattle.placement.specs.Placed.{AreFrames}
 use Rattle.faceset.specs.Sets.{AreTriangles, spelled_triangles}
-use Rattle.model_build.specs.Items.{body_sets, row_count, counted}
+use Rattle.model_build.specs.Items.{body_sets, row_count}
 use Rattle.model_build.specs.Sound.{moved, IsOut}
 use Rattle.model_build.specs.Surfaces.{AreOfSets, placed_by, IsSurface, IsBeyond}
 use Rattle.model_build.specs.Framed.{AllFramed}
 use Rattle.model_build.specs.Outcomes.{IsStanding, IsReady, IsFrameOf, IsNearSurface, IsNearElement, Lacks, LacksAt, IsFirstLacking}
 use Rattle.model_build.specs.declared.lack.Lack.{Lack}
 use Rattle.model_build.specs.declared.lack.Lack.TheVariants.{Beyond, Unready}
-use Rattle.model_build.proofs.OneAxes.{one, refers_absent}
+use Rattle.model_build.proofs.OneAxes.{one}
 use Rattle.model_build.proofs.OneSet.{same_triangle}
 use Rattle.model_build.proofs.OneSurface.{same_map}
 use Rattle.model_build.proofs.Leasts.{earlier}
@@ -190,7 +190,7 @@ first_lacking world scale mode placements ids at made lack up lt are h = record 
   listed = Contains-get_or ids at 0 lt;
   lacks = h;
   lower = λ k below c. (
-    let e = earlier ids at (get_or ids at 0) k up lt refl below c in
-    let m = made_before world scale mode ids at e.0 made e.1 lt are in
-    (m.0, subst (λ n. IsNearElement world scale mode n m.0) e.2 m.1));
+      let e = earlier ids at (get_or ids at 0) k up lt refl below c in
+      let m = made_before world scale mode ids at e.0 made e.1 lt are in
+      (m.0, subst (λ n. IsNearElement world scale mode n m.0) e.2 m.1));
 }

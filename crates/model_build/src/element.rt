@@ -13,8 +13,8 @@ ghost use Rattle.model_build.specs.PointTables.{IsTable};
 ghost use Rattle.model_build.specs.Outcomes.{IsStanding, IsFrameOf, IsNearSurface, IsNearElement, Lacks, LacksAt, IsFirstLacking};
 
 use crate::find::fetch;
-use crate::lack::{Lack, Lacking};
 use crate::items::body_sets;
+use crate::lack::{Lack, Lacking};
 use crate::storeys::storey_name;
 use crate::surface::{all_moved, own_triangles};
 use crate::texts::{guid_of, name_of};

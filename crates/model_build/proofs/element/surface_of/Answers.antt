@@ -1,4 +1,4 @@
-use Rattle.std.proofs.Common.{◌≡◌, List, Vec, Global, map, subst, sym, ◌∙◌, ap}
+use Rattle.std.proofs.Common.{◌≡◌, Vec, Global, map, subst, sym}
 use Rattle.std.specs.List.{All, Any}
 use Rattle.bim_model.specs.Boxes.{corners_of}
 use Rattle.bim_model.specs.Models.{IsInReach}
