@@ -19,3 +19,7 @@ pub mod LeastOf
 pub mod Staged
 pub mod Surfaced
 pub mod Made
+pub mod Readable
+pub mod Readied
+pub mod Framed
+pub mod Checking

@@ -38,7 +38,11 @@ pub fn guid_fault(
 }
 
 /// The chains of the placements that the elements name. A fault is that of one whose chain never ends.
-pub fn chains_of(alloc: Global, exchange: &Exchange, survey: &Survey) -> Result<Chains, BuildError>
+pub fn chains_of(
+    alloc: Global,
+    exchange: &Exchange,
+    survey: &Survey,
+) -> Result<Chains, BuildError>
     requires { Surveyed exchange.now survey.now }
     ensures chains { IfOk result (HasChains exchange.now (element_ids survey.now)) }
     ensures fault { IfErr result (IsErrorOf (LeastFault (IsNamed exchange.now (IsModelElement exchange.now)) (LoopFault exchange.now))) }
@@ -52,8 +56,10 @@ pub fn oblique_fault(exchange: &Exchange, survey: &Survey) -> Option<UploadFault
     requires { Surveyed exchange.now survey.now }
     ensures { MatchOption result (NoneOf (used_ids survey.now) (IsOblique exchange.now)) (LeastFault (IsUsed AxisPlacement exchange.now) (ObliqueFault exchange.now)) }
 {
-    let id = first_oblique(exchange, survey.used())?;
-    Some(UploadFault::Oblique { id })
+    match first_oblique(exchange, survey.used()) {
+        Some(id) => Some(UploadFault::Oblique { id }),
+        None => None,
+    }
 }
 
 /// The fault of a body with an item that isn't served.
@@ -78,8 +84,10 @@ pub fn index_fault(exchange: &Exchange, survey: &Survey) -> Option<UploadFault>
     requires { Surveyed exchange.now survey.now }
     ensures { MatchOption result (NoneOf (used_ids survey.now) (IsBadSet exchange.now)) (LeastFault (IsUsed TriangulatedFaceSet exchange.now) (IndexFault exchange.now)) }
 {
-    let id = first_bad_index(exchange, survey.used())?;
-    Some(UploadFault::BadIndex { id })
+    match first_bad_index(exchange, survey.used()) {
+        Some(id) => Some(UploadFault::BadIndex { id }),
+        None => None,
+    }
 }
 
 /// The fault of elements with more than a million triangles together.

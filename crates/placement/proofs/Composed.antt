@@ -1,5 +1,5 @@
 -- Frames of placements, the parents first.
-use Rattle.std.proofs.Common.{◌≡◌, ℕ, ◌+◌, ◌<◌, ◌≤◌, ◌⊎◌, inl, inr, List, length, get_or, Option, Some, None, MatchOption, Contains, refl, sym, ap, ◌∙◌, subst, arith}
+use Rattle.std.proofs.Common.{◌≡◌, ℕ, ◌+◌, ◌<◌, ◌≤◌, ◌⊎◌, inl, inr, List, length, get_or, Option, Some, None, Contains, sym, ap, ◌∙◌, subst, arith}
 use Rattle.std.proofs.lemmas.Int.{ints}
 use Rattle.std.proofs.lemmas.List.{get_or_default, get_or-take, length-take-le}
 use Rattle.bim_model.specs.declared.upload.Mode.{Mode}
@@ -9,9 +9,8 @@ use Rattle.placement.specs.declared.frame.Offset.{Offset}
 use Rattle.placement.specs.declared.frame.Frame.{Frame}
 use Rattle.placement.specs.Frames.{IsFrame, AreWithin, most, step}
 use Rattle.placement.specs.Chains.{parent_of, ParentsFirst}
-use Rattle.placement.specs.Placed.{OwnFrame, IsComposed, outermost, within, IsPlaced, AreFrames, LacksFrame, StandsOn, AllWithin, AllPlaced, Composed, Puts}
+use Rattle.placement.specs.Placed.{OwnFrame, IsComposed, outermost, within, IsPlaced, AreFrames, StandsOn, AllWithin, AllPlaced, Composed, Puts}
 use Rattle.placement.proofs.Walking.{same_or}
-use Rattle.placement.proofs.Chaining.{contains_at}
 
 -- One frame.
 
@@ -103,8 +102,3 @@ are_frames world s mode ids frames placed listed all = record {
       let there = all c.0 c.1 in
       (there.0, ap frames (sym (get_or_default ids c.0 0 id c.1 ∙ c.2)) ∙ there.1);
 }
-
-pub lacks : (world : List Instance) (s : Scale) (mode : Mode) (ids : List ℕ) (frames : ℕ → Option Frame) (k : ℕ) (o : Option Frame) → k < length ids → ((f : Frame) → o ≡ Some f → ⊥)
-    → MatchOption o ((f : Frame) → OwnFrame world s mode (get_or ids k 0) f → ⊥) (Composed world s mode frames (get_or ids k 0)) → LacksFrame world s mode ids
-lacks world s mode ids frames k None lt n h = record { id = get_or ids k 0; listed = contains_at ids k lt; none = h }
-lacks world s mode ids frames k (Some f) lt n h = absurd (n f refl)

@@ -8,3 +8,4 @@ pub mod Chaining
 pub mod Square
 pub mod Owning
 pub mod Composed
+pub mod OneFrame

@@ -8,9 +8,8 @@ use Rattle.ifc_units.specs.declared.scale.Scale.{Scale}
 use Rattle.ifc_units.specs.declared.fault.LengthError.{LengthError}
 use Rattle.ifc_units.specs.declared.fault.LengthError.TheVariants.{Unread, Refused}
 use Rattle.ifc_units.specs.Lengths.{IsPoint, PointRefused, Fails}
-use Rattle.ifc_units.proofs.PointFacts.{point_apart, one_point, point_near}
+use Rattle.ifc_units.proofs.PointFacts.{point_apart}
 use Rattle.placement.specs.declared.frame.Frame.{Frame}
-use Rattle.placement.specs.Frames.{lengths_of, AreWithin, step}
 use Rattle.placement.specs.Directions.{HasDirections, Oblique}
 use Rattle.placement.specs.Placed.{value_at, referred_at, IsLocation, AxisFrame, OwnFrame}
 use Rattle.placement.proofs.Square.{square}
@@ -30,21 +29,6 @@ unlocated world s mode id to v e r t h p l =
     let same = one (referred_at world id 0) l.to to l.refers (sym r) in
     let here = one (value_at world to 0) l.value v (subst (λ (n : ℕ). value_at world n 0 ≡ Some l.value) same l.there) (sym t) in
     unpointed s mode v e h p (subst (λ (x : Value21). IsPoint s mode x p) here l.is_point)
-
-one_location : (world : List Instance) (s : Scale) (mode : Mode) (id : ℕ) (p q : Point) → IsLocation world s mode id p → IsLocation world s mode id q → p ≡ q
-one_location world s mode id p q l m =
-    let same = one (referred_at world id 0) l.to m.to l.refers m.refers in
-    let here = one (value_at world m.to 0) l.value m.value (subst (λ (n : ℕ). value_at world n 0 ≡ Some l.value) same l.there) m.there in
-    one_point s mode m.value p q (subst (λ (x : Value21). IsPoint s mode x p) here l.is_point) m.is_point
-
-pub location_near : (world : List Instance) (s : Scale) (mode : Mode) (id : ℕ) (p : Point) → IsLocation world s mode id p → AreWithin step (lengths_of p)
-location_near world s mode id p l =
-    let r = point_near s mode l.value p l.is_point in
-    record {
-      x = record { low = r.x_low; high = r.x_high };
-      y = record { low = r.y_low; high = r.y_high };
-      z = record { low = r.z_low; high = r.z_high };
-    }
 
 -- Frames.
 

@@ -83,9 +83,9 @@ same_direction world id d e r s =
 
 -- Two directions, which may be absent, that give the same.
 
-record GiveSame (d e : Option Direction) : Type 0 where
-  first : first_direction d ≡ first_direction e
-  second : (z : Axis) → second_direction z d ≡ second_direction z e
+pub record GiveSame (d e : Option Direction) : Type 0 where
+  pub first : first_direction d ≡ first_direction e
+  pub second : (z : Axis) → second_direction z d ≡ second_direction z e
 
 never_both : {A : Type 0} (v : Value21-F Value21) (to : ℕ) → absent_in v ≡ true → reference_in v ≡ Some to → A
 never_both layer.Absent to a e = absurd (cc)
@@ -110,7 +110,7 @@ same_directs world v (Some d) (Some e) r s =
     let same = same_direction world s.0 d e (subst (λ (t : ℕ). IsDirection world t d) to r.2) s.2 in
     record { first = same; second = λ z. same }
 
-same_directions : (world : List Instance) (id : ℕ) (a b c d : Option Direction) → Directions world id a b → Directions world id c d → GiveSame a c × GiveSame b d
+pub same_directions : (world : List Instance) (id : ℕ) (a b c d : Option Direction) → Directions world id a b → Directions world id c d → GiveSame a c × GiveSame b d
 same_directions world id a b c d r s =
     let i = one _ r.instance s.instance r.found s.found in
     let first = one _ r.first s.first (subst (λ (t : Instance). slice_get t.values 1 ≡ Some r.first) i r.first_there) s.first_there in

@@ -1,12 +1,11 @@
 -- The order of placements, each after the one that it stands in.
-use Rattle.std.proofs.Common.{◌≡◌, ℕ, zero, suc, ◌+◌, ◌-◌, ◌<◌, ◌≤◌, ◌⊎◌, inl, inr, List, [], ◌∷◌, ◌++◌, length, get_or, Some, None, Contains, sum_by, replicate, sym, ap, ◌∙◌, subst, arith, Bool, true, false}
-use Rattle.std.proofs.lemmas.List.{get_or_default, get_or-take, length-take-le, length-replicate, get_or-replicate}
-use Rattle.std.proofs.lemmas.List.Folds.{sum_by-replicate}
+use Rattle.std.proofs.Common.{◌≡◌, ℕ, zero, suc, ◌+◌, ◌-◌, ◌<◌, ◌≤◌, ◌⊎◌, inl, inr, List, [], ◌∷◌, ◌++◌, length, get_or, Contains, sym, ap, ◌∙◌, subst, arith, Bool, true, false}
+use Rattle.std.proofs.lemmas.List.{get_or_default, get_or-take, length-take-le}
 use Rattle.std.proofs.lemmas.List.Elements.{Contains-append_left, Contains-push, Contains-push_cases}
 use Rattle.p21_reader.specs.declared.value.Instance.{Instance}
 use Rattle.placement.specs.declared.walk.Walk.{Walk}
 use Rattle.placement.specs.Chains.{Ends, here, above, StandsIn, ParentsFirst, Reached, directly, further}
-use Rattle.placement.specs.Walks.{is_new, Ranked, Rest, Linked, Climbed, Outcome, Settling, Settled, IsFrom, Added, Visited}
+use Rattle.placement.specs.Walks.{Ranked, Rest, Linked, Climbed, Outcome, Settling, Settled, IsFrom, Added, Visited}
 use Rattle.placement.proofs.Walking.{same_or, first_push}
 
 -- the next one goes into the order
@@ -130,17 +129,3 @@ visited world old middle new id s ranked o longer kept climbed r m count grows s
   where
     split : (k n : ℕ) → (k < n) ⊎ (n ≤ k)
     split k n = grind arith
-
-pub settled_first : (world : List Instance) (walk : Walk) → walk.ranks.items ≡ replicate (length world) None → walk.met.items ≡ [] → walk.order.items ≡ [] → Settled world walk
-settled_first world walk r m o = record {
-  ranked = record {
-    size = ap length r ∙ length-replicate (length world) None;
-    sound = λ id at rank p e. absurd (
-        let w = p.within in
-        let n : None ≡ Some rank = sym (get_or-replicate (length world) at None None p.within) ∙ ap (λ ranks. get_or ranks at None) (sym r) ∙ e in cc);
-    room = let s = ap (λ ranks. sum_by is_new ranks) r ∙ sum_by-replicate is_new (length world) None in let e = ap length m in omega arith;
-  };
-  first = λ k d lt. absurd (let e = ap length o in omega (arith, lt));
-  ordered = λ k lt. absurd (let e = ap length m in omega (arith, lt));
-  few = ap length o ∙ sym (ap length m);
-}

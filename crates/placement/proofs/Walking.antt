@@ -1,5 +1,5 @@
 -- Walking up: what was met, and that a way that meets itself never ends.
-use Rattle.std.proofs.Common.{◌≡◌, ◌≢◌, ℕ, ◌+◌, ◌<◌, ◌≤◌, ◌⊎◌, inl, inr, List, [], ◌∷◌, ◌++◌, length, get_or, set, take, Option, Some, None, sum_by, refl, sym, ap, ◌∙◌, subst, arith, option_and_then, IfNone, Bool, true, false, nat_lt}
+use Rattle.std.proofs.Common.{◌≡◌, ◌≢◌, ℕ, ◌+◌, ◌<◌, ◌≤◌, ◌⊎◌, inl, inr, List, [], ◌∷◌, ◌++◌, length, get_or, set, take, Option, Some, None, refl, sym, ap, ◌∙◌, subst, arith, option_and_then, IfNone, Bool, true, false, nat_lt}
 use Rattle.std.proofs.lemmas.Bool.Decides.{nat_tests}
 use Rattle.std.proofs.lemmas.List.{get_or-set_same, get_or-set_other, get_or_default, get_or_append_left, get_or_push, get_or_past, length_push, length-set, take-append-le, take_at}
 use Rattle.std.proofs.lemmas.List.Sums.{sum_by-set}
@@ -32,9 +32,6 @@ never_both p a e f = absurd (cc)
 
 pub parent_is : (world : List Instance) (id : ℕ) (i : Instance) → look world id ≡ Some i → parent_of world id ≡ parent_in i
 parent_is world id i e = ap (option_and_then parent_in) e
-
-pub parent_none : (world : List Instance) (id : ℕ) → look world id ≡ None → (parent : Option ℕ) → parent_of world id ≡ Some parent → ⊥
-parent_none world id e parent h = none_some parent (sym h ∙ ap (option_and_then parent_in) e)
 
 pub unparented : (world : List Instance) (id : ℕ) (i : Instance) → look world id ≡ Some i → None ≡ parent_in i → (parent : Option ℕ) → parent_of world id ≡ Some parent → ⊥
 unparented world id i e n parent h = none_some parent (sym h ∙ parent_is world id i e ∙ sym n)
@@ -80,12 +77,6 @@ met_one world ranks met id at r p e =
           omega arith;
     }
 
-pub fewer : (ranks : List (Option ℕ)) (at n : ℕ) → at < length ranks → rank_at ranks at ≡ None → sum_by is_new (set ranks at (Some n)) < sum_by is_new ranks
-fewer ranks at n lt e =
-    let s = sum_by-set is_new ranks at (Some n) None lt in
-    let g = ap is_new e in
-    omega arith
-
 -- Climbing.
 
 next_push : (met : List ℕ) (current p k : ℕ) → k ≤ length met → get_or (met ++ current ∷ []) k p ≡ get_or met k current
@@ -108,13 +99,6 @@ climbs_on world met start current p id c e =
             ap (parent_of world) (get_or_push met current 0 k k_is) ∙ e ∙ ap (λ n. Some (Some n)) (sym (get_or_past (met ++ current ∷ []) (k + 1) p past)))
       ];
     }
-
-pub climbs_first : (world : List Instance) (met : List ℕ) (id : ℕ) → Climbs world met (length met) id id
-climbs_first world met id = record {
-  begun = omega arith;
-  first = get_or_past met (length met) id (omega arith);
-  stands = λ k le lt. absurd (omega (arith, le, lt));
-}
 
 -- the last one stands in none
 pub climbed_top : (world : List Instance) (met : List ℕ) (start current id : ℕ) → Climbs world met start current id → parent_of world current ≡ Some None → Climbed world (met ++ current ∷ []) start id

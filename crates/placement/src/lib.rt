@@ -10,6 +10,7 @@ mod chains;
 mod direction;
 mod frame;
 mod frames;
+mod laws;
 mod own;
 mod read;
 #[cfg(test)]
@@ -21,4 +22,5 @@ pub use axis::Axis;
 pub use chains::Chains;
 pub use frame::{Frame, Offset};
 pub use frames::Frames;
+pub use laws::one_frame;
 pub use own::{axis_frame, location_of, own_frame};
