@@ -18,6 +18,7 @@ pub mod Collecting
 pub mod LeastOf
 pub mod Staged
 pub mod Surfaced
+pub mod Made
 pub mod Readable
 pub mod Readied
 pub mod Framed
