@@ -1,5 +1,6 @@
 -- What the checks of a file say of its stages.
-use Rattle.std.proofs.Common.{◌≡◌, ℕ, ◌<◌, List, Contains, Some, refl}
+use Rattle.std.proofs.Common.{◌≡◌, ℕ, ◌<◌, List, Contains, Some, Result, Ok, Err, refl}
+use Rattle.std.specs.Result.{IfErr}
 use Rattle.bim_model.specs.declared.upload.UploadFault.{UploadFault}
 use Rattle.bim_model.specs.declared.upload.UploadFault.TheVariants as faults
 use Rattle.bim_model.specs.declared.upload.BuildError.{BuildError}
@@ -61,3 +62,7 @@ loop_stage world Of ids named ls nl errors.Memory h = h
 
 pub chains_clear : (world : List Instance) (Of : ℕ → Type 0) (ids chains : List ℕ) → Lists Of ids → HasChains world ids chains → IsClear (LeastFault (IsNamed world Of) (LoopFault world))
 chains_clear world Of ids chains ls h fault l = l.here.1 (h.2.ends l.id (h.2.all l.id (named_listed world Of ids h.0 l.id ls h.1 l.of)))
+
+pub err_by : {A E : Type 0} (P Q : E → Type 0) (r : Result A E) → ((e : E) → P e → Q e) → IfErr r P → IfErr r Q
+err_by P Q (Ok a) f h = h
+err_by P Q (Err e) f h = f e h

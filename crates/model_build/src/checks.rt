@@ -56,8 +56,10 @@ pub fn oblique_fault(exchange: &Exchange, survey: &Survey) -> Option<UploadFault
     requires { Surveyed exchange.now survey.now }
     ensures { MatchOption result (NoneOf (used_ids survey.now) (IsOblique exchange.now)) (LeastFault (IsUsed AxisPlacement exchange.now) (ObliqueFault exchange.now)) }
 {
-    let id = first_oblique(exchange, survey.used())?;
-    Some(UploadFault::Oblique { id })
+    match first_oblique(exchange, survey.used()) {
+        Some(id) => Some(UploadFault::Oblique { id }),
+        None => None,
+    }
 }
 
 /// The fault of a body with an item that isn't served.
@@ -82,8 +84,10 @@ pub fn index_fault(exchange: &Exchange, survey: &Survey) -> Option<UploadFault>
     requires { Surveyed exchange.now survey.now }
     ensures { MatchOption result (NoneOf (used_ids survey.now) (IsBadSet exchange.now)) (LeastFault (IsUsed TriangulatedFaceSet exchange.now) (IndexFault exchange.now)) }
 {
-    let id = first_bad_index(exchange, survey.used())?;
-    Some(UploadFault::BadIndex { id })
+    match first_bad_index(exchange, survey.used()) {
+        Some(id) => Some(UploadFault::BadIndex { id }),
+        None => None,
+    }
 }
 
 /// The fault of elements with more than a million triangles together.

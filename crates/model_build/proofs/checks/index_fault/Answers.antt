@@ -1,7 +1,11 @@
+use Rattle.std.proofs.Common.{ℕ, List, subst}
+use Rattle.ifc_schema.specs.StageFive.{used_ids}
+use Rattle.model_build.specs.Least.{NoneOf, IsLeastOf, IsBadSet}
+use Rattle.model_build.proofs.LeastOf.{index_least}
 use Rattle.model_build.proofs.checks.index_fault.Goals as goal
 
-pub returns-in_err-id : goal.returns-in_err-id
-returns-in_err-id c = ?
+pub returns-in-Some : goal.returns-in-Some
+returns-in-Some c = index_least c.args.exchange.now (used_ids c.args.survey.now) c.in-Some.id c.requires.used (subst (λ (ids : List ℕ). IsLeastOf ids (IsBadSet c.args.exchange.now) c.in-Some.id) c.used.ensures c.in-Some.ensures)
 
-pub returns : goal.returns
-returns c = ?
+pub returns-in-None : goal.returns-in-None
+returns-in-None c = subst (λ (ids : List ℕ). NoneOf ids (IsBadSet c.args.exchange.now)) c.used.ensures c.in-None.ensures
