@@ -25,3 +25,4 @@ pub mod Framed
 pub mod Checking
 pub mod Thens
 pub mod Modelling
+pub mod Profiled

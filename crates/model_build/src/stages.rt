@@ -175,8 +175,10 @@ fn after_tree(
     if let Some(fault) = guid_fault(alloc, exchange, survey)? {
         return Err(BuildError::Fault(fault));
     }
-    let chains = chains_of(alloc, exchange, survey)?;
-    after_chains(alloc, exchange, survey, scale, mode, tree, &chains)
+    match chains_of(alloc, exchange, survey) {
+        Ok(chains) => after_chains(alloc, exchange, survey, scale, mode, tree, &chains),
+        Err(error) => Err(error),
+    }
 }
 
 /// The checks from the tree on, and the model.
@@ -215,6 +217,8 @@ pub fn build(alloc: Global, bytes: &[u8], mode: Mode) -> Result<Model, BuildErro
     ensures model { IfOk result (λ model. Profile bytes.now mode (Ok model)) }
     ensures fault { IfErr result (λ error. IsCause bytes.now mode error) }
 {
-    let exchange = read(alloc, bytes)?;
-    build_file(alloc, &exchange, mode)
+    match read(alloc, bytes) {
+        Ok(exchange) => build_file(alloc, &exchange, mode),
+        Err(error) => Err(error),
+    }
 }

@@ -1,30 +1,23 @@
-use Rattle.std.proofs.Common.{rules, Ok, IfOk, IfErr, sum_by, ◌≤◌, ◌≡◌, ℕ, ◌+◌, ◌-◌, ◌*◌, ◌<◌, length, ◌/◌, ◌%◌, Bool, true, false, nat_eq, nat_lt, List, [], ◌∷◌, ◌++◌, slice_index_or, slice_set, bit_and, bit_or, Fits, w8, w32, w64, Bor, MutBor}
-use Rattle.ifc_schema.specs.StageFive.{Surveyed, used_ids, element_ids}
-use Rattle.ifc_units.specs.Units.{IsLengthUnit}
-use Rattle.spatial_tree.specs.Trees.{ListsStoreys}
-use Rattle.placement.specs.Placed.{AreFrames, frame_in}
-use Rattle.model_build.specs.Stages.{IsClear}
-use Rattle.model_build.specs.Texts.{NoneRepeats}
-use Rattle.model_build.specs.Items.{count_of, most_triangles}
-use Rattle.model_build.specs.Least.{NoneOf, IsBadSet}
-use Rattle.model_build.specs.PointTables.{IsTable}
+use Rattle.ifc_schema.specs.StageFive.{element_ids}
 use Rattle.model_build.specs.Elements.{IsModelOf}
-use Rattle.model_build.specs.Outcomes.{IsErrorOf, HasChains, IsChecked, AreMeasured, AreReady}
-use Rattle.model_build.specs.Profile.{ReachStage, AfterLengths, AfterIndexes, AfterItems, AfterChains, AfterTree, AfterUnit, FileFault, Profile, IsCause}
+use Rattle.model_build.proofs.Made.{of_none}
+use Rattle.model_build.proofs.Framed.{none_lacks}
+use Rattle.model_build.proofs.Readied.{are_ready}
+use Rattle.model_build.proofs.Profiled.{few_clear}
+use Rattle.model_build.proofs.Thens.{then_ok, then_err}
 use Rattle.model_build.proofs.stages.after_lengths.Goals as goal
 
--- src/stages.rt:82:9
 pub unreachable-requires : goal.unreachable-requires
-unreachable-requires c = ?
+unreachable-requires c =
+    none_lacks c.args.exchange.now c.args.scale c.args.mode c.args.survey.now c.args.chains.now c.requires.checked c.requires.measured (of_none _ _ c.in_ok-frames.field-0 c.in_default-2.is c.in_ok-frames.ensures)
 
--- src/stages.rt:84:5
 pub model_of-requires-clause-ready : goal.model_of-requires-clause-ready
-model_of-requires-clause-ready c = ?
+model_of-requires-clause-ready c = are_ready c.args.exchange.now c.args.table.now c.args.scale c.args.mode c.args.survey.now c.args.chains.now c.requires.table c.requires.checked c.requires.indexed c.requires.measured
 
--- src/stages.rt:60:1
 pub returns-clause-model : goal.returns-clause-model
-returns-clause-model c = ?
+returns-clause-model c =
+    then_ok _ _ (λ m. IsModelOf c.args.exchange.now c.args.mode m) c.model_of.result (few_clear c.args.exchange.now (element_ids c.args.survey.now) c.requires.checked.surveyed.elements (of_none _ _ c.in_ok-fault.field-0 c.in_default.is c.in_ok-fault.ensures)) c.model_of.ensures.model
 
--- src/stages.rt:60:1
 pub returns-clause-fault : goal.returns-clause-fault
-returns-clause-fault c = ?
+returns-clause-fault c =
+    then_err _ _ c.model_of.result (few_clear c.args.exchange.now (element_ids c.args.survey.now) c.requires.checked.surveyed.elements (of_none _ _ c.in_ok-fault.field-0 c.in_default.is c.in_ok-fault.ensures)) c.model_of.ensures.fault

@@ -1,26 +1,16 @@
-use Rattle.std.proofs.Common.{rules, Ok, IfOk, IfErr, sum_by, ◌≤◌, ◌≡◌, ℕ, ◌+◌, ◌-◌, ◌*◌, ◌<◌, length, ◌/◌, ◌%◌, Bool, true, false, nat_eq, nat_lt, List, [], ◌∷◌, ◌++◌, slice_index_or, slice_set, bit_and, bit_or, Fits, w8, w32, w64, Bor, MutBor}
-use Rattle.ifc_schema.specs.StageFive.{Surveyed, used_ids, element_ids}
-use Rattle.ifc_units.specs.Units.{IsLengthUnit}
-use Rattle.spatial_tree.specs.Trees.{ListsStoreys}
-use Rattle.placement.specs.Placed.{AreFrames, frame_in}
-use Rattle.model_build.specs.Stages.{IsClear}
-use Rattle.model_build.specs.Texts.{NoneRepeats}
-use Rattle.model_build.specs.Items.{count_of, most_triangles}
-use Rattle.model_build.specs.Least.{NoneOf, IsBadSet}
-use Rattle.model_build.specs.PointTables.{IsTable}
+use Rattle.ifc_schema.specs.StageFive.{IsModelElement, element_ids}
 use Rattle.model_build.specs.Elements.{IsModelOf}
-use Rattle.model_build.specs.Outcomes.{IsErrorOf, HasChains, IsChecked, AreMeasured, AreReady}
-use Rattle.model_build.specs.Profile.{ReachStage, AfterLengths, AfterIndexes, AfterItems, AfterChains, AfterTree, AfterUnit, FileFault, Profile, IsCause}
+use Rattle.model_build.proofs.Made.{of_none}
+use Rattle.model_build.proofs.Told.{repeats_clear}
+use Rattle.model_build.proofs.Checking.{chains_clear}
+use Rattle.model_build.proofs.Thens.{then_ok, then_err, then_error, first_error}
 use Rattle.model_build.proofs.stages.after_tree.Goals as goal
 
--- src/stages.rt:178:18
-pub returns-in_err-chains-clause-fault : goal.returns-in_err-chains-clause-fault
-returns-in_err-chains-clause-fault c = ?
+pub returns-in-Ok-clause-model : goal.returns-in-Ok-clause-model
+returns-in-Ok-clause-model c = then_ok _ _ (λ m. IsModelOf c.args.exchange.now c.args.mode m) c.after_chains.result (repeats_clear c.args.exchange.now (IsModelElement c.args.exchange.now) (element_ids c.args.survey.now) c.requires.surveyed.elements (of_none _ _ c.in_ok-fault.field-0 c.in_default.is c.in_ok-fault.ensures)) (then_ok _ _ (λ m. IsModelOf c.args.exchange.now c.args.mode m) c.after_chains.result (chains_clear c.args.exchange.now (IsModelElement c.args.exchange.now) (element_ids c.args.survey.now) c.in-Ok.chains c.requires.surveyed.elements c.in-Ok.ensures.chains) c.after_chains.ensures.model)
 
--- src/stages.rt:161:1
-pub returns-clause-model : goal.returns-clause-model
-returns-clause-model c = ?
+pub returns-in-Ok-clause-fault : goal.returns-in-Ok-clause-fault
+returns-in-Ok-clause-fault c = then_err _ _ c.after_chains.result (repeats_clear c.args.exchange.now (IsModelElement c.args.exchange.now) (element_ids c.args.survey.now) c.requires.surveyed.elements (of_none _ _ c.in_ok-fault.field-0 c.in_default.is c.in_ok-fault.ensures)) (then_err _ _ c.after_chains.result (chains_clear c.args.exchange.now (IsModelElement c.args.exchange.now) (element_ids c.args.survey.now) c.in-Ok.chains c.requires.surveyed.elements c.in-Ok.ensures.chains) c.after_chains.ensures.fault)
 
--- src/stages.rt:161:1
 pub returns-clause-fault : goal.returns-clause-fault
-returns-clause-fault c = ?
+returns-clause-fault c = then_error _ _ c.in-Err.error (repeats_clear c.args.exchange.now (IsModelElement c.args.exchange.now) (element_ids c.args.survey.now) c.requires.surveyed.elements (of_none _ _ c.in_ok-fault.field-0 c.in_default.is c.in_ok-fault.ensures)) (first_error _ _ c.in-Err.error c.in-Err.ensures.fault)

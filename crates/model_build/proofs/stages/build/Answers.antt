@@ -1,26 +1,11 @@
-use Rattle.std.proofs.Common.{rules, Ok, IfOk, IfErr, sum_by, ◌≤◌, ◌≡◌, ℕ, ◌+◌, ◌-◌, ◌*◌, ◌<◌, length, ◌/◌, ◌%◌, Bool, true, false, nat_eq, nat_lt, List, [], ◌∷◌, ◌++◌, slice_index_or, slice_set, bit_and, bit_or, Fits, w8, w32, w64, Bor, MutBor}
-use Rattle.ifc_schema.specs.StageFive.{Surveyed, used_ids, element_ids}
-use Rattle.ifc_units.specs.Units.{IsLengthUnit}
-use Rattle.spatial_tree.specs.Trees.{ListsStoreys}
-use Rattle.placement.specs.Placed.{AreFrames, frame_in}
-use Rattle.model_build.specs.Stages.{IsClear}
-use Rattle.model_build.specs.Texts.{NoneRepeats}
-use Rattle.model_build.specs.Items.{count_of, most_triangles}
-use Rattle.model_build.specs.Least.{NoneOf, IsBadSet}
-use Rattle.model_build.specs.PointTables.{IsTable}
-use Rattle.model_build.specs.Elements.{IsModelOf}
-use Rattle.model_build.specs.Outcomes.{IsErrorOf, HasChains, IsChecked, AreMeasured, AreReady}
-use Rattle.model_build.specs.Profile.{ReachStage, AfterLengths, AfterIndexes, AfterItems, AfterChains, AfterTree, AfterUnit, FileFault, Profile, IsCause}
+use Rattle.model_build.proofs.Profiled.{profile_ok, profile_err, read_cause}
 use Rattle.model_build.proofs.stages.build.Goals as goal
 
--- src/stages.rt:218:20
-pub returns-in_err-exchange-clause-fault : goal.returns-in_err-exchange-clause-fault
-returns-in_err-exchange-clause-fault c = ?
+pub returns-in-Ok-clause-model : goal.returns-in-Ok-clause-model
+returns-in-Ok-clause-model c = profile_ok c.args.bytes.now c.args.mode c.in-Ok.exchange c.build_file.result c.in-Ok.ensures.exchange c.build_file.ensures.model
 
--- src/stages.rt:214:1
-pub returns-clause-model : goal.returns-clause-model
-returns-clause-model c = ?
+pub returns-in-Ok-clause-fault : goal.returns-in-Ok-clause-fault
+returns-in-Ok-clause-fault c = profile_err c.args.bytes.now c.args.mode c.in-Ok.exchange c.build_file.result c.in-Ok.ensures.exchange c.build_file.ensures.fault
 
--- src/stages.rt:214:1
 pub returns-clause-fault : goal.returns-clause-fault
-returns-clause-fault c = ?
+returns-clause-fault c = read_cause c.args.bytes.now c.args.mode c.in-Err.error c.in-Err.ensures.fault
