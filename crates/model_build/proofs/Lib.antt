@@ -9,6 +9,7 @@ pub mod Keywords
 pub mod Attributes
 pub mod Shaped
 pub mod Bodied
+pub mod Flawless
 pub mod Sets
 pub mod OneAxes
 pub mod OneFrame
