@@ -1,11 +1,10 @@
 -- The model of elements in reach, and the first that isn't.
-use Rattle.std.proofs.Common.{◌≡◌, ℕ, zero, suc, ◌<◌, ◌≤◌, List, [], ◌∷◌, length, get_or, sum_by, Some, Contains, IsPermutation, refl, sym, ap, ◌∙◌, subst, arith}
+use Rattle.std.proofs.Common.{◌≡◌, ℕ, zero, suc, ◌<◌, ◌≤◌, List, [], ◌∷◌, length, get_or, sum_by, Some, Contains, IsPermutation, refl, sym, ◌∙◌, subst, arith}
 use Rattle.std.specs.List.{All, Any, AllZip}
 use Rattle.std.proofs.lemmas.List.Elements.{Contains-get_or}
 use Rattle.std.proofs.lemmas.List.Sums.{sum_by-cons}
 use Rattle.std.proofs.lemmas.Slice.Zip.{AllZip-long}
 use Rattle.bim_model.specs.declared.upload.Mode.{Mode}
-use Rattle.bim_model.specs.declared.upload.UploadFault.{UploadFault}
 use Rattle.bim_model.specs.declared.upload.UploadFault.TheVariants as faults
 use Rattle.bim_model.specs.declared.geometry.Point.{Point}
 use Rattle.bim_model.specs.declared.geometry.Triangle.{Triangle}
@@ -17,14 +16,14 @@ use Rattle.ifc_schema.specs.Looking.{look}
 use Rattle.ifc_schema.specs.declared.outcome.Survey.{Survey}
 use Rattle.ifc_schema.specs.StageFive.{IsModelElement, Lists, element_ids}
 use Rattle.ifc_units.specs.declared.scale.Scale.{Scale}
-use Rattle.model_build.specs.Stages.{IsClear, LeastFault}
+use Rattle.model_build.specs.Stages.{IsClear}
 use Rattle.model_build.specs.Finding.{Finds}
 use Rattle.model_build.specs.Texts.{HasGuid}
 use Rattle.model_build.specs.Items.{counted, count_of, most_triangles}
 use Rattle.model_build.specs.Order.{Differ, Rise}
 use Rattle.model_build.specs.Surfaces.{IsBeyond}
 use Rattle.model_build.specs.Elements.{IsElement, IsModelOf}
-use Rattle.model_build.specs.Profile.{ReachFault, ReachStage}
+use Rattle.model_build.specs.Profile.{ReachStage}
 use Rattle.model_build.specs.Outcomes.{IsReady, IsNearElement, IsFirstLacking, LacksAt, IsChecked, AreReady}
 use Rattle.model_build.specs.declared.lack.Lacking.{Lacking}
 use Rattle.model_build.specs.declared.lack.Lack.TheVariants.{Beyond, Unready}
@@ -74,8 +73,8 @@ reach_fault world scale mode placements ids found ls h is = record {
   of = ls.each found.id h.listed;
   here = (refl, subst (λ lack. LacksAt world scale mode placements found.id lack) is h.lacks);
   lower = λ k below of other f. (
-    let e = h.lower k below (ls.all k of) in
-    never_beyond world scale mode k e.0 e.1 f.1);
+      let e = h.lower k below (ls.all k of) in
+      never_beyond world scale mode k e.0 e.1 f.1);
 }
 
 pub never_unready : (world : List Instance) (scale : Scale) (mode : Mode) (placements ids : List ℕ) (found : Lacking) → AreReady world scale mode placements ids → IsFirstLacking world scale mode placements ids found → found.lack ≡ Unready → ⊥

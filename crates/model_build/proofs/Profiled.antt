@@ -1,5 +1,5 @@
 -- From the stages to the profile.
-use Rattle.std.proofs.Common.{◌≡◌, ℕ, List, inl, inr, Contains, Result, Ok, Err, sum_by, ◌≤◌, refl, subst}
+use Rattle.std.proofs.Common.{ℕ, List, inl, inr, Contains, Result, Ok, Err, sum_by, ◌≤◌, refl, subst}
 use Rattle.std.specs.Result.{IfOk, IfErr}
 use Rattle.bim_model.specs.declared.upload.Mode.{Mode}
 use Rattle.bim_model.specs.declared.upload.UploadFault.{UploadFault}
@@ -10,8 +10,7 @@ use Rattle.p21_reader.specs.declared.value.Instance.{Instance}
 use Rattle.p21_reader.specs.Uploads.{SpellsExchange}
 use Rattle.p21_reader.specs.Uploads as reader
 use Rattle.ifc_schema.specs.Used.{Used}
-use Rattle.ifc_schema.specs.declared.outcome.Survey.{Survey}
-use Rattle.ifc_schema.specs.StageFive.{StageFive, IsModelElement, Lists, used_ids}
+use Rattle.ifc_schema.specs.StageFive.{StageFive, IsModelElement, Lists}
 use Rattle.ifc_units.specs.declared.scale.Scale.{Scale}
 use Rattle.ifc_units.specs.Units.{IsLengthUnit, LengthUnitFault}
 use Rattle.ifc_units.proofs.UnitFacts.{one_unit}
@@ -23,7 +22,7 @@ use Rattle.model_build.specs.Elements.{IsModelOf}
 use Rattle.model_build.specs.Outcomes.{IsErrorOf, AreMeasured}
 use Rattle.model_build.specs.Profile.{AfterUnit, FileFault, Profile, IsCause}
 use Rattle.model_build.proofs.Staged.{triangles_clear}
-use Rattle.model_build.proofs.Thens.{then_clear, then_ok, then_err}
+use Rattle.model_build.proofs.Thens.{then_clear, then_error}
 
 -- The stages of lengths, of triangles and of the tree.
 
@@ -61,7 +60,7 @@ pub unit_err : (world : List Instance) (scale : Scale) (mode : Mode) (r : Result
     → IfErr r (IsErrorOf (AfterUnit world scale mode)) → IfErr r (IsErrorOf (FileFault world mode))
 unit_err world scale mode (Ok m) five clear unit h = h
 unit_err world scale mode (Err e) five clear unit h =
-    then_err (StageFive world) (Then (LengthUnitFault world) (InUnit world mode)) (Err e) five (then_err (LengthUnitFault world) (InUnit world mode) (Err e) clear (in_unit world scale mode e unit h))
+    then_error (StageFive world) (Then (LengthUnitFault world) (InUnit world mode)) e five (then_error (LengthUnitFault world) (InUnit world mode) e clear (in_unit world scale mode e unit h))
 
 -- The bytes.
 

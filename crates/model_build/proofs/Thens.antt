@@ -1,7 +1,6 @@
 -- One stage after another.
-use Rattle.std.proofs.Common.{◌≡◌, ℕ, List, inl, inr, Result, Ok, Err}
+use Rattle.std.proofs.Common.{inl, inr, Result, Ok, Err}
 use Rattle.std.specs.Result.{IfOk, IfErr}
-use Rattle.bim_model.specs.declared.upload.UploadFault.{UploadFault}
 use Rattle.bim_model.specs.declared.upload.BuildError.{BuildError}
 use Rattle.bim_model.specs.declared.upload.BuildError.TheVariants as errors
 use Rattle.model_build.specs.Stages.{Stage, IsClear, Then}
@@ -17,7 +16,7 @@ pub then_ok : {A : Type 0} (S R : Stage) (P : A → Type 0) (r : Result A BuildE
 then_ok S R P (Ok a) s h = (then_clear S R s h.0, h.1)
 then_ok S R P (Err e) s h = h
 
-then_error : (S R : Stage) (e : BuildError) → IsClear S → IsErrorOf R e → IsErrorOf (Then S R) e
+pub then_error : (S R : Stage) (e : BuildError) → IsClear S → IsErrorOf R e → IsErrorOf (Then S R) e
 then_error S R (errors.Fault fault) s h = inr (s, h)
 then_error S R errors.Memory s h = h
 

@@ -13,7 +13,9 @@ ghost use Rattle.model_build.specs.Elements.{IsModelOf};
 ghost use Rattle.model_build.specs.Outcomes.{IsErrorOf, HasChains, IsChecked, AreMeasured, AreReady};
 ghost use Rattle.model_build.specs.Profile.{ReachStage, AfterLengths, AfterIndexes, AfterItems, AfterChains, AfterTree, AfterUnit, FileFault, Profile, IsCause};
 
-use crate::checks::{chains_of, guid_fault, index_fault, item_fault, oblique_fault, triangles_fault};
+use crate::checks::{
+    chains_of, guid_fault, index_fault, item_fault, oblique_fault, triangles_fault,
+};
 use crate::element::elements_of;
 use crate::lack::Lack;
 use crate::order::in_order;
