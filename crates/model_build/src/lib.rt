@@ -14,6 +14,8 @@ mod points;
 mod stages;
 mod storeys;
 mod surface;
+#[cfg(test)]
+mod tests;
 mod texts;
 
 pub use stages::build;
