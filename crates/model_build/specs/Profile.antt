@@ -1,5 +1,5 @@
 -- What the bytes of an upload make.
-use Rattle.std.specs.Prelude.{ℕ, List, Result, Ok, Err}
+use Rattle.std.specs.Prelude.{ℕ, List, Result, Err}
 use Rattle.bim_model.specs.declared.element.Element.{Element}
 use Rattle.bim_model.specs.declared.upload.Mode.{Mode}
 use Rattle.bim_model.specs.declared.upload.UploadFault.{UploadFault}
