@@ -1,2 +1,5 @@
 pub mod Grid
 pub mod Sizes
+pub mod Faults
+pub mod Lengths
+pub mod Units

@@ -4,19 +4,11 @@ ghost use Rattle.bim_text.specs.Values.{signed};
 ghost use Rattle.ifc_units.specs.Grid.{IsGridNumber, length_of};
 ghost use Rattle.ifc_units.specs.Sizes.{IsSizeOf};
 
+use crate::fault::GridFault;
 use crate::scale::Scale;
 use crate::sizes::{MOST, part_size, whole_size};
 use bim_model::{Mode, PER_MM};
 use bim_text::Decimal;
-
-/// Why a length has no grid number.
-#[derive(Clone, Copy, Debug, PartialEq, Eq)]
-pub enum GridFault {
-    /// It lies between two.
-    OffGrid,
-    /// It is beyond 800,000 mm.
-    TooFar,
-}
 
 /// The grid number of a length. Exact mode wants one less than a thousandth of a millimetre away, snap mode rounds, and a half away
 /// from zero. Takes no memory.

@@ -1,14 +1,25 @@
 //! The length unit of a building model and the grid that its lengths are brought to (IFC4 ADD2 TC1).
 #![tactic(auto)]
 
+mod attributes;
+mod fault;
 mod grid;
+mod instances;
 mod laws;
+mod lengths;
 mod scale;
 mod sizes;
+mod units;
 
-pub use grid::{GridFault, to_grid};
-pub use laws::one_grid_number;
+pub use fault::{GridFault, LengthError};
+pub use grid::to_grid;
+pub use instances::fault_of_points;
+pub use laws::{one_grid_number, one_instance_fault, one_length, one_list_of_points, one_point};
+pub use lengths::{length, point, points, points_fault};
 pub use scale::Scale;
+pub use units::length_unit;
 
+#[cfg(test)]
+mod file_tests;
 #[cfg(test)]
 mod tests;

@@ -1,13 +1,12 @@
 -- The axes of a frame in one direction: of the three one counts.
-use Rattle.std.proofs.Common.{◌≡◌, Bool, true, false, ◌≢◌, ℕ, ◌+◌, ◌<◌, ◌≤◌, ◌⊎◌, inl, inr, ℤ, pos, ◌+ℤ◌, ◌*ℤ◌, [], ◌∷◌, refl, sym, ap, ◌∙◌, arith}
+use Rattle.std.proofs.Common.{◌≡◌, false, ◌≢◌, ℕ, ◌<◌, ℤ, pos, ◌+ℤ◌, ◌*ℤ◌, [], ◌∷◌, refl, sym, ◌∙◌, arith}
 use Rattle.std.proofs.lemmas.Bool.Decides.{nat_tests}
-use Rattle.std.proofs.lemmas.Int.{ints}
 use Rattle.exact_arith.proofs.Ring.{ring, at, lit, ◌⊕◌, ◌⊗◌}
 use Rattle.bim_model.specs.declared.geometry.Point.{Point}
 use Rattle.placement.specs.declared.axis.Axis.{Axis}
 use Rattle.placement.specs.declared.frame.Offset.{Offset}
 use Rattle.placement.specs.declared.frame.Frame.{Frame}
-use Rattle.placement.specs.Frames.{sign_of, along, component, carried, lengths_of, IsFrame, IsWithin, AreWithin}
+use Rattle.placement.specs.Frames.{sign_of, along, component, carried, lengths_of, IsFrame}
 use Rattle.placement.proofs.Composing.{composed}
 
 pub along_own : (a : Axis) (k : ℕ) → a.direction ≡ k → along a k ≡ sign_of a

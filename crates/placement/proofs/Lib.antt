@@ -2,3 +2,9 @@ pub mod Composing
 pub mod Components
 pub mod Numbers
 pub mod Aligned
+pub mod Walking
+pub mod Visiting
+pub mod Chaining
+pub mod Square
+pub mod Owning
+pub mod Composed

@@ -1,11 +1,9 @@
 -- Numbers that fit where they are kept.
-use Rattle.std.proofs.Common.{◌≡◌, ℕ, ◌+◌, ◌<◌, ◌≤◌, ℤ, pos, ◌+ℤ◌, ◌-ℤ◌, ◌≤ℤ◌, w32, w64, FitsSigned, to_z, of_z, arith, sym, ◌∙◌, subst, rules}
+use Rattle.std.proofs.Common.{◌≡◌, ℕ, ◌+◌, ℤ, ◌+ℤ◌, w32, w64, FitsSigned, to_z, of_z, arith}
 use Rattle.std.proofs.lemmas.Int.{ints, to_z-of_z}
 use Rattle.bim_model.specs.declared.geometry.Point.{Point}
-use Rattle.bim_model.specs.Models.{IsInReach, farthest}
-use Rattle.placement.specs.declared.frame.Offset.{Offset}
-use Rattle.placement.specs.Frames.{IsWithin, AreWithin, IsNear, point_at, most}
-use Rattle.placement.proofs.Components.{same_point}
+use Rattle.bim_model.specs.Models.{IsInReach}
+use Rattle.placement.specs.Frames.{IsWithin, IsNear, most}
 
 fits_most : (n : ℤ) → IsWithin most n → FitsSigned w64 n
 fits_most n w = let l = w.low in let h = w.high in omega (arith, ints)

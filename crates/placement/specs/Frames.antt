@@ -3,6 +3,7 @@ use Rattle.std.specs.Prelude.{◌≢◌, ℕ, ◌<◌, ◌==◌, if◌then◌els
 use Rattle.bim_model.specs.declared.geometry.Point.{Point}
 use Rattle.bim_model.specs.Models.{farthest}
 use Rattle.placement.specs.declared.axis.Axis.{Axis}
+use Rattle.placement.specs.declared.axes.Axes.{Axes}
 use Rattle.placement.specs.declared.frame.Offset.{Offset}
 use Rattle.placement.specs.declared.frame.Frame.{Frame}
 
@@ -32,6 +33,10 @@ carried f p = record {
   z = f.offset.z +ℤ component f (lengths_of p) 2;
 }
 
+-- the frame of these axes whose zero point lies there
+abbrev pub frame_at : Axes → Offset → Frame
+frame_at axes offset = record { x = axes.x; y = axes.y; z = axes.z; offset = offset }
+
 -- the axes lie in three different directions of 0, 1 and 2
 pub record IsFrame (f : Frame) : Type 0 where
   pub x : f.x.direction < 3
@@ -60,3 +65,7 @@ pub record IsNear (n : ℤ) : Type 0 where
 -- 10^15
 abbrev pub most : ℕ
 most = 1000000000000000
+
+-- 800 metres, the farthest that one placement moves its object
+abbrev pub step : ℕ
+step = 800000

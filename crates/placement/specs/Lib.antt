@@ -1,3 +1,6 @@
 pub mod Frames
 pub mod Directions
+pub mod Chains
+pub mod Placed
 pub mod Seen
+pub mod Walks

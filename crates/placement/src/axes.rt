@@ -1,8 +1,9 @@
 //! The axes of axis placements.
-ghost use Rattle.std.specs.Prelude.{◌≡◌, ◌≢◌, ◌<◌, ℕ, Option, IfSome, IfNone, MatchOption};
+ghost use Rattle.std.specs.Prelude.{◌≡◌, ◌≢◌, ◌+◌, ◌<◌, ℕ, Option, IfSome, IfNone, MatchOption};
 ghost use Rattle.p21_reader.specs.declared.value.Value21.{Value21};
 ghost use Rattle.placement.specs.declared.direction.Direction.{Direction};
-ghost use Rattle.placement.specs.Frames.{sign_of};
+ghost use Rattle.placement.specs.declared.frame.Offset.{Offset};
+ghost use Rattle.placement.specs.Frames.{sign_of, frame_at, IsFrame};
 ghost use Rattle.placement.specs.Directions.{Directs, Directions, HasDirections, LiesAlong, GiveAxes, HasAxes, Oblique, unit, cross, without, first_direction, second_direction};
 
 use crate::axis::Axis;
@@ -30,6 +31,8 @@ struct Given {
 /// where its directions can't be read. Takes no memory.
 pub fn axes_of(exchange: &Exchange, id: u64) -> Option<Axes>
     ensures axes { IfSome result (HasAxes exchange.now id) }
+    ensures square { IfSome result (λ axes. Oblique exchange.now id → ⊥) }
+    ensures apart { IfSome result (λ axes. (offset : Offset) → IsFrame (frame_at axes offset)) }
     ensures none { IfNone result (HasDirections exchange.now id → Oblique exchange.now id) }
 {
     let given = given_by(exchange, id)?;
@@ -64,7 +67,8 @@ fn directed(exchange: &Exchange, value: &Value21) -> Option<Option<Direction>>
 
 /// The axes that two directions give.
 fn axes_along(axis: Option<Direction>, reference: Option<Direction>) -> Option<Axes>
-    ensures { MatchOption result ((axes : Axes) → GiveAxes axis reference axes → ⊥) (GiveAxes axis reference) }
+    ensures axes { MatchOption result ((axes : Axes) → GiveAxes axis reference axes → ⊥) (GiveAxes axis reference) }
+    ensures apart { IfSome result (λ axes. (offset : Offset) → IsFrame (frame_at axes offset)) }
 {
     let z = lies_along(first_direction(axis))?;
     let x = lies_along(without(z, second_direction(z, reference)))?;
@@ -148,7 +152,8 @@ fn across(z: Axis, x: Axis) -> Axis
     requires z { z.direction < 3 }
     requires x { x.direction < 3 }
     requires apart { z.direction ≢ x.direction }
-    ensures { LiesAlong (cross (unit z) (unit x)) result }
+    ensures axis { LiesAlong (cross (unit z) (unit x)) result }
+    ensures third { result.direction + z.direction + x.direction ≡ 3 }
 {
     let follows = x.direction == z.direction + 1 || x.direction + 2 == z.direction;
     Axis {

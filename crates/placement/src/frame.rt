@@ -132,7 +132,7 @@ impl Frame {
     }
 }
 
-fn lengths_of(point: Point) -> Offset
+pub(crate) fn lengths_of(point: Point) -> Offset
     ensures value { result ≡ lengths_of point }
     ensures within { AreWithin most result }
 {

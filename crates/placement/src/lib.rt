@@ -1,14 +1,24 @@
-//! Where the elements of a model lie: signed axes and frames (IFC4 ADD2 TC1, IfcAxis2Placement3D).
+//! Where the elements of a model lie: signed axes, chains of placements, and frames (IFC4 ADD2 TC1, IfcLocalPlacement and
+//! IfcAxis2Placement3D).
 #![tactic(auto)]
 
 mod axes;
 mod axis;
+#[cfg(test)]
+mod chain_tests;
+mod chains;
 mod direction;
 mod frame;
+mod frames;
+mod own;
 mod read;
 #[cfg(test)]
 mod tests;
+mod walk;
 
 pub use axes::{Axes, axes_of};
 pub use axis::Axis;
+pub use chains::Chains;
 pub use frame::{Frame, Offset};
+pub use frames::Frames;
+pub use own::{axis_frame, location_of, own_frame};

@@ -1,6 +1,6 @@
 use Rattle.std.proofs.Common.{◌≡◌, ℕ, ◌*◌, ◌^◌, ◌≤◌, ℤ, pos, ◌+ℤ◌, refl, sym, subst, arith, Result, Ok, Err, IfOk, IfErr}
-use Rattle.ifc_units.specs.declared.grid.GridFault.{GridFault}
-use Rattle.ifc_units.specs.declared.grid.GridFault.TheVariants.{TooFar}
+use Rattle.ifc_units.specs.declared.fault.GridFault.{GridFault}
+use Rattle.ifc_units.specs.declared.fault.GridFault.TheVariants.{TooFar}
 use Rattle.ifc_units.specs.Sizes.{IsSizeOf}
 use Rattle.std.proofs.lemmas.Int.{ints}
 use Rattle.ifc_units.proofs.Signs.{whole_is, part_is, part_of}

@@ -1,4 +1,4 @@
-use Rattle.std.proofs.Common.{ℕ, ◌+◌, ℤ, ◌+ℤ◌, ◌∙◌, sym, ap, subst}
+use Rattle.std.proofs.Common.{◌+◌, ℤ, ◌+ℤ◌, ◌∙◌, sym, ap, subst}
 use Rattle.placement.specs.Frames.{IsWithin, most}
 use Rattle.placement.proofs.Numbers.{sum_fits, sum_held, sum_within}
 use Rattle.placement.proofs.frame.Frame.moved.Goals as goal

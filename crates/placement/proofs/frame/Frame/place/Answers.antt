@@ -1,4 +1,4 @@
-use Rattle.std.proofs.Common.{ℤ, ◌+ℤ◌, MatchOption, ◌≡◌, ap, ◌∙◌, subst}
+use Rattle.std.proofs.Common.{◌+ℤ◌, MatchOption, ◌≡◌, ap, ◌∙◌, subst}
 use Rattle.bim_model.specs.declared.geometry.Point.{Point}
 use Rattle.bim_model.specs.Models.{IsInReach}
 use Rattle.placement.specs.declared.frame.Offset.{Offset}

@@ -1,0 +1,16 @@
+use Rattle.std.proofs.Common.{◌≡◌, [], ◌∷◌, length, ap, sym, ◌∙◌}
+use Rattle.p21_reader.specs.declared.value.Instance.{Instance}
+use Rattle.ifc_units.specs.Units.{projects}
+use Rattle.ifc_schema.specs.declared.entity.Entity.TheVariants.{Project}
+use Rattle.ifc_schema.specs.Looking.{is_a}
+use Rattle.ifc_units.proofs.UnitFacts.{first_alone, first_there}
+use Rattle.ifc_units.proofs.units.only_project.Goals as goal
+
+pub returns-then-count_projects-ne1-clause-none : goal.returns-then-count_projects-ne1-clause-none
+returns-then-count_projects-ne1-clause-none c = λ project one. c.if-count_projects-ne1.true (c.count_projects.ensures ∙ ap length one)
+
+pub returns-clause-some : goal.returns-clause-some
+returns-clause-some c = first_alone (is_a Project) c.args.instances.now c.first_project.result c.first_project.ensures (sym c.count_projects.ensures ∙ c.if-count_projects-ne1.false)
+
+pub returns-clause-none : goal.returns-clause-none
+returns-clause-none c = first_there (is_a Project) c.args.instances.now c.first_project.result ((project : Instance) → projects c.args.instances.now ≡ project ∷ [] → ⊥) c.first_project.ensures (sym c.count_projects.ensures ∙ c.if-count_projects-ne1.false)

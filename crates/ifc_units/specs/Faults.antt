@@ -1,0 +1,9 @@
+-- Why there are no lengths.
+use Rattle.std.specs.Prelude.{Option, Some, None}
+use Rattle.ifc_units.specs.declared.fault.GridFault.{GridFault}
+use Rattle.ifc_units.specs.declared.fault.LengthError.{LengthError}
+use Rattle.ifc_units.specs.declared.fault.LengthError.TheVariants.{Unread, Refused}
+
+abbrev pub fault_in : LengthError → Option GridFault
+fault_in Unread = None
+fault_in (Refused fault) = Some fault

@@ -1,0 +1,134 @@
+-- The length unit of a file (IFC4 ADD2 TC1, IfcProject, IfcUnitAssignment, IfcSIUnit). A world is the list of its instances. Only values are
+-- looked at, also of instances that lack their own form.
+use Rattle.std.specs.Prelude.{◌≡◌, ◌≢◌, ℕ, ◌≤◌, ◌&&◌, Bool, true, if◌then◌else◌, ℤ, pos, negsuc, codes, List, [], ◌∷◌, Option, Some, None, option_and_then, option_map, All, Any}
+use Rattle.std.specs.List.{slice_get, filter, find}
+use Rattle.std.specs.Option.{unwrap_or}
+use Rattle.std.specs.Str.{bytes_eq}
+use Rattle.bim_model.specs.declared.upload.UploadFault.{UploadFault}
+use Rattle.bim_model.specs.declared.upload.UploadFault.TheVariants.{LengthUnit}
+use Rattle.p21_reader.specs.declared.value.Value21.{Value21}
+use Rattle.p21_reader.specs.declared.value.Value21.TheOpen.{Value21-F}
+use Rattle.p21_reader.specs.declared.value.Value21.TheOpen as layer
+use Rattle.p21_reader.specs.declared.value.Value21.TheViews.{out-Value21}
+use Rattle.p21_reader.specs.declared.value.Instance.{Instance}
+use Rattle.ifc_schema.specs.declared.entity.Entity.{Entity}
+use Rattle.ifc_schema.specs.declared.entity.Entity.TheVariants as entity
+use Rattle.ifc_schema.specs.Bodies.{some_passes}
+use Rattle.ifc_schema.specs.Looking.{look, is_a}
+use Rattle.ifc_schema.specs.Values.{reference_of, items_of, is_absent}
+use Rattle.ifc_units.specs.declared.scale.Scale.{Scale}
+
+-- What values say.
+
+abbrev pub enumeration_in : Value21-F Value21 → Option (List ℕ)
+enumeration_in (layer.Enumeration word) = Some word
+enumeration_in _ = None
+
+-- the letters of an enumeration, without its points
+abbrev pub enumeration_of : Value21 → Option (List ℕ)
+enumeration_of v = enumeration_in (out-Value21 v)
+
+-- an attribute is the enumeration of those letters
+abbrev pub says : List ℕ → Instance → ℕ → Bool
+says word i at = some_passes (λ letters. bytes_eq letters word) (option_and_then enumeration_of (slice_get i.values at))
+
+-- the items of the list that is the attribute of that number, or none
+abbrev pub listed : Instance → ℕ → List Value21
+listed i at = unwrap_or (option_and_then items_of (slice_get i.values at)) []
+
+-- the instance that the attribute of that number refers to
+abbrev pub referred : List Instance → Instance → ℕ → Option Instance
+referred world i at = option_and_then (look world) (option_and_then reference_of (slice_get i.values at))
+
+-- Of a unit.
+
+-- a unit of length of the international system
+unfoldable pub is_length_unit : Instance → Bool
+is_length_unit i = is_a entity.SiUnit i && says (codes "LENGTHUNIT") i 1
+
+-- the prefixes, each with the power of ten of a millimetre that a metre is with it
+abbrev pub prefixes : List (List ℕ × ℤ)
+prefixes =
+    (codes "KILO", pos 6) ∷
+    (codes "HECTO", pos 5) ∷
+    (codes "DECA", pos 4) ∷
+    (codes "DECI", pos 2) ∷
+    (codes "CENTI", pos 1) ∷
+    (codes "MILLI", pos 0) ∷
+    (codes "MICRO", negsuc 2) ∷ []
+
+unfoldable pub prefix_power : List ℕ → Option ℤ
+prefix_power word = option_map (λ p. p.1) (find (λ p. bytes_eq word p.0) prefixes)
+
+-- without a prefix a metre is a thousand millimetres
+abbrev pub power_with : Option Value21 → Option ℤ
+power_with None = None
+power_with (Some v) = if is_absent v then Some (pos 3) else option_and_then prefix_power (enumeration_of v)
+
+-- the power of ten of a millimetre that the unit is, where its name is that of the metre
+unfoldable pub unit_power : Instance → Option ℤ
+unit_power i = if says (codes "METRE") i 3 then power_with (slice_get i.values 2) else None
+
+-- Of a file.
+
+abbrev pub projects : List Instance → List Instance
+projects world = filter (is_a entity.Project) world
+
+abbrev pub kept_if : (Instance → Bool) → Option Instance → Option Instance
+kept_if test None = None
+kept_if test (Some i) = if test i then Some i else None
+
+-- the assignment of units of a project
+abbrev pub assignment_of : List Instance → Instance → Option Instance
+assignment_of world project = kept_if (is_a entity.UnitAssignment) (referred world project 8)
+
+-- a value refers to that instance, and this is a unit of length
+pub record RefersToUnit (world : List Instance) (id : ℕ) (v : Value21) : Type 0 where
+  pub refers : reference_of v ≡ Some id
+  pub unit : Instance
+  pub found : look world id ≡ Some unit
+  pub kind : is_length_unit unit ≡ true
+
+-- a unit of length is among the items
+abbrev pub IsUnitAmong : List Instance → List Value21 → ℕ → Type 0
+IsUnitAmong world items id = Any (RefersToUnit world id) items
+
+-- it holds of that number, and of no other
+pub record IsOnly (P : ℕ → Type 0) (number : ℕ) : Type 0 where
+  pub holds : P number
+  pub only : (other : ℕ) → P other → other ≡ number
+
+-- a value refers to a unit of length of another number
+pub record RefersToOther (world : List Instance) (id : ℕ) (v : Value21) : Type 0 where
+  pub other : ℕ
+  pub names : RefersToUnit world other v
+  pub differs : other ≢ id
+
+-- An assignment holds exactly one unit of length, whatever its name and its prefix, and this is a metre with a prefix that makes that power of
+-- ten of a millimetre.
+pub record AssignsPower (world : List Instance) (assignment : Instance) (power : ℤ) : Type 0 where
+  pub id : ℕ
+  pub one_unit : IsOnly (IsUnitAmong world (listed assignment 0)) id
+  pub unit : Instance
+  pub found : look world id ≡ Some unit
+  pub reads : unit_power unit ≡ Some power
+
+-- the file has exactly one project, and the units that it is assigned make the scale
+pub record IsLengthUnit (world : List Instance) (scale : Scale) : Type 0 where
+  pub project : Instance
+  pub one_project : projects world ≡ project ∷ []
+  pub assignment : Instance
+  pub assigned : assignment_of world project ≡ Some assignment
+  pub makes : AssignsPower world assignment scale.power
+
+-- the least number of the instances, or 0 where there are none
+abbrev pub IsLeastNumber : List Instance → ℕ → Type 0
+IsLeastNumber [] id = id ≡ 0
+IsLeastNumber (p ∷ ps) id = Any (λ i. i.id ≡ id) (p ∷ ps) × All (λ i. id ≤ i.id) (p ∷ ps)
+
+-- the file has no length unit, and the fault names its least project
+pub record LengthUnitFault (world : List Instance) (fault : UploadFault) : Type 0 where
+  pub id : ℕ
+  pub least : IsLeastNumber (projects world) id
+  pub told : fault ≡ LengthUnit id
+  pub none : (scale : Scale) → IsLengthUnit world scale → ⊥

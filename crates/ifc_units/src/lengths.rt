@@ -1,0 +1,95 @@
+//! Lengths and points of values.
+ghost use Rattle.std.specs.Prelude.{◌≡◌, ◌∷◌, [], IfOk, MatchOption, MatchResult};
+ghost use Rattle.std.specs.List.{AllZip};
+ghost use Rattle.bim_model.specs.declared.geometry.Point.{Point};
+ghost use Rattle.p21_reader.specs.declared.value.Value21.{Value21};
+ghost use Rattle.ifc_units.specs.declared.fault.GridFault.{GridFault};
+ghost use Rattle.ifc_units.specs.Lengths.{IsLength, HasLength, LengthRefused, FirstRefused, IsPoint, PointRefused, ArePoints, PointsRefused, Fails};
+
+use crate::fault::{GridFault, LengthError};
+use crate::grid::to_grid;
+use crate::scale::Scale;
+use bim_model::{Mode, Point};
+use bim_text::Decimal;
+use ifc_schema::{items_of, number_of};
+use p21_reader::Value21;
+use std::alloc::{AllocError, Global};
+
+/// The grid number of a value that is a number (IFC4 ADD2 TC1, IfcLengthMeasure). Unread where it isn't one that is read.
+pub fn length(value: &Value21, scale: Scale, mode: Mode) -> Result<i32, LengthError>
+    ensures { MatchResult result (IsLength scale mode value.now) (Fails (IsLength scale mode value.now) (LengthRefused scale mode value.now)) }
+{
+    let Some(bytes) = number_of(value) else {
+        return Err(LengthError::Unread);
+    };
+    let Some(number) = Decimal::read(bytes) else {
+        return Err(LengthError::Unread);
+    };
+    match to_grid(number, scale, mode) {
+        Ok(length) => Ok(length),
+        Err(fault) => Err(LengthError::Refused(fault)),
+    }
+}
+
+// The point of three values.
+fn point_of(
+    a: &Value21,
+    b: &Value21,
+    c: &Value21,
+    scale: Scale,
+    mode: Mode,
+) -> Result<Point, LengthError>
+    ensures { MatchResult result (λ p. AllZip (IsLength scale mode) (a.now ∷ b.now ∷ c.now ∷ []) (p.x ∷ p.y ∷ p.z ∷ [])) (Fails (AllZip (IsLength scale mode) (a.now ∷ b.now ∷ c.now ∷ [])) (FirstRefused (HasLength scale mode) (LengthRefused scale mode) (a.now ∷ b.now ∷ c.now ∷ []))) }
+{
+    let x = length(a, scale, mode)?;
+    let y = length(b, scale, mode)?;
+    let z = length(c, scale, mode)?;
+    Ok(Point { x, y, z })
+}
+
+/// The point of a value that is a list of exactly three numbers (IFC4 ADD2 TC1, IfcCartesianPoint). The first that is no grid number in
+/// reach decides why there is none.
+pub fn point(value: &Value21, scale: Scale, mode: Mode) -> Result<Point, LengthError>
+    ensures { MatchResult result (IsPoint scale mode value.now) (Fails (IsPoint scale mode value.now) (PointRefused scale mode value.now)) }
+{
+    let Some(items) = items_of(value) else {
+        return Err(LengthError::Unread);
+    };
+    match items {
+        [x, y, z] => point_of(x, y, z, scale, mode),
+        _ => Err(LengthError::Unread),
+    }
+}
+
+/// The points of values, in their order (IFC4 ADD2 TC1, IfcCartesianPointList3D). The first value that is no point decides why there are
+/// none.
+pub fn points(
+    alloc: Global,
+    values: &[Value21],
+    scale: Scale,
+    mode: Mode,
+) -> Result<Result<Vec<Point>, LengthError>, AllocError>
+    ensures { IfOk result (λ made. MatchResult made (λ points. ArePoints scale mode values.now points.items) (Fails (ArePoints scale mode values.now) (PointsRefused scale mode values.now))) }
+{
+    let mut made = Vec::with_capacity(alloc, values.len())?;
+    for value in values {
+        match point(value, scale, mode) {
+            Ok(point) => made.push(point)?,
+            Err(error) => return Ok(Err(error)),
+        }
+    }
+    Ok(Ok(made))
+}
+
+/// Which fault the first value has that is no point. None where there is none, or that value can't be read. Takes no memory.
+pub fn points_fault(values: &[Value21], scale: Scale, mode: Mode) -> Option<GridFault>
+    ensures { MatchOption result ((fault : GridFault) → PointsRefused scale mode values.now fault → ⊥) (PointsRefused scale mode values.now) }
+{
+    for value in values {
+        match point(value, scale, mode) {
+            Ok(_point) => {}
+            Err(error) => return error.fault(),
+        }
+    }
+    None
+}

@@ -1,0 +1,298 @@
+//! The length unit of a file.
+ghost use Rattle.std.specs.Prelude.{◌≡◌, ◌∷◌, [], ℕ, ℤ, List, Some, Any, length, IfOk, IfErr, IfSome, IfNone, option_copied, option_map, option_and_then, filter, find};
+ghost use Rattle.std.specs.Bool.{MatchBool};
+ghost use Rattle.std.specs.List.{slice_get};
+ghost use Rattle.bim_model.specs.declared.upload.UploadFault.{UploadFault};
+ghost use Rattle.p21_reader.specs.declared.value.Instance.{Instance};
+ghost use Rattle.ifc_schema.specs.declared.entity.Entity.TheVariants.{Project};
+ghost use Rattle.ifc_schema.specs.Looking.{look, is_a};
+ghost use Rattle.ifc_units.specs.declared.scale.Scale.{Scale};
+ghost use Rattle.ifc_units.specs.Units.{enumeration_of, says, listed, referred, is_length_unit, prefix_power, power_with, unit_power, projects, assignment_of, RefersToUnit, IsUnitAmong, IsOnly, RefersToOther, AssignsPower, IsLengthUnit, IsLeastNumber, LengthUnitFault};
+
+use crate::attributes::attribute;
+use crate::scale::Scale;
+use bim_model::UploadFault;
+use ifc_schema::{Entity, is_a, is_absent, items_of, place_of, reference_of};
+use p21_reader::{Exchange, Instance, Value21};
+
+// The letters of an enumeration.
+fn enumeration_of(value: &Value21) -> Option<&str>
+    ensures { option_copied result ≡ enumeration_of value.now }
+{
+    match value {
+        Value21::Enumeration(word) => Some(word.as_str()),
+        _ => None,
+    }
+}
+
+// Whether the attribute is the enumeration of those letters.
+fn says(word: &str, instance: &Instance, at: usize) -> bool
+    ensures { result ≡ says word.now instance.now at }
+{
+    let Some(value) = attribute(instance, at) else {
+        return false;
+    };
+    match enumeration_of(value) {
+        Some(letters) => letters == word,
+        None => false,
+    }
+}
+
+// The items of the list that is the attribute of that number; none where there is no list.
+fn listed(instance: &Instance, at: usize) -> &[Value21]
+    ensures { result.now ≡ listed instance.now at }
+{
+    let Some(value) = attribute(instance, at) else {
+        return &[];
+    };
+    match items_of(value) {
+        Some(items) => items,
+        None => &[],
+    }
+}
+
+// The instance of that number.
+fn fetch(exchange: &Exchange, id: u64) -> Option<&Instance>
+    ensures { option_copied result ≡ look exchange.now id }
+{
+    let at = place_of(exchange, id)?;
+    Some(&exchange.instances()[at])
+}
+
+// The instance that the attribute of that number refers to.
+fn referred<'a>(exchange: &'a Exchange, instance: &Instance, at: usize) -> Option<&'a Instance>
+    ensures { option_copied result ≡ referred exchange.now instance.now at }
+{
+    let value = attribute(instance, at)?;
+    let id = reference_of(value)?;
+    fetch(exchange, id)
+}
+
+#[tactic(auto, unfolding(crate::specs::Units::is_length_unit))]
+fn is_length_unit(instance: &Instance) -> bool
+    ensures { result ≡ is_length_unit instance.now }
+{
+    is_a(Entity::SiUnit, instance) && says("LENGTHUNIT", instance, 1)
+}
+
+#[tactic(auto, unfolding(crate::specs::Units::prefix_power))]
+fn prefix_power(prefix: &str) -> Option<i32>
+    ensures { result ≡ prefix_power prefix.now }
+{
+    if prefix == "KILO" {
+        return Some(6);
+    }
+    if prefix == "HECTO" {
+        return Some(5);
+    }
+    if prefix == "DECA" {
+        return Some(4);
+    }
+    if prefix == "DECI" {
+        return Some(2);
+    }
+    if prefix == "CENTI" {
+        return Some(1);
+    }
+    if prefix == "MILLI" {
+        return Some(0);
+    }
+    if prefix == "MICRO" {
+        return Some(-3);
+    }
+    None
+}
+
+// The power of ten of a millimetre that a metre is with a prefix.
+fn power_with(prefix: &Value21) -> Option<i32>
+    ensures { result ≡ power_with (Some prefix.now) }
+{
+    if is_absent(prefix) {
+        return Some(3);
+    }
+    match enumeration_of(prefix) {
+        Some(letters) => prefix_power(letters),
+        None => None,
+    }
+}
+
+// The power of ten of a millimetre that a unit is.
+#[tactic(auto, unfolding(crate::specs::Units::unit_power))]
+fn unit_power(unit: &Instance) -> Option<i32>
+    ensures { result ≡ unit_power unit.now }
+{
+    if !says("METRE", unit, 3) {
+        return None;
+    }
+    match attribute(unit, 2) {
+        Some(prefix) => power_with(prefix),
+        None => None,
+    }
+}
+
+// How many projects there are.
+fn count_projects(instances: &[Instance]) -> usize
+    ensures { result ≡ length (projects instances.now) }
+{
+    let mut count = 0;
+    for instance in instances {
+        if is_a(Entity::Project, instance) {
+            count += 1;
+        }
+    }
+    count
+}
+
+// The first project.
+fn first_project(instances: &[Instance]) -> Option<&Instance>
+    ensures { option_copied result ≡ find (is_a Project) instances.now }
+{
+    instances
+        .iter()
+        .find(|instance| is_a(Entity::Project, instance))
+}
+
+// The project, where there is exactly one.
+fn only_project(instances: &[Instance]) -> Option<&Instance>
+    ensures some { IfSome result (λ project. projects instances.now ≡ project.now ∷ []) }
+    ensures none { IfNone result ((project : Instance) → projects instances.now ≡ project ∷ [] → ⊥) }
+{
+    if count_projects(instances) != 1 {
+        return None;
+    }
+    first_project(instances)
+}
+
+// The least number of a project; 0 where there is none.
+fn least_project(exchange: &Exchange) -> u64
+    ensures { IsLeastNumber (projects exchange.now) result }
+{
+    match first_project(exchange.instances()) {
+        Some(project) => project.id,
+        None => 0,
+    }
+}
+
+// The assignment of units of a project.
+fn assignment_of<'a>(exchange: &'a Exchange, project: &Instance) -> Option<&'a Instance>
+    ensures { option_copied result ≡ assignment_of exchange.now project.now }
+{
+    let assignment = referred(exchange, project, 8)?;
+    if is_a(Entity::UnitAssignment, assignment) {
+        Some(assignment)
+    } else {
+        None
+    }
+}
+
+// The number of the unit of length that a value refers to.
+fn unit_named(exchange: &Exchange, value: &Value21) -> Option<u64>
+    ensures some { IfSome result (λ id. RefersToUnit exchange.now id value.now) }
+    ensures none { IfNone result ((id : ℕ) → RefersToUnit exchange.now id value.now → ⊥) }
+{
+    let Some(id) = reference_of(value) else {
+        return None;
+    };
+    let Some(unit) = fetch(exchange, id) else {
+        return None;
+    };
+    if is_length_unit(unit) { Some(id) } else { None }
+}
+
+// The number of the first unit of length among the items.
+fn first_unit(exchange: &Exchange, items: &[Value21]) -> Option<u64>
+    ensures some { IfSome result (IsUnitAmong exchange.now items.now) }
+    ensures none { IfNone result ((id : ℕ) → IsUnitAmong exchange.now items.now id → ⊥) }
+{
+    for item in items {
+        if let Some(id) = unit_named(exchange, item) {
+            return Some(id);
+        }
+    }
+    None
+}
+
+// Whether a value refers to a unit of length of another number.
+fn names_other(exchange: &Exchange, value: &Value21, id: u64) -> bool
+    ensures { MatchBool result (RefersToOther exchange.now id value.now) (RefersToOther exchange.now id value.now → ⊥) }
+{
+    match unit_named(exchange, value) {
+        Some(other) => other != id,
+        None => false,
+    }
+}
+
+// Whether a unit of length of another number is among the items.
+#[tactic(auto, using(crate::proofs::Scans::scans))]
+fn has_other(exchange: &Exchange, items: &[Value21], id: u64) -> bool
+    ensures { MatchBool result (Any (RefersToOther exchange.now id) items.now) (Any (RefersToOther exchange.now id) items.now → ⊥) }
+{
+    for item in items {
+        if names_other(exchange, item, id) {
+            return true;
+        }
+    }
+    false
+}
+
+// The number of the unit of length among the items, where there is exactly one.
+fn only_unit(exchange: &Exchange, items: &[Value21]) -> Option<u64>
+    ensures some { IfSome result (IsOnly (IsUnitAmong exchange.now items.now)) }
+    ensures none { IfNone result ((id : ℕ) → IsOnly (IsUnitAmong exchange.now items.now) id → ⊥) }
+{
+    let Some(id) = first_unit(exchange, items) else {
+        return None;
+    };
+    if has_other(exchange, items, id) {
+        return None;
+    }
+    Some(id)
+}
+
+// The power of ten of a millimetre that the unit of length of an assignment is.
+fn assigned_power(exchange: &Exchange, assignment: &Instance) -> Option<i32>
+    ensures some { IfSome result (AssignsPower exchange.now assignment.now) }
+    ensures none { IfNone result ((power : ℤ) → AssignsPower exchange.now assignment.now power → ⊥) }
+{
+    let Some(id) = only_unit(exchange, listed(assignment, 0)) else {
+        return None;
+    };
+    let Some(unit) = fetch(exchange, id) else {
+        return None;
+    };
+    unit_power(unit)
+}
+
+// The scale of the file's length unit.
+fn scale_of(exchange: &Exchange) -> Option<Scale>
+    ensures some { IfSome result (IsLengthUnit exchange.now) }
+    ensures none { IfNone result ((scale : Scale) → IsLengthUnit exchange.now scale → ⊥) }
+{
+    let Some(project) = only_project(exchange.instances()) else {
+        return None;
+    };
+    let Some(assignment) = assignment_of(exchange, project) else {
+        return None;
+    };
+    match assigned_power(exchange, assignment) {
+        Some(power) => Some(Scale { power }),
+        None => None,
+    }
+}
+
+/// The scale of a file's length unit: the metre with a prefix, the one unit of length in the units that the one project is assigned (IFC4
+/// ADD2 TC1, IfcUnitAssignment, IfcSIUnit). A unit that stands twice in them is one, and units of other entities are passed over. `LengthUnit`
+/// with the number of the least project, else 0, where there isn't exactly one project, its units aren't assigned, there isn't exactly one
+/// unit of length, or that one isn't a metre with a prefix from micro to kilo. Takes no memory.
+pub fn length_unit(exchange: &Exchange) -> Result<Scale, UploadFault>
+    ensures unit { IfOk result (IsLengthUnit exchange.now) }
+    ensures clear { IfOk result (λ scale. (fault : UploadFault) → LengthUnitFault exchange.now fault → ⊥) }
+    ensures fault { IfErr result (LengthUnitFault exchange.now) }
+{
+    match scale_of(exchange) {
+        Some(scale) => Ok(scale),
+        None => Err(UploadFault::LengthUnit {
+            id: least_project(exchange),
+        }),
+    }
+}

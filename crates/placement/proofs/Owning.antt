@@ -1,0 +1,59 @@
+-- The frame of a placement in what it stands in.
+use Rattle.std.proofs.Common.{◌≡◌, ℕ, List, Option, Some, None, MatchOption, sym, ◌∙◌, subst}
+use Rattle.bim_model.specs.declared.geometry.Point.{Point}
+use Rattle.bim_model.specs.declared.upload.Mode.{Mode}
+use Rattle.p21_reader.specs.declared.value.Value21.{Value21}
+use Rattle.p21_reader.specs.declared.value.Instance.{Instance}
+use Rattle.ifc_units.specs.declared.scale.Scale.{Scale}
+use Rattle.ifc_units.specs.declared.fault.LengthError.{LengthError}
+use Rattle.ifc_units.specs.declared.fault.LengthError.TheVariants.{Unread, Refused}
+use Rattle.ifc_units.specs.Lengths.{IsPoint, PointRefused, Fails}
+use Rattle.ifc_units.proofs.PointFacts.{point_apart, one_point, point_near}
+use Rattle.placement.specs.declared.frame.Frame.{Frame}
+use Rattle.placement.specs.Frames.{lengths_of, AreWithin, step}
+use Rattle.placement.specs.Directions.{HasDirections, Oblique}
+use Rattle.placement.specs.Placed.{value_at, referred_at, IsLocation, AxisFrame, OwnFrame}
+use Rattle.placement.proofs.Square.{square}
+
+one : {X : Type 0} (o : Option X) (a b : X) → o ≡ Some a → o ≡ Some b → a ≡ b
+one o a b e f = let g : Some a ≡ Some b = sym e ∙ f in cc
+
+-- Locations.
+
+unpointed : (s : Scale) (mode : Mode) (v : Value21) (e : LengthError) → Fails (IsPoint s mode v) (PointRefused s mode v) e → (p : Point) → IsPoint s mode v p → ⊥
+unpointed s mode v Unread h p i = h.none p i
+unpointed s mode v (Refused f) h p i = point_apart s mode v p f i h
+
+pub unlocated : (world : List Instance) (s : Scale) (mode : Mode) (id to : ℕ) (v : Value21) (e : LengthError) → Some to ≡ referred_at world id 0 → Some v ≡ value_at world to 0
+    → Fails (IsPoint s mode v) (PointRefused s mode v) e → (p : Point) → IsLocation world s mode id p → ⊥
+unlocated world s mode id to v e r t h p l =
+    let same = one (referred_at world id 0) l.to to l.refers (sym r) in
+    let here = one (value_at world to 0) l.value v (subst (λ (n : ℕ). value_at world n 0 ≡ Some l.value) same l.there) (sym t) in
+    unpointed s mode v e h p (subst (λ (x : Value21). IsPoint s mode x p) here l.is_point)
+
+one_location : (world : List Instance) (s : Scale) (mode : Mode) (id : ℕ) (p q : Point) → IsLocation world s mode id p → IsLocation world s mode id q → p ≡ q
+one_location world s mode id p q l m =
+    let same = one (referred_at world id 0) l.to m.to l.refers m.refers in
+    let here = one (value_at world m.to 0) l.value m.value (subst (λ (n : ℕ). value_at world n 0 ≡ Some l.value) same l.there) m.there in
+    one_point s mode m.value p q (subst (λ (x : Value21). IsPoint s mode x p) here l.is_point) m.is_point
+
+pub location_near : (world : List Instance) (s : Scale) (mode : Mode) (id : ℕ) (p : Point) → IsLocation world s mode id p → AreWithin step (lengths_of p)
+location_near world s mode id p l =
+    let r = point_near s mode l.value p l.is_point in
+    record {
+      x = record { low = r.x_low; high = r.x_high };
+      y = record { low = r.y_low; high = r.y_high };
+      z = record { low = r.z_low; high = r.z_high };
+    }
+
+-- Frames.
+
+pub without_axes : (world : List Instance) (s : Scale) (mode : Mode) (id : ℕ) → (HasDirections world id → Oblique world id) → (f : Frame) → AxisFrame world s mode id f → ⊥
+without_axes world s mode id none f a =
+    let h = a.has_axes in
+    square world id a.axes h (none (record { axis = h.axis; reference = h.reference; directions = h.directions }))
+
+pub own_from : (world : List Instance) (s : Scale) (mode : Mode) (id to : ℕ) (o : Option Frame) → Some to ≡ referred_at world id 1
+    → MatchOption o ((f : Frame) → AxisFrame world s mode to f → ⊥) (AxisFrame world s mode to) → MatchOption o ((f : Frame) → OwnFrame world s mode id f → ⊥) (OwnFrame world s mode id)
+own_from world s mode id to None e h = λ f o. h f (subst (λ (n : ℕ). AxisFrame world s mode n f) (one (referred_at world id 1) o.to to o.refers (sym e)) o.given)
+own_from world s mode id to (Some f) e h = record { to = to; refers = sym e; given = h }
