@@ -1,6 +1,6 @@
 -- An instance is a point or a list of points, and has one fault.
-use Rattle.std.proofs.Common.{◌≡◌, ◌⊎◌, inl, inr, ℕ, Bool, true, false, List, [], ◌∷◌, ◌||◌, codes, Some, None, Option, MatchOption, Decides, refl, sym, subst, rules}
-use Rattle.std.specs.List.{slice_get, list_any}
+use Rattle.std.proofs.Common.{◌≡◌, inl, inr, ℕ, Bool, true, false, List, ◌||◌, codes, Some, None, Option, MatchOption, Decides, refl, subst}
+use Rattle.std.specs.List.{slice_get}
 use Rattle.std.specs.Str.{bytes_eq}
 use Rattle.std.proofs.lemmas.Slice.Eq.{bytes_eq-Decides}
 use Rattle.bim_model.specs.declared.upload.Mode.{Mode}

@@ -1,5 +1,5 @@
 -- A value is one point at most, or has one fault; and so for lists of points.
-use Rattle.std.proofs.Common.{◌≡◌, ℕ, ◌<◌, ◌≤◌, ℤ, pos, ◌-ℤ◌, ◌≤ℤ◌, List, [], ◌∷◌, ◌++◌, ◌+◌, take, length, get_or, MatchOption, Some, None, Option, Result, Ok, Err, MatchResult, IsErrAnd, refl, sym, subst, arith}
+use Rattle.std.proofs.Common.{◌≡◌, ℕ, ◌<◌, ◌≤◌, ℤ, pos, ◌-ℤ◌, ◌≤ℤ◌, List, [], ◌∷◌, ◌++◌, ◌+◌, take, length, get_or, MatchOption, Some, Option, Result, Ok, Err, MatchResult, IsErrAnd, refl, subst, arith}
 use Rattle.std.specs.Prelude.{unsigned_abs}
 use Rattle.std.specs.List.{AllZip}
 use Rattle.std.proofs.lemmas.Int.{ints}
@@ -12,7 +12,7 @@ use Rattle.ifc_units.specs.declared.scale.Scale.{Scale}
 use Rattle.ifc_units.specs.declared.fault.GridFault.{GridFault}
 use Rattle.ifc_units.specs.declared.fault.LengthError.{LengthError}
 use Rattle.ifc_units.specs.declared.fault.LengthError.TheVariants as error
-use Rattle.ifc_units.specs.Lengths.{reach, IsLength, LengthRefused, HasLength, FirstRefused, IsPoint, PointRefused, HasPoint, ArePoints, PointsRefused, IsUnread, Fails}
+use Rattle.ifc_units.specs.Lengths.{reach, IsLength, LengthRefused, HasLength, FirstRefused, IsPoint, PointRefused, ArePoints, PointsRefused, Fails}
 use Rattle.ifc_units.proofs.LengthFacts.{one_length, length_apart, one_length_fault}
 use Rattle.ifc_units.proofs.Firsts.{never_refused, one_first, one_row, fails_here, more, whole}
 use Rattle.ifc_units.specs.Faults.{fault_in}

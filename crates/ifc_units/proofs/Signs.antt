@@ -1,14 +1,14 @@
 -- Sizes with their signs.
-use Rattle.std.proofs.Common.{◌≡◌, ℕ, zero, suc, ◌+◌, ◌-◌, ◌*◌, ◌^◌, ◌<◌, ◌≤◌, ◌⊎◌, inl, inr, Bool, true, false, not, ℤ, pos, negsuc, neg_ℤ, ◌-ℤ◌, ◌+ℤ◌, ◌*ℤ◌, refl, sym, ap, subst, ◌∙◌, arith}
+use Rattle.std.proofs.Common.{◌≡◌, ℕ, zero, suc, ◌+◌, ◌*◌, ◌^◌, ◌<◌, ◌≤◌, ◌⊎◌, inl, inr, Bool, true, false, not, ℤ, pos, negsuc, ◌-ℤ◌, ◌+ℤ◌, ◌*ℤ◌, refl, sym, ap, subst, ◌∙◌, arith}
 use Rattle.std.specs.Prelude.{unsigned_abs}
 use Rattle.std.proofs.Math.IntN.{negsuc-*ℤ-pos, *ℤ_comm}
 use Rattle.std.proofs.lemmas.Int.{ints}
 use Rattle.std.proofs.Math.Nat.{mul-le-mul_left}
 use Rattle.bim_model.specs.declared.upload.Mode.{Mode}
 use Rattle.bim_model.specs.declared.upload.Mode.TheVariants.{Exact, Snap}
-use Rattle.bim_text.specs.Values.{Scaled, signed, above, below, numerator, denominator}
-use Rattle.ifc_units.specs.Grid.{gap, IsClose, IsNearest, IsGridNumber}
-use Rattle.ifc_units.specs.Sizes.{distance, IsNearestSize, IsSize, IsSizeOf}
+use Rattle.bim_text.specs.Values.{signed, above, below}
+use Rattle.ifc_units.specs.Grid.{gap, IsGridNumber}
+use Rattle.ifc_units.specs.Sizes.{distance, IsSize, IsSizeOf}
 
 signed_times : (b : Bool) (m k : ℕ) → signed b m *ℤ pos k ≡ signed b (m * k)
 signed_times false m k = refl

@@ -1,5 +1,5 @@
 -- A length has one grid number.
-use Rattle.std.proofs.Common.{◌≡◌, ℕ, zero, suc, ◌+◌, ◌*◌, ◌^◌, ◌<◌, ◌≤◌, ◌⊎◌, inl, inr, ℤ, pos, negsuc, ◌-ℤ◌, ◌+ℤ◌, ◌*ℤ◌, ◌<ℤ◌, ◌≤ℤ◌, refl, sym, ap, ◌∙◌, arith}
+use Rattle.std.proofs.Common.{◌≡◌, ℕ, zero, suc, ◌+◌, ◌*◌, ◌<◌, ◌≤◌, ◌⊎◌, inl, inr, ℤ, pos, negsuc, ◌-ℤ◌, ◌+ℤ◌, ◌*ℤ◌, ◌<ℤ◌, ◌≤ℤ◌, arith}
 use Rattle.std.specs.Prelude.{unsigned_abs}
 use Rattle.std.proofs.Math.IntN.{negsuc-*ℤ-pos}
 use Rattle.std.proofs.lemmas.Int.{ints, by_lt_z, unsigned_abs-mul}
@@ -7,7 +7,7 @@ use Rattle.std.proofs.Math.Nat.{mul-le-mul_left, one-le-pow}
 use Rattle.bim_model.specs.declared.upload.Mode.{Mode}
 use Rattle.bim_model.specs.declared.upload.Mode.TheVariants.{Exact, Snap}
 use Rattle.bim_text.specs.Values.{Scaled, below, numerator, denominator}
-use Rattle.ifc_units.specs.Grid.{gap, IsClose, IsNearest, IsGridNumber}
+use Rattle.ifc_units.specs.Grid.{IsGridNumber}
 
 times : (k a b : ℕ) → a ≤ b → a * k ≤ b * k
 times k a b h = omega (arith, mul-le-mul_left k h)

@@ -1,19 +1,16 @@
 -- The projects of a file, and its length unit.
-use Rattle.std.proofs.Common.{◌≡◌, ◌≢◌, ◌⊎◌, inl, inr, ℕ, zero, suc, ◌+◌, ◌<◌, ◌≤◌, ◌&&◌, Bool, true, false, ℤ, List, [], ◌∷◌, length, get_or, take, Some, None, Option, IfSome, IfNone, option_copied, Bor, All, Any, refl, sym, ap, ◌∙◌, subst, arith, if◌then◌else◌}
+use Rattle.std.proofs.Common.{◌≡◌, ◌⊎◌, inl, inr, ℕ, zero, suc, ◌<◌, ◌≤◌, Bool, true, false, ℤ, List, [], ◌∷◌, length, get_or, Some, None, Option, IfSome, IfNone, option_copied, Bor, All, Any, refl, sym, ap, ◌∙◌, subst, arith, if◌then◌else◌}
 use Rattle.std.specs.List.{filter, find}
-use Rattle.std.specs.List.Sorted.{IsNonDecreasingBy}
-use Rattle.std.proofs.lemmas.List.{get_or_default}
 use Rattle.std.proofs.lemmas.List.Elements.{All-filter}
 use Rattle.bim_model.specs.declared.upload.UploadFault.{UploadFault}
 use Rattle.bim_model.specs.declared.upload.UploadFault.TheVariants.{LengthUnit}
 use Rattle.p21_reader.specs.declared.value.Value21.{Value21}
 use Rattle.p21_reader.specs.declared.value.Instance.{Instance}
 use Rattle.p21_reader.specs.Uploads.{Rises}
-use Rattle.ifc_schema.specs.Values.{reference_of}
 use Rattle.ifc_schema.specs.Looking.{look}
 use Rattle.ifc_schema.proofs.PlaceLemmas.{rising}
 use Rattle.ifc_units.specs.declared.scale.Scale.{Scale}
-use Rattle.ifc_units.specs.Units.{is_length_unit, unit_power, listed, projects, assignment_of, RefersToUnit, IsUnitAmong, IsOnly, RefersToOther, AssignsPower, IsLengthUnit, IsLeastNumber, LengthUnitFault}
+use Rattle.ifc_units.specs.Units.{unit_power, listed, projects, assignment_of, IsUnitAmong, IsOnly, RefersToOther, AssignsPower, IsLengthUnit, IsLeastNumber, LengthUnitFault}
 
 -- the first that passes is the head of those that do
 
@@ -94,30 +91,6 @@ none_least world test e = let g : filter test world ≡ [] = subst (λ o. Heads 
 
 -- the units among the items
 
-pub named_here : (world : List Instance) (v : Value21) (id : ℕ) (unit : Instance) → reference_of v ≡ Some id → look world id ≡ Some unit → is_length_unit unit ≡ true → RefersToUnit world id v
-named_here world v id unit e f k = record { refers = e; unit = unit; found = f; kind = k }
-
-pub named_none : (world : List Instance) (v : Value21) → reference_of v ≡ None → (id : ℕ) → RefersToUnit world id v → ⊥
-named_none world v e id h = let r = h.refers in cc
-
-pub named_nowhere : (world : List Instance) (v : Value21) (to : ℕ) → reference_of v ≡ Some to → look world to ≡ None → (id : ℕ) → RefersToUnit world id v → ⊥
-named_nowhere world v to e f id h = let r = h.refers in let s = h.found in let same : to ≡ id = cc in let g : look world id ≡ None = subst (λ n. look world n ≡ None) same f in cc
-
-pub named_other : (world : List Instance) (v : Value21) (to : ℕ) (unit : Instance) → reference_of v ≡ Some to → look world to ≡ Some unit → is_length_unit unit ≡ false → (id : ℕ) → RefersToUnit world id v → ⊥
-named_other world v to unit e f k id h =
-    let r = h.refers in
-    let s = h.found in
-    let t = h.kind in
-    let same : to ≡ id = cc in
-    let g : look world id ≡ Some unit = subst (λ n. look world n ≡ Some unit) same f in
-    let u : unit ≡ h.unit = cc in
-    let l : is_length_unit h.unit ≡ false = subst (λ n. is_length_unit n ≡ false) u k in
-    cc
-
--- a value names one unit
-pub named_once : (world : List Instance) (v : Value21) (a b : ℕ) → RefersToUnit world a v → RefersToUnit world b v → a ≡ b
-named_once world v a b h k = let r = h.refers in let s = k.refers in cc
-
 pub only_if : (world : List Instance) (items : List Value21) (id : ℕ) → IsUnitAmong world items id → (Any (RefersToOther world id) items → ⊥) → IsOnly (IsUnitAmong world items) id
 only_if world items id is none = record {
   holds = is;
@@ -142,11 +115,6 @@ not_only world items id is other n h =
 pub one_only : (P : ℕ → Type 0) (a b : ℕ) → IsOnly P a → IsOnly P b → a ≡ b
 one_only P a b h k = k.only a h.holds
 
-pub power_here : (world : List Instance) (assignment unit : Instance) (id : ℕ) (r : Option ℤ) → IsOnly (IsUnitAmong world (listed assignment 0)) id → look world id ≡ Some unit → r ≡ unit_power unit
-    → IfSome r (AssignsPower world assignment)
-power_here world assignment unit id None only found e = tt
-power_here world assignment unit id (Some power) only found e = record { id = id; one_unit = only; unit = unit; found = found; reads = sym e }
-
 power_read : (world : List Instance) (assignment unit : Instance) (id : ℕ) (power : ℤ) → IsOnly (IsUnitAmong world (listed assignment 0)) id → look world id ≡ Some unit → AssignsPower world assignment power
     → unit_power unit ≡ Some power
 power_read world assignment unit id power only found h =
@@ -160,12 +128,6 @@ pub power_none : (world : List Instance) (assignment unit : Instance) (id : ℕ)
 power_none world assignment unit id (Some power) only found e = tt
 power_none world assignment unit id None only found e = λ power h. (let k = power_read world assignment unit id power only found h in cc)
 
-pub no_unit : (world : List Instance) (assignment : Instance) (id : ℕ) → IsOnly (IsUnitAmong world (listed assignment 0)) id → look world id ≡ None → (power : ℤ) → AssignsPower world assignment power → ⊥
-no_unit world assignment id only none power h =
-    let same = one_only (IsUnitAmong world (listed assignment 0)) h.id id h.one_unit only in
-    let f : look world id ≡ Some h.unit = subst (λ n. look world n ≡ Some h.unit) same h.found in
-    cc
-
 pub one_power : (world : List Instance) (assignment : Instance) (a b : ℤ) → AssignsPower world assignment a → AssignsPower world assignment b → a ≡ b
 one_power world assignment a b h k = let r = power_read world assignment k.unit k.id a k.one_unit k.found h in let s = k.reads in cc
 
@@ -178,13 +140,6 @@ same_assignment world project assignment scale one is h =
     let a : assignment_of world project ≡ Some h.assignment = subst (λ q. assignment_of world q ≡ Some h.assignment) p h.assigned in
     let same : h.assignment ≡ assignment = cc in
     subst (λ q. AssignsPower world q scale.power) same h.makes
-
-pub no_assignment : (world : List Instance) (project : Instance) → projects world ≡ project ∷ [] → assignment_of world project ≡ None → (scale : Scale) → IsLengthUnit world scale → ⊥
-no_assignment world project one is scale h =
-    let o = h.one_project in
-    let p : h.project ≡ project = cc in
-    let a : assignment_of world project ≡ Some h.assignment = subst (λ q. assignment_of world q ≡ Some h.assignment) p h.assigned in
-    cc
 
 pub one_unit : (world : List Instance) (a b : Scale) → IsLengthUnit world a → IsLengthUnit world b → a ≡ b
 one_unit world a b h k =

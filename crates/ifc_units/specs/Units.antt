@@ -11,7 +11,6 @@ use Rattle.p21_reader.specs.declared.value.Value21.TheOpen.{Value21-F}
 use Rattle.p21_reader.specs.declared.value.Value21.TheOpen as layer
 use Rattle.p21_reader.specs.declared.value.Value21.TheViews.{out-Value21}
 use Rattle.p21_reader.specs.declared.value.Instance.{Instance}
-use Rattle.ifc_schema.specs.declared.entity.Entity.{Entity}
 use Rattle.ifc_schema.specs.declared.entity.Entity.TheVariants as entity
 use Rattle.ifc_schema.specs.Bodies.{some_passes}
 use Rattle.ifc_schema.specs.Looking.{look, is_a}

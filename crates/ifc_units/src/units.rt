@@ -1,7 +1,6 @@
 //! The length unit of a file.
-ghost use Rattle.std.specs.Prelude.{◌≡◌, ◌∷◌, [], ℕ, ℤ, List, Some, Any, length, IfOk, IfErr, IfSome, IfNone, option_copied, option_map, option_and_then, filter, find};
+ghost use Rattle.std.specs.Prelude.{◌≡◌, ◌∷◌, [], ℕ, ℤ, Some, Any, length, IfOk, IfErr, IfSome, IfNone, option_copied, find};
 ghost use Rattle.std.specs.Bool.{MatchBool};
-ghost use Rattle.std.specs.List.{slice_get};
 ghost use Rattle.bim_model.specs.declared.upload.UploadFault.{UploadFault};
 ghost use Rattle.p21_reader.specs.declared.value.Instance.{Instance};
 ghost use Rattle.ifc_schema.specs.declared.entity.Entity.TheVariants.{Project};

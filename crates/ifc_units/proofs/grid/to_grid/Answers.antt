@@ -1,7 +1,6 @@
-use Rattle.std.proofs.Common.{◌≡◌, ◌≤◌, ℤ, pos, ◌+ℤ◌, ap, refl, ◌∙◌, arith, to_z, of_z, w32}
+use Rattle.std.proofs.Common.{◌≡◌, ◌+ℤ◌, ap, refl, ◌∙◌, arith, to_z, of_z, w32}
 use Rattle.std.specs.Prelude.{unsigned_abs}
 use Rattle.std.proofs.lemmas.Int.{ints}
-use Rattle.bim_text.specs.Values.{signed}
 use Rattle.ifc_units.specs.declared.fault.GridFault.TheVariants.{OffGrid, TooFar}
 use Rattle.ifc_units.proofs.Signs.{grid_ok, grid_off, grid_far, signed_size}
 use Rattle.ifc_units.proofs.grid.to_grid.Goals as goal

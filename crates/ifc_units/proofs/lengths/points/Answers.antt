@@ -1,4 +1,3 @@
-use Rattle.std.proofs.Common.{rules}
 use Rattle.ifc_units.proofs.PointFacts.{points_fail, points_more}
 use Rattle.ifc_units.proofs.lengths.points.Goals as goal
 

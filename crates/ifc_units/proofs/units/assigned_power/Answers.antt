@@ -1,5 +1,5 @@
 use Rattle.std.proofs.Common.{option_copied, subst, ap, sym, ◌∙◌}
-use Rattle.ifc_units.specs.Units.{IsOnly, IsUnitAmong, listed}
+use Rattle.ifc_units.specs.Units.{IsOnly, IsUnitAmong}
 use Rattle.ifc_units.proofs.UnitFacts.{power_none, none_told}
 use Rattle.ifc_units.proofs.units.assigned_power.Goals as goal
 

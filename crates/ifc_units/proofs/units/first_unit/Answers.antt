@@ -1,4 +1,3 @@
-use Rattle.std.proofs.Common.{rules}
 use Rattle.ifc_units.specs.Units.{RefersToUnit}
 use Rattle.ifc_units.proofs.UnitFacts.{none_told}
 use Rattle.ifc_units.proofs.Scans.{any_never, any_more}

@@ -1,4 +1,3 @@
-use Rattle.std.proofs.Common.{rules}
 use Rattle.ifc_units.proofs.UnitFacts.{only_if, not_only, none_told}
 use Rattle.ifc_units.specs.Units.{IsUnitAmong}
 use Rattle.ifc_units.proofs.units.only_unit.Goals as goal
