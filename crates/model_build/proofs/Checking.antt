@@ -1,5 +1,5 @@
 -- What the checks of a file say of its stages.
-use Rattle.std.proofs.Common.{◌≡◌, ℕ, ◌<◌, List, Contains, Some, Result, Ok, Err, refl}
+use Rattle.std.proofs.Common.{ℕ, List, Contains, Result, Ok, Err, refl}
 use Rattle.std.specs.Result.{IfErr}
 use Rattle.bim_model.specs.declared.upload.UploadFault.{UploadFault}
 use Rattle.bim_model.specs.declared.upload.UploadFault.TheVariants as faults
@@ -7,7 +7,7 @@ use Rattle.bim_model.specs.declared.upload.BuildError.{BuildError}
 use Rattle.bim_model.specs.declared.upload.BuildError.TheVariants as errors
 use Rattle.p21_reader.specs.declared.value.Instance.{Instance}
 use Rattle.ifc_schema.specs.declared.outcome.Survey.{Survey}
-use Rattle.ifc_schema.specs.StageFive.{Surveyed, IsModelElement, Lists, element_ids}
+use Rattle.ifc_schema.specs.StageFive.{Surveyed, Lists, element_ids}
 use Rattle.ifc_schema.proofs.Listing.{element_used}
 use Rattle.placement.specs.Chains.{IsLoopCause}
 use Rattle.model_build.specs.Stages.{IsClear, LeastFault}

@@ -91,17 +91,21 @@ location_some world scale mode id shaped measured u none =
     let b = point_numbers world n.to i shaped n.is.0 n.is.1.found n.is.1.holds in
     readable_point scale mode b.value b.holds
     (λ p is. none p (record {
-        to = n.to;
-        refers = ap (λ o. option_and_then reference_of (option_and_then (λ (j : Instance). slice_get j.values 0) o)) u.1.found ∙ ap (option_and_then reference_of) a.there ∙ n.refers;
-        value = b.value;
-        there = ap (option_and_then (λ (j : Instance). slice_get j.values 0)) n.is.1.found ∙ b.there;
-        is_point = is;
-      }))
-    (λ f r. measured n.to n.is.0 (told_of n.to f) (f, refl, record {
+      to = n.to;
+      refers = ap (λ o. option_and_then reference_of (option_and_then (λ (j : Instance). slice_get j.values 0) o)) u.1.found ∙ ap (option_and_then reference_of) a.there ∙ n.refers;
+      value = b.value;
+      there = ap (option_and_then (λ (j : Instance). slice_get j.values 0)) n.is.1.found ∙ b.there;
+      is_point = is;
+    }))
+    (λ f r. measured n.to n.is.0 (told_of n.to f) (
+      f,
+      refl,
+      record {
         instance = i;
         found = n.is.1.found;
         holds = inl (n.is.1.holds, subst (λ o. MatchOption o ⊥ (λ v. PointRefused scale mode v f)) (sym b.there) r);
-      }))
+      },
+    ))
 
 -- no axis placement that is used lies askew
 abbrev pub Square : List Instance → Type 0
@@ -114,13 +118,13 @@ own_some world scale mode id shaped measured square u none =
     let refers : referred_at world id 1 ≡ Some n.to = ap (λ o. option_and_then reference_of (option_and_then (λ (j : Instance). slice_get j.values 1) o)) u.1.found ∙ ap (option_and_then reference_of) a.there ∙ n.refers in
     location_some world scale mode n.to shaped measured n.is
     (λ p is. square n.to n.is.0 (
-        n.is.1,
-        λ axes has. none (frame_at axes (lengths_of p)) (record {
-          to = n.to;
-          refers = refers;
-          given = record { axes = axes; has_axes = has; location = p; is_location = is; frame = refl };
-        }),
-      ))
+      n.is.1,
+      λ axes has. none (frame_at axes (lengths_of p)) (record {
+        to = n.to;
+        refers = refers;
+        given = record { axes = axes; has_axes = has; location = p; is_location = is; frame = refl };
+      }),
+    ))
 
 pub none_lacks : (world : List Instance) (scale : Scale) (mode : Mode) (survey : Survey) (chains : List ℕ) → IsChecked world scale survey chains → AreMeasured world scale mode (used_ids survey) → LacksFrame world scale mode chains → ⊥
 none_lacks world scale mode survey chains h measured l =

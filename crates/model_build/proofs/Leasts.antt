@@ -15,7 +15,7 @@ order : (a b : ℕ) → (a < b) ⊎ ((a ≡ b) ⊎ (b < a))
 order a b = grind arith
 
 -- what is listed below a number of the list stands before it
-earlier : (ids : List ℕ) (at id k : ℕ) → IsStrictlyIncreasing ids → at < length ids → get_or ids at 0 ≡ id → k < id → Contains ids k → (place : ℕ) × (place < at) × (get_or ids place 0 ≡ k)
+pub earlier : (ids : List ℕ) (at id k : ℕ) → IsStrictlyIncreasing ids → at < length ids → get_or ids at 0 ≡ id → k < id → Contains ids k → (place : ℕ) × (place < at) × (get_or ids place 0 ≡ k)
 earlier ids at id k up lt is below c =
     let there : get_or ids c.0 0 ≡ k = get_or_default ids c.0 0 k c.1 ∙ c.2 in
     elim (order c.0 at) [
@@ -35,8 +35,8 @@ least_here FaultOf ids at fault up lt none h =
       of = Contains-get_or ids at 0 lt;
       here = h;
       lower = λ k below listed other f. (
-        let e = earlier ids at id k up lt refl below listed in
-        none e.0 e.1 other (subst (λ n. FaultOf n other) (sym e.2) f));
+          let e = earlier ids at id k up lt refl below listed in
+          none e.0 e.1 other (subst (λ n. FaultOf n other) (sym e.2) f));
     }
 
 split : (k n : ℕ) → k < n + 1 → (k < n) ⊎ (k ≡ n)

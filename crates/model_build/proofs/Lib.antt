@@ -9,6 +9,7 @@ pub mod Keywords
 pub mod Attributes
 pub mod Shaped
 pub mod Bodied
+pub mod Flawless
 pub mod Sets
 pub mod OneAxes
 pub mod OneFrame
@@ -18,7 +19,11 @@ pub mod Collecting
 pub mod LeastOf
 pub mod Staged
 pub mod Surfaced
+pub mod Made
 pub mod Readable
 pub mod Readied
 pub mod Framed
 pub mod Checking
+pub mod Thens
+pub mod Modelling
+pub mod Profiled

@@ -35,7 +35,7 @@ carried_once world scale mode i (Some f) (Some g) h k p =
 placed_once : (f g : Option Frame) → ((p : Point) → carried_by f p ≡ carried_by g p) → (t : Triangle) → placed_by f t ≡ placed_by g t
 placed_once f g h t = same_triangle (placed_by f t) (placed_by g t) (h t.a) (h t.b) (h t.c)
 
-same_map : {X Y : Type 0} (f g : X → Y) → ((x : X) → f x ≡ g x) → (xs : List X) → map f xs ≡ map g xs
+pub same_map : {X Y : Type 0} (f g : X → Y) → ((x : X) → f x ≡ g x) → (xs : List X) → map f xs ≡ map g xs
 same_map f g h [] = refl
 same_map f g h (x ∷ xs) = ap₂ (λ y ys. y ∷ ys) (h x) (same_map f g h xs)
 

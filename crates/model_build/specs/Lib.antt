@@ -13,3 +13,4 @@ pub mod Outcomes
 pub mod Profile
 pub mod Counting
 pub mod Least
+pub mod Framed

@@ -19,8 +19,7 @@ use Rattle.ifc_units.specs.Units.{IsLengthUnit}
 use Rattle.ifc_units.specs.declared.scale.Scale.{Scale}
 use Rattle.placement.specs.declared.frame.Frame.{Frame}
 use Rattle.placement.specs.Chains.{AreChains}
-use Rattle.placement.specs.Placed.{AreFrames}
-use Rattle.model_build.specs.Stages.{Stage, IsClear}
+use Rattle.model_build.specs.Stages.{Stage}
 use Rattle.model_build.specs.Finding.{Finds}
 use Rattle.model_build.specs.Texts.{guid_of, NoneRepeats}
 use Rattle.model_build.specs.Least.{NoneOf, IsOblique}

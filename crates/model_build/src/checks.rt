@@ -38,11 +38,7 @@ pub fn guid_fault(
 }
 
 /// The chains of the placements that the elements name. A fault is that of one whose chain never ends.
-pub fn chains_of(
-    alloc: Global,
-    exchange: &Exchange,
-    survey: &Survey,
-) -> Result<Chains, BuildError>
+pub fn chains_of(alloc: Global, exchange: &Exchange, survey: &Survey) -> Result<Chains, BuildError>
     requires { Surveyed exchange.now survey.now }
     ensures chains { IfOk result (HasChains exchange.now (element_ids survey.now)) }
     ensures fault { IfErr result (IsErrorOf (LeastFault (IsNamed exchange.now (IsModelElement exchange.now)) (LoopFault exchange.now))) }

@@ -1,5 +1,5 @@
 //! The elements of a model.
-ghost use Rattle.std.specs.Prelude.{◌≡◌, ℕ, List, Some, IfOk, MatchOption, MatchResult};
+ghost use Rattle.std.specs.Prelude.{◌≡◌, ℕ, List, Some, IfOk, IfSome, MatchOption, MatchResult};
 ghost use Rattle.std.specs.List.{AllZip};
 ghost use Rattle.std.specs.List.Sorted.{IsStrictlyIncreasing};
 ghost use Rattle.bim_model.specs.declared.upload.Mode.{Mode};
@@ -8,12 +8,13 @@ ghost use Rattle.p21_reader.specs.declared.value.Instance.{Instance};
 ghost use Rattle.placement.specs.Placed.{AreFrames, frame_in};
 ghost use Rattle.spatial_tree.specs.Trees.{ListsStoreys};
 ghost use Rattle.ifc_schema.specs.Looking.{look};
+ghost use Rattle.model_build.specs.Framed.{Framed, AllFramed};
 ghost use Rattle.model_build.specs.PointTables.{IsTable};
 ghost use Rattle.model_build.specs.Outcomes.{IsStanding, IsFrameOf, IsNearSurface, IsNearElement, Lacks, LacksAt, IsFirstLacking};
 
 use crate::find::fetch;
-use crate::lack::{Lack, Lacking};
 use crate::items::body_sets;
+use crate::lack::{Lack, Lacking};
 use crate::storeys::storey_name;
 use crate::surface::{all_moved, own_triangles};
 use crate::texts::{guid_of, name_of};
@@ -26,7 +27,9 @@ use std::alloc::{AllocError, Global};
 
 /// The frame of an element. None where it names a placement that has none.
 fn frame_of(frames: &Frames, instance: &Instance) -> Option<Frame>
-    ensures { (world : List Instance) (scale : Scale) (mode : Mode) (placements : List ℕ) → AreFrames world scale mode placements (frame_in frames.now) → MatchOption result (IsStanding placements instance.now → ⊥) (IsFrameOf world scale mode instance.now) }
+    requires { AllFramed (frame_in frames.now) }
+    ensures framed { IfSome result Framed }
+    ensures placed { (world : List Instance) (scale : Scale) (mode : Mode) (placements : List ℕ) → AreFrames world scale mode placements (frame_in frames.now) → MatchOption result (IsStanding placements instance.now → ⊥) (IsFrameOf world scale mode instance.now) }
 {
     let value = instance.values.as_slice().get(5)?;
     if is_absent(value) {
@@ -44,6 +47,7 @@ fn surface_of(
     table: &[Option<Items<Point>>],
     instance: &Instance,
 ) -> Result<Result<Vec<Triangle>, Lack>, AllocError>
+    requires { AllFramed (frame_in frames.now) }
     ensures { (scale : Scale) (mode : Mode) (placements : List ℕ) → AreFrames exchange.now scale mode placements (frame_in frames.now) → IsTable exchange.now scale mode table.now → IfOk result (λ made. MatchResult made (λ triangles. IsNearSurface exchange.now scale mode instance.now triangles.items) (Lacks exchange.now scale mode placements instance.now)) }
 {
     let Some(frame) = frame_of(frames, instance) else {
@@ -68,7 +72,8 @@ fn element_of(
     table: &[Option<Items<Point>>],
     instance: &Instance,
 ) -> Result<Result<Element, Lack>, AllocError>
-    requires { ListsStoreys exchange.now tree.now }
+    requires storeys { ListsStoreys exchange.now tree.now }
+    requires framed { AllFramed (frame_in frames.now) }
     ensures { (scale : Scale) (mode : Mode) (placements : List ℕ) → look exchange.now instance.now.id ≡ Some instance.now → AreFrames exchange.now scale mode placements (frame_in frames.now) → IsTable exchange.now scale mode table.now → IfOk result (λ made. MatchResult made (IsNearElement exchange.now scale mode instance.now.id) (Lacks exchange.now scale mode placements instance.now)) }
 {
     let Some(guid) = guid_of(alloc, instance)? else {
@@ -98,7 +103,8 @@ fn element_at(
     table: &[Option<Items<Point>>],
     id: u64,
 ) -> Result<Result<Element, Lack>, AllocError>
-    requires { ListsStoreys exchange.now tree.now }
+    requires storeys { ListsStoreys exchange.now tree.now }
+    requires framed { AllFramed (frame_in frames.now) }
     ensures { (scale : Scale) (mode : Mode) (placements : List ℕ) → AreFrames exchange.now scale mode placements (frame_in frames.now) → IsTable exchange.now scale mode table.now → IfOk result (λ made. MatchResult made (IsNearElement exchange.now scale mode id) (LacksAt exchange.now scale mode placements id)) }
 {
     match fetch(exchange, id) {
@@ -117,6 +123,7 @@ pub fn elements_of(
     ids: &[u64],
 ) -> Result<Result<Vec<Element>, Lacking>, AllocError>
     requires storeys { ListsStoreys exchange.now tree.now }
+    requires framed { AllFramed (frame_in frames.now) }
     requires rises { IsStrictlyIncreasing ids.now }
     ensures { (scale : Scale) (mode : Mode) (placements : List ℕ) → AreFrames exchange.now scale mode placements (frame_in frames.now) → IsTable exchange.now scale mode table.now → IfOk result (λ made. MatchResult made (λ elements. AllZip (IsNearElement exchange.now scale mode) ids.now elements.items) (IsFirstLacking exchange.now scale mode placements ids.now)) }
 {

@@ -13,7 +13,9 @@ ghost use Rattle.model_build.specs.Elements.{IsModelOf};
 ghost use Rattle.model_build.specs.Outcomes.{IsErrorOf, HasChains, IsChecked, AreMeasured, AreReady};
 ghost use Rattle.model_build.specs.Profile.{ReachStage, AfterLengths, AfterIndexes, AfterItems, AfterChains, AfterTree, AfterUnit, FileFault, Profile, IsCause};
 
-use crate::checks::{chains_of, guid_fault, index_fault, item_fault, oblique_fault, triangles_fault};
+use crate::checks::{
+    chains_of, guid_fault, index_fault, item_fault, oblique_fault, triangles_fault,
+};
 use crate::element::elements_of;
 use crate::lack::Lack;
 use crate::order::in_order;
@@ -175,8 +177,10 @@ fn after_tree(
     if let Some(fault) = guid_fault(alloc, exchange, survey)? {
         return Err(BuildError::Fault(fault));
     }
-    let chains = chains_of(alloc, exchange, survey)?;
-    after_chains(alloc, exchange, survey, scale, mode, tree, &chains)
+    match chains_of(alloc, exchange, survey) {
+        Ok(chains) => after_chains(alloc, exchange, survey, scale, mode, tree, &chains),
+        Err(error) => Err(error),
+    }
 }
 
 /// The checks from the tree on, and the model.
@@ -215,6 +219,8 @@ pub fn build(alloc: Global, bytes: &[u8], mode: Mode) -> Result<Model, BuildErro
     ensures model { IfOk result (λ model. Profile bytes.now mode (Ok model)) }
     ensures fault { IfErr result (λ error. IsCause bytes.now mode error) }
 {
-    let exchange = read(alloc, bytes)?;
-    build_file(alloc, &exchange, mode)
+    match read(alloc, bytes) {
+        Ok(exchange) => build_file(alloc, &exchange, mode),
+        Err(error) => Err(error),
+    }
 }
