@@ -1,23 +1,25 @@
 //! From requests to calls of the book.
-ghost use Rattle.std.specs.Prelude.{◌≡◌, option_and_then};
-ghost use Rattle.std.specs.Str.{bytes_eq};
+ghost use Rattle.std.specs.Prelude.{◌≡◌, length, option_and_then, IfOk};
+ghost use Rattle.std.specs.Str.{IsUtf8};
+ghost use Rattle.httparse.specs.Spans.{IsWithin, span_bytes};
 ghost use Rattle.serde_json.specs.View.{view};
 ghost use Rattle.serde_json.specs.Read.{read};
 ghost use Rattle.bim_model.specs.Moments.{IsMoment};
 ghost use Rattle.bcf_json.specs.Bodies.{is_object};
-ghost use Rattle.bcf_http.specs.Calls.{is_post, object_of, if_object, served_topic, topic_asked, asked_by, IsAskedAs, IsTreeOf, IsTopicAs, kind_of, no_kind};
+ghost use Rattle.bcf_http.specs.Calls.{first_project, object_of, if_object, served_topic, topic_asked, post_call, creates, asked_by, IsAskedAs, IsTreeOf, IsTopicAs, kind_of, no_kind};
 
 use bcf_json::{BodyError, BodyFault, asks_unbuilt, topic_in};
-use bim_model::{Author, Moment, TopicBody, id_of};
-use federation_book::BookRequest;
-use http_frame::HttpRequest;
+use bim_model::{Author, Bytes, Mode, Moment, Text, TopicBody, id_of};
+use federation_book::{BookRequest, Wanted};
+use http_frame::{HttpRequest, Route, route_of};
+use httparse::spans::Span;
 use serde_json::Value;
-use std::alloc::Global;
+use std::alloc::{AllocError, Global};
 
 /// A fault of a request that the request alone decides.
 #[derive(Clone, Copy, Debug, PartialEq, Eq)]
 pub enum RequestFault {
-    /// H0: the body has a member that is not served yet. It ends the session.
+    /// H0: what the first line asks for, or a member of the body, is not served yet. It ends the session.
     NotBuilt,
     /// H9: the body is no JSON text, or no object.
     BadJson,
@@ -37,6 +39,13 @@ pub enum Refusal {
 pub enum HttpCall {
     /// A call of the book.
     Ask(BookRequest),
+    /// A model is to be built of the body, and put into the project under the name.
+    Build {
+        project: u128,
+        name: Text,
+        mode: Mode,
+        body: Bytes,
+    },
 }
 
 /// What the response needs of its request.
@@ -63,11 +72,16 @@ impl ReplyKind {
     }
 }
 
-#[tactic(auto, unfolding(crate::specs::Calls::is_post))]
-fn is_post(request: &HttpRequest) -> bool
-    ensures { result ≡ is_post request.now }
+fn creates(route: Option<Route>) -> bool
+    ensures { result ≡ creates route }
 {
-    request.method.as_slice() == b"POST".as_slice()
+    match route {
+        Some(Route::MakeTopic) => true,
+        Some(Route::ListTopics) => false,
+        Some(Route::PutModel { .. }) => true,
+        Some(Route::NewestVersion) => false,
+        None => false,
+    }
 }
 
 /// What the response needs of the request.
@@ -75,9 +89,10 @@ fn is_post(request: &HttpRequest) -> bool
 pub fn kind_of(request: &HttpRequest) -> ReplyKind
     ensures { result ≡ kind_of request.now }
 {
+    let route = route_of(request.method.as_slice(), request.target.as_slice());
     ReplyKind {
         project: 1,
-        created: is_post(request),
+        created: creates(route),
         head: false,
     }
 }
@@ -144,20 +159,15 @@ fn topic_asked(alloc: Global, body: &[u8]) -> Result<TopicBody, Refusal>
     }
 }
 
-/// What a request asks for at a moment, in seconds since 1970; or the first fault that the request alone decides.
-#[tactic(auto, unfolding(crate::specs::Calls::asked_by))]
-pub fn to_call(alloc: Global, request: HttpRequest, moment: u64) -> Result<HttpCall, Refusal>
+// The call that makes a topic of the body.
+fn post_call(alloc: Global, request: HttpRequest, moment: u64) -> Result<HttpCall, Refusal>
     requires { IsMoment moment }
-    ensures { IsAskedAs result (asked_by moment request) }
+    ensures { IsAskedAs result (post_call moment request (topic_asked (object_of request.body))) }
 {
-    let project = id_of(1, 0);
-    if !is_post(&request) {
-        return Ok(HttpCall::Ask(BookRequest::ListTopics { project }));
-    }
     let HttpRequest { user, body, .. } = request;
     match topic_asked(alloc, body.as_slice()) {
         Ok(topic) => Ok(HttpCall::Ask(BookRequest::PostTopic {
-            project,
+            project: id_of(1, 0),
             body: topic,
             author: Author {
                 user,
@@ -166,5 +176,59 @@ pub fn to_call(alloc: Global, request: HttpRequest, moment: u64) -> Result<HttpC
             weight: body.as_slice().len() as u64,
         })),
         Err(refusal) => Err(refusal),
+    }
+}
+
+// The name of a model, which stands in the target.
+fn name_of(alloc: Global, target: &[u8], name: Span) -> Result<Text, AllocError>
+    requires within { IsWithin (length target.now) name }
+    requires text { IsUtf8 (span_bytes target.now name) }
+    ensures { IfOk result (λ text. text ≡ span_bytes target.now name) }
+{
+    match str::from_utf8(name.of(target)) {
+        Ok(text) => Text::of(alloc, text),
+        Err(_) => unreachable!(),
+    }
+}
+
+// The model that is to be built of the body.
+fn build_call(
+    alloc: Global,
+    request: HttpRequest,
+    name: Span,
+    mode: Mode,
+) -> Result<HttpCall, Refusal>
+    requires within { IsWithin (length request.target) name }
+    requires text { IsUtf8 (span_bytes request.target name) }
+    ensures { IsAskedAs result (Ok (HttpCall.Build first_project (span_bytes request.target name) mode request.body)) }
+{
+    let HttpRequest { target, body, .. } = request;
+    match name_of(alloc, target.as_slice(), name) {
+        Ok(name) => Ok(HttpCall::Build {
+            project: id_of(1, 0),
+            name,
+            mode,
+            body,
+        }),
+        Err(_) => Err(Refusal::Memory),
+    }
+}
+
+/// What a request asks for at a moment, in seconds since 1970; or the first fault that the request alone decides.
+#[tactic(auto, unfolding(crate::specs::Calls::asked_by))]
+pub fn to_call(alloc: Global, request: HttpRequest, moment: u64) -> Result<HttpCall, Refusal>
+    requires { IsMoment moment }
+    ensures { IsAskedAs result (asked_by moment request) }
+{
+    let project = id_of(1, 0);
+    match route_of(request.method.as_slice(), request.target.as_slice()) {
+        None => Err(Refusal::Fault(RequestFault::NotBuilt)),
+        Some(Route::MakeTopic) => post_call(alloc, request, moment),
+        Some(Route::ListTopics) => Ok(HttpCall::Ask(BookRequest::ListTopics { project })),
+        Some(Route::PutModel { name, mode }) => build_call(alloc, request, name, mode),
+        Some(Route::NewestVersion) => Ok(HttpCall::Ask(BookRequest::ReadVersion {
+            project,
+            version: Wanted::Newest,
+        })),
     }
 }

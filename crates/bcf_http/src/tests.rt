@@ -2,17 +2,28 @@
 use crate::answers::{Answer, to_response};
 use crate::calls::{HttpCall, Refusal, ReplyKind, RequestFault, kind_of, to_call};
 use bcf_json::BodyFault;
-use bim_model::{Author, Bytes, Items, Moment, Text, Topic, TopicBody, id_of};
-use federation_book::{BookFault, BookReply, BookRequest, ReplyBody};
+use bim_model::{Author, Bytes, Items, Mode, Moment, Text, Topic, TopicBody, id_of};
+use federation_book::{BookFault, BookReply, BookRequest, ReplyBody, Wanted};
 use http_frame::{FrameFault, HttpRequest};
 use std::alloc::{AllocError, Global};
 use std::process::Abort;
 use std::test::Fail;
 
-fn request(alloc: Global, method: &str, body: &[u8]) -> Result<HttpRequest, AllocError> {
+const TOPICS: &str = "/bcf/3.0/projects/00000001-0000-8000-8000-000000000000/topics";
+
+const MODEL: &str = "/coord/1/projects/00000001-0000-8000-8000-000000000000/models/m";
+
+const NEWEST: &str = "/coord/1/projects/00000001-0000-8000-8000-000000000000/versions/newest";
+
+fn request(
+    alloc: Global,
+    method: &str,
+    target: &str,
+    body: &[u8],
+) -> Result<HttpRequest, AllocError> {
     Ok(HttpRequest {
         method: Bytes::of(alloc, method.as_bytes())?,
-        target: Bytes::of(alloc, b"/topics")?,
+        target: Bytes::of(alloc, target.as_bytes())?,
         user: Text::of(alloc, "anna")?,
         body: Bytes::of(alloc, body)?,
     })
@@ -47,7 +58,7 @@ fn judges_bodies(rt: HostRuntime) -> Result<(), Fail> {
         ("POST", br#"{"title":"","labels":[]}"#.as_slice(), "H0"),
     ];
     for (method, body, wanted) in cases {
-        let asked = request(alloc, method, body)?;
+        let asked = request(alloc, method, TOPICS, body)?;
         let got = match to_call(alloc, asked, 1_714_564_800) {
             Ok(_) => "",
             Err(refusal) => code_of(refusal),
@@ -60,7 +71,7 @@ fn judges_bodies(rt: HostRuntime) -> Result<(), Fail> {
 #[test]
 fn asks_the_book(rt: HostRuntime) -> Result<(), Fail> {
     let alloc = rt.alloc();
-    let post = request(alloc, "POST", br#"{"title":"Pipe"}"#)?;
+    let post = request(alloc, "POST", TOPICS, br#"{"title":"Pipe"}"#)?;
     assert_eq!(rt;
         kind_of(&post),
         ReplyKind {
@@ -70,7 +81,7 @@ fn asks_the_book(rt: HostRuntime) -> Result<(), Fail> {
         }
     );
     is_post(&rt, to_call(alloc, post, 1_714_564_800));
-    let get = request(alloc, "GET", b"")?;
+    let get = request(alloc, "GET", TOPICS, b"")?;
     assert_eq!(rt;
         kind_of(&get),
         ReplyKind {
@@ -81,6 +92,62 @@ fn asks_the_book(rt: HostRuntime) -> Result<(), Fail> {
     );
     is_list(&rt, to_call(alloc, get, 1_714_564_800));
     Ok(())
+}
+
+#[test]
+fn puts_models_and_reads_versions(rt: HostRuntime) -> Result<(), Fail> {
+    let alloc = rt.alloc();
+    let put = request(alloc, "PUT", MODEL, b"ISO")?;
+    assert!(rt; kind_of(&put).created);
+    is_model(&rt, to_call(alloc, put, 0), Mode::Exact);
+    let snapped = format!(in alloc; "{MODEL}?grid=snap")?;
+    let snapped = request(alloc, "PUT", snapped.as_str(), b"ISO")?;
+    is_model(&rt, to_call(alloc, snapped, 0), Mode::Snap);
+    let newest = request(alloc, "GET", NEWEST, b"")?;
+    assert!(rt; !kind_of(&newest).created);
+    is_newest(&rt, to_call(alloc, newest, 0));
+    for (method, target) in [("GET", "/topics"), ("DELETE", MODEL), ("PUT", NEWEST)] {
+        let other = request(alloc, method, target, b"")?;
+        assert!(rt; !kind_of(&other).created);
+        is_unserved(&rt, to_call(alloc, other, 0));
+    }
+    Ok(())
+}
+
+fn is_model(rt: &impl Abort, call: Result<HttpCall, Refusal>, wanted: Mode) {
+    match call {
+        Ok(
+            HttpCall::Build {
+                project,
+                name,
+                mode,
+                body,
+            },
+        ) => {
+            assert_eq!(rt; project, id_of(1, 0));
+            assert_eq!(rt; name.as_str(), "m");
+            assert_eq!(rt; mode, wanted);
+            assert_eq!(rt; body.as_slice(), b"ISO".as_slice());
+        }
+        _ => assert!(rt; false),
+    }
+}
+
+fn is_newest(rt: &impl Abort, call: Result<HttpCall, Refusal>) {
+    match call {
+        Ok(HttpCall::Ask(BookRequest::ReadVersion { project, version })) => {
+            assert_eq!(rt; project, id_of(1, 0));
+            assert_eq!(rt; version, Wanted::Newest);
+        }
+        _ => assert!(rt; false),
+    }
+}
+
+fn is_unserved(rt: &impl Abort, call: Result<HttpCall, Refusal>) {
+    match call {
+        Err(refusal) => assert_eq!(rt; code_of(refusal), "H0"),
+        Ok(_) => assert!(rt; false),
+    }
 }
 
 fn is_list(rt: &impl Abort, call: Result<HttpCall, Refusal>) {

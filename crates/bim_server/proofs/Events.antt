@@ -2,6 +2,7 @@
 use Rattle.std.proofs.Common.{◌≡◌, ◌⊎◌, ℕ, ◌+◌, ◌≤◌, List, [], ◌∷◌, ◌++◌, length, Bool, Option, Some, None, Ok, Err, inl, inr, sym, ◌∙◌, ap, subst, refl, length-append, arith}
 use Rattle.http_frame.specs.declared.framer.HttpRequest.{HttpRequest}
 use Rattle.http_frame.specs.Requests.{Begins, IsRefused}
+use Rattle.bim_model.specs.declared.element.Element.{Element}
 use Rattle.bim_model.specs.declared.topic.TopicBody.{TopicBody}
 use Rattle.bim_model.specs.declared.topic.Author.{Author}
 use Rattle.federation_book.specs.declared.types.Stamp.{Stamp}
@@ -9,7 +10,6 @@ use Rattle.federation_book.specs.declared.types.Entry.{Entry}
 use Rattle.federation_book.specs.declared.types.BookReply.{BookReply}
 use Rattle.federation_book.specs.declared.types.BookRequest.{BookRequest}
 use Rattle.federation_book.specs.declared.types.BookRequest.TheVariants.{ListTopics, PostTopic, Upload, ReadVersion}
-use Rattle.bim_model.specs.declared.element.Element.{Element}
 use Rattle.federation_book.specs.declared.types.Change.TheVariants as change
 use Rattle.federation_book.specs.History.{reply_of, added_by, body_of, topic_made, model_put, entry_made, project_of, at_turn, IsBefore}
 use Rattle.federation_book.specs.Runs.{Step, IsRun, IsOneThread}
@@ -19,7 +19,7 @@ use Rattle.bcf_http.specs.declared.answers.Answer.TheVariants as answer
 use Rattle.bcf_http.specs.Calls.{asked_by, kind_of}
 use Rattle.bcf_http.specs.Answers.{IsResponse}
 use Rattle.bim_session.specs.declared.want.Receipt.{Receipt}
-use Rattle.bim_session.specs.Session.{Answers, Answered, Faults, Takes, last_turn}
+use Rattle.bim_session.specs.Session.{Means, Answers, Answered, Faults, Takes, last_turn}
 use Rattle.bim_session.specs.Talking.{TalkState, AnswersAlone, AnswersCall, ChangesNothing}
 use Rattle.bim_session.proofs.Sessions.{Takes_new, Answered_grown, answered_last}
 use Rattle.bim_server.specs.Loop.{ServerState, SoFar, with_turn, stamp_of}
@@ -30,9 +30,8 @@ pub alone_answers : (may : ℕ → Type 0) (h : List Entry) (last top moment : �
 alone_answers may h last top moment request close bytes may_be (inl refuses) = inl (record {
   moment = moment;
   may_be = may_be;
-  fault = refuses.fault;
+  refusal = refuses.refusal;
   refused = refuses.refused;
-  served = refuses.served;
   response = refuses.response;
   none = refl;
 })
@@ -68,18 +67,18 @@ nothing_added h stamp (PostTopic id body author weight) nothing = nothing_posted
 nothing_added h stamp (Upload id name model) nothing = nothing_put h stamp name model (project_of 1 id) nothing
 nothing_added h stamp (ReadVersion id wanted) nothing = nothing_asked stamp (project_of 1 id)
 
-pub takes_next : (may : ℕ → Type 0) (server : ServerState) (request : HttpRequest) (call : BookRequest) (moment : ℕ) → may moment → asked_by moment request ≡ Ok call
+pub takes_next : (may : ℕ → Type 0) (server : ServerState) (request : HttpRequest) (call : BookRequest) (moment : ℕ) → may moment → Means moment request call
     → IsBefore (server.turns + 1) server.history → Takes may 1 (with_turn call server).history request (step_of server call)
-takes_next may server request call moment may_be asked before =
-    Takes_new may 1 server.history request (step_of server call) moment may_be asked before
+takes_next may server request call moment may_be means before =
+    Takes_new may 1 server.history request (step_of server call) moment may_be means before
 
 -- the answer to a call at the next turn
 pub called_answers : (may : ℕ → Type 0) (server : ServerState) (last : ℕ) (request : HttpRequest) (close : Bool) (bytes : List ℕ) (call : BookRequest) (moment : ℕ) (receipt : Receipt)
-    → may moment → asked_by moment request ≡ Ok call → IsBefore (server.turns + 1) server.history → last ≤ server.turns
+    → may moment → Means moment request call → IsBefore (server.turns + 1) server.history → last ≤ server.turns
     → receipt.turn ≡ server.turns + 1 → receipt.reply ≡ reply_of 1 server.history call
     → AnswersCall (Ok receipt) (kind_of request) close bytes
     → Answers may 1 (with_turn call server).history last (server.turns + 1) request close bytes (step_of server call ∷ [])
-called_answers may server last request close bytes call moment receipt may_be asked before le turn reply (inl response) =
+called_answers may server last request close bytes call moment receipt may_be means before le turn reply (inl response) =
     let own : AreOf (server.turns + 1) (added_by 1 server.history (stamp_of (server.turns + 1)) call) = added_of 1 server.history (stamp_of (server.turns + 1)) call in
     let at : at_turn (server.turns + 1) (with_turn call server).history ≡ server.history = at_turn-new (server.turns + 1) server.history _ before own in
     let here : receipt.reply ≡ reply_of 1 (at_turn (server.turns + 1) (with_turn call server).history) call = reply ∙ ap (λ h. reply_of 1 h call) (sym at) in
@@ -90,10 +89,10 @@ called_answers may server last request close bytes call moment receipt may_be as
       one = refl;
       above = omega arith;
       within = omega arith;
-      takes = takes_next may server request call moment may_be asked before;
+      takes = takes_next may server request call moment may_be means before;
       response = subst (λ (t : ℕ). IsResponse (answer.Book (reply_of 1 (at_turn (server.turns + 1) (with_turn call server).history) call)) (kind_of request) (Some t) close bytes) turn booked;
     }))
-called_answers may server last request close bytes call moment receipt may_be asked before le turn reply (inr quiet) =
+called_answers may server last request close bytes call moment receipt may_be means before le turn reply (inr quiet) =
     let own : AreOf (server.turns + 1) (added_by 1 server.history (stamp_of (server.turns + 1)) call) = added_of 1 server.history (stamp_of (server.turns + 1)) call in
     let nothing : ChangesNothing (body_of 1 server.history call) = subst (λ (r : BookReply). ChangesNothing r.body) reply quiet.0 in
     inr (inr (record {
@@ -103,7 +102,7 @@ called_answers may server last request close bytes call moment receipt may_be as
         one = refl;
         above = omega arith;
         within = omega arith;
-        takes = takes_next may server request call moment may_be asked before;
+        takes = takes_next may server request call moment may_be means before;
         idle = of_turn-new (server.turns + 1) server.history _ before own ∙ nothing_added server.history (stamp_of (server.turns + 1)) call nothing;
       });
     }))

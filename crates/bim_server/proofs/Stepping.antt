@@ -16,7 +16,7 @@ use Rattle.bim_session.specs.declared.end.SessionEnd.{SessionEnd}
 use Rattle.bim_session.specs.declared.end.SessionEnd.TheVariants as end
 use Rattle.bim_session.specs.declared.want.Receipt.{Receipt}
 use Rattle.bim_session.specs.declared.want.Want.TheVariants.{More, Write, Call, Leave}
-use Rattle.bim_session.specs.Session.{Answers, IsNext, IsFaultResponse, Faults, last_turn, closes_after}
+use Rattle.bim_session.specs.Session.{Means, Answers, IsNext, IsFaultResponse, Faults, last_turn, closes_after}
 use Rattle.bim_session.specs.Replay.{Replays}
 use Rattle.bim_session.specs.Talking.{TalkState, Talks, MeetsEnd, AnswersAlone, AnswersCall, with_piece, with_answer, with_call, with_fault, leaving_after}
 use Rattle.bim_server.specs.declared.session.Progress.{Progress}
@@ -163,10 +163,10 @@ waiting rest kind kind' old mid is waits =
 -- the answer to a call is written
 wrote_called : (may : ℕ → Type 0) (given a : Option (List ℕ)) (ended : Bool) (held x y : Option (List ℕ)) (moment : ℕ) (old mid new : TalkState) (server server' : ServerState)
     (request : HttpRequest) (call : BookRequest) (receipt : Result Receipt AllocError) (bytes : List ℕ)
-    → may moment → SoFar may given a ended held x old server → old.leaving ≡ None → Begins old.rest request mid.rest → asked_by moment request ≡ Ok call → mid ≡ with_call mid.rest (kind_of request) old
+    → may moment → SoFar may given a ended held x old server → old.leaving ≡ None → Begins old.rest request mid.rest → Means moment request call → mid ≡ with_call mid.rest (kind_of request) old
     → Calls call server receipt server' → IsBefore (server'.turns + 1) server'.history → AnswersCall receipt (kind_of request) (closes_after (mid.served + 1)) bytes
     → new ≡ with_answer mid.rest mid → Grows x y bytes → SoFar may given a ended held y new server'
-wrote_called may given a ended held x y moment old mid new server server' request call (Ok receipt) bytes may_be so here begins asked is calls before answers new_is wrote =
+wrote_called may given a ended held x y moment old mid new server server' request call (Ok receipt) bytes may_be so here begins means is calls before answers new_is wrote =
     let state : server' ≡ with_turn call server = calls.2 in
     let number : mid.served ≡ old.served = ap (λ (s : TalkState). s.served) is in
     let close : AnswersCall (Ok receipt) (kind_of request) (closes_after (old.served + 1)) bytes = subst (λ (n : ℕ). AnswersCall (Ok receipt) (kind_of request) (closes_after (n + 1)) bytes) number answers in
@@ -174,7 +174,7 @@ wrote_called may given a ended held x y moment old mid new server server' reques
     let whole : SoFar may given a ended held y new (with_turn call server) =
     so_far_push may given a ended held x y old new server (with_turn call server) so request bytes (step_of server call ∷ []) here
     (subst (λ (r : List ℕ). Begins old.rest request r) (sym rest) begins)
-    (called_answers may server (last_turn 0 so.steps) request (closes_after (old.served + 1)) bytes call moment receipt may_be asked so.before
+    (called_answers may server (last_turn 0 so.steps) request (closes_after (old.served + 1)) bytes call moment receipt may_be means so.before
     (last_of may given a ended held x old server so) calls.0 calls.1 close)
     (run_next may given a ended held x old server call so) (one_next may given a ended held x old server call so) (count_next may given a ended held x old server call so)
     (subst (λ (s : ServerState). IsBefore (s.turns + 1) s.history) state before)
@@ -184,7 +184,7 @@ wrote_called may given a ended held x y moment old mid new server server' reques
     (ap (λ (s : TalkState). s.ended) new_is ∙ ap (λ (s : TalkState). s.ended) is)
     (ap (λ (s : TalkState). s.leaving) new_is ∙ ap (λ n. leaving_after (n + 1)) number) in
     subst (λ (s : ServerState). SoFar may given a ended held y new s) (sym state) whole
-wrote_called may given a ended held x y moment old mid new server server' request call (Err error) bytes may_be so here begins asked is calls before answers new_is wrote =
+wrote_called may given a ended held x y moment old mid new server server' request call (Err error) bytes may_be so here begins means is calls before answers new_is wrote =
     let number : mid.served ≡ old.served = ap (λ (s : TalkState). s.served) is in
     let close : IsResponse answer.Memory (kind_of request) None (closes_after (old.served + 1)) bytes = subst (λ (n : ℕ). IsResponse answer.Memory (kind_of request) None (closes_after (n + 1)) bytes) number answers in
     let rest : new.rest ≡ mid.rest = ap (λ (s : TalkState). s.rest) new_is in
@@ -202,19 +202,19 @@ wrote_called may given a ended held x y moment old mid new server server' reques
 -- the answer to a call was not written whole, or not at all
 ended_called : (may : ℕ → Type 0) (given a : Option (List ℕ)) (ended : Bool) (held x y : Option (List ℕ)) (moment : ℕ) (old mid : TalkState) (server server' : ServerState)
     (request : HttpRequest) (call : BookRequest) (receipt : Result Receipt AllocError) (e : SessionEnd)
-    → may moment → SoFar may given a ended held x old server → old.leaving ≡ None → Begins old.rest request mid.rest → asked_by moment request ≡ Ok call → mid ≡ with_call mid.rest (kind_of request) old
+    → may moment → SoFar may given a ended held x old server → old.leaving ≡ None → Begins old.rest request mid.rest → Means moment request call → mid ≡ with_call mid.rest (kind_of request) old
     → Calls call server receipt server'
     → ((e ≡ end.Memory mid.served) × Grows x y [])
     ⊎ ((bytes : List ℕ) × AnswersCall receipt (kind_of request) (closes_after (mid.served + 1)) bytes × EndsWriting mid.served e
     × ((front : List ℕ) × (more : List ℕ) × (bytes ≡ front ++ more) × (more ≢ []) × Grows x y front))
     → Replays may 1 given a ended held y e
-ended_called may given a ended held x y moment old mid server server' request call (Err error) e may_be so here begins asked is calls (inl memory) =
+ended_called may given a ended held x y moment old mid server server' request call (Err error) e may_be so here begins means is calls (inl memory) =
     let number : mid.served ≡ old.served = ap (λ (s : TalkState). s.served) is in
     let whole : Replays may 1 given a ended held y (end.Memory mid.served) =
     finish_same may given a a ended ended held x y old server so [] [] (end.Memory mid.served) here (Appends_empty a) memory.1
     (number ∙ so.served, room_of may given a ended held x old server so here, refl, inl refl) in
     subst (λ (z : SessionEnd). Replays may 1 given a ended held y z) (sym memory.0) whole
-ended_called may given a ended held x y moment old mid server server' request call (Ok receipt) e may_be so here begins asked is calls (inl memory) =
+ended_called may given a ended held x y moment old mid server server' request call (Ok receipt) e may_be so here begins means is calls (inl memory) =
     let number : mid.served ≡ old.served = ap (λ (s : TalkState). s.served) is in
     let last = last_of may given a ended held x old server so in
     let whole : Replays may 1 given a ended held y (end.Memory mid.served) =
@@ -232,20 +232,20 @@ ended_called may given a ended held x y moment old mid server server' request ca
         one = refl;
         above = omega arith;
         within = omega arith;
-        takes = takes_next may server request call moment may_be asked so.before;
+        takes = takes_next may server request call moment may_be means so.before;
       }),
     ) in
     subst (λ (z : SessionEnd). Replays may 1 given a ended held y z) (sym memory.0) whole
-ended_called may given a ended held x y moment old mid server server' request call receipt (end.Closed n) may_be so here begins asked is calls (inr cut) = absurd cut.2
-ended_called may given a ended held x y moment old mid server server' request call receipt (end.Cut n) may_be so here begins asked is calls (inr cut) = absurd cut.2
-ended_called may given a ended held x y moment old mid server server' request call receipt (end.ReadFault n) may_be so here begins asked is calls (inr cut) = absurd cut.2
-ended_called may given a ended held x y moment old mid server server' request call receipt (end.Frame n fault) may_be so here begins asked is calls (inr cut) = absurd cut.2
-ended_called may given a ended held x y moment old mid server server' request call receipt (end.Spent n) may_be so here begins asked is calls (inr cut) = absurd cut.2
-ended_called may given a ended held x y moment old mid server server' request call receipt (end.Memory n) may_be so here begins asked is calls (inr cut) = absurd cut.2
-ended_called may given a ended held x y moment old mid server server' request call (Ok receipt) (end.WriteFault n) may_be so here begins asked is calls (inr cut) =
+ended_called may given a ended held x y moment old mid server server' request call receipt (end.Closed n) may_be so here begins means is calls (inr cut) = absurd cut.2
+ended_called may given a ended held x y moment old mid server server' request call receipt (end.Cut n) may_be so here begins means is calls (inr cut) = absurd cut.2
+ended_called may given a ended held x y moment old mid server server' request call receipt (end.ReadFault n) may_be so here begins means is calls (inr cut) = absurd cut.2
+ended_called may given a ended held x y moment old mid server server' request call receipt (end.Frame n fault) may_be so here begins means is calls (inr cut) = absurd cut.2
+ended_called may given a ended held x y moment old mid server server' request call receipt (end.Spent n) may_be so here begins means is calls (inr cut) = absurd cut.2
+ended_called may given a ended held x y moment old mid server server' request call receipt (end.Memory n) may_be so here begins means is calls (inr cut) = absurd cut.2
+ended_called may given a ended held x y moment old mid server server' request call (Ok receipt) (end.WriteFault n) may_be so here begins means is calls (inr cut) =
     let number : mid.served ≡ length so.requests = ap (λ (s : TalkState). s.served) is ∙ so.served in
     let answers : Answers may 1 (with_turn call server).history (last_turn 0 so.steps) (server.turns + 1) request (closes_after (length so.requests + 1)) cut.0 (step_of server call ∷ []) =
-    called_answers may server (last_turn 0 so.steps) request (closes_after (length so.requests + 1)) cut.0 call moment receipt may_be asked so.before
+    called_answers may server (last_turn 0 so.steps) request (closes_after (length so.requests + 1)) cut.0 call moment receipt may_be means so.before
     (last_of may given a ended held x old server so) calls.0 calls.1 (subst (λ (k : ℕ). AnswersCall (Ok receipt) (kind_of request) (closes_after (k + 1)) cut.0) number cut.1) in
     let next : IsNext may 1 (with_turn call server).history (last_turn 0 so.steps) (server.turns + 1) old.rest (length so.requests) cut.0 (step_of server call ∷ []) =
     inl (request, mid.rest, begins, answers) in
@@ -257,7 +257,7 @@ ended_called may given a ended held x y moment old mid server server' request ca
       refl,
       (cut.3.1, cut.3.3, subst (λ (b : List ℕ). IsNext may 1 (with_turn call server).history (last_turn 0 so.steps) (server.turns + 1) old.rest (length so.requests) b (step_of server call ∷ [])) cut.3.2 next),
     )
-ended_called may given a ended held x y moment old mid server server' request call (Err error) (end.WriteFault n) may_be so here begins asked is calls (inr cut) =
+ended_called may given a ended held x y moment old mid server server' request call (Err error) (end.WriteFault n) may_be so here begins means is calls (inr cut) =
     let number : mid.served ≡ length so.requests = ap (λ (s : TalkState). s.served) is ∙ so.served in
     let close : IsResponse answer.Memory (kind_of request) None (closes_after (length so.requests + 1)) cut.0 = subst (λ (k : ℕ). IsResponse answer.Memory (kind_of request) None (closes_after (k + 1)) cut.0) number cut.1 in
     let next : IsNext may 1 server.history (last_turn 0 so.steps) server.turns old.rest (length so.requests) cut.0 [] =

@@ -1,5 +1,5 @@
 -- How a session grows by one more request, and its history by one more step.
-use Rattle.std.proofs.Common.{◌≡◌, ◌⊎◌, ℕ, ◌+◌, ◌≤◌, List, [], ◌∷◌, ◌++◌, length, Bool, Some, Ok, inl, inr, sym, ◌∙◌, ap, subst, refl, append_assoc, append-nil, arith}
+use Rattle.std.proofs.Common.{◌≡◌, ◌⊎◌, ℕ, ◌+◌, ◌≤◌, List, [], ◌∷◌, ◌++◌, length, Bool, Some, inl, inr, sym, ◌∙◌, ap, subst, refl, append_assoc, append-nil, arith}
 use Rattle.http_frame.specs.declared.framer.HttpRequest.{HttpRequest}
 use Rattle.http_frame.specs.Requests.{Begins, Reads}
 use Rattle.federation_book.specs.declared.types.Entry.{Entry}
@@ -7,9 +7,9 @@ use Rattle.federation_book.specs.History.{reply_of, added_by, IsBefore}
 use Rattle.federation_book.specs.Runs.{Step}
 use Rattle.federation_book.proofs.Histories.{AreAbove, AreOf, added_of, at_turn-grown, of_turn-grown, at_turn-new, of_turn-new}
 use Rattle.bcf_http.specs.declared.answers.Answer.TheVariants as answer
-use Rattle.bcf_http.specs.Calls.{asked_by, kind_of}
+use Rattle.bcf_http.specs.Calls.{kind_of}
 use Rattle.bcf_http.specs.Answers.{IsResponse}
-use Rattle.bim_session.specs.Session.{Takes, IsBooked, TakesIdly, Answers, Answered, last_turn, closes_after}
+use Rattle.bim_session.specs.Session.{Means, Takes, IsBooked, TakesIdly, Answers, Answered, last_turn, closes_after}
 
 pub Begins_more : (bytes : List ℕ) (r : HttpRequest) (rest piece : List ℕ) → Begins bytes r rest → Begins (bytes ++ piece) r (rest ++ piece)
 Begins_more bytes r rest piece begins = (begins.0, begins.1, ap (λ b. b ++ piece) begins.2 ∙ append_assoc begins.0 rest piece)
@@ -30,7 +30,7 @@ pub Takes_grown : (may : ℕ → Type 0) (projects : ℕ) (h more : List Entry) 
 Takes_grown may projects h more top r step takes within above = record {
   moment = takes.moment;
   may_be = takes.may_be;
-  asked = takes.asked;
+  means = takes.means;
   entry = of_turn-grown step.stamp.turn top h more within above ∙ takes.entry
       ∙ ap (λ es. added_by projects es step.stamp step.request) (sym (at_turn-grown step.stamp.turn top h more within above));
 }
@@ -143,15 +143,15 @@ Answered_push may projects h top last count (q ∷ rs) out steps r piece first a
 )
 
 -- the next step of a history takes a request where its entries are those that the request adds
-pub Takes_new : (may : ℕ → Type 0) (projects : ℕ) (h : List Entry) (r : HttpRequest) (step : Step) (moment : ℕ) → may moment → asked_by moment r ≡ Ok step.request
+pub Takes_new : (may : ℕ → Type 0) (projects : ℕ) (h : List Entry) (r : HttpRequest) (step : Step) (moment : ℕ) → may moment → Means moment r step.request
     → IsBefore step.stamp.turn h → Takes may projects (h ++ added_by projects h step.stamp step.request) r step
-Takes_new may projects h r step moment may_be asked before =
+Takes_new may projects h r step moment may_be means before =
     let added : List Entry = added_by projects h step.stamp step.request in
     let own : AreOf step.stamp.turn added = added_of projects h step.stamp step.request in
     record {
       moment = moment;
       may_be = may_be;
-      asked = asked;
+      means = means;
       entry = of_turn-new step.stamp.turn h added before own
           ∙ ap (λ es. added_by projects es step.stamp step.request) (sym (at_turn-new step.stamp.turn h added before own));
     }

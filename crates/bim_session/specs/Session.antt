@@ -1,13 +1,21 @@
 -- A session: what is written for the bytes that one connection gives, at the turns of one history.
-use Rattle.std.specs.Prelude.{◌≡◌, ◌≢◌, ◌⊎◌, ℕ, ◌+◌, ◌<◌, ◌≤◌, ◌==◌, ◌++◌, List, [], ◌∷◌, length, Bool, true, Some, None, Ok, Err, IsTrue}
+use Rattle.std.specs.Prelude.{◌≡◌, ◌≢◌, ◌⊎◌, ℕ, ◌+◌, ◌<◌, ◌≤◌, ◌==◌, ◌++◌, List, [], ◌∷◌, length, Bool, true, Some, None, Result, Ok, Err, IsTrue}
+use Rattle.bim_model.specs.declared.element.Element.{Element}
+use Rattle.bim_model.specs.declared.upload.UploadFault.{UploadFault}
+use Rattle.model_build.specs.Profile.{Profile}
 use Rattle.http_frame.specs.declared.framer.HttpRequest.{HttpRequest}
 use Rattle.http_frame.specs.declared.framer.FrameFault.TheVariants as frame
 use Rattle.http_frame.specs.Requests.{Begins, Reads, IsRefused, IsUnfinished}
 use Rattle.federation_book.specs.declared.types.Entry.{Entry}
+use Rattle.federation_book.specs.declared.types.BookRequest.{BookRequest}
+use Rattle.federation_book.specs.declared.types.BookRequest.TheVariants.{Upload}
 use Rattle.federation_book.specs.History.{reply_of, added_by, at_turn, of_turn}
 use Rattle.federation_book.specs.Runs.{Step}
 use Rattle.bcf_http.specs.declared.calls.RequestFault.{RequestFault}
 use Rattle.bcf_http.specs.declared.calls.RequestFault.TheVariants.{NotBuilt}
+use Rattle.bcf_http.specs.declared.calls.HttpCall.{HttpCall}
+use Rattle.bcf_http.specs.declared.calls.HttpCall.TheVariants.{Ask, Build}
+use Rattle.bcf_http.specs.declared.answers.Answer.{Answer}
 use Rattle.bcf_http.specs.declared.answers.Answer.TheVariants as answer
 use Rattle.bcf_http.specs.Calls.{asked_by, kind_of, no_kind}
 use Rattle.bcf_http.specs.Answers.{IsResponse}
@@ -22,21 +30,41 @@ most_requests = 10000
 abbrev pub closes_after : ℕ → Bool
 closes_after n = n == most_requests
 
--- a request asks this step of the book, at a moment that may be given; the step's entry is what the change adds
+-- the call of the book that what is asked for means: itself, or, for a model, the upload of one that the profile accepts
+abbrev pub MeansCall : Result HttpCall RequestFault → BookRequest → Type 0
+MeansCall (Ok (Ask asked)) call = asked ≡ call
+MeansCall (Ok (Build project name mode body)) call =
+    (model : List Element) × Profile body mode (Ok model) × (Upload project name model ≡ call)
+MeansCall (Err fault) call = ⊥
+
+-- a request means this call of the book at a moment
+abbrev pub Means : ℕ → HttpRequest → BookRequest → Type 0
+Means moment request call = MeansCall (asked_by moment request) call
+
+-- how what is asked for is refused: by the request's fault, or by the fault that the profile finds in the body
+abbrev pub RefusesCall : Result HttpCall RequestFault → Answer → Type 0
+RefusesCall (Ok (Ask asked)) refusal = ⊥
+RefusesCall (Ok (Build project name mode body)) refusal = (fault : UploadFault) × Profile body mode (Err fault) × (refusal ≡ answer.Built fault)
+RefusesCall (Err fault) refusal = (fault ≢ NotBuilt) × (refusal ≡ answer.Refused fault)
+
+-- the request alone refuses itself at a moment, with this answer
+abbrev pub IsRefusedBy : ℕ → HttpRequest → Answer → Type 0
+IsRefusedBy moment request refusal = RefusesCall (asked_by moment request) refusal
+
+-- a request means this step of the book, at a moment that may be given; the step's entry is what the change adds
 pub record Takes (may : ℕ → Type 0) (projects : ℕ) (history : List Entry) (request : HttpRequest) (step : Step) : Type 0 where
   pub moment : ℕ
   pub may_be : may moment
-  pub asked : asked_by moment request ≡ Ok step.request
+  pub means : Means moment request step.request
   pub entry : of_turn step.stamp.turn history ≡ added_by projects (at_turn step.stamp.turn history) step.stamp step.request
 
 -- the request alone decides the answer, which prints no turn
 pub record IsPlain (may : ℕ → Type 0) (request : HttpRequest) (close : Bool) (bytes : List ℕ) (steps : List Step) : Type 0 where
   pub moment : ℕ
   pub may_be : may moment
-  pub fault : RequestFault
-  pub refused : asked_by moment request ≡ Err fault
-  pub served : fault ≢ NotBuilt
-  pub response : IsResponse (answer.Refused fault) (kind_of request) None close bytes
+  pub refusal : Answer
+  pub refused : IsRefusedBy moment request refusal
+  pub response : IsResponse refusal (kind_of request) None close bytes
   pub none : steps ≡ []
 
 -- the answer is the book's at the entries below the turn that it prints; that turn is above those before

@@ -7,18 +7,19 @@ use Rattle.http_frame.specs.Requests.{Begins, IsRefused, IsUnfinished}
 use Rattle.federation_book.specs.declared.types.ReplyBody.{ReplyBody}
 use Rattle.federation_book.specs.declared.types.ReplyBody.TheVariants as reply
 use Rattle.bcf_http.specs.declared.calls.ReplyKind.{ReplyKind}
-use Rattle.bcf_http.specs.declared.calls.RequestFault.{RequestFault}
 use Rattle.bcf_http.specs.declared.calls.RequestFault.TheVariants.{NotBuilt}
 use Rattle.bcf_http.specs.declared.answers.Answer.{Answer}
 use Rattle.bcf_http.specs.declared.answers.Answer.TheVariants as answer
 use Rattle.bcf_http.specs.Calls.{asked_by, kind_of}
 use Rattle.bcf_http.specs.Answers.{IsResponse}
+use Rattle.bim_session.specs.declared.calls.Unasked.{Unasked}
+use Rattle.bim_session.specs.declared.calls.Unasked.TheVariants.{Unserved, Answered}
 use Rattle.bim_session.specs.declared.end.SessionEnd.{SessionEnd}
 use Rattle.bim_session.specs.declared.end.SessionEnd.TheVariants as end
 use Rattle.bim_session.specs.declared.want.Want.{Want}
 use Rattle.bim_session.specs.declared.want.Want.TheVariants.{More, Write, Call, Leave}
 use Rattle.bim_session.specs.declared.want.Receipt.{Receipt}
-use Rattle.bim_session.specs.Session.{closes_after, IsFaultResponse}
+use Rattle.bim_session.specs.Session.{closes_after, IsFaultResponse, Means, IsRefusedBy}
 
 -- what contracts see of a talk: the bytes fed that follow the last request that it took, whether the end was fed, how
 -- many requests were answered, the kind of the request whose call waits, and how it ends once all is written
@@ -53,21 +54,25 @@ with_call rest kind s = record { rest = rest; ended = s.ended; served = s.served
 abbrev pub with_fault : List ℕ → TalkState → TalkState
 with_fault rest s = record { rest = rest; ended = s.ended; served = s.served; waits = s.waits; leaving = Some (end.Frame s.served frame.NotBuilt) }
 
--- the answer to a request by the first fault that the request alone decides
+-- the answer to a request that the request alone decides
 pub record Refuses (moment : ℕ) (request : HttpRequest) (close : Bool) (bytes : List ℕ) : Type 0 where
-  pub fault : RequestFault
-  pub refused : asked_by moment request ≡ Err fault
-  pub served : fault ≢ NotBuilt
-  pub response : IsResponse (answer.Refused fault) (kind_of request) None close bytes
+  pub refusal : Answer
+  pub refused : IsRefusedBy moment request refusal
+  pub response : IsResponse refusal (kind_of request) None close bytes
 
--- the answer to a request without a turn: its first fault, or want of memory
+-- the answer to a request without a turn: its refusal, or want of memory
 abbrev pub AnswersAlone : ℕ → HttpRequest → Bool → List ℕ → Type 0
 AnswersAlone moment request close bytes = Refuses moment request close bytes ⊎ IsResponse answer.Memory (kind_of request) None close bytes
+
+-- why a request becomes no call of the book
+abbrev pub IsUnasked : ℕ → HttpRequest → Unasked → Type 0
+IsUnasked moment request Unserved = asked_by moment request ≡ Err NotBuilt
+IsUnasked moment request (Answered refusal) = IsRefusedBy moment request refusal ⊎ (refusal ≡ answer.Memory)
 
 -- what a talk wants for a request that it took
 abbrev pub WantsFor : ℕ → HttpRequest → TalkState → Want → TalkState → Type 0
 WantsFor moment request old More new = ⊥
-WantsFor moment request old (Call call) new = (asked_by moment request ≡ Ok call) × (new ≡ with_call old.rest (kind_of request) old)
+WantsFor moment request old (Call call) new = Means moment request call × (new ≡ with_call old.rest (kind_of request) old)
 WantsFor moment request old (Write bytes) new =
     (AnswersAlone moment request (closes_after (old.served + 1)) bytes × (new ≡ with_answer old.rest old))
     ⊎ ((asked_by moment request ≡ Err NotBuilt) × IsFaultResponse bytes × (new ≡ with_fault old.rest old))
@@ -108,7 +113,7 @@ Responds a kind turn old (Leave e) new = ⊥
 abbrev pub Talks : ℕ → TalkState → Want → TalkState → Type 0
 Talks moment old More new = (old.leaving ≡ None) × (old.ended ≡ false) × IsUnfinished old.rest × (new ≡ old)
 Talks moment old (Call call) new =
-    (old.leaving ≡ None) × ((request : HttpRequest) × Begins old.rest request new.rest × (asked_by moment request ≡ Ok call) × (new ≡ with_call new.rest (kind_of request) old))
+    (old.leaving ≡ None) × ((request : HttpRequest) × Begins old.rest request new.rest × Means moment request call × (new ≡ with_call new.rest (kind_of request) old))
 Talks moment old (Write bytes) new =
     (old.leaving ≡ None) × (((request : HttpRequest) × Begins old.rest request new.rest
     × AnswersAlone moment request (closes_after (old.served + 1)) bytes × (new ≡ with_answer new.rest old))

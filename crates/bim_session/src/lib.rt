@@ -1,6 +1,7 @@
 //! One connection, as a machine without input or output; and what a session is.
 #![tactic(auto)]
 
+mod calls;
 mod end;
 mod talk;
 mod want;

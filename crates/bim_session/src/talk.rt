@@ -5,9 +5,10 @@ ghost use Rattle.http_frame.specs.Requests.{IsUnfinished};
 ghost use Rattle.bim_session.specs.Session.{most_requests};
 ghost use Rattle.bim_session.specs.Talking.{fresh, with_piece, WantsFor, Talks, Replies, LacksFor, AtRest, AnswersFault, Responds, IsOwnLeaving, IsOwnWant, leaving_after, ChangesNothing};
 
+use crate::calls::{Unasked, call_of};
 use crate::end::SessionEnd;
 use crate::want::{Receipt, Want};
-use bcf_http::{Answer, HttpCall, Refusal, ReplyKind, RequestFault, kind_of, to_call, to_response};
+use bcf_http::{Answer, ReplyKind, kind_of, to_response};
 use federation_book::ReplyBody;
 use http_frame::{FrameError, FrameFault, FrameStep, Framer, HttpRequest};
 use std::alloc::{AllocError, Global};
@@ -46,16 +47,6 @@ fn leaving_after(served: u64) -> Option<SessionEnd>
         Some(SessionEnd::Spent { served })
     } else {
         None
-    }
-}
-
-fn is_unserved(fault: RequestFault) -> bool
-    ensures { IsTrue result ↔ (fault ≡ RequestFault.NotBuilt) }
-{
-    match fault {
-        RequestFault::NotBuilt => true,
-        RequestFault::BadJson => false,
-        RequestFault::Body(_) => false,
     }
 }
 
@@ -211,18 +202,13 @@ impl Talk {
         ensures own { IfOk result IsOwnWant }
     {
         let kind = kind_of(&request);
-        match to_call(self.alloc, request, moment) {
-            Ok(HttpCall::Ask(call)) => {
+        match call_of(self.alloc, request, moment) {
+            Ok(call) => {
                 self.waits = Some(kind);
                 Ok(Want::Call(call))
             }
-            Err(Refusal::Fault(fault)) => {
-                if is_unserved(fault) {
-                    return self.refuse(FrameFault::NotBuilt);
-                }
-                self.respond(&Answer::Refused(fault), kind, None)
-            }
-            Err(Refusal::Memory) => self.respond(&Answer::Memory, kind, None),
+            Err(Unasked::Unserved) => self.refuse(FrameFault::NotBuilt),
+            Err(Unasked::Answered(answer)) => self.respond(&answer, kind, None),
         }
     }
 

@@ -1,5 +1,5 @@
 -- One more digit.
-use Rattle.std.proofs.Common.{◌≡◌, ◌+◌, ◌-◌, ◌*◌, ◌<◌, ◌^◌, ℕ, List, true, length, take, get_or, arith, add-one}
+use Rattle.std.proofs.Common.{◌≡◌, ◌+◌, ◌-◌, ◌*◌, ◌<◌, ◌≤◌, ◌^◌, ℕ, List, true, length, take, get_or, arith, add-one}
 use Rattle.std.specs.List.{list_all}
 use Rattle.std.specs.Char.{is_ascii_digit}
 use Rattle.std.specs.Int.{IsInRange}
@@ -7,7 +7,7 @@ use Rattle.std.specs.Str.Parse.{digits_value}
 use Rattle.std.proofs.lemmas.Int.Digits.{digits_value_more}
 use Rattle.std.proofs.lemmas.Str.{digit_value_digit}
 use Rattle.std.proofs.lemmas.List.Sums.{AllPass-from_list_all}
-use Rattle.std.proofs.Math.Nat.{pow-suc}
+use Rattle.std.proofs.Math.Nat.{pow-suc, pow-le-pow_right}
 use Rattle.std.proofs.lemmas.Grind.{common_steps}
 
 pub digit_at : (text : List ℕ) (i : ℕ) → list_all is_ascii_digit text ≡ true → i < length text → IsInRange 48 57 (get_or text i 0)
@@ -23,3 +23,6 @@ one_more text i v all lt e small =
     let digit = digit_value_digit (get_or text i 0) range in
     let more = digits_value_more 10 text i lt in
     (grind (arith, digit, more, range), rw (add-one, pow-suc) (omega (arith, range)))
+
+pub small_power : (i : ℕ) → i ≤ 8 → 10 ^ i ≤ 10 ^ 8
+small_power i le = pow-le-pow_right {n = 10} (omega arith) le

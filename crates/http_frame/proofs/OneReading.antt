@@ -1,5 +1,5 @@
 -- No bytes begin with two requests.
-use Rattle.std.proofs.Common.{◌≡◌, ℕ, ◌+◌, ◌-◌, ◌<◌, ◌≤◌, List, [], ◌∷◌, ◌++◌, length, take, drop, map, Some, inl, inr, sym, ◌∙◌, ap, subst, refl, arith, append_assoc, length-append, ◌^◌, ◌==◌, ◌&&◌, Bool, true, false, None, if◌then◌else◌, nat_lt, nat_le, codes, Result, Ok, Err}
+use Rattle.std.proofs.Common.{◌≡◌, ℕ, ◌+◌, ◌-◌, ◌<◌, ◌≤◌, List, [], ◌∷◌, ◌++◌, length, take, drop, map, Some, inl, inr, sym, ◌∙◌, ap, subst, refl, arith, append_assoc, length-append, ◌^◌, ◌==◌, ◌&&◌, Bool, true, false, None, Option, if◌then◌else◌, nat_lt, nat_le, codes, Result, Ok, Err}
 use Rattle.std.proofs.Math.Seq.{take-append_seam, drop-append_seam, take-length}
 use Rattle.std.proofs.lemmas.Grind.{common_steps}
 use Rattle.std.proofs.lemmas.Bool.{cases_lt}
@@ -11,13 +11,15 @@ use Rattle.http_frame.specs.declared.framer.HttpRequest.{HttpRequest}
 use Rattle.http_frame.specs.declared.framer.FrameStep.{FrameStep}
 use Rattle.http_frame.specs.declared.framer.FrameStep.TheVariants.{More, Request}
 use Rattle.http_frame.specs.declared.framer.FrameError.{FrameError}
-use Rattle.std.specs.Str.{bytes_eq}
 use Rattle.std.specs.Str.Parse.{digits_value}
 use Rattle.std.specs.List.{list_all}
 use Rattle.std.specs.Char.{is_ascii_digit}
 use Rattle.std.proofs.lemmas.Bool.Decides.{nat_tests}
 use Rattle.std.proofs.lemmas.List.{take-append-le}
-use Rattle.http_frame.specs.Heads.{IsSimple, simple_length, small_number, get_length, post_length, is_named, topics_target}
+use Rattle.http_frame.specs.declared.route.Route.{Route}
+use Rattle.http_frame.specs.declared.route.Route.TheVariants.{MakeTopic, ListTopics, PutModel, NewestVersion}
+use Rattle.http_frame.specs.Routes.{route_of}
+use Rattle.http_frame.specs.Heads.{IsSimple, simple_length, length_asked, small_number, no_length, body_length, is_named}
 use Rattle.http_frame.specs.Requests.{IsBlock, Begins, HasNoBlock, IsRefused, IsUnfinished, Frames, blank_line, most_head}
 use Rattle.http_frame.proofs.Framing.{occurs_front, occurs_whole}
 
@@ -155,52 +157,57 @@ refused_stays bytes more (inr bad) = inr (record {
   whole = ap (λ b. b ++ more) bad.whole ∙ append_assoc bad.block bad.rest more;
 })
 
--- a served head asks for a short body
-small_by : (b : Bool) (v n : ℕ) → (b ≡ true → v ≤ 65536) → (if b then Some v else None) ≡ Some n → n ≤ 65536
-small_by true v n le e = let is : v ≡ n = cc in omega (arith, le refl)
-small_by false v n le e = cc
+-- a served head asks for a body of at most 33,554,432 bytes
+small_by : (b : Bool) (most v n : ℕ) → (b ≡ true → v ≤ most) → (if b then Some v else None) ≡ Some n → n ≤ most
+small_by true most v n le e = let is : v ≡ n = cc in omega (arith, le refl)
+small_by false most v n le e = cc
 
 last_of : (a b : Bool) → (a && b) ≡ true → b ≡ true
 last_of true b e = e
 last_of false b e = cc
 
-small : (text : List ℕ) (n : ℕ) → small_number text ≡ Some n → n ≤ 65536
+small : (digits most : ℕ) (text : List ℕ) (n : ℕ) → small_number digits most text ≡ Some n → n ≤ most
 unfolding small_number
-small text n e = small_by (nat_lt 0 (length text) && nat_le (length text) 5 && list_all is_ascii_digit text && nat_le (digits_value 10 text) 65536) (digits_value 10 text) n
+small digits most text n e = small_by (nat_lt 0 (length text) && nat_le (length text) digits && list_all is_ascii_digit text && nat_le (digits_value 10 text) most) most (digits_value 10 text) n
     (λ yes.
-    let fits : nat_le (digits_value 10 text) 65536 ≡ true = last_of (nat_lt 0 (length text) && nat_le (length text) 5 && list_all is_ascii_digit text) (nat_le (digits_value 10 text) 65536) yes in
+    let fits : nat_le (digits_value 10 text) most ≡ true = last_of (nat_lt 0 (length text) && nat_le (length text) digits && list_all is_ascii_digit text) (nat_le (digits_value 10 text) most) yes in
     grind (arith, nat_tests, fits)) e
 
-two_by : (a b : Bool) (f g : List ℕ × List ℕ) (n : ℕ) → (if a then small_number g.1 else (if b then small_number f.1 else None)) ≡ Some n → n ≤ 65536
-two_by true b f g n e = small g.1 n e
-two_by false true f g n e = small f.1 n e
-two_by false false f g n e = cc
+two_by : (digits most : ℕ) (a b : Bool) (f g : List ℕ × List ℕ) (n : ℕ) → (if a then small_number digits most g.1 else (if b then small_number digits most f.1 else None)) ≡ Some n → n ≤ most
+two_by digits most true b f g n e = small digits most g.1 n e
+two_by digits most false true f g n e = small digits most f.1 n e
+two_by digits most false false f g n e = cc
 
-get_small : (fs : List (List ℕ × List ℕ)) (n : ℕ) → get_length fs ≡ Some n → n ≤ 65536
-get_small [] n e = cc
-get_small (f ∷ []) n e = get_by (is_named (codes "host") f) n e
+none_small : (fs : List (List ℕ × List ℕ)) (n : ℕ) → no_length fs ≡ Some n → n ≤ 33554432
+none_small [] n e = cc
+none_small (f ∷ []) n e = none_by (is_named (codes "host") f) n e
   where
-    get_by : (b : Bool) (n : ℕ) → (if b then Some 0 else None) ≡ Some n → n ≤ 65536
-    get_by true n e = let is : 0 ≡ n = cc in omega arith
-    get_by false n e = cc
-get_small (f ∷ g ∷ fs) n e = cc
+    none_by : (b : Bool) (n : ℕ) → (if b then Some 0 else None) ≡ Some n → n ≤ 33554432
+    none_by true n e = let is : 0 ≡ n = cc in omega arith
+    none_by false n e = cc
+none_small (f ∷ g ∷ fs) n e = cc
 
-post_small : (fs : List (List ℕ × List ℕ)) (n : ℕ) → post_length fs ≡ Some n → n ≤ 65536
-post_small [] n e = cc
-post_small (f ∷ []) n e = cc
-post_small (f ∷ g ∷ []) n e = two_by (is_named (codes "host") f && is_named (codes "content-length") g) (is_named (codes "content-length") f && is_named (codes "host") g) f g n e
-post_small (f ∷ g ∷ h ∷ fs) n e = cc
+body_small : (digits most : ℕ) (fs : List (List ℕ × List ℕ)) (n : ℕ) → body_length digits most fs ≡ Some n → n ≤ most
+body_small digits most [] n e = cc
+body_small digits most (f ∷ []) n e = cc
+body_small digits most (f ∷ g ∷ []) n e =
+    two_by digits most (is_named (codes "host") f && is_named (codes "content-length") g) (is_named (codes "content-length") f && is_named (codes "host") g) f g n e
+body_small digits most (f ∷ g ∷ h ∷ fs) n e = cc
 
-asked_by : (a b c : Bool) (fs : List (List ℕ × List ℕ)) (n : ℕ) → (if a then (if b then get_length fs else (if c then post_length fs else None)) else None) ≡ Some n → n ≤ 65536
-asked_by true true c fs n e = get_small fs n e
-asked_by true false true fs n e = post_small fs n e
-asked_by true false false fs n e = cc
-asked_by false b c fs n e = cc
+route_small : (route : Option Route) (fs : List (List ℕ × List ℕ)) (n : ℕ) → length_asked route fs ≡ Some n → n ≤ 33554432
+route_small None fs n e = cc
+route_small (Some MakeTopic) fs n e = let le = body_small 5 65536 fs n e in omega (arith, le)
+route_small (Some ListTopics) fs n e = none_small fs n e
+route_small (Some (PutModel name mode)) fs n e = body_small 8 33554432 fs n e
+route_small (Some NewestVersion) fs n e = none_small fs n e
 
-asked_small : (method target : List ℕ) (minor : ℕ) (fs : List (List ℕ × List ℕ)) (n : ℕ) → simple_length method target minor fs ≡ Some n → n ≤ 65536
+asked_by : (b : Bool) (route : Option Route) (fs : List (List ℕ × List ℕ)) (n : ℕ) → (if b then length_asked route fs else None) ≡ Some n → n ≤ 33554432
+asked_by true route fs n e = route_small route fs n e
+asked_by false route fs n e = cc
+
+asked_small : (method target : List ℕ) (minor : ℕ) (fs : List (List ℕ × List ℕ)) (n : ℕ) → simple_length method target minor fs ≡ Some n → n ≤ 33554432
 unfolding simple_length
-asked_small method target minor fs n e =
-    asked_by (bytes_eq target topics_target && minor == 1) (bytes_eq method (codes "GET")) (bytes_eq method (codes "POST")) fs n e
+asked_small method target minor fs n e = asked_by (minor == 1) (route_of method target) fs n e
 
 pub unfinished_short : (bytes : List ℕ) → IsUnfinished bytes → length bytes < 2 ^ 34
 unfinished_short bytes (inl short) = let few : length bytes < most_head = short.0 in omega arith

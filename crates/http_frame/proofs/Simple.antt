@@ -1,6 +1,5 @@
 -- What the parser finds of a served head.
-use Rattle.std.proofs.Common.{◌≡◌, ◌≤◌, ◌++◌, ◌==◌, ◌&&◌, ◌||◌, ℕ, List, [], drop, ◌∷◌, length, map, take, Bool, true, false, if◌then◌else◌, Option, Some, None, Result, Ok, refl, sym, ◌∙◌, ap, subst, arith, append_assoc, append-nil, IfSome, IfNone, IsTrue, codes, inl, inr}
-use Rattle.std.specs.Str.{bytes_eq}
+use Rattle.std.proofs.Common.{◌≡◌, ◌≤◌, ◌++◌, ◌==◌, ◌||◌, ℕ, List, [], drop, ◌∷◌, length, map, take, Bool, true, false, if◌then◌else◌, Option, Some, None, Result, Ok, refl, sym, ◌∙◌, ap, subst, arith, append_assoc, append-nil, IfSome, IfNone, IsTrue, inl, inr}
 use Rattle.std.proofs.lemmas.List.{length-map}
 use Rattle.std.proofs.lemmas.Grind.{common_steps}
 use Rattle.std.proofs.lemmas.Bool.Decides.{eqb_tells}
@@ -14,33 +13,37 @@ use Rattle.httparse.specs.Ascii.{space}
 use Rattle.httparse.specs.Outcome.{IsCompleteAnd}
 use Rattle.httparse.specs.Spans.{FindsRequest, IsRequestOf, IsRequestAt, IsRequestWithin, header_bytes, span_bytes, name_and_value}
 use Rattle.http_frame.specs.declared.head.SimpleHead.{SimpleHead}
-use Rattle.http_frame.specs.Heads.{get_length, post_length, simple_length, topics_target, begins_blank, IsSimple, Finds}
+use Rattle.http_frame.specs.declared.route.Route.{Route}
+use Rattle.http_frame.specs.declared.route.Route.TheVariants.{MakeTopic, ListTopics, PutModel, NewestVersion}
+use Rattle.http_frame.specs.Routes.{route_of}
+use Rattle.http_frame.specs.Heads.{no_length, body_length, length_asked, simple_length, begins_blank, IsSimple, Finds}
 
 -- a served head has few fields
-get_few : (fs : List (List ℕ × List ℕ)) (n : ℕ) → get_length fs ≡ Some n → length fs ≤ 2
-get_few [] n e = omega arith
-get_few (f ∷ []) n e = omega arith
-get_few (f ∷ g ∷ fs) n e = cc
+none_few : (fs : List (List ℕ × List ℕ)) (n : ℕ) → no_length fs ≡ Some n → length fs ≤ 2
+none_few [] n e = omega arith
+none_few (f ∷ []) n e = omega arith
+none_few (f ∷ g ∷ fs) n e = cc
 
-post_few : (fs : List (List ℕ × List ℕ)) (n : ℕ) → post_length fs ≡ Some n → length fs ≤ 2
-post_few [] n e = omega arith
-post_few (f ∷ []) n e = omega arith
-post_few (f ∷ g ∷ []) n e = omega arith
-post_few (f ∷ g ∷ h ∷ fs) n e = cc
+body_few : (digits most : ℕ) (fs : List (List ℕ × List ℕ)) (n : ℕ) → body_length digits most fs ≡ Some n → length fs ≤ 2
+body_few digits most [] n e = omega arith
+body_few digits most (f ∷ []) n e = omega arith
+body_few digits most (f ∷ g ∷ []) n e = omega arith
+body_few digits most (f ∷ g ∷ h ∷ fs) n e = cc
 
-method_by : (a b : Bool) (fs : List (List ℕ × List ℕ)) (n : ℕ) → (if a then get_length fs else (if b then post_length fs else None)) ≡ Some n → length fs ≤ 2
-method_by true b fs n e = get_few fs n e
-method_by false true fs n e = post_few fs n e
-method_by false false fs n e = cc
+asked_few : (route : Option Route) (fs : List (List ℕ × List ℕ)) (n : ℕ) → length_asked route fs ≡ Some n → length fs ≤ 2
+asked_few None fs n e = cc
+asked_few (Some MakeTopic) fs n e = body_few 5 65536 fs n e
+asked_few (Some ListTopics) fs n e = none_few fs n e
+asked_few (Some (PutModel name mode)) fs n e = body_few 8 33554432 fs n e
+asked_few (Some NewestVersion) fs n e = none_few fs n e
 
-simple_by : (a b c : Bool) (fs : List (List ℕ × List ℕ)) (n : ℕ) → (if a then (if b then get_length fs else (if c then post_length fs else None)) else None) ≡ Some n → length fs ≤ 2
-simple_by true b c fs n e = method_by b c fs n e
-simple_by false b c fs n e = cc
+simple_by : (b : Bool) (route : Option Route) (fs : List (List ℕ × List ℕ)) (n : ℕ) → (if b then length_asked route fs else None) ≡ Some n → length fs ≤ 2
+simple_by true route fs n e = asked_few route fs n e
+simple_by false route fs n e = cc
 
 few : (method target : List ℕ) (minor : ℕ) (fs : List (List ℕ × List ℕ)) (n : ℕ) → simple_length method target minor fs ≡ Some n → length fs ≤ 2
 unfolding simple_length
-few method target minor fs n e =
-    simple_by (bytes_eq target topics_target && minor == 1) (bytes_eq method (codes "GET")) (bytes_eq method (codes "POST")) fs n e
+few method target minor fs n e = simple_by (minor == 1) (route_of method target) fs n e
 
 few_fields : (block : List ℕ) (head : RequestHead) (n : ℕ) → IsSimple block head n → length head.fields ≤ 4
 few_fields block head n simple =

@@ -1,57 +1,59 @@
--- The request heads that are served so far (RFC 9112, 2 to 5): those that make or list the topics of the first
--- project. What a head is, is decided by httparse's grammar.
+-- The request heads that are served so far (RFC 9112, 2 to 5). What a head is, is decided by httparse's grammar.
 use Rattle.std.specs.Prelude.{◌≡◌, ℕ, ◌==◌, ◌||◌, ◌&&◌, List, [], ◌∷◌, length, map, Bool, false, nat_lt, nat_le, if◌then◌else◌, Option, Some, None, codes}
 use Rattle.std.specs.List.{list_all}
 use Rattle.std.specs.Char.{is_ascii_digit}
-use Rattle.std.specs.Str.{bytes_eq, str_eq_ignore_ascii_case}
+use Rattle.std.specs.Str.{str_eq_ignore_ascii_case}
 use Rattle.std.specs.Str.Parse.{digits_value}
 use Rattle.httparse.specs.Grammar.{RequestHead, ReadsRequest}
 use Rattle.httparse.specs.Spans.{IsWithin, span_bytes, name_and_value}
+use Rattle.http_frame.specs.declared.route.Route.{Route}
+use Rattle.http_frame.specs.declared.route.Route.TheVariants.{MakeTopic, ListTopics, PutModel, NewestVersion}
 use Rattle.http_frame.specs.declared.head.SimpleHead.{SimpleHead}
+use Rattle.http_frame.specs.Routes.{route_of}
 
--- the address of the topics of the first project
-abbrev pub topics_target : List ℕ
-topics_target = codes "/bcf/3.0/projects/00000001-0000-8000-8000-000000000000/topics"
-
--- 1 to 5 digits that write a number of at most 65,536
-unfoldable pub small_number : List ℕ → Option ℕ
-small_number text =
-    if nat_lt 0 (length text) && nat_le (length text) 5 && list_all is_ascii_digit text && nat_le (digits_value 10 text) 65536
+-- 1 to so many digits that write a number up to this one
+unfoldable pub small_number : ℕ → ℕ → List ℕ → Option ℕ
+small_number digits most text =
+    if nat_lt 0 (length text) && nat_le (length text) digits && list_all is_ascii_digit text && nat_le (digits_value 10 text) most
     then Some (digits_value 10 text) else None
 
 -- the field has this name, in letters of either case
 unfoldable pub is_named : List ℕ → List ℕ × List ℕ → Bool
 is_named name field = str_eq_ignore_ascii_case field.0 name
 
--- the length that the two fields of a POST ask for: one is Host, the other Content-Length
-abbrev pub length_of_two : List ℕ × List ℕ → List ℕ × List ℕ → Option ℕ
-length_of_two f g =
-    if is_named (codes "host") f && is_named (codes "content-length") g then small_number g.1
-    else (if is_named (codes "content-length") f && is_named (codes "host") g then small_number f.1 else None)
+-- the length that two fields ask for: one is Host, the other Content-Length, with this many digits and this number at most
+abbrev pub length_of_two : ℕ → ℕ → List ℕ × List ℕ → List ℕ × List ℕ → Option ℕ
+length_of_two digits most f g =
+    if is_named (codes "host") f && is_named (codes "content-length") g then small_number digits most g.1
+    else (if is_named (codes "content-length") f && is_named (codes "host") g then small_number digits most f.1 else None)
 
--- a GET has one Host alone, and no body
-abbrev pub get_length : List (List ℕ × List ℕ) → Option ℕ
-get_length [] = None
-get_length (f ∷ []) = if is_named (codes "host") f then Some 0 else None
-get_length (f ∷ g ∷ fs) = None
+-- a request without a body has one Host alone
+abbrev pub no_length : List (List ℕ × List ℕ) → Option ℕ
+no_length [] = None
+no_length (f ∷ []) = if is_named (codes "host") f then Some 0 else None
+no_length (f ∷ g ∷ fs) = None
 
--- a POST has one Host and one Content-Length
-abbrev pub post_length : List (List ℕ × List ℕ) → Option ℕ
-post_length [] = None
-post_length (f ∷ []) = None
-post_length (f ∷ g ∷ []) = length_of_two f g
-post_length (f ∷ g ∷ h ∷ fs) = None
+-- one with a body has one Host and one Content-Length
+abbrev pub body_length : ℕ → ℕ → List (List ℕ × List ℕ) → Option ℕ
+body_length digits most [] = None
+body_length digits most (f ∷ []) = None
+body_length digits most (f ∷ g ∷ []) = length_of_two digits most f g
+body_length digits most (f ∷ g ∷ h ∷ fs) = None
 
--- the length of the body that the method and the fields ask for
-abbrev pub method_length : List ℕ → List (List ℕ × List ℕ) → Option ℕ
-method_length method fields =
-    if bytes_eq method (codes "GET") then get_length fields
-    else (if bytes_eq method (codes "POST") then post_length fields else None)
+-- the length of the body that the fields ask for: at most 65,536 bytes for a topic, and 33,554,432 for a model
+abbrev pub route_length : Route → List (List ℕ × List ℕ) → Option ℕ
+route_length MakeTopic fields = body_length 5 65536 fields
+route_length ListTopics fields = no_length fields
+route_length (PutModel name mode) fields = body_length 8 33554432 fields
+route_length NewestVersion fields = no_length fields
+
+abbrev pub length_asked : Option Route → List (List ℕ × List ℕ) → Option ℕ
+length_asked None fields = None
+length_asked (Some route) fields = route_length route fields
 
 -- the length of the body that a first line and the fields behind it ask for, where they are served
 unfoldable pub simple_length : List ℕ → List ℕ → ℕ → List (List ℕ × List ℕ) → Option ℕ
-simple_length method target minor fields =
-    if bytes_eq target topics_target && minor == 1 then method_length method fields else None
+simple_length method target minor fields = if minor == 1 then length_asked (route_of method target) fields else None
 
 -- the block is exactly a head, with its first line at its front, that is served and asks for a body of this length
 pub record IsSimple (block : List ℕ) (head : RequestHead) (length : ℕ) : Type 0 where

@@ -2,11 +2,11 @@
 ghost use Rattle.std.specs.Prelude.{◌≡◌, ◌≤◌, ℕ, List, length, take, map, All, Option, None, Some, IfSome, IfNone};
 ghost use Rattle.std.specs.List.{list_all};
 ghost use Rattle.std.specs.Char.{is_ascii_digit};
-ghost use Rattle.std.specs.Str.{bytes_eq};
 ghost use Rattle.httparse.specs.Grammar.{RequestHead};
 ghost use Rattle.httparse.specs.Spans.{IsHeaderWithin, IsWithin, header_bytes, span_bytes};
-ghost use Rattle.http_frame.specs.Heads.{small_number, is_named, get_length, post_length, length_of_two, method_length, simple_length, begins_blank, IsSimple, Finds};
+ghost use Rattle.http_frame.specs.Heads.{small_number, is_named, no_length, body_length, length_of_two, route_length, simple_length, begins_blank, IsSimple, Finds};
 
+use crate::route::{Route, route_of};
 use httparse::Status;
 use httparse::spans::{EMPTY_HEADER_SPAN, HeaderSpan, RequestSpans, Span, parse_request};
 
@@ -18,33 +18,26 @@ pub struct SimpleHead {
     pub length: usize,
 }
 
-const TOPICS_TARGET: &[u8] = b"/bcf/3.0/projects/00000001-0000-8000-8000-000000000000/topics";
-
-fn is_same(bytes: &[u8], wanted: &[u8]) -> bool
-    ensures { result ≡ bytes_eq bytes.now wanted.now }
-{
-    bytes == wanted
-}
-
 fn are_digits(text: &[u8]) -> bool
     ensures { result ≡ list_all is_ascii_digit text.now }
 {
     text.iter().all(|b| b.is_ascii_digit())
 }
 
-// The number that 1 to 5 digits write, at most 65,536.
-#[tactic(auto, using(crate::proofs::Digits::one_more), unfolding(crate::specs::Heads::small_number))]
-fn small_number(text: &[u8]) -> Option<usize>
-    ensures { result ≡ small_number text.now }
+// The number that 1 to so many digits write, up to a number.
+#[tactic(auto, using(crate::proofs::Digits::one_more, crate::proofs::Digits::small_power), unfolding(crate::specs::Heads::small_number))]
+fn small_number(digits: usize, most: usize, text: &[u8]) -> Option<usize>
+    requires { digits ≤ 8 }
+    ensures { result ≡ small_number digits most text.now }
 {
-    if text.is_empty() || text.len() > 5 || !are_digits(text) {
+    if text.is_empty() || text.len() > digits || !are_digits(text) {
         return None;
     }
     let mut value = 0;
     for b in text {
         value = value * 10 + (*b - b'0') as usize;
     }
-    if value <= 65_536 { Some(value) } else { None }
+    if value <= most { Some(value) } else { None }
 }
 
 #[tactic(auto, unfolding(crate::specs::Heads::is_named))]
@@ -55,23 +48,30 @@ fn is_named(wanted: &[u8], block: &[u8], header: &HeaderSpan) -> bool
     header.name.of(block).eq_ignore_ascii_case(wanted)
 }
 
-fn length_of_two(block: &[u8], first: &HeaderSpan, second: &HeaderSpan) -> Option<usize>
+fn length_of_two(
+    digits: usize,
+    most: usize,
+    block: &[u8],
+    first: &HeaderSpan,
+    second: &HeaderSpan,
+) -> Option<usize>
+    requires digits { digits ≤ 8 }
     requires first { IsHeaderWithin (length block.now) first.now }
     requires second { IsHeaderWithin (length block.now) second.now }
-    ensures { result ≡ length_of_two (header_bytes block.now first.now) (header_bytes block.now second.now) }
+    ensures { result ≡ length_of_two digits most (header_bytes block.now first.now) (header_bytes block.now second.now) }
 {
     if is_named(b"host", block, first) && is_named(b"content-length", block, second) {
-        return small_number(second.value.of(block));
+        return small_number(digits, most, second.value.of(block));
     }
     if is_named(b"content-length", block, first) && is_named(b"host", block, second) {
-        return small_number(first.value.of(block));
+        return small_number(digits, most, first.value.of(block));
     }
     None
 }
 
-fn get_length(block: &[u8], headers: &[HeaderSpan]) -> Option<usize>
+fn no_length(block: &[u8], headers: &[HeaderSpan]) -> Option<usize>
     requires { All (IsHeaderWithin (length block.now)) headers.now }
-    ensures { result ≡ get_length (map (header_bytes block.now) headers.now) }
+    ensures { result ≡ no_length (map (header_bytes block.now) headers.now) }
 {
     match headers {
         [only] => {
@@ -85,27 +85,27 @@ fn get_length(block: &[u8], headers: &[HeaderSpan]) -> Option<usize>
     }
 }
 
-fn post_length(block: &[u8], headers: &[HeaderSpan]) -> Option<usize>
-    requires { All (IsHeaderWithin (length block.now)) headers.now }
-    ensures { result ≡ post_length (map (header_bytes block.now) headers.now) }
+fn body_length(digits: usize, most: usize, block: &[u8], headers: &[HeaderSpan]) -> Option<usize>
+    requires digits { digits ≤ 8 }
+    requires headers { All (IsHeaderWithin (length block.now)) headers.now }
+    ensures { result ≡ body_length digits most (map (header_bytes block.now) headers.now) }
 {
     match headers {
-        [first, second] => length_of_two(block, first, second),
+        [first, second] => length_of_two(digits, most, block, first, second),
         _ => None,
     }
 }
 
-fn method_length(method: &[u8], block: &[u8], headers: &[HeaderSpan]) -> Option<usize>
+fn route_length(route: Route, block: &[u8], headers: &[HeaderSpan]) -> Option<usize>
     requires { All (IsHeaderWithin (length block.now)) headers.now }
-    ensures { result ≡ method_length method.now (map (header_bytes block.now) headers.now) }
+    ensures { result ≡ route_length route (map (header_bytes block.now) headers.now) }
 {
-    if is_same(method, b"GET") {
-        return get_length(block, headers);
+    match route {
+        Route::MakeTopic => body_length(5, 65_536, block, headers),
+        Route::ListTopics => no_length(block, headers),
+        Route::PutModel { .. } => body_length(8, 33_554_432, block, headers),
+        Route::NewestVersion => no_length(block, headers),
     }
-    if is_same(method, b"POST") {
-        return post_length(block, headers);
-    }
-    None
 }
 
 #[tactic(auto, unfolding(crate::specs::Heads::simple_length))]
@@ -115,10 +115,12 @@ fn simple_length(block: &[u8], spans: &RequestSpans, headers: &[HeaderSpan]) -> 
     requires headers { All (IsHeaderWithin (length block.now)) headers.now }
     ensures { result ≡ simple_length (span_bytes block.now spans.now.method) (span_bytes block.now spans.now.path) spans.now.version (map (header_bytes block.now) headers.now) }
 {
-    if is_same(spans.path.of(block), TOPICS_TARGET) && spans.version == 1 {
-        method_length(spans.method.of(block), block, headers)
-    } else {
-        None
+    if spans.version != 1 {
+        return None;
+    }
+    match route_of(spans.method.of(block), spans.path.of(block)) {
+        Some(route) => route_length(route, block, headers),
+        None => None,
     }
 }
 

@@ -4,10 +4,12 @@
 mod framer;
 mod head;
 mod laws;
+mod route;
 
 pub use framer::{FrameError, FrameFault, FrameStep, Framer, HttpRequest, Look};
 pub use head::{SimpleHead, simple_head};
 pub use laws::{bytes_have_one_reading, readings_exclude_each_other};
+pub use route::{Route, route_of};
 
 #[cfg(test)]
 mod tests;

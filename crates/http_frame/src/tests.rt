@@ -4,11 +4,16 @@ ghost use Rattle.std.specs.Prelude.{◌<◌};
 use crate::framer::{FrameStep, Framer, HttpRequest};
 use crate::head::simple_head;
 use crate::laws::{bytes_have_one_reading, readings_exclude_each_other};
+use crate::route::{Route, route_of};
+use bim_model::Mode;
+use httparse::spans::Span;
 use std::alloc::{AllocError, Global};
 use std::process::Abort;
 use std::test::Fail;
 
 const TARGET: &str = "/bcf/3.0/projects/00000001-0000-8000-8000-000000000000/topics";
+
+const PROJECT: &str = "/coord/1/projects/00000001-0000-8000-8000-000000000000/";
 
 // Two requests, the first with lines that end in LF alone.
 const STREAM: &[u8] =
@@ -128,6 +133,78 @@ fn serves_simple_heads_alone(rt: HostRuntime) -> Result<(), Fail> {
         );
     }
     assert!(rt; simple_head(STREAM).is_none());
+    Ok(())
+}
+
+const MOST_NAME: &str = "0123456789abcdefghijklmnopqrstuvwxyzABCDEFGHIJKLMNOPQRSTUVWXYZ_-";
+
+#[test]
+fn serves_models_and_the_newest_version(rt: HostRuntime) -> Result<(), Fail> {
+    let cases = [
+        ("PUT", "models/m", "Content-Length: 0", "request"),
+        ("PUT", "models/A-z_0.9", "Content-Length: 0", "request"),
+        ("PUT", "models/", "Content-Length: 0", "refused"),
+        ("PUT", "models/a/b", "Content-Length: 0", "refused"),
+        ("PUT", "models/a%20b", "Content-Length: 0", "refused"),
+        ("PUT", "models/m", "Content-Length: 33554432", "unfinished"),
+        ("PUT", "models/m", "Content-Length: 33554433", "refused"),
+        ("PUT", "models/m", "Content-Length: 00000000", "request"),
+        ("PUT", "models/m", "Content-Length: 000000000", "refused"),
+        ("PUT", "models/m", "Accept: */*", "refused"),
+        ("PUT", "models/m?grid=exact", "Content-Length: 0", "request"),
+        ("PUT", "models/m?grid=snap", "Content-Length: 0", "request"),
+        ("PUT", "models/m?grid=x", "Content-Length: 0", "refused"),
+        ("PUT", "models/m?", "Content-Length: 0", "refused"),
+        ("PUT", "models/m?grid=snap?", "Content-Length: 0", "refused"),
+        ("POST", "models/m", "Content-Length: 0", "refused"),
+        ("PUT", "versions/newest", "Content-Length: 0", "refused"),
+        ("GET", "versions/newest", "Content-Length: 0", "refused"),
+    ];
+    let alloc = rt.alloc();
+    for (method, path, field, wanted) in cases {
+        let text = format!(in alloc;
+            "{method} {PROJECT}{path} HTTP/1.1\r\nHost: h\r\n{field}\r\n\r\n"
+        )?;
+        assert_eq!(rt;
+            reading(alloc, text.as_bytes())?,
+            wanted,
+            "at {method} {path} {field}"
+        );
+    }
+    Ok(())
+}
+
+#[test]
+fn serves_the_newest_version_without_a_query(rt: HostRuntime) -> Result<(), Fail> {
+    let cases = [
+        ("GET", "versions/newest", "request"),
+        ("GET", "versions/newest?", "refused"),
+        ("GET", "versions/1", "refused"),
+        ("GET", "models/m", "refused"),
+    ];
+    let alloc = rt.alloc();
+    for (method, path, wanted) in cases {
+        let text = format!(in alloc; "{method} {PROJECT}{path} HTTP/1.1\r\nHost: h\r\n\r\n")?;
+        assert_eq!(rt; reading(alloc, text.as_bytes())?, wanted, "at {path}");
+    }
+    Ok(())
+}
+
+#[test]
+fn names_have_64_characters_at_most(rt: HostRuntime) -> Result<(), Fail> {
+    let alloc = rt.alloc();
+    let most = format!(in alloc; "{PROJECT}models/{MOST_NAME}?grid=snap")?;
+    let name = Span {
+        start: 62,
+        end: 126,
+    };
+    let mode = Mode::Snap;
+    assert_eq!(rt;
+        route_of(b"PUT", most.as_bytes()),
+        Some(Route::PutModel { name, mode })
+    );
+    let more = format!(in alloc; "{PROJECT}models/{MOST_NAME}x?grid=snap")?;
+    assert_eq!(rt; route_of(b"PUT", more.as_bytes()), None);
     Ok(())
 }
 
