@@ -101,17 +101,23 @@ counts world scale mode (id ∷ ids) (e ∷ made) z =
     let more = counts world scale mode ids made z.1 in
     rw (sum_by-cons (count_of world) id ids, sum_by-cons (λ (e : Element). length e.triangles) e made, z.0.count, more) refl
 
+made_rises : (world : List Instance) (scale : Scale) (mode : Mode) (survey : Survey) (chains : List ℕ) (made elements : List Element) → IsChecked world scale survey chains → AllZip (IsNearElement world scale mode) (element_ids survey) made
+    → (Differ made → Rise elements) → Rise elements
+made_rises world scale mode survey chains made elements checked z rise =
+    let ids = element_ids survey in
+    let guids = zip_by (IsNearElement world scale mode) (λ id (e : Element). HasGuid world id e.guid.chars) ids made (λ id e near. record { instance = near.is_element.instance; found = near.is_element.found; holds = near.is_element.guid }) z in
+    rise (made_differ world ids made checked.surveyed.elements.rises checked.distinct guids)
+
 pub model_made : (world : List Instance) (scale : Scale) (mode : Mode) (survey : Survey) (chains : List ℕ) (made elements : List Element) → IsChecked world scale survey chains → AreReady world scale mode chains (element_ids survey)
     → sum_by (count_of world) (element_ids survey) ≤ most_triangles → AllZip (IsNearElement world scale mode) (element_ids survey) made → IsPermutation made elements → (Differ made → Rise elements) → IsModel elements
 model_made world scale mode survey chains made elements checked ready few z order rise =
     let ids = element_ids survey in
-    let guids = zip_by (IsNearElement world scale mode) (λ id (e : Element). HasGuid world id e.guid.chars) ids made (λ id e near. record { instance = near.is_element.instance; found = near.is_element.found; holds = near.is_element.guid }) z in
-    is_model made elements order (rise (made_differ world ids made checked.surveyed.elements.rises checked.distinct guids)) (modelled world scale mode chains ids made ready z)
+    is_model made elements order (made_rises world scale mode survey chains made elements checked z rise) (modelled world scale mode chains ids made ready z)
     (subst (λ n. n ≤ most_triangles) (sym (counts world scale mode ids made z)) few)
 
 pub model_is : (world : List Instance) (scale : Scale) (mode : Mode) (survey : Survey) (chains : List ℕ) (made elements : List Element) → IsChecked world scale survey chains → AllZip (IsNearElement world scale mode) (element_ids survey) made
-    → IsPermutation made elements → IsModelOf world mode elements
-model_is world scale mode survey chains made elements checked z order = record {
+    → IsPermutation made elements → (Differ made → Rise elements) → IsModelOf world mode elements
+model_is world scale mode survey chains made elements checked z order rise = record {
   scale = scale;
   unit = checked.unit;
   ids = element_ids survey;
@@ -119,4 +125,5 @@ model_is world scale mode survey chains made elements checked z order = record {
   made = made;
   each = zip_by (IsNearElement world scale mode) (IsElement world scale mode) (element_ids survey) made (λ id e near. near.is_element) z;
   order = order;
+  rising = made_rises world scale mode survey chains made elements checked z rise;
 }

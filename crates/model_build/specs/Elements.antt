@@ -9,6 +9,7 @@ use Rattle.ifc_schema.specs.StageFive.{IsModelElement, Lists}
 use Rattle.ifc_units.specs.declared.scale.Scale.{Scale}
 use Rattle.ifc_units.specs.Units.{IsLengthUnit}
 use Rattle.model_build.specs.Texts.{guid_of, name_of}
+use Rattle.model_build.specs.Order.{Rise}
 use Rattle.model_build.specs.Storeys.{IsStoreyName}
 use Rattle.model_build.specs.Surfaces.{IsSurface}
 
@@ -22,7 +23,7 @@ pub record IsElement (world : List Instance) (scale : Scale) (mode : Mode) (id :
   pub storey : IsStoreyName world id element.storey
   pub surface : IsSurface world scale mode instance element.triangles
 
--- The model: an element for each model element of the file. Their order is that of the identifiers, which the model keeps.
+-- The model: an element for each model element of the file, rising strictly by identifier.
 pub record IsModelOf (world : List Instance) (mode : Mode) (elements : List Element) : Type 0 where
   pub scale : Scale
   pub unit : IsLengthUnit world scale
@@ -31,3 +32,4 @@ pub record IsModelOf (world : List Instance) (mode : Mode) (elements : List Elem
   pub made : List Element
   pub each : AllZip (IsElement world scale mode) ids made
   pub order : IsPermutation made elements
+  pub rising : Rise elements

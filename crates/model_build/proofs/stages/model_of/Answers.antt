@@ -23,7 +23,7 @@ returns-in-Ok-clause-model c =
     let z = (subst (λ (ids : List ℕ). AllZip (IsNearElement c.args.exchange.now c.args.scale c.args.mode) ids c.in-Ok.elements.items) c.elements.ensures (of_ok _ _ c.in_ok-elements.field-0 c.in-Ok.elements c.in-Ok.is (c.in_ok-elements.ensures c.args.scale c.args.mode c.args.chains.now c.requires.frames c.requires.table))) in (
       reach_clear c.args.exchange.now c.args.scale c.args.mode (element_ids c.args.survey.now) c.in-Ok.elements.items c.requires.checked.surveyed.elements z,
       subst (λ (elements : List Element). IsModelOf c.args.exchange.now c.args.mode elements) (sym c.from_vec.ensures)
-          (model_is c.args.exchange.now c.args.scale c.args.mode c.args.survey.now c.args.chains.now c.in-Ok.elements.items c.in_order.result.items c.requires.checked z c.in_order.ensures.permutation),
+          (model_is c.args.exchange.now c.args.scale c.args.mode c.args.survey.now c.args.chains.now c.in-Ok.elements.items c.in_order.result.items c.requires.checked z c.in_order.ensures.permutation c.in_order.ensures.rising),
     )
 
 pub returns-in-Beyond-clause-fault : goal.returns-in-Beyond-clause-fault
