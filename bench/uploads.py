@@ -1,7 +1,7 @@
 #!/usr/bin/env python3
 """Times uploads of generated boxes: bench/uploads.py PROGRAM [PLAIN], the least of five runs each, where PROGRAM is the built bim_server and PLAIN
 another reader of IFC files that is called with a file and a distance (its whole run is timed). Prints MB a second from bytes to version, for 1,000 to
-50,000 elements without placements and 8,000 elements in chains of placements of rising depth."""
+50,000 elements without placements, and for 8,000 and 45,000 in chains of placements."""
 import os
 import subprocess
 import sys
@@ -56,7 +56,7 @@ def least(words, text, runs=5):
 def main():
     program, plain = sys.argv[1], sys.argv[2:3]
     start, _ = least([program, "replay", "--at", "0"], b"")
-    for count, depth in [(1000, 0), (8000, 0), (20000, 0), (50000, 0), (8000, 1), (8000, 10), (8000, 1000), (8000, 8000)]:
+    for count, depth in [(1000, 0), (8000, 0), (20000, 0), (50000, 0), (8000, 1), (8000, 10), (8000, 1000), (8000, 8000), (45000, 10)]:
         file = boxes(count, depth)
         head = f"PUT {PROJECT}/models/m HTTP/1.1\r\nHost: h\r\nContent-Length: {len(file)}\r\n\r\n".encode()
         spent, output = least([program, "replay", "--at", "0"], head + file)
