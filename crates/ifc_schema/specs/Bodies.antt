@@ -1,6 +1,6 @@
 -- Which elements have a body: one of the shape representations of their shape has the identifier `Body`. Only values are looked at, also of
 -- instances that lack their own form (IFC4 ADD2 TC1, IfcProduct, IfcProductDefinitionShape, IfcShapeRepresentation).
-use Rattle.std.specs.Prelude.{◌&&◌, ◌||◌, Bool, true, false, List, Option, Some, None, option_and_then}
+use Rattle.std.specs.Prelude.{◌&&◌, ◌||◌, Bool, true, false, List, map, Option, Some, None, option_and_then}
 use Rattle.std.specs.List.{list_any, slice_get}
 use Rattle.p21_reader.specs.declared.value.Value21.{Value21}
 use Rattle.p21_reader.specs.declared.value.Instance.{Instance}
@@ -33,6 +33,10 @@ lists_body world = list_any (target_passes world is_body_representation)
 -- a shape has a representation that is a body
 unfoldable pub is_body_shape : List Instance → Instance → Bool
 is_body_shape world i = is_a ProductShape i && some_passes (lists_body world) (option_and_then items_of (slice_get i.values 2))
+
+-- place by place, whether a shape stands there that has one
+abbrev pub body_shapes : List Instance → List Bool
+body_shapes world = map (is_body_shape world) world
 
 -- an element has a body
 unfoldable pub has_body : List Instance → Instance → Bool

@@ -1,24 +1,15 @@
 //! Which elements have a body.
-ghost use Rattle.std.specs.Prelude.{◌≡◌, IfOk, option_copied, option_and_then};
-ghost use Rattle.ifc_schema.specs.Values.{reference_of};
-ghost use Rattle.ifc_schema.specs.Looking.{look};
-ghost use Rattle.ifc_schema.specs.Bodies.{is_body, is_body_representation, target_passes, lists_body, is_body_shape, has_body, applies};
+ghost use Rattle.std.specs.Prelude.{◌≡◌, Bool, IfOk, length, map};
+ghost use Rattle.p21_reader.specs.declared.value.Instance.{Instance};
+ghost use Rattle.ifc_schema.specs.Bodies.{is_body, is_body_representation, target_passes, lists_body, is_body_shape, body_shapes, has_body, applies};
 
 use crate::entity::Entity;
 use crate::form::When;
-use crate::look::{is_a, look};
+use crate::look::{is_a, place_of};
 use crate::value::{items_of, reference_of, words_of};
 use crate::words::says_body;
 use p21_reader::{Exchange, Instance, Value21};
 use std::alloc::{AllocError, Global};
-
-/// The instance that a value refers to.
-fn target<'a>(exchange: &'a Exchange, value: &Value21) -> Option<&'a Instance>
-    ensures { option_copied result ≡ option_and_then (look exchange.now) (reference_of value.now) }
-{
-    let id = reference_of(value)?;
-    look(exchange, id)
-}
 
 /// Whether the identifier of a representation is `Body`.
 #[tactic(auto, unfolding(crate::specs::Bodies::is_body))]
@@ -34,59 +25,90 @@ pub fn is_body(alloc: Global, instance: &Instance) -> Result<bool, AllocError>
     }
 }
 
-fn leads_to_body(alloc: Global, exchange: &Exchange, value: &Value21) -> Result<bool, AllocError>
-    ensures { IfOk result (λ body. body ≡ target_passes exchange.now is_body_representation value.now) }
+fn is_body_representation(alloc: Global, instance: &Instance) -> Result<bool, AllocError>
+    ensures { IfOk result (λ body. body ≡ is_body_representation instance.now) }
 {
-    match target(exchange, value) {
-        Some(instance) => {
-            if !is_a(Entity::Representation, instance) {
-                return Ok(false);
-            }
-            is_body(alloc, instance)
-        }
-        None => Ok(false),
+    if !is_a(Entity::Representation, instance) {
+        return Ok(false);
+    }
+    is_body(alloc, instance)
+}
+
+/// Which instances are representations that are bodies, place by place.
+fn body_representations(alloc: Global, exchange: &Exchange) -> Result<Vec<bool>, AllocError>
+    ensures { IfOk result (λ bits. bits.items ≡ map is_body_representation exchange.now) }
+{
+    let mut bits = Vec::with_capacity(alloc, exchange.instances().len())?;
+    for instance in exchange.instances() {
+        bits.push(is_body_representation(alloc, instance)?)?;
+    }
+    Ok(bits)
+}
+
+/// Whether the instance that a value refers to passes a test. The test's answers are given, place by place.
+fn target_passes(exchange: &Exchange, answers: &[bool], value: &Value21) -> bool
+    requires size { length answers.now ≡ length exchange.now }
+    ensures { (test : Instance → Bool) → answers.now ≡ map test exchange.now → result ≡ target_passes exchange.now test value.now }
+{
+    match reference_of(value) {
+        Some(id) => match place_of(exchange, id) {
+            Some(at) => answers[at],
+            None => false,
+        },
+        None => false,
     }
 }
 
-fn lists_body(alloc: Global, exchange: &Exchange, items: &[Value21]) -> Result<bool, AllocError>
-    ensures { IfOk result (λ body. body ≡ lists_body exchange.now items.now) }
+fn lists_body(exchange: &Exchange, bodies: &[bool], items: &[Value21]) -> bool
+    requires bodies { bodies.now ≡ map is_body_representation exchange.now }
+    ensures { result ≡ lists_body exchange.now items.now }
 {
     for item in items {
-        let body = leads_to_body(alloc, exchange, item)?;
-        if body {
-            return Ok(true);
+        if target_passes(exchange, bodies, item) {
+            return true;
         }
     }
-    Ok(false)
+    false
 }
 
 #[tactic(auto, unfolding(crate::specs::Bodies::is_body_shape))]
-fn is_body_shape(alloc: Global, exchange: &Exchange, shape: &Instance) -> Result<bool, AllocError>
-    ensures { IfOk result (λ body. body ≡ is_body_shape exchange.now shape.now) }
+fn is_body_shape(exchange: &Exchange, bodies: &[bool], shape: &Instance) -> bool
+    requires bodies { bodies.now ≡ map is_body_representation exchange.now }
+    ensures { result ≡ is_body_shape exchange.now shape.now }
 {
     if !is_a(Entity::ProductShape, shape) {
-        return Ok(false);
+        return false;
     }
     match shape.values.as_slice().get(2) {
         Some(value) => match items_of(value) {
-            Some(items) => lists_body(alloc, exchange, items),
-            None => Ok(false),
+            Some(items) => lists_body(exchange, bodies, items),
+            None => false,
         },
-        None => Ok(false),
+        None => false,
     }
+}
+
+/// Which instances are shapes that have a body, place by place. Each identifier is read once, however many shapes list it.
+pub fn body_shapes(alloc: Global, exchange: &Exchange) -> Result<Vec<bool>, AllocError>
+    ensures { IfOk result (λ bits. bits.items ≡ body_shapes exchange.now) }
+{
+    let bodies = body_representations(alloc, exchange)?;
+    let mut bits = Vec::with_capacity(alloc, exchange.instances().len())?;
+    for instance in exchange.instances() {
+        bits.push(is_body_shape(exchange, &bodies, instance))?;
+    }
+    Ok(bits)
 }
 
 /// Whether an element has a body: one of the representations of its shape has the identifier `Body`.
 #[tactic(auto, unfolding(crate::specs::Bodies::has_body))]
-pub fn has_body(alloc: Global, exchange: &Exchange, element: &Instance) -> Result<bool, AllocError>
-    ensures { IfOk result (λ body. body ≡ has_body exchange.now element.now) }
+pub fn has_body(exchange: &Exchange, bodied: &[bool], element: &Instance) -> bool
+    requires bodied { bodied.now ≡ body_shapes exchange.now }
+    ensures { result ≡ has_body exchange.now element.now }
 {
     match element.values.as_slice().get(6) {
-        Some(value) => match target(exchange, value) {
-            Some(shape) => is_body_shape(alloc, exchange, shape),
-            None => Ok(false),
-        },
-        None => Ok(false),
+        Some(value) => target_passes(exchange, bodied, value),
+        None => false,
     }
 }
 
@@ -94,15 +116,17 @@ pub fn has_body(alloc: Global, exchange: &Exchange, element: &Instance) -> Resul
 pub fn applies(
     alloc: Global,
     exchange: &Exchange,
+    bodied: &[bool],
     mapped: bool,
     instance: &Instance,
     when: When,
 ) -> Result<bool, AllocError>
+    requires bodied { bodied.now ≡ body_shapes exchange.now }
     ensures { IfOk result (λ applied. applied ≡ applies exchange.now mapped instance.now when) }
 {
     match when {
         When::Always => Ok(true),
-        When::WithBody => has_body(alloc, exchange, instance),
+        When::WithBody => Ok(has_body(exchange, bodied, instance)),
         When::WithItems => {
             if mapped {
                 return Ok(true);

@@ -1,12 +1,13 @@
 //! The survey of a file: whether all that is used has the form of its row.
 ghost use Rattle.std.specs.Prelude.{◌≡◌, ◌+◌, ◌<◌, ℕ, length, IfOk, IfErr, OnOk};
 ghost use Rattle.ifc_schema.specs.Places.{IsPlaceOf};
-ghost use Rattle.ifc_schema.specs.Used.{Used};
+ghost use Rattle.ifc_schema.specs.Used.{Used, IsMapped};
+ghost use Rattle.ifc_schema.specs.Bodies.{body_shapes};
 ghost use Rattle.ifc_schema.specs.Marks.{Known, rank_at};
 ghost use Rattle.ifc_schema.specs.Steps.{CheckedAt, Checked, Below};
 ghost use Rattle.ifc_schema.specs.StageFive.{UsedFlaw, IsModelElement, Lists, Surveyed, IsSurveyError, is_model_element, fault_of};
 
-use crate::body::has_body;
+use crate::body::{body_shapes, has_body};
 use crate::entity::Entity;
 use crate::flaw::{Flaw, instance_flaw};
 use crate::look::entity_at;
@@ -31,15 +32,17 @@ fn fault_of(id: u64, flaw: Flaw) -> UploadFault
 fn flaw_at(
     alloc: Global,
     exchange: &Exchange,
+    bodied: &[bool],
     work: &Work,
     at: usize,
 ) -> Result<Option<Flaw>, AllocError>
     requires known { Known exchange.now work.now }
+    requires bodied { bodied.now ≡ body_shapes exchange.now }
     requires marked { 0 < rank_at work.now at }
     ensures { IfOk result (λ flaw. (id : ℕ) → IsPlaceOf exchange.now id at → UsedFlaw exchange.now id flaw) }
 {
     let mapped = work.marks[at].is_mapped();
-    let flaw = instance_flaw(alloc, exchange, mapped, &exchange.instances()[at])?;
+    let flaw = instance_flaw(alloc, exchange, bodied, mapped, &exchange.instances()[at])?;
     Ok(flaw)
 }
 
@@ -47,17 +50,19 @@ fn flaw_at(
 fn fault_at(
     alloc: Global,
     exchange: &Exchange,
+    bodied: &[bool],
     work: &Work,
     at: usize,
 ) -> Result<Option<UploadFault>, AllocError>
     requires known { Known exchange.now work.now }
     requires within { at < length exchange.now }
+    requires bodied { bodied.now ≡ body_shapes exchange.now }
     ensures { IfOk result (CheckedAt exchange.now at) }
 {
     if !work.marks[at].is_seen() {
         return Ok(None);
     }
-    let flaw = flaw_at(alloc, exchange, work, at)?;
+    let flaw = flaw_at(alloc, exchange, bodied, work, at)?;
     match flaw {
         Some(flaw) => {
             let fault = fault_of(exchange.instances()[at].id, flaw);
@@ -71,13 +76,15 @@ fn fault_at(
 fn least_fault(
     alloc: Global,
     exchange: &Exchange,
+    bodied: &[bool],
     work: &Work,
 ) -> Result<Option<UploadFault>, AllocError>
-    requires { Known exchange.now work.now }
+    requires known { Known exchange.now work.now }
+    requires bodied { bodied.now ≡ body_shapes exchange.now }
     ensures { IfOk result (Checked exchange.now) }
 {
     for at in 0..exchange.instances().len() {
-        let fault = fault_at(alloc, exchange, work, at)?;
+        let fault = fault_at(alloc, exchange, bodied, work, at)?;
         if fault.is_some() {
             return Ok(fault);
         }
@@ -117,23 +124,8 @@ fn list_used(alloc: Global, exchange: &Exchange, work: &Work) -> Result<Vec<u64>
     Ok(ids)
 }
 
-/// Whether it is an element that has a body.
-fn is_model_element(
-    alloc: Global,
-    exchange: &Exchange,
-    instance: &Instance,
-) -> Result<bool, AllocError>
-    ensures { IfOk result (λ element. element ≡ is_model_element exchange.now instance.now) }
-{
-    match entity_at(instance) {
-        Some(Entity::Subject) => has_body(alloc, exchange, instance),
-        _ => Ok(false),
-    }
-}
-
-/// Adds the number of the instance at a place, where it is an element that has a body.
-fn push_element(
-    alloc: Global,
+/// Adds the number of the instance at a place, where it is a representation that is mapped.
+fn push_mapped(
     exchange: &Exchange,
     work: &Work,
     at: usize,
@@ -141,14 +133,58 @@ fn push_element(
 ) -> Result<(), AllocError>
     requires known { Known exchange.now work.now }
     requires within { at < length exchange.now }
+    requires ids { Lists (Below exchange.now at (IsMapped exchange.now)) ids.old.items }
+    ensures { OnOk result (Lists (Below exchange.now (at + 1) (IsMapped exchange.now)) ids.new.items) }
+{
+    if !work.marks[at].is_mapped() {
+        return Ok(());
+    }
+    let id = exchange.instances()[at].id;
+    ids.push(id)?;
+    Ok(())
+}
+
+/// The numbers of the representations that are mapped.
+fn list_mapped(alloc: Global, exchange: &Exchange, work: &Work) -> Result<Vec<u64>, AllocError>
+    requires { Known exchange.now work.now }
+    ensures { IfOk result (λ ids. Lists (IsMapped exchange.now) ids.items) }
+{
+    let mut ids = Vec::new(alloc);
+    for at in 0..exchange.instances().len() {
+        push_mapped(exchange, work, at, &mut ids)?;
+    }
+    Ok(ids)
+}
+
+/// Whether it is an element that has a body.
+fn is_model_element(exchange: &Exchange, bodied: &[bool], instance: &Instance) -> bool
+    requires bodied { bodied.now ≡ body_shapes exchange.now }
+    ensures { result ≡ is_model_element exchange.now instance.now }
+{
+    match entity_at(instance) {
+        Some(Entity::Subject) => has_body(exchange, bodied, instance),
+        _ => false,
+    }
+}
+
+/// Adds the number of the instance at a place, where it is an element that has a body.
+fn push_element(
+    exchange: &Exchange,
+    bodied: &[bool],
+    work: &Work,
+    at: usize,
+    ids: &mut Vec<u64>,
+) -> Result<(), AllocError>
+    requires known { Known exchange.now work.now }
+    requires within { at < length exchange.now }
+    requires bodied { bodied.now ≡ body_shapes exchange.now }
     requires ids { Lists (Below exchange.now at (IsModelElement exchange.now)) ids.old.items }
     ensures { OnOk result (Lists (Below exchange.now (at + 1) (IsModelElement exchange.now)) ids.new.items) }
 {
     if !work.marks[at].is_seen() {
         return Ok(());
     }
-    let element = is_model_element(alloc, exchange, &exchange.instances()[at])?;
-    if !element {
+    if !is_model_element(exchange, bodied, &exchange.instances()[at]) {
         return Ok(());
     }
     let id = exchange.instances()[at].id;
@@ -157,13 +193,19 @@ fn push_element(
 }
 
 /// The numbers of the elements that have a body.
-fn list_elements(alloc: Global, exchange: &Exchange, work: &Work) -> Result<Vec<u64>, AllocError>
-    requires { Known exchange.now work.now }
+fn list_elements(
+    alloc: Global,
+    exchange: &Exchange,
+    bodied: &[bool],
+    work: &Work,
+) -> Result<Vec<u64>, AllocError>
+    requires known { Known exchange.now work.now }
+    requires bodied { bodied.now ≡ body_shapes exchange.now }
     ensures { IfOk result (λ ids. Lists (IsModelElement exchange.now) ids.items) }
 {
     let mut ids = Vec::new(alloc);
     for at in 0..exchange.instances().len() {
-        push_element(alloc, exchange, work, at, &mut ids)?;
+        push_element(exchange, bodied, work, at, &mut ids)?;
     }
     Ok(ids)
 }
@@ -174,12 +216,14 @@ pub fn survey(alloc: Global, exchange: &Exchange) -> Result<Survey, BuildError>
     ensures surveyed { IfOk result (Surveyed exchange.now) }
     ensures fault { IfErr result (IsSurveyError exchange.now) }
 {
-    let work = mark_used(alloc, exchange)?;
-    let fault = least_fault(alloc, exchange, &work)?;
+    let bodied = body_shapes(alloc, exchange)?;
+    let work = mark_used(alloc, exchange, &bodied)?;
+    let fault = least_fault(alloc, exchange, &bodied, &work)?;
     if let Some(fault) = fault {
         return Err(BuildError::Fault(fault));
     }
     let used = list_used(alloc, exchange, &work)?;
-    let elements = list_elements(alloc, exchange, &work)?;
-    Ok(Survey::new(used, elements))
+    let mapped = list_mapped(alloc, exchange, &work)?;
+    let elements = list_elements(alloc, exchange, &bodied, &work)?;
+    Ok(Survey::new(used, mapped, elements))
 }

@@ -17,7 +17,7 @@ ghost use Rattle.ifc_schema.specs.Flaws.{
   InstanceFlaw,
 };
 ghost use Rattle.ifc_schema.specs.Words.{says_guid};
-ghost use Rattle.ifc_schema.specs.Bodies.{some_passes};
+ghost use Rattle.ifc_schema.specs.Bodies.{some_passes, body_shapes};
 ghost use Rattle.ifc_schema.specs.Values.{words_of, reference_of};
 
 use crate::body::applies;
@@ -210,13 +210,15 @@ fn value_flaw(
 fn attribute_flaw(
     alloc: Global,
     exchange: &Exchange,
+    bodied: &[bool],
     mapped: bool,
     instance: &Instance,
     attribute: Attribute,
 ) -> Result<Option<Flaw>, AllocError>
+    requires bodied { bodied.now ≡ body_shapes exchange.now }
     ensures { IfOk result (AttributeFlaw exchange.now mapped instance.now attribute) }
 {
-    let applied = applies(alloc, exchange, mapped, instance, attribute.when)?;
+    let applied = applies(alloc, exchange, bodied, mapped, instance, attribute.when)?;
     if !applied {
         return Ok(None);
     }
@@ -230,13 +232,15 @@ fn attribute_flaw(
 pub fn instance_flaw(
     alloc: Global,
     exchange: &Exchange,
+    bodied: &[bool],
     mapped: bool,
     instance: &Instance,
 ) -> Result<Option<Flaw>, AllocError>
+    requires bodied { bodied.now ≡ body_shapes exchange.now }
     ensures { IfOk result (InstanceFlaw exchange.now mapped instance.now) }
 {
     for attribute in row_at(instance) {
-        let flaw = attribute_flaw(alloc, exchange, mapped, instance, *attribute)?;
+        let flaw = attribute_flaw(alloc, exchange, bodied, mapped, instance, *attribute)?;
         if flaw.is_some() {
             return Ok(flaw);
         }

@@ -2,6 +2,7 @@
 ghost use Rattle.std.specs.Prelude.{◌≡◌, ◌≤◌, ℕ, length, OnOk, Any};
 ghost use Rattle.ifc_schema.specs.Places.{IsPlaceOf};
 ghost use Rattle.ifc_schema.specs.Used.{Used, IsMapped, RefersTo, SomeItem, StandsIn, LeadsTo, NamesBy, Maps};
+ghost use Rattle.ifc_schema.specs.Bodies.{body_shapes};
 ghost use Rattle.ifc_schema.specs.Marks.{Grows, IsMarked, SoundAt, rank, rank_at};
 
 use crate::body::applies;
@@ -148,12 +149,14 @@ fn follow_shape(
 fn follow_attribute(
     alloc: Global,
     exchange: &Exchange,
+    bodied: &[bool],
     mapped: bool,
     instance: &Instance,
     attribute: Attribute,
     work: &mut Work,
 ) -> Result<(), AllocError>
     requires size { length work.old.marks.items ≡ length exchange.now }
+    requires bodied { bodied.now ≡ body_shapes exchange.now }
     requires used { (to : ℕ) → NamesBy exchange.now mapped instance.now attribute to → Used exchange.now to }
     ensures grows { OnOk result (Grows exchange.now work.old work.new) }
     ensures marked { OnOk result ((to : ℕ) → NamesBy exchange.now mapped instance.now attribute to → IsMarked exchange.now work.new 0 to) }
@@ -162,7 +165,7 @@ fn follow_attribute(
     if targets.is_nothing() {
         return Ok(());
     }
-    if !applies(alloc, exchange, mapped, instance, attribute.when)? {
+    if !applies(alloc, exchange, bodied, mapped, instance, attribute.when)? {
         return Ok(());
     }
     match instance.values.as_slice().get(attribute.at) {
@@ -175,18 +178,20 @@ fn follow_attribute(
 pub fn follow_attributes(
     alloc: Global,
     exchange: &Exchange,
+    bodied: &[bool],
     mapped: bool,
     instance: &Instance,
     row: &[Attribute],
     work: &mut Work,
 ) -> Result<(), AllocError>
     requires size { length work.old.marks.items ≡ length exchange.now }
+    requires bodied { bodied.now ≡ body_shapes exchange.now }
     requires used { (to : ℕ) → Any (λ a. NamesBy exchange.now mapped instance.now a to) row.now → Used exchange.now to }
     ensures grows { OnOk result (Grows exchange.now work.old work.new) }
     ensures marked { OnOk result ((to : ℕ) → Any (λ a. NamesBy exchange.now mapped instance.now a to) row.now → IsMarked exchange.now work.new 0 to) }
 {
     for attribute in row {
-        follow_attribute(alloc, exchange, mapped, instance, *attribute, work)?;
+        follow_attribute(alloc, exchange, bodied, mapped, instance, *attribute, work)?;
     }
     Ok(())
 }

@@ -5,6 +5,7 @@ ghost use Rattle.p21_reader.specs.Uploads.{Rises};
 ghost use Rattle.p21_reader.specs.declared.value.Instance.{Instance};
 ghost use Rattle.ifc_schema.specs.Places.{IsPlaceOf};
 ghost use Rattle.ifc_schema.specs.Used.{Used, IsMapped, Maps, NamesBy};
+ghost use Rattle.ifc_schema.specs.Bodies.{body_shapes};
 ghost use Rattle.ifc_schema.specs.Marks.{Grows, SoundAt, mark_at, rank_at, is_mapped, IsFollowed, FollowedAt, IsRootAt, Going, Known};
 ghost use Rattle.ifc_schema.specs.Looking.{row_at};
 
@@ -19,31 +20,55 @@ use std::alloc::{AllocError, Global};
 fn follow(
     alloc: Global,
     exchange: &Exchange,
+    bodied: &[bool],
     mapped: bool,
     instance: &Instance,
     work: &mut Work,
 ) -> Result<(), AllocError>
     requires size { length work.old.marks.items ≡ length exchange.now }
+    requires bodied { bodied.now ≡ body_shapes exchange.now }
     requires names { (to : ℕ) → Any (λ a. NamesBy exchange.now mapped instance.now a to) (row_at instance.now) → Used exchange.now to }
     requires used { (to : ℕ) → Maps exchange.now instance.now to → Used exchange.now to }
     requires mapped { (to : ℕ) → Maps exchange.now instance.now to → IsMapped exchange.now to }
     ensures grows { OnOk result (Grows exchange.now work.old work.new) }
     ensures followed { OnOk result (IsFollowed exchange.now work.new mapped instance.now) }
 {
-    follow_attributes(alloc, exchange, mapped, instance, row_at(instance), work)?;
+    follow_attributes(
+        alloc,
+        exchange,
+        bodied,
+        mapped,
+        instance,
+        row_at(instance),
+        work,
+    )?;
     follow_map(exchange, instance, work)
 }
 
 /// Marks what the instance at a place names.
-fn visit(alloc: Global, exchange: &Exchange, at: usize, work: &mut Work) -> Result<(), AllocError>
+fn visit(
+    alloc: Global,
+    exchange: &Exchange,
+    bodied: &[bool],
+    at: usize,
+    work: &mut Work,
+) -> Result<(), AllocError>
     requires size { length work.old.marks.items ≡ length exchange.now }
+    requires bodied { bodied.now ≡ body_shapes exchange.now }
     requires sound { SoundAt exchange.now at (mark_at work.old at) }
     requires marked { 0 < rank_at work.old at }
     ensures grows { OnOk result (Grows exchange.now work.old work.new) }
     ensures followed { OnOk result (FollowedAt exchange.now work.new (is_mapped (mark_at work.old at)) at) }
 {
     let mapped = work.marks[at].is_mapped();
-    follow(alloc, exchange, mapped, &exchange.instances()[at], work)
+    follow(
+        alloc,
+        exchange,
+        bodied,
+        mapped,
+        &exchange.instances()[at],
+        work,
+    )
 }
 
 /// Marks the instance at a place, where it is used wherever it stands.
@@ -86,24 +111,31 @@ fn is_first(instances: &[Instance], at: usize) -> bool
 }
 
 /// Follows rows until none is left to follow.
-fn follow_all(alloc: Global, exchange: &Exchange, work: &mut Work) -> Result<(), AllocError>
-    requires { Going exchange.now work.old }
+fn follow_all(
+    alloc: Global,
+    exchange: &Exchange,
+    bodied: &[bool],
+    work: &mut Work,
+) -> Result<(), AllocError>
+    requires bodied { bodied.now ≡ body_shapes exchange.now }
+    requires going { Going exchange.now work.old }
     ensures going { OnOk result (Going exchange.now work.new) }
     ensures done { OnOk result (work.new.stack.items ≡ []) }
     ensures grows { OnOk result ((at : ℕ) → 0 < rank_at work.old at → 0 < rank_at work.new at) }
 {
     while let Some(at) = work.stack.pop() {
-        visit(alloc, exchange, at, work)?;
+        visit(alloc, exchange, bodied, at, work)?;
     }
     Ok(())
 }
 
 /// Which instances are used, and which are mapped.
-pub fn mark_used(alloc: Global, exchange: &Exchange) -> Result<Work, AllocError>
+pub fn mark_used(alloc: Global, exchange: &Exchange, bodied: &[bool]) -> Result<Work, AllocError>
+    requires bodied { bodied.now ≡ body_shapes exchange.now }
     ensures { IfOk result (Known exchange.now) }
 {
     let mut work = Work::new(alloc, exchange.instances().len())?;
     mark_roots(exchange, &mut work)?;
-    follow_all(alloc, exchange, &mut work)?;
+    follow_all(alloc, exchange, bodied, &mut work)?;
     Ok(work)
 }

@@ -14,13 +14,13 @@ returns-then-not-is_seen c =
     lists_same world c.args.at (IsModelElement world) c.args.ids.now.items
     (λ id p h. unseen_there world work c.args.at m c.requires.known c.requires.within c.index.ensures s id p (element_used world id h)) c.requires.ids
 
-pub returns-then-not-element : goal.returns-then-not-element
-returns-then-not-element c =
+pub returns-then-not-is_model_element : goal.returns-then-not-is_model_element
+returns-then-not-is_model_element c =
     let world = c.args.exchange.now in
     let i = c.index-instances-at.result in
     let e : i ≡ get_or world c.args.at i = rw (← c.instances.ensures.same) c.index-instances-at.is in
-    let t : c.in_ok-element.element ≡ is_model_element world i = c.in_ok-element.ensures in
-    lists_same world c.args.at (IsModelElement world) c.args.ids.now.items (no_element world c.args.at i e (sym t ∙ c.if-not-element.true)) c.requires.ids
+    let t : c.is_model_element.result ≡ is_model_element world i = c.is_model_element.ensures in
+    lists_same world c.args.at (IsModelElement world) c.args.ids.now.items (no_element world c.args.at i e (sym t ∙ c.if-not-is_model_element.true)) c.requires.ids
 
 pub returns : goal.returns
 returns c =
@@ -32,8 +32,8 @@ returns c =
     let u = (c.requires.known.sound c.args.at).used r in
     let i = c.index-instances-at.result in
     let e : i ≡ get_or world c.args.at i = rw (← c.instances.ensures.same) c.index-instances-at.is in
-    let t : c.in_ok-element.element ≡ is_model_element world i = c.in_ok-element.ensures in
-    let h = element_there world u.id c.args.at i u.place e (sym t ∙ c.if-not-element.false) in
+    let t : c.is_model_element.result ≡ is_model_element world i = c.is_model_element.ensures in
+    let h = element_there world u.id c.args.at i u.place e (sym t ∙ c.if-not-is_model_element.false) in
     let j = c.index-instances-at-2.result in
     let f : j ≡ get_or world c.args.at j = rw (← c.instances-2.ensures.same) c.index-instances-at-2.is in
     let rises : Rises world = rw (← c.instances-2.ensures.same) c.instances-2.ensures.rises in
