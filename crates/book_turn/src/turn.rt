@@ -76,9 +76,9 @@ impl<O: SeqObject> Turn<O> {
             let spent = SpentPass::new(pass.number, pass.made);
             return Err(CallFault::PassSpent(spent));
         }
-        let (turn, answer) =
-            self.board
-                .take_turn(rt, &mut pass.seat, pass.number, pass.made + 1, request);
+        let (turn, answer) = self
+            .board
+            .take_turn(rt, &mut pass.seat, pass.number, pass.made + 1, request);
         pass.made += 1;
         pass.last = turn;
         match answer {

@@ -3,8 +3,9 @@ ghost use Rattle.std.specs.Prelude.{◌≡◌, ◌+◌, OnOk};
 ghost use Rattle.federation_book.specs.History.{IsBefore};
 
 use crate::book::Book;
-use crate::types::{BookFault, BookRequest, Change, Entry, ReplyBody, Stamp, Wanted};
+use crate::types::{BookFault, BookRequest, Change, Entry, ReplyBody, Wanted};
 use bim_model::{Author, Model, Moment, NamedModel, Shared, Text, Topic, TopicBody, id_of};
+use book_turn::object::Stamp;
 use std::alloc::{AllocError, Global};
 use std::process::Abort;
 use std::test::Fail;
