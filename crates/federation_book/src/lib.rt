@@ -12,3 +12,5 @@ pub use types::{BookFault, BookReply, BookRequest, Change, Entry, ReplyBody, Wan
 
 #[cfg(test)]
 mod tests;
+#[cfg(test)]
+mod turn_tests;
