@@ -5,7 +5,8 @@ use Rattle.http_frame.specs.Requests.{Begins, IsRefused}
 use Rattle.bim_model.specs.declared.element.Element.{Element}
 use Rattle.bim_model.specs.declared.topic.TopicBody.{TopicBody}
 use Rattle.bim_model.specs.declared.topic.Author.{Author}
-use Rattle.federation_book.specs.declared.types.Stamp.{Stamp}
+use Rattle.book_turn.specs.declared.object.Stamp.{Stamp}
+use Rattle.book_turn.specs.Entries.{listed}
 use Rattle.federation_book.specs.declared.types.Entry.{Entry}
 use Rattle.federation_book.specs.declared.types.BookReply.{BookReply}
 use Rattle.federation_book.specs.declared.types.BookRequest.{BookRequest}
@@ -47,17 +48,17 @@ fault_is may moment rest later may_be (inr body) = inr (moment, may_be, body.0, 
 abbrev pub step_of : ServerState → BookRequest → Step
 step_of server call = record { stamp = stamp_of (server.turns + 1); request = call }
 
-nothing_asked : (stamp : Stamp) (o : Option ℕ) → entry_made stamp o None ≡ []
+nothing_asked : (stamp : Stamp) (o : Option ℕ) → listed (entry_made stamp o None) ≡ []
 nothing_asked stamp None = refl
 nothing_asked stamp (Some p) = refl
 
 nothing_posted : (h : List Entry) (stamp : Stamp) (body : TopicBody) (author : Author) (weight : ℕ) (o : Option ℕ) → ChangesNothing (topic_made h body author o)
-    → entry_made stamp o (Some (change.PostTopic body author weight)) ≡ []
+    → listed (entry_made stamp o (Some (change.PostTopic body author weight))) ≡ []
 nothing_posted h stamp body author weight None nothing = refl
 nothing_posted h stamp body author weight (Some p) nothing = absurd nothing
 
 nothing_put : (h : List Entry) (stamp : Stamp) (name : List ℕ) (model : List Element) (o : Option ℕ) → ChangesNothing (model_put h model o)
-    → entry_made stamp o (Some (change.Upload name model)) ≡ []
+    → listed (entry_made stamp o (Some (change.Upload name model))) ≡ []
 nothing_put h stamp name model None nothing = refl
 nothing_put h stamp name model (Some p) nothing = absurd nothing
 

@@ -5,7 +5,7 @@ use Rattle.std.specs.Io.KnownBytes.{Appends}
 use Rattle.bim_io.specs.Causes.{Grows}
 use Rattle.http_frame.specs.declared.framer.HttpRequest.{HttpRequest}
 use Rattle.http_frame.specs.Requests.{Reads}
-use Rattle.federation_book.specs.declared.types.Stamp.{Stamp}
+use Rattle.book_turn.specs.declared.object.Stamp.{Stamp}
 use Rattle.federation_book.specs.declared.types.Entry.{Entry}
 use Rattle.federation_book.specs.declared.types.BookRequest.{BookRequest}
 use Rattle.federation_book.specs.History.{added_by, reply_of, IsBefore}

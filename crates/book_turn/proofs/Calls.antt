@@ -68,10 +68,10 @@ some_has x (p ∷ ps) e = omega arith
 pub served : {O E S : Type 0} (journal : O → List E) (m m2 m3 : Me (Option O) (View E S)) (p : O) → m2 ≡ (m.0, (0, Some p) ∷ []) → m3 ≡ (done_view m2.0 (journal_in journal m2.1), []) → m3 ≡ (done_view m.0 (journal p), [])
 served journal m m2 m3 p is done = done ∙ ap (λ z. (done_view z.0 (journal_in journal z.1), [])) is
 
-pub takes_turn : {O E S Rq Rp : Type 0} (journal : O → List E) (settings : O → S) (stamp_of : E → Stamp) (reply_of : S → List E → Stamp → Rq → Rp) (added_by : S → List E → Stamp → Rq → Option E) (t number made : ℕ) (rq : Rq) (v w : View E S) (res : Result Rp AllocError) (cs : List (ℕ × Option O)) (m1 m2 : Me (Option O) (View E S))
-    → m1 ≡ (drawn_view v t, cs) → v.last < t → t < 2 ^ 47 → Comes journal settings (λ e. (stamp_of e).turn) (λ e. (stamp_of e).pass) t m1 m2 → Serves reply_of added_by (record { turn = t; pass = number; call = made }) rq m2.0 w res
-    → TakesTurn stamp_of reply_of added_by t number made rq v w res
-takes_turn {E = E} {S = S} journal settings stamp_of reply_of added_by t number made rq v w res cs m1 m2 drawn later within comes serves =
+pub takes_turn : {O E S Rq Rp : Type 0} (journal : O → List E) (settings : O → S) (stamp_of : E → Stamp) (reply_of : S → List E → Stamp → Rq → Rp) (added_by : S → List E → Stamp → Rq → Option E) (t number call : ℕ) (rq : Rq) (v w : View E S) (res : Result Rp AllocError) (cs : List (ℕ × Option O)) (m1 m2 : Me (Option O) (View E S))
+    → m1 ≡ (drawn_view v t, cs) → v.last < t → t < 2 ^ 47 → Comes journal settings (λ e. (stamp_of e).turn) (λ e. (stamp_of e).pass) t m1 m2 → Serves reply_of added_by (record { turn = t; pass = number; call = call }) rq m2.0 w res
+    → TakesTurn stamp_of reply_of added_by t number call rq v w res
+takes_turn {E = E} {S = S} journal settings stamp_of reply_of added_by t number call rq v w res cs m1 m2 drawn later within comes serves =
     let c = subst (λ m. Comes journal settings (λ e. (stamp_of e).turn) (λ e. (stamp_of e).pass) t m m2) drawn comes in record {
       news = c.1;
       later = later;
@@ -80,5 +80,5 @@ takes_turn {E = E} {S = S} journal settings stamp_of reply_of added_by t number 
       before = c.6;
       others = c.7;
       rises = c.8;
-      served = subst (λ (x : View E S). Serves reply_of added_by (record { turn = t; pass = number; call = made }) rq x w res) (ap (λ m. m.0) c.2) serves;
+      served = subst (λ (x : View E S). Serves reply_of added_by (record { turn = t; pass = number; call = call }) rq x w res) (ap (λ m. m.0) c.2) serves;
     }

@@ -75,8 +75,8 @@ module _ {E S : Type 0} where
     pub record Answered {Rq Rp : Type 0} (reply_of : S → List E → Stamp → Rq → Rp) (added_by : S → List E → Stamp → Rq → Option E) (chosen : S) (t : ℕ) (request : Rq) (reply : Rp) (v w : PassState E S) : Type 0 where
       pub news : List E
       pub takes : Takes t news v w
-      pub replied : reply ≡ reply_of chosen (v.seen ++ news) (record { turn = t; pass = v.number; call = v.made }) request
-      pub seen : w.seen ≡ (v.seen ++ news) ++ listed (added_by chosen (v.seen ++ news) (record { turn = t; pass = v.number; call = v.made }) request)
+      pub replied : reply ≡ reply_of chosen (v.seen ++ news) (record { turn = t; pass = v.number; call = v.made + 1 }) request
+      pub seen : w.seen ≡ (v.seen ++ news) ++ listed (added_by chosen (v.seen ++ news) (record { turn = t; pass = v.number; call = v.made + 1 }) request)
 
     -- a turn is taken, and nothing is added
     pub record GotNothing (v w : PassState E S) : Type 0 where

@@ -77,8 +77,8 @@ module _ {E S Rq Rp : Type 0} (reply_of : S → List E → Stamp → Rq → Rp) 
   Serves stamp request v w (Ok reply) = (s : S) × (v.settings ≡ Some s) × (reply ≡ reply_of s v.seen stamp request) × (w ≡ done_view v (v.seen ++ listed (added_by s v.seen stamp request)))
   Serves stamp request v w (Err e) = w ≡ done_view v v.seen
 
--- a turn t was taken by the pass of this number, which had made so many calls
-pub record TakesTurn {E S Rq Rp : Type 0} (stamp_of : E → Stamp) (reply_of : S → List E → Stamp → Rq → Rp) (added_by : S → List E → Stamp → Rq → Option E) (t number made : ℕ) (request : Rq) (v w : View E S) (res : Result Rp AllocError) : Type 0 where
+-- a turn t was taken by the pass of this number, for its call of this number
+pub record TakesTurn {E S Rq Rp : Type 0} (stamp_of : E → Stamp) (reply_of : S → List E → Stamp → Rq → Rp) (added_by : S → List E → Stamp → Rq → Option E) (t number call : ℕ) (request : Rq) (v w : View E S) (res : Result Rp AllocError) : Type 0 where
   pub news : List E
   pub later : v.last < t
   pub within : t < 2 ^ 47
@@ -86,4 +86,4 @@ pub record TakesTurn {E S Rq Rp : Type 0} (stamp_of : E → Stamp) (reply_of : S
   pub before : IsAfter (λ e. (stamp_of e).turn) t (v.seen ++ news)
   pub others : calls_by (λ e. (stamp_of e).pass) v.passes news ≡ []
   pub rises : Rises (λ e. (stamp_of e).turn) (v.seen ++ news)
-  pub served : Serves reply_of added_by (record { turn = t; pass = number; call = made }) request (called_view (drawn_view v t) t (v.seen ++ news)) w res
+  pub served : Serves reply_of added_by (record { turn = t; pass = number; call = call }) request (called_view (drawn_view v t) t (v.seen ++ news)) w res

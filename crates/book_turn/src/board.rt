@@ -119,7 +119,7 @@ impl<O: SeqObject> Board<O> {
         rt: &R,
         seat: &mut Place<O>,
         number: u32,
-        made: u64,
+        call: u64,
         request: O::Request,
     ) -> (u64, Result<O::Reply, AllocError>)
         requires own { seat.old.table_id ≡ self.now.table.shared.table_id }
@@ -127,14 +127,14 @@ impl<O: SeqObject> Board<O> {
         requires few { length seat.old.me.0.turns < 2 ^ 40 * length seat.old.me.0.passes }
         requires legal { IfSome seat.old.me.0.settings (λ s. O.is_legal s seat.old.me.0.seen request) }
         ensures own { (seat.new.table_id ≡ seat.old.table_id) × (seat.new.id ≡ seat.old.id) × (seat.new.me.1 ≡ []) }
-        ensures taken { TakesTurn O.stamp_of O.reply_of O.added_by result.0 number made request seat.old.me.0 seat.new.me.0 result.1 }
+        ensures taken { TakesTurn O.stamp_of O.reply_of O.added_by result.0 number call request seat.old.me.0 seat.new.me.0 result.1 }
     {
         let turn = self.draw(seat);
         self.wait_for(rt, seat, turn);
         let stamp = Stamp {
             turn,
             pass: number,
-            call: made,
+            call,
         };
         let answer = self.serve(seat, stamp, request);
         (turn, answer)

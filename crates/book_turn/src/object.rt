@@ -12,7 +12,7 @@ pub struct Stamp {
     pub turn: u64,
     /// The number of the pass that made it.
     pub pass: u32,
-    /// How many turns that pass had taken before.
+    /// Its number among the calls of that pass, from 1 on. Calls of passes that were joined into it do not count.
     pub call: u64,
 }
 

@@ -78,7 +78,7 @@ impl<O: SeqObject> Turn<O> {
         }
         let (turn, answer) = self
             .board
-            .take_turn(rt, &mut pass.seat, pass.number, pass.made, request);
+            .take_turn(rt, &mut pass.seat, pass.number, pass.made + 1, request);
         pass.made += 1;
         pass.last = turn;
         match answer {

@@ -1,10 +1,11 @@
 -- How histories and runs grow.
-use Rattle.std.proofs.Common.{◌≡◌, ◌+◌, ◌<◌, ◌≤◌, ◌==◌, nat_lt, suc, ℕ, true, List, [], ◌∷◌, ◌++◌, length, filter, count_by, cond, Option, Some, None, refl, sym, ◌∙◌, ap, arith, append_assoc, append-nil}
+use Rattle.std.proofs.Common.{◌≡◌, ◌+◌, ◌<◌, ◌≤◌, ◌==◌, nat_lt, zero, suc, ℕ, true, List, [], ◌∷◌, ◌++◌, length, filter, count_by, cond, Option, Some, None, refl, sym, ◌∙◌, ap, arith, append_assoc, append-nil}
 use Rattle.std.proofs.lemmas.List.Elements.{filter-append, All-push}
 use Rattle.std.proofs.lemmas.Bool.Decides.{nat_tests}
 use Rattle.std.proofs.lemmas.Bool.{eq-eqb}
 use Rattle.std.proofs.lemmas.List.Sums.{sum_by-cons}
-use Rattle.federation_book.specs.declared.types.Stamp.{Stamp}
+use Rattle.book_turn.specs.declared.object.Stamp.{Stamp}
+use Rattle.book_turn.specs.Entries.{listed, IsAfter}
 use Rattle.federation_book.specs.declared.types.Entry.{Entry}
 use Rattle.federation_book.specs.declared.types.BookRequest.{BookRequest}
 use Rattle.federation_book.specs.declared.types.Change.{Change}
@@ -19,7 +20,7 @@ abbrev pub AreAbove : ℕ → List Entry → Type 0
 AreAbove turn [] = Unit {0}
 AreAbove turn (e ∷ es) = (turn < e.stamp.turn) × AreAbove turn es
 
-made_of : (stamp : Stamp) (project : Option ℕ) (change : Option Change) → AreOf stamp.turn (entry_made stamp project change)
+made_of : (stamp : Stamp) (project : Option ℕ) (change : Option Change) → AreOf stamp.turn (listed (entry_made stamp project change))
 made_of stamp None c = tt
 made_of stamp (Some p) None = tt
 made_of stamp (Some p) (Some c) = (refl, tt)
@@ -148,3 +149,12 @@ none_before t = λ k d lt. absurd (omega arith)
 
 pub one_none : IsOneThread []
 one_none = λ k d lt. absurd (omega arith)
+
+before_cons : (t : ℕ) (e : Entry) (es : List Entry) → e.stamp.turn < t → IsBefore t es → IsBefore t (e ∷ es)
+before_cons t e es first rest zero d lt = first
+before_cons t e es first rest (suc k) d lt = rest k d (omega arith)
+
+-- entries of earlier turns, said as for any object whose calls take turns
+pub before_all : (t : ℕ) (es : List Entry) → IsAfter (λ (e : Entry). e.stamp.turn) t es → IsBefore t es
+before_all t [] after = none_before t
+before_all t (e ∷ es) after = before_cons t e es after.0 (before_all t es after.1)

@@ -8,7 +8,8 @@ use Rattle.bim_model.specs.declared.named_model.NamedModel.{NamedModel}
 use Rattle.bim_model.specs.declared.topic.Topic.{Topic}
 use Rattle.bim_model.specs.declared.topic.TopicBody.{TopicBody}
 use Rattle.bim_model.specs.declared.topic.Author.{Author}
-use Rattle.federation_book.specs.declared.types.Stamp.{Stamp}
+use Rattle.book_turn.specs.declared.object.Stamp.{Stamp}
+use Rattle.book_turn.specs.Entries.{listed}
 use Rattle.federation_book.specs.declared.types.Entry.{Entry}
 use Rattle.federation_book.specs.declared.types.Change.{Change}
 use Rattle.federation_book.specs.declared.types.Change.TheVariants as change
@@ -132,13 +133,17 @@ project_named (request.ReadVersion id wanted) = id
 abbrev pub entry_of : Stamp → ℕ → Change → Entry
 entry_of stamp project change = record { stamp = stamp; project = project; change = change }
 
-abbrev pub entry_made : Stamp → Option ℕ → Option Change → List Entry
-entry_made stamp (Some project) (Some change) = entry_of stamp project change ∷ []
-entry_made stamp _ _ = []
+abbrev pub entry_made : Stamp → Option ℕ → Option Change → Option Entry
+entry_made stamp (Some project) (Some change) = Some (entry_of stamp project change)
+entry_made stamp _ _ = None
 
--- the one entry that an accepted change adds at a history, or none
+-- the one entry that an accepted change adds at a history, if there is one
+abbrev pub entry_added : ℕ → List Entry → Stamp → BookRequest → Option Entry
+entry_added projects history stamp request = entry_made stamp (project_of projects (project_named request)) (change_asked request)
+
+-- the same as a list
 abbrev pub added_by : ℕ → List Entry → Stamp → BookRequest → List Entry
-added_by projects history stamp request = entry_made stamp (project_of projects (project_named request)) (change_asked request)
+added_by projects history stamp request = listed (entry_added projects history stamp request)
 
 -- what contracts see of a book
 pub record BookState : Type 0 where

@@ -1,6 +1,6 @@
 -- Runs: calls of one book by any number of actors, one after another.
 use Rattle.std.specs.Prelude.{◌≡◌, ℕ, ◌+◌, ◌==◌, ◌++◌, List, [], ◌∷◌, length, count_by, All}
-use Rattle.federation_book.specs.declared.types.Stamp.{Stamp}
+use Rattle.book_turn.specs.declared.object.Stamp.{Stamp}
 use Rattle.federation_book.specs.declared.types.Entry.{Entry}
 use Rattle.federation_book.specs.declared.types.BookRequest.{BookRequest}
 use Rattle.federation_book.specs.History.{added_by}

@@ -5,8 +5,9 @@ ghost use Rattle.federation_book.specs.History.{body_of, reply_of, added_by, ent
 ghost use Rattle.federation_book.specs.Kept.{state_kept, IsKept, KeepStates};
 
 use crate::project::Project;
-use crate::types::{BookFault, BookReply, BookRequest, Change, Entry, ReplyBody, Stamp};
+use crate::types::{BookFault, BookReply, BookRequest, Change, Entry, ReplyBody};
 use bim_model::{Author, Duplicate, Model, Shared, Text, Topic, TopicBody, id_of};
+use book_turn::object::Stamp;
 use std::alloc::{AllocError, Global};
 
 /// The history of the projects, and what follows from it.

@@ -3,10 +3,14 @@
 
 mod book;
 mod project;
+mod sequence;
 mod types;
 
 pub use book::Book;
-pub use types::{BookFault, BookReply, BookRequest, Change, Entry, ReplyBody, Stamp, Wanted};
+pub use book_turn::object::Stamp;
+pub use types::{BookFault, BookReply, BookRequest, Change, Entry, ReplyBody, Wanted};
 
 #[cfg(test)]
 mod tests;
+#[cfg(test)]
+mod turn_tests;

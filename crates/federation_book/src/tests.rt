@@ -3,8 +3,9 @@ ghost use Rattle.std.specs.Prelude.{◌≡◌, ◌+◌, OnOk};
 ghost use Rattle.federation_book.specs.History.{IsBefore};
 
 use crate::book::Book;
-use crate::types::{BookFault, BookRequest, Change, Entry, ReplyBody, Stamp, Wanted};
+use crate::types::{BookFault, BookRequest, Change, Entry, ReplyBody, Wanted};
 use bim_model::{Author, Model, Moment, NamedModel, Shared, Text, Topic, TopicBody, id_of};
+use book_turn::object::Stamp;
 use std::alloc::{AllocError, Global};
 use std::process::Abort;
 use std::test::Fail;
@@ -19,6 +20,21 @@ fn stamp(turn: u64) -> Stamp
     }
 }
 
+// A request to make a topic.
+pub fn to_post(alloc: Global, project: u128, title: &str) -> Result<BookRequest, AllocError> {
+    Ok(BookRequest::PostTopic {
+        project,
+        body: TopicBody {
+            title: Text::of(alloc, title)?,
+        },
+        author: Author {
+            user: Text::of(alloc, "anna")?,
+            moment: Moment::new(1_714_564_800),
+        },
+        weight: 17,
+    })
+}
+
 fn post(
     alloc: Global,
     book: &mut Book,
@@ -29,17 +45,7 @@ fn post(
     requires { IsBefore turn book.old.journal }
     ensures { OnOk result (IsBefore (turn + 1) book.new.journal) }
 {
-    let request = BookRequest::PostTopic {
-        project,
-        body: TopicBody {
-            title: Text::of(alloc, title)?,
-        },
-        author: Author {
-            user: Text::of(alloc, "anna")?,
-            moment: Moment::new(1_714_564_800),
-        },
-        weight: 17,
-    };
+    let request = to_post(alloc, project, title)?;
     Ok(book.act(stamp(turn), request)?.body)
 }
 
@@ -95,11 +101,11 @@ fn refuses_projects_that_are_not_there(rt: HostRuntime) -> Result<(), Fail> {
     Ok(())
 }
 
-fn is_refused(rt: &impl Abort, body: &ReplyBody) {
+pub fn is_refused(rt: &impl Abort, body: &ReplyBody) {
     assert!(rt; matches!(body, ReplyBody::Refused(BookFault::NoProject)));
 }
 
-fn is_topic(rt: &impl Abort, body: &ReplyBody, serial: u64, title: &str) {
+pub fn is_topic(rt: &impl Abort, body: &ReplyBody, serial: u64, title: &str) {
     match body {
         ReplyBody::TopicIs(topic) => is_made(rt, topic, serial, title),
         _ => assert!(rt; false),
@@ -113,7 +119,7 @@ fn is_made(rt: &impl Abort, topic: &Topic, serial: u64, title: &str) {
     assert_eq!(rt; topic.created.moment.seconds(), 1_714_564_800);
 }
 
-fn is_list(rt: &impl Abort, body: &ReplyBody, titles: &[&str]) {
+pub fn is_list(rt: &impl Abort, body: &ReplyBody, titles: &[&str]) {
     match body {
         ReplyBody::TopicList(topics) => are_made(rt, topics.as_slice(), titles),
         _ => assert!(rt; false),

@@ -1,16 +1,6 @@
 //! Requests to the book, its replies, and the entries of its journal.
 use bim_model::{Author, Items, Model, Shared, Snapshot, Text, Topic, TopicBody};
-
-/// When a call was made.
-#[derive(Clone, Copy, Debug, PartialEq, Eq)]
-pub struct Stamp {
-    /// The turn that it took, from 1.
-    pub turn: u64,
-    /// The number of the pass that made it, from 0.
-    pub pass: u32,
-    /// Its number among the calls of its pass, from 1.
-    pub call: u64,
-}
+use book_turn::object::Stamp;
 
 /// What is asked of the book. A project is named by its identifier.
 #[derive(Drop)]
