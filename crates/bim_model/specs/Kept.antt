@@ -1,8 +1,9 @@
 -- The bytes that a `Bytes` keeps, in place or beside.
 use Rattle.std.specs.Prelude.{ℕ, List, take}
 use Rattle.bim_model.specs.declared.bytes.Kept.{Kept}
-use Rattle.bim_model.specs.declared.bytes.Kept.TheVariants.{Short, Long}
+use Rattle.bim_model.specs.declared.bytes.Kept.TheVariants.{Short, Middle, Long}
 
 abbrev pub kept_bytes : Kept → List ℕ
 kept_bytes (Short few) = take few.count few.room
+kept_bytes (Middle several) = take several.value.count several.value.room
 kept_bytes (Long many) = many.value.items

@@ -5,21 +5,30 @@ use crate::items::Duplicate;
 use std::alloc::{AllocError, Global};
 use std::marker::Model;
 
-/// Up to fifteen bytes, in place.
+/// Up to fourteen bytes, in place.
 #[derive(Drop)]
 struct Few {
-    room: [u8; 15],
+    room: [u8; 14],
     count: u8,
-    ghost fits: { count ≤ 15 },
+    ghost fits: { count ≤ 14 },
+}
+
+/// Up to 23 bytes, in one small block: the most that the least block of common allocators holds beside a count.
+#[derive(Drop)]
+struct Several {
+    room: [u8; 23],
+    count: u8,
+    ghost fits: { count ≤ 23 },
 }
 
 #[derive(Drop)]
 enum Kept {
     Short(Few),
+    Middle(Box<Several>),
     Long(Box<Vec<u8>>),
 }
 
-/// Bytes that it owns, in 24 bytes of its own: up to fifteen lie in place and take no memory beside.
+/// Bytes that it owns, in 16 bytes of its own: up to fourteen lie in place and take no memory beside.
 #[derive(Drop)]
 pub struct Bytes {
     kept: Kept,
@@ -40,9 +49,13 @@ impl Bytes {
     pub fn of(alloc: Global, bytes: &[u8]) -> Result<Bytes, AllocError>
         ensures { IfOk result (λ made. made ≡ bytes.now) }
     {
-        if bytes.len() <= 15 {
+        if bytes.len() <= 14 {
             Ok(Bytes {
                 kept: Kept::Short(few_of(bytes)),
+            })
+        } else if bytes.len() <= 23 {
+            Ok(Bytes {
+                kept: Kept::Middle(Box::new(alloc, several_of(bytes))?),
             })
         } else {
             Bytes::from_vec(alloc, bytes.to_vec(alloc)?)
@@ -64,21 +77,32 @@ impl Bytes {
     {
         match &self.kept {
             Kept::Short(few) => &few.room[..few.count as usize],
+            Kept::Middle(several) => &several.room[..several.count as usize],
             Kept::Long(many) => many.as_slice(),
         }
     }
 }
 
 fn few_of(bytes: &[u8]) -> Few
-    requires { length bytes.now ≤ 15 }
+    requires { length bytes.now ≤ 14 }
     ensures { take result.count result.room ≡ bytes.now }
 {
-    let mut room = [0; 15];
+    let mut room = [0; 14];
     room[..bytes.len()].copy_from_slice(bytes);
     Few {
         room,
         count: bytes.len() as u8,
     }
+}
+
+fn several_of(bytes: &[u8]) -> Several
+    requires { length bytes.now ≤ 23 }
+    ensures { take result.count result.room ≡ bytes.now }
+{
+    let mut room = [0; 23];
+    room[..bytes.len()].copy_from_slice(bytes);
+    let count = bytes.len() as u8;
+    Several { room, count }
 }
 
 impl Duplicate for Bytes {

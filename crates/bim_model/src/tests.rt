@@ -22,8 +22,10 @@ fn keeps_texts_and_bytes(rt: HostRuntime) -> Result<(), Fail> {
     let cases = [
         "",
         "a",
+        "just fourteen.",
         "exactly fifteen",
-        "sixteen letters!",
+        "these are twenty-three.",
+        "these are twenty-four...",
         "a name of forty bytes that lies outside.",
     ];
     for given in cases {

@@ -6,7 +6,7 @@ use crate::items::Duplicate;
 use std::alloc::{AllocError, Global};
 use std::marker::Model;
 
-/// A text that it owns, in UTF-8: up to fifteen bytes lie in place and take no memory beside.
+/// A text that it owns, in UTF-8: up to fourteen bytes lie in place and take no memory beside.
 #[derive(Drop)]
 pub struct Text {
     bytes: Bytes,
