@@ -8,26 +8,73 @@ use crate::types::{BookRequest, Entry, ReplyBody};
 use bim_model::id_of;
 use book_turn::pass::Pass;
 use book_turn::turn::Turn;
-use std::alloc::{AllocError, Global};
+use std::alloc::Global;
 use std::process::Abort;
 use std::sync::Wait;
 use std::test::Fail;
 use std::thread::{Threads, join};
 
-// The turn that the call takes, and its reply.
+// The turn that a call takes, and its reply. None where it has none.
 fn ask<R: Wait>(
     rt: &R,
     turn: &Turn<Book>,
     pass: &mut Pass<Book>,
     request: BookRequest,
-) -> Result<(u64, ReplyBody), AllocError>
+) -> Option<(u64, ReplyBody)>
     requires { IsSingle turn.now pass.old }
     ensures { IsSingle turn.now pass.new }
 {
     match turn.call(rt, pass, request) {
-        Ok(receipt) => Ok((receipt.turn, receipt.reply.body)),
-        Err(_) => Err(AllocError),
+        Ok(receipt) => Some((receipt.turn, receipt.reply.body)),
+        Err(_) => None,
     }
+}
+
+// Makes a topic, by the pass, in the turn `at`. The project may be none of the book's: then there is no serial number.
+fn posts<R: Wait + Abort>(
+    rt: &R,
+    alloc: Global,
+    turn: &Turn<Book>,
+    pass: &mut Pass<Book>,
+    at: u64,
+    project: u128,
+    serial: Option<u64>,
+)
+    requires { IsSingle turn.now pass.old }
+    ensures { IsSingle turn.now pass.new }
+{
+    let Ok(request) = to_post(alloc, project, "Pipe") else {
+        panic!(rt; "no memory")
+    };
+    let Some((taken, body)) = ask(rt, turn, pass, request) else {
+        panic!(rt; "no answer")
+    };
+    assert_eq!(rt; taken, at);
+    match serial {
+        Some(serial) => is_topic(rt, &body, serial, "Pipe"),
+        None => is_refused(rt, &body),
+    }
+}
+
+// Lists the topics of the first project, by the pass, in the turn `at`.
+fn lists<R: Wait + Abort>(
+    rt: &R,
+    turn: &Turn<Book>,
+    pass: &mut Pass<Book>,
+    at: u64,
+    titles: &[&str],
+)
+    requires { IsSingle turn.now pass.old }
+    ensures { IsSingle turn.now pass.new }
+{
+    let request = BookRequest::ListTopics {
+        project: id_of(1, 0),
+    };
+    let Some((taken, body)) = ask(rt, turn, pass, request) else {
+        panic!(rt; "no answer")
+    };
+    assert_eq!(rt; taken, at);
+    is_list(rt, &body, titles);
 }
 
 #[test]
@@ -37,22 +84,11 @@ fn answers_two_passes_at_one_history(rt: HostRuntime) -> Result<(), Fail> {
     let (Some(mut second), Some(mut first)) = (passes.pop(), passes.pop()) else {
         panic!(rt; "no passes")
     };
-    let project = id_of(1, 0);
-    let (at, body) = ask(&rt, &turn, &mut first, to_post(alloc, project, "Pipe")?)?;
-    assert_eq!(rt; at, 1);
-    is_topic(&rt, &body, 1, "Pipe");
-    let (at, body) = ask(&rt, &turn, &mut second, BookRequest::ListTopics { project })?;
-    assert_eq!(rt; at, 2);
-    is_list(&rt, &body, &["Pipe"]);
-    let (at, body) = ask(&rt, &turn, &mut second, to_post(alloc, project, "Beam")?)?;
-    assert_eq!(rt; at, 3);
-    is_topic(&rt, &body, 2, "Beam");
-    let (at, body) = ask(&rt, &turn, &mut first, to_post(alloc, id_of(3, 0), "Duct")?)?;
-    assert_eq!(rt; at, 4);
-    is_refused(&rt, &body);
-    let (at, body) = ask(&rt, &turn, &mut first, BookRequest::ListTopics { project })?;
-    assert_eq!(rt; at, 5);
-    is_list(&rt, &body, &["Pipe", "Beam"]);
+    posts(&rt, alloc, &turn, &mut first, 1, id_of(1, 0), Some(1));
+    lists(&rt, &turn, &mut second, 2, &["Pipe"]);
+    posts(&rt, alloc, &turn, &mut second, 3, id_of(1, 0), Some(2));
+    posts(&rt, alloc, &turn, &mut first, 4, id_of(3, 0), None);
+    lists(&rt, &turn, &mut first, 5, &["Pipe", "Pipe"]);
     turn.join(&mut first, second);
     let book = turn.close(first);
     are_stamped(&rt, book.journal(), &[(1, 0, 1), (3, 1, 2)]);
@@ -84,7 +120,7 @@ fn post_all<R: Wait>(
 {
     for _ in 0..times {
         let request = to_post(alloc, project, "Pipe").ok()?;
-        let (_, body) = ask(rt, turn, &mut pass, request).ok()?;
+        let (_, body) = ask(rt, turn, &mut pass, request)?;
         let ReplyBody::TopicIs(_) = body else {
             return None;
         };
