@@ -198,6 +198,23 @@ fn compact(buf: &mut Vec<u8>, at: usize) -> usize
     0
 }
 
+// The room that a framer keeps when it has no bytes left: more, as of an upload, is given back.
+const KEPT_ROOM: usize = 65_536;
+
+// Gives large room back where no bytes are left behind the place.
+fn release(buf: &mut Vec<u8>, at: usize) -> usize
+    requires { at ≤ length buf.old.items }
+    ensures place { result ≤ length buf.new.items }
+    ensures bytes { drop result buf.new.items ≡ drop at buf.old.items }
+{
+    if at < buf.len() || buf.capacity() <= KEPT_ROOM {
+        return at;
+    }
+    buf.truncate(0);
+    buf.shrink_to_fit();
+    0
+}
+
 impl Framer {
     /// A framer that stands for no bytes.
     pub fn new(alloc: Global) -> Result<Framer, AllocError>
@@ -235,7 +252,7 @@ impl Framer {
         let alloc = *self.buf.allocator();
         match front_of(alloc, tail(&self.buf, self.at)) {
             Ok(front) => {
-                self.at += front.used;
+                self.at = release(&mut self.buf, self.at + front.used);
                 Ok(front.step)
             }
             Err(error) => Err(error),
