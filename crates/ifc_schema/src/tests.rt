@@ -439,3 +439,29 @@ fn surveys(rt: HostRuntime) -> Result<(), Fail> {
     }
     Ok(())
 }
+
+/// A body that maps the items of a representation that is none.
+const MAPPED: Case = Case {
+    line: 5,
+    text: b"#6=IFCSHAPEREPRESENTATION($,'Body','MappedRepresentation',(#9));#9=IFCMAPPEDITEM(#10,#11);#10=IFCREPRESENTATIONMAP(#12,#13);#11=IFCCARTESIANTRANSFORMATIONOPERATOR3D($,$,#14,$,$);#12=IFCAXIS2PLACEMENT3D(#14,$,$);#13=IFCSHAPEREPRESENTATION($,'Annotation','Tessellation',(#5));#14=IFCCARTESIANPOINT((0.,0.,0.));",
+    told: [0, 14, 1],
+};
+
+fn mapped(answer: Result<Survey, BuildError>) -> [u64; 2] {
+    match answer {
+        Ok(survey) => [
+            survey.mapped().len() as u64,
+            survey.mapped().first().copied().unwrap_or(0),
+        ],
+        Err(_) => [0, 0],
+    }
+}
+
+#[test]
+fn mapped_representations(rt: HostRuntime) -> Result<(), Fail> {
+    let bytes = file_of(rt.alloc(), MAPPED)?;
+    let exchange = read(rt.alloc(), bytes.as_slice()).ok().ok_or("refused")?;
+    assert_eq!(rt; told(survey(rt.alloc(), &exchange)), MAPPED.told);
+    assert_eq!(rt; mapped(survey(rt.alloc(), &exchange)), [1, 13]);
+    Ok(())
+}
