@@ -1,6 +1,6 @@
 use Rattle.std.proofs.Common.{rules, sym}
-use Rattle.faceset.proofs.Rows.{is_triangle}
-use Rattle.faceset.proofs.sets.triangle.Goals as goal
+use Rattle.faceset.proofs.Triples.{is_triangle}
+use Rattle.faceset.proofs.rows.triangle.Goals as goal
 
 pub returns-in-len3-clause-some : goal.returns-in-len3-clause-some
 returns-in-len3-clause-some c =

@@ -1,7 +1,7 @@
 use Rattle.std.proofs.Common.{rules, Any, sym, subst}
 use Rattle.faceset.specs.Indexes.{PointsNowhere}
 use Rattle.faceset.proofs.Scans.{any_never, any_more}
-use Rattle.faceset.proofs.sets.is_bad_row.Goals as goal
+use Rattle.faceset.proofs.bad.has_bad_item.Goals as goal
 
 pub loop-value-preserved : goal.loop-value-preserved
 loop-value-preserved c = any_more (PointsNowhere c.args.count) c.items_in-value-items.result.now c.loop-value.value-index c.value-item.result c.loop-value-test.true c.value-item.is (search rules) c.loop-value.invariant
