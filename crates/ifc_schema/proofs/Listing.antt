@@ -35,6 +35,10 @@ used_found world _ (root id i f r) = record { instance = i; found = f }
 used_found world _ (named from to i u f n) = record { instance = n.names.leads.target; found = n.names.leads.found }
 used_found world _ (mapped by from to m i u fm h f n) = record { instance = n.names.leads.target; found = n.names.leads.found }
 
+-- what is mapped is there
+pub mapped_found : (world : List Instance) (id : ℕ) → IsMapped world id → Found world id
+mapped_found world id m = record { instance = m.maps.leads.target; found = m.maps.leads.found }
+
 -- an earlier place has a lower number
 lower : (world : List Instance) → Rises world → (a b k at : ℕ) → IsPlaceOf world a k → IsPlaceOf world b at → k < at → a < b
 lower world rises a b k at p q lt =
@@ -178,6 +182,24 @@ unseen_there world w at m k lt e s id p u =
     let d = ap rank (e ∙ get_or_default w.marks.items at m Unseen (let z = k.size in omega arith)) in
     let z = seen_rank m s in
     let r = k.used id u at p in omega arith
+
+unmapped_rank : (m : Mark) → is_mapped m ≡ false → rank m ≤ 1
+unmapped_rank Unseen h = omega arith
+unmapped_rank Met h = omega arith
+unmapped_rank Mapped h = cc
+
+-- a mark of what is mapped, read at a place
+pub mapped_there : (world : List Instance) (w : Work) (at : ℕ) (m : Mark) → Known world w → at < length world → m ≡ get_or w.marks.items at m → is_mapped m ≡ true → 1 < rank_at w at
+mapped_there world w at m k lt e s =
+    let d = ap rank (e ∙ get_or_default w.marks.items at m Unseen (let z = k.size in omega arith)) in
+    let r = mapped_rank m s in omega arith
+
+-- nothing that is mapped stands where another mark is
+pub unmapped_there : (world : List Instance) (w : Work) (at : ℕ) (m : Mark) → Known world w → at < length world → m ≡ get_or w.marks.items at m → is_mapped m ≡ false → (id : ℕ) → IsPlaceOf world id at → IsMapped world id → ⊥
+unmapped_there world w at m k lt e s id p u =
+    let d = ap rank (e ∙ get_or_default w.marks.items at m Unseen (let z = k.size in omega arith)) in
+    let z = unmapped_rank m s in
+    let r = k.mapped id u at p in omega arith
 
 pub fault_there : (world : List Instance) (w : Work) (at : ℕ) (i : Instance) (flaw : Flaw) (fault : UploadFault) → Known world w → 0 < rank_at w at → i ≡ get_or world at i
     → ((id : ℕ) → IsPlaceOf world id at → UsedFlaw world id (Some flaw)) → fault ≡ fault_of i.id flaw → FaultAt world at fault

@@ -59,13 +59,18 @@ pub record Lists (P : ℕ → Type 0) (ids : List ℕ) : Type 0 where
 abbrev pub used_ids : Survey → List ℕ
 used_ids survey = survey.used.items
 
+abbrev pub mapped_ids : Survey → List ℕ
+mapped_ids survey = survey.mapped.items
+
 abbrev pub element_ids : Survey → List ℕ
 element_ids survey = survey.elements.items
 
--- every instance that is used has the form of its row, and the survey lists them and the elements that have a body
+-- every instance that is used has the form of its row, and the survey lists them, the representations that are mapped and the elements that
+-- have a body
 pub record Surveyed (world : List Instance) (survey : Survey) : Type 0 where
   pub shaped : (id : ℕ) → Used world id → UsedFlaw world id None
   pub used : Lists (Used world) (used_ids survey)
+  pub mapped : Lists (IsMapped world) (mapped_ids survey)
   pub elements : Lists (IsModelElement world) (element_ids survey)
 
 -- why there is no survey: the file has that fault, or memory is wanting

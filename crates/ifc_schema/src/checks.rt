@@ -1,7 +1,7 @@
 //! The survey of a file: whether all that is used has the form of its row.
 ghost use Rattle.std.specs.Prelude.{◌≡◌, ◌+◌, ◌<◌, ℕ, length, IfOk, IfErr, OnOk};
 ghost use Rattle.ifc_schema.specs.Places.{IsPlaceOf};
-ghost use Rattle.ifc_schema.specs.Used.{Used};
+ghost use Rattle.ifc_schema.specs.Used.{Used, IsMapped};
 ghost use Rattle.ifc_schema.specs.Marks.{Known, rank_at};
 ghost use Rattle.ifc_schema.specs.Steps.{CheckedAt, Checked, Below};
 ghost use Rattle.ifc_schema.specs.StageFive.{UsedFlaw, IsModelElement, Lists, Surveyed, IsSurveyError, is_model_element, fault_of};
@@ -117,6 +117,38 @@ fn list_used(alloc: Global, exchange: &Exchange, work: &Work) -> Result<Vec<u64>
     Ok(ids)
 }
 
+/// Adds the number of the instance at a place, where it is a representation that is mapped.
+fn push_mapped(
+    exchange: &Exchange,
+    work: &Work,
+    at: usize,
+    ids: &mut Vec<u64>,
+) -> Result<(), AllocError>
+    requires known { Known exchange.now work.now }
+    requires within { at < length exchange.now }
+    requires ids { Lists (Below exchange.now at (IsMapped exchange.now)) ids.old.items }
+    ensures { OnOk result (Lists (Below exchange.now (at + 1) (IsMapped exchange.now)) ids.new.items) }
+{
+    if !work.marks[at].is_mapped() {
+        return Ok(());
+    }
+    let id = exchange.instances()[at].id;
+    ids.push(id)?;
+    Ok(())
+}
+
+/// The numbers of the representations that are mapped.
+fn list_mapped(alloc: Global, exchange: &Exchange, work: &Work) -> Result<Vec<u64>, AllocError>
+    requires { Known exchange.now work.now }
+    ensures { IfOk result (λ ids. Lists (IsMapped exchange.now) ids.items) }
+{
+    let mut ids = Vec::new(alloc);
+    for at in 0..exchange.instances().len() {
+        push_mapped(exchange, work, at, &mut ids)?;
+    }
+    Ok(ids)
+}
+
 /// Whether it is an element that has a body.
 fn is_model_element(
     alloc: Global,
@@ -180,6 +212,7 @@ pub fn survey(alloc: Global, exchange: &Exchange) -> Result<Survey, BuildError>
         return Err(BuildError::Fault(fault));
     }
     let used = list_used(alloc, exchange, &work)?;
+    let mapped = list_mapped(alloc, exchange, &work)?;
     let elements = list_elements(alloc, exchange, &work)?;
-    Ok(Survey::new(used, elements))
+    Ok(Survey::new(used, mapped, elements))
 }
