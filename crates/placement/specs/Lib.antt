@@ -4,3 +4,4 @@ pub mod Chains
 pub mod Placed
 pub mod Seen
 pub mod Walks
+pub mod Operators

@@ -54,7 +54,7 @@ fn given_by(exchange: &Exchange, id: u64) -> Option<Given>
 }
 
 /// The direction that a value names; none where it is absent. None where it names none that can be read.
-fn directed(exchange: &Exchange, value: &Value21) -> Option<Option<Direction>>
+pub(crate) fn directed(exchange: &Exchange, value: &Value21) -> Option<Option<Direction>>
     ensures some { IfSome result (Directs exchange.now value.now) }
     ensures none { IfNone result ((d : Option Direction) → Directs exchange.now value.now d → ⊥) }
 {
@@ -79,7 +79,7 @@ fn axes_along(axis: Option<Direction>, reference: Option<Direction>) -> Option<A
     })
 }
 
-fn first_direction(given: Option<Direction>) -> Vector
+pub(crate) fn first_direction(given: Option<Direction>) -> Vector
     ensures { result ≡ first_direction given }
 {
     match given {
@@ -88,7 +88,7 @@ fn first_direction(given: Option<Direction>) -> Vector
     }
 }
 
-fn second_direction(z: Axis, given: Option<Direction>) -> Vector
+pub(crate) fn second_direction(z: Axis, given: Option<Direction>) -> Vector
     ensures { result ≡ second_direction z given }
 {
     match given {
@@ -104,7 +104,7 @@ fn second_direction(z: Axis, given: Option<Direction>) -> Vector
 }
 
 /// The vector without its component along an axis.
-fn without(axis: Axis, vector: Vector) -> Vector
+pub(crate) fn without(axis: Axis, vector: Vector) -> Vector
     ensures { result ≡ without axis vector }
 {
     Vector {
@@ -115,7 +115,7 @@ fn without(axis: Axis, vector: Vector) -> Vector
 }
 
 /// The axis along which a vector lies, which then has one component that isn't 0.
-fn lies_along(vector: Vector) -> Option<Axis>
+pub(crate) fn lies_along(vector: Vector) -> Option<Axis>
     ensures { MatchOption result ((axis : Axis) → LiesAlong vector axis → ⊥) (LiesAlong vector) }
 {
     if vector.y == 0 && vector.z == 0 {
@@ -148,7 +148,7 @@ fn signed_axis(direction: u8, sign: i8) -> Option<Axis>
 }
 
 /// The axis z × x.
-fn across(z: Axis, x: Axis) -> Axis
+pub(crate) fn across(z: Axis, x: Axis) -> Axis
     requires z { z.direction < 3 }
     requires x { x.direction < 3 }
     requires apart { z.direction ≢ x.direction }

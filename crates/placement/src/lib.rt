@@ -11,6 +11,7 @@ mod direction;
 mod frame;
 mod frames;
 mod laws;
+mod operator;
 mod own;
 mod read;
 #[cfg(test)]
@@ -22,5 +23,6 @@ pub use axis::Axis;
 pub use chains::Chains;
 pub use frame::{Frame, Offset};
 pub use frames::Frames;
-pub use laws::one_frame;
+pub use laws::{one_frame, one_operator_frame};
+pub use operator::{operator_axes, operator_frame};
 pub use own::{axis_frame, location_of, own_frame};

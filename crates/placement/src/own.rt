@@ -15,7 +15,7 @@ use ifc_units::{Scale, point};
 use p21_reader::{Exchange, Value21};
 
 /// An attribute of the instance of that number.
-fn value_at(exchange: &Exchange, id: u64, at: usize) -> Option<&Value21>
+pub(crate) fn value_at(exchange: &Exchange, id: u64, at: usize) -> Option<&Value21>
     ensures { option_copied result ≡ value_at exchange.now id at }
 {
     let instance = fetch(exchange, id)?;
@@ -23,7 +23,7 @@ fn value_at(exchange: &Exchange, id: u64, at: usize) -> Option<&Value21>
 }
 
 /// The number of the instance that the attribute refers to.
-fn referred_at(exchange: &Exchange, id: u64, at: usize) -> Option<u64>
+pub(crate) fn referred_at(exchange: &Exchange, id: u64, at: usize) -> Option<u64>
     ensures { result ≡ referred_at exchange.now id at }
 {
     reference_of(value_at(exchange, id, at)?)
