@@ -16,7 +16,7 @@ use Rattle.model_build.specs.Named.{IsNamed, ListsNamed}
 use Rattle.model_build.specs.Profile.{LoopFault}
 use Rattle.model_build.specs.Outcomes.{IsErrorOf, HasChains}
 use Rattle.model_build.proofs.Shaped.{element_guid, guid_there}
-use Rattle.model_build.proofs.Sets.{element_is}
+use Rattle.model_build.proofs.Served.{element_is}
 use Rattle.model_build.proofs.Told.{listed_named, named_listed}
 
 -- each element has a global identifier

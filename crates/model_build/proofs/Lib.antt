@@ -10,7 +10,7 @@ pub mod Attributes
 pub mod Shaped
 pub mod Bodied
 pub mod Flawless
-pub mod Sets
+pub mod Served
 pub mod OneAxes
 pub mod OneFrame
 pub mod OneSet

@@ -29,7 +29,7 @@ use Rattle.model_build.specs.Outcomes.{AreServed, HasChains, IsStanding, IsReady
 use Rattle.model_build.proofs.Attributes.{Shaped, At, OrAway, SpellsNumber, ListOf}
 use Rattle.model_build.proofs.Shaped.{ThreeOf, NamesUsed, named_at, points_used, list_numbers, listed_there, element_guid, guid_there, placement_used}
 use Rattle.model_build.proofs.Bodied.{UsedAs}
-use Rattle.model_build.proofs.Sets.{NoOther, IsServed, served_is, rows_some, rows_three, element_is, element_sets, element_set_some}
+use Rattle.model_build.proofs.Served.{NoOther, IsServed, served_is, rows_some, rows_three, element_is, element_sets, element_set_some}
 use Rattle.model_build.proofs.Tables.{points_told}
 use Rattle.model_build.proofs.Readable.{readable_points}
 

@@ -16,28 +16,25 @@ abbrev pub listed_by : Option Instance → ℕ → List Value21
 listed_by None at = []
 listed_by (Some i) at = listed i at
 
--- the bodies among the representations of a shape: those whose identifier is `Body`
-abbrev pub bodies_of : List Instance → Option Instance → List Instance
-bodies_of world shape = filter is_body_representation (led_to world (listed_by shape 2))
+-- the bodies among the instances that values refer to: shape representations whose identifier is `Body`
+abbrev pub bodies_among : List Instance → List Value21 → List Instance
+bodies_among world values = filter is_body_representation (led_to world values)
 
--- the shape representations of an element whose identifier is `Body`
+-- the bodies of an element
 abbrev pub bodies : List Instance → Instance → List Instance
-bodies world i = bodies_of world (target_at world i 6)
+bodies world i = bodies_among world (listed_by (target_at world i 6) 2)
 
 -- the items of a representation, as they are spelled
 abbrev pub spelled_items : Instance → List Value21
 spelled_items r = listed r 3
 
 -- the items of a representation, in their order; one that is listed twice stands twice
-abbrev pub items_of : List Instance → Option Instance → List Instance
-items_of world representation = led_to world (listed_by representation 3)
-
-abbrev pub items_in_body : List Instance → Instance → List Instance
-items_in_body world r = items_of world (Some r)
+abbrev pub items_of : List Instance → Instance → List Instance
+items_of world r = led_to world (spelled_items r)
 
 -- the items of all bodies of an element, in their order
 abbrev pub body_items : List Instance → Instance → List Instance
-body_items world i = flat_map (items_in_body world) (bodies world i)
+body_items world i = flat_map (items_of world) (bodies world i)
 
 abbrev pub is_mapped_item : Instance → Bool
 is_mapped_item i = is_a MappedItem i
@@ -52,9 +49,12 @@ is_item i = is_set i || is_mapped_item i
 abbrev pub map_of : List Instance → Instance → Option Instance
 map_of world item = target_at world item 0
 
--- what it maps: the items of the mapped representation
+-- what it maps: the items of the mapped representation, as they are spelled
+abbrev pub spelled_sets : List Instance → Instance → List Value21
+spelled_sets world item = listed_by (option_and_then (λ m. target_at world m 1) (map_of world item)) 3
+
 abbrev pub mapped_sets : List Instance → Instance → List Instance
-mapped_sets world item = items_of world (option_and_then (λ m. target_at world m 1) (map_of world item))
+mapped_sets world item = led_to world (spelled_sets world item)
 
 -- How many triangles there are.
 

@@ -68,12 +68,8 @@ pub record HasGridNumber (scale : Scale) (mode : Mode) (v : Value21) (g : ℤ) :
 abbrev pub IsSome : ℤ → Type 0
 IsSome g = g ≡ pos 0 → ⊥
 
--- The location of the axis placement of that number has three grid numbers that aren't all 0.
-pub record IsAway (world : List Instance) (scale : Scale) (mode : Mode) (id : ℕ) : Type 0 where
-  pub to : ℕ
-  pub refers : referred_at world id 0 ≡ Some to
-  pub value : Value21
-  pub there : value_at world to 0 ≡ Some value
+-- a value is three lengths with grid numbers that aren't all 0
+pub record IsAwayValue (scale : Scale) (mode : Mode) (value : Value21) : Type 0 where
   pub a : Value21
   pub b : Value21
   pub c : Value21
@@ -83,6 +79,14 @@ pub record IsAway (world : List Instance) (scale : Scale) (mode : Mode) (id : �
   pub z : ℤ
   pub grid : AllZip (HasGridNumber scale mode) (a ∷ b ∷ c ∷ []) (x ∷ y ∷ z ∷ [])
   pub some : Any IsSome (x ∷ y ∷ z ∷ [])
+
+-- the location of the axis placement of that number is such a value
+pub record IsAway (world : List Instance) (scale : Scale) (mode : Mode) (id : ℕ) : Type 0 where
+  pub to : ℕ
+  pub refers : referred_at world id 0 ≡ Some to
+  pub value : Value21
+  pub there : value_at world to 0 ≡ Some value
+  pub away : IsAwayValue scale mode value
 
 -- the axes that point as those of the grid do
 abbrev pub plain_axes : Axes
@@ -96,14 +100,17 @@ plain_axes = record {
 abbrev pub IsTurned : List Instance → ℕ → Type 0
 IsTurned world id = HasAxes world id plain_axes → ⊥
 
--- The mapping origin of the mapped item of that number isn't the identity. Where its location has no grid numbers its axes alone decide.
-pub record IsShifted (world : List Instance) (scale : Scale) (mode : Mode) (id : ℕ) : Type 0 where
-  pub item : Finds world id (λ i. is_mapped_item i ≡ true)
+-- The mapping origin of the item of that number isn't the identity. Where its location has no grid numbers its axes alone decide.
+pub record IsOtherOrigin (world : List Instance) (scale : Scale) (mode : Mode) (id : ℕ) : Type 0 where
   pub map : ℕ
   pub uses : referred_at world id 0 ≡ Some map
   pub origin : ℕ
   pub refers : referred_at world map 0 ≡ Some origin
   pub other : IsTurned world origin ⊎ IsAway world scale mode origin
+
+-- it is a mapped item like that
+abbrev pub IsShifted : List Instance → Scale → Mode → ℕ → Type 0
+IsShifted world scale mode id = Finds world id (λ i. is_mapped_item i ≡ true) × IsOtherOrigin world scale mode id
 
 -- What one instance shows to be unsupported: an item that it lists, its mapping target, or itself.
 abbrev pub Shows : List Instance → Scale → Mode → ℕ → ℕ → Type 0
