@@ -9,3 +9,4 @@ pub mod Square
 pub mod Owning
 pub mod Composed
 pub mod OneFrame
+pub mod Operating

@@ -27,7 +27,7 @@ one_location world s mode id p q l m =
     let here = one (value_at world m.to 0) l.value m.value (subst (λ (n : ℕ). value_at world n 0 ≡ Some l.value) same l.there) m.there in
     one_point s mode m.value p q (subst (λ (x : Value21). IsPoint s mode x p) here l.is_point) m.is_point
 
-same_axes : (a b : Axes) → a.x ≡ b.x → a.y ≡ b.y → a.z ≡ b.z → a ≡ b
+pub same_axes : (a b : Axes) → a.x ≡ b.x → a.y ≡ b.y → a.z ≡ b.z → a ≡ b
 same_axes a b e f g = let o : Axes = record { x = b.x; y = b.y; z = b.z } in let h : record { x = a.x; y = a.y; z = a.z } ≡ o = rw (e, f, g) refl in h
 
 pub one_axes : (world : List Instance) (id : ℕ) (a b : Axes) → HasAxes world id a → HasAxes world id b → a ≡ b

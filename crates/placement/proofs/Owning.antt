@@ -19,7 +19,7 @@ one o a b e f = let g : Some a ≡ Some b = sym e ∙ f in cc
 
 -- Locations.
 
-unpointed : (s : Scale) (mode : Mode) (v : Value21) (e : LengthError) → Fails (IsPoint s mode v) (PointRefused s mode v) e → (p : Point) → IsPoint s mode v p → ⊥
+pub unpointed : (s : Scale) (mode : Mode) (v : Value21) (e : LengthError) → Fails (IsPoint s mode v) (PointRefused s mode v) e → (p : Point) → IsPoint s mode v p → ⊥
 unpointed s mode v Unread h p i = h.none p i
 unpointed s mode v (Refused f) h p i = point_apart s mode v p f i h
 

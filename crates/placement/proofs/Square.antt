@@ -21,7 +21,7 @@ use Rattle.placement.specs.Directions.{Spelled, IsDirection, Directs, Directions
 abbrev scaled : Bool → ℕ → ℤ → Scaled
 scaled b m p = record { number = signed b m; power = p }
 
-abbrev vector : ℤ → ℤ → ℤ → Vector
+abbrev pub vector : ℤ → ℤ → ℤ → Vector
 vector a b c = record { x = a; y = b; z = c }
 
 one : {X : Type 0} (o : Option X) (a b : X) → o ≡ Some a → o ≡ Some b → a ≡ b
@@ -66,7 +66,7 @@ component d e a b h g =
     kept (is_faint d a) (is_faint e b) (sign a) (sign b)
     (any_of _ _ _ _ _ _ (dwarfed a b d.x e.x g h.x) (dwarfed a b d.y e.y g h.y) (dwarfed a b d.z e.z g h.z)) g.signs
 
-same_vector : (a b c x y z : ℤ) → a ≡ x → b ≡ y → c ≡ z → vector a b c ≡ vector x y z
+pub same_vector : (a b c x y z : ℤ) → a ≡ x → b ≡ y → c ≡ z → vector a b c ≡ vector x y z
 same_vector a b c x y z e f g = rw (e, f, g) refl
 
 same_cleaned : (d e : Direction) → AreAlike d e → cleaned d ≡ cleaned e
@@ -98,10 +98,10 @@ never_both (layer.Reference _) to a e = absurd (cc)
 never_both (layer.List _) to a e = absurd (cc)
 never_both (layer.Typed _ _) to a e = absurd (cc)
 
-refers_absent : {A : Type 0} (v : Value21) (to : ℕ) → is_absent v ≡ true → reference_of v ≡ Some to → A
+pub refers_absent : {A : Type 0} (v : Value21) (to : ℕ) → is_absent v ≡ true → reference_of v ≡ Some to → A
 refers_absent v to a e = never_both (out-Value21 v) to a e
 
-same_directs : (world : List Instance) (v : Value21) (d e : Option Direction) → Directs world v d → Directs world v e → GiveSame d e
+pub same_directs : (world : List Instance) (v : Value21) (d e : Option Direction) → Directs world v d → Directs world v e → GiveSame d e
 same_directs world v None None r s = record { first = refl; second = λ z. refl }
 same_directs world v None (Some e) r s = refers_absent v s.0 r s.1
 same_directs world v (Some d) None r s = refers_absent v r.0 s r.1

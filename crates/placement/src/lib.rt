@@ -12,6 +12,8 @@ mod frame;
 mod frames;
 mod laws;
 mod operator;
+#[cfg(test)]
+mod operator_tests;
 mod own;
 mod read;
 #[cfg(test)]

@@ -1,5 +1,5 @@
 //! Where mapped items lie: the axes and the frames of operators.
-ghost use Rattle.std.specs.Prelude.{◌≡◌, ◌≢◌, ◌<◌, ℕ, Option, option_copied, IfSome, IfNone, MatchOption};
+ghost use Rattle.std.specs.Prelude.{◌≡◌, ◌≢◌, ◌<◌, ℕ, Option, IfSome, IfNone, MatchOption, slice_get};
 ghost use Rattle.bim_model.specs.declared.geometry.Point.{Point};
 ghost use Rattle.placement.specs.declared.direction.Direction.{Direction};
 ghost use Rattle.placement.specs.declared.frame.Frame.{Frame};
@@ -16,7 +16,7 @@ use crate::own::{referred_at, value_at};
 use crate::read::fetch;
 use bim_model::{Mode, Point};
 use ifc_units::{Scale, point};
-use p21_reader::{Exchange, Value21};
+use p21_reader::{Exchange, Instance};
 
 /// The three directions of an operator, each of which may be absent.
 #[derive(Clone, Copy)]
@@ -73,28 +73,31 @@ fn given_by(exchange: &Exchange, id: u64) -> Option<Given>
     ensures some { IfSome result (λ g. OperatorDirections exchange.now id g.axis1 g.axis2 g.axis3) }
     ensures none { IfNone result (HasOperatorDirections exchange.now id → ⊥) }
 {
-    let instance = fetch(exchange, id)?;
-    let values = instance.values.as_slice();
+    let operator = fetch(exchange, id)?;
     Some(Given {
-        axis1: may_direct(exchange, values.get(0))?,
-        axis2: may_direct(exchange, values.get(1))?,
-        axis3: may_direct(exchange, values.get(4))?,
+        axis1: named_at(exchange, operator, 0)?,
+        axis2: named_at(exchange, operator, 1)?,
+        axis3: named_at(exchange, operator, 4)?,
     })
 }
 
 /// The direction that an attribute names; none where it is missing or absent. None where it names none that can be read.
-fn may_direct(exchange: &Exchange, value: Option<&Value21>) -> Option<Option<Direction>>
-    ensures some { IfSome result (MayDirect exchange.now (option_copied value)) }
-    ensures none { IfNone result ((d : Option Direction) → MayDirect exchange.now (option_copied value) d → ⊥) }
+fn named_at(exchange: &Exchange, operator: &Instance, at: usize) -> Option<Option<Direction>>
+    ensures some { IfSome result (MayDirect exchange.now (slice_get operator.now.values at)) }
+    ensures none { IfNone result ((d : Option Direction) → MayDirect exchange.now (slice_get operator.now.values at) d → ⊥) }
 {
-    match value {
+    match operator.values.as_slice().get(at) {
         Some(value) => directed(exchange, value),
         None => Some(None),
     }
 }
 
 /// The axes that three directions give.
-fn axes_along(axis1: Option<Direction>, axis2: Option<Direction>, axis3: Option<Direction>) -> Option<Axes>
+fn axes_along(
+    axis1: Option<Direction>,
+    axis2: Option<Direction>,
+    axis3: Option<Direction>,
+) -> Option<Axes>
     ensures axes { MatchOption result ((axes : Axes) → GiveOperatorAxes axis1 axis2 axis3 axes → ⊥) (GiveOperatorAxes axis1 axis2 axis3) }
     ensures apart { IfSome result (λ axes. (offset : Offset) → IsFrame (frame_at axes offset)) }
 {
