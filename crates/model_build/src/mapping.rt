@@ -68,7 +68,7 @@ fn other_target(exchange: &Exchange, item: &Instance) -> Option<u64>
     if is_no_target(target) { Some(id) } else { None }
 }
 
-fn lies(value: &Value21, scale: Scale, mode: Mode) -> Lies
+fn where_it_lies(value: &Value21, scale: Scale, mode: Mode) -> Lies
     ensures { HasPlace scale mode value.now result }
 {
     match length(value, scale, mode) {
@@ -107,9 +107,9 @@ fn is_away_value(value: &Value21, scale: Scale, mode: Mode) -> bool
     };
     match items {
         [a, b, c] => are_away(
-            lies(a, scale, mode),
-            lies(b, scale, mode),
-            lies(c, scale, mode),
+            where_it_lies(a, scale, mode),
+            where_it_lies(b, scale, mode),
+            where_it_lies(c, scale, mode),
         ),
         _ => false,
     }

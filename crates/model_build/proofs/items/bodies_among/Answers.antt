@@ -1,7 +1,7 @@
 use Rattle.std.proofs.Common.{map, Some, rules, ap, ◌∙◌, sym}
 use Rattle.ifc_schema.specs.Looking.{look}
 use Rattle.model_build.proofs.Collecting.{sets_none, sets_more, sets_all}
-use Rattle.model_build.proofs.items.body_sets.Goals as goal
+use Rattle.model_build.proofs.items.bodies_among.Goals as goal
 
 pub loop-value-init : goal.loop-value-init
 loop-value-init c = let world = c.args.exchange.now in ap (map (look world)) c.new-sets.ensures.items ∙ sym (ap (map Some) (sets_none world))

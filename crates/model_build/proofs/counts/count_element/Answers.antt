@@ -3,7 +3,7 @@ use Rattle.std.specs.Option.{IfSome, IfNone}
 use Rattle.model_build.specs.Items.{most_triangles}
 use Rattle.model_build.specs.Counting.{rows_at}
 use Rattle.model_build.proofs.Collecting.{counts_element}
-use Rattle.model_build.proofs.items.count_element.Goals as goal
+use Rattle.model_build.proofs.counts.count_element.Goals as goal
 
 pub returns-in_ok-sets-in-Some-clause-some : goal.returns-in_ok-sets-in-Some-clause-some
 returns-in_ok-sets-in-Some-clause-some c =
