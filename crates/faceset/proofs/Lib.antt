@@ -2,3 +2,9 @@ pub mod Values
 pub mod Decimals
 pub mod Scans
 pub mod Triples
+pub mod Anys
+pub mod Named
+pub mod Zips
+pub mod Corners
+pub mod Joins
+pub mod Unique
