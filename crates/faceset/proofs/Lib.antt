@@ -1,4 +1,4 @@
 pub mod Values
 pub mod Decimals
 pub mod Scans
-pub mod Triples
+pub mod Named
