@@ -1,4 +1,6 @@
 pub mod Values
 pub mod Decimals
 pub mod Scans
+pub mod Anys
 pub mod Named
+pub mod RowLemmas
