@@ -1,4 +1,12 @@
 pub mod Values
 pub mod Decimals
+pub mod Zips
+pub mod Corners
+pub mod Joins
+pub mod Unique
+pub mod Faces
+pub mod StuckFaces
 pub mod Scans
-pub mod Triples
+pub mod Anys
+pub mod Named
+pub mod RowLemmas

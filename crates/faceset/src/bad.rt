@@ -37,6 +37,7 @@ fn has_bad_row(rows: &[Value21], count: usize) -> bool
 }
 
 /// Whether the value refers to a face of which an index counts none of so many things.
+#[tactic(auto, using(crate::proofs::Named::named_none, crate::proofs::Named::named_nowhere, crate::proofs::Named::named_one))]
 fn is_bad_face(exchange: &Exchange, value: &Value21, count: usize) -> bool
     requires { count < 2 ^ 63 }
     ensures { MatchBool result (Any (Any (PointsNowhere count)) (map outline (named_faces exchange.now (value.now ∷ [])))) (Any (Any (PointsNowhere count)) (map outline (named_faces exchange.now (value.now ∷ []))) → ⊥) }

@@ -7,6 +7,7 @@ use ifc_schema::reference_of;
 use p21_reader::{Exchange, Instance, Value21};
 
 /// How many triangles the face has that a value refers to.
+#[tactic(auto, using(crate::proofs::Named::named_none, crate::proofs::Named::named_nowhere, crate::proofs::Named::named_one))]
 fn count_face(exchange: &Exchange, value: &Value21) -> u64
     ensures { result ≡ sum_by face_count (named_faces exchange.now (value.now ∷ [])) }
 {
