@@ -1,5 +1,11 @@
 pub mod Values
 pub mod Decimals
+pub mod Zips
+pub mod Corners
+pub mod Joins
+pub mod Unique
+pub mod Faces
+pub mod StuckFaces
 pub mod Scans
 pub mod Anys
 pub mod Named
