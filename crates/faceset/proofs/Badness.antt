@@ -28,5 +28,5 @@ bad_rows world set numbers count within false e f g none h = λ bad. elim bad [
 
 -- an index that counts the points
 pub named_directly : (count : ℕ) (v : Value21) (r : Option ℕ) → IfSome r (PointsAt count v) → IfNone r (PointsNowhere count v) → MatchOption r (IsMisnamed None count v) (NamesPoint None count v)
-named_directly count v None some none = inl none
+named_directly count v None some none = none
 named_directly count v (Some place) some none = some
