@@ -10,3 +10,4 @@ pub mod Scans
 pub mod Anys
 pub mod Named
 pub mod RowLemmas
+pub mod Badness
