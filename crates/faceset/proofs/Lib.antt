@@ -4,7 +4,7 @@ pub mod Zips
 pub mod Corners
 pub mod Joins
 pub mod Unique
-pub mod Faces
+pub mod FaceLists
 pub mod StuckFaces
 pub mod Scans
 pub mod Anys
