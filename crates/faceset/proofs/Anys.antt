@@ -1,14 +1,14 @@
 -- One of the items of a list that was joined, or made item by item.
 use Rattle.std.proofs.Common.{◌≡◌, ℕ, zero, suc, ◌+◌, ◌<◌, List, [], ◌∷◌, ◌++◌, length, map, get_or, refl, sym, subst, ◌∙◌, arith}
 use Rattle.std.specs.List.{All, Any}
-use Rattle.std.proofs.lemmas.List.{get_or_default, get_or_append_left}
+use Rattle.std.proofs.lemmas.List.{get_or_default, get_or_append_left, length-append}
 
 pub any_left : {X : Type 0} (P : X → Type 0) (xs ys : List X) → Any P xs → Any P (xs ++ ys)
 any_left P [] ys any = absurd (let lt = any.2 in omega (arith, lt))
-any_left P (x ∷ xs) ys any = (any.0, any.1, within (x ∷ xs) ys any.0 any.2, get_or_append_left (x ∷ xs) ys any.1 any.0 any.2 ∙ any.3, any.4)
+any_left P (x ∷ xs) ys any = from P (x ∷ xs) ys any.0 any.1 any.2 any.3 any.4
   where
-    within : {X : Type 0} (xs ys : List X) (k : ℕ) → k < length xs → k < length (xs ++ ys)
-    within xs ys k lt = grind (arith, lt)
+    from : {X : Type 0} (P : X → Type 0) (xs ys : List X) (k : ℕ) (y : X) → k < length xs → get_or xs k y ≡ y → P y → Any P (xs ++ ys)
+    from P xs ys k y lt e h = (k, y, (let l = length-append xs ys in omega (arith, l, lt)), get_or_append_left xs ys y k lt ∙ e, h)
 
 pub any_right : {X : Type 0} (P : X → Type 0) (xs ys : List X) → Any P ys → Any P (xs ++ ys)
 any_right P [] ys any = any

@@ -12,3 +12,4 @@ pub mod Scans
 pub mod Anys
 pub mod Named
 pub mod RowLemmas
+pub mod Badness

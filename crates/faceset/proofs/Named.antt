@@ -71,7 +71,7 @@ mapped_here f P world vs i v lt at any =
 pub mapped_never : {Y : Type 0} (f : Instance → Y) (P : Y → Type 0) (world : List Instance) (vs : List Value21) (i : ℕ) → length vs ≤ i
     → All (λ y. P y → ⊥) (map f (named_faces world (take i vs))) → Any P (map f (named_faces world vs)) → ⊥
 mapped_never f P world vs i le none any =
-    not_any P (map f (named_faces world vs)) (subst (λ (us : List Value21). All (λ y. P y → ⊥) (map f (named_faces world us))) (take_all vs i le) none) any
+    not_any P (map f (named_faces world vs)) (subst (λ (us : List Value21). All (λ y. P y → ⊥) (map f (named_faces world us))) (take_all i vs le) none) any
 
 -- A number of each face, summed value by value.
 
@@ -84,3 +84,10 @@ summed_part f world vs i =
     let e : sum_by f (named_faces world vs) ≡ sum_by f (named_faces world (take i vs)) + sum_by f (named_faces world (drop i vs)) =
     ap (sum_by f) (named_parts world vs i) ∙ sum_by-append f (named_faces world (take i vs)) (named_faces world (drop i vs)) in
     omega (arith, e)
+
+pub summed_past : (f : Instance → ℕ) (world : List Instance) (vs : List Value21) (i : ℕ) (v : Value21) (most sum more : ℕ) → i < length vs → v ≡ get_or vs i v
+    → sum ≡ sum_by f (named_faces world (take i vs)) → more ≡ sum_by f (named_faces world (v ∷ [])) → most < sum + more → most < sum_by f (named_faces world vs)
+summed_past f world vs i v most sum more lt at s m past =
+    let whole = summed_more f world vs i v lt at in
+    let part = summed_part f world vs (i + 1) in
+    omega (arith, whole, part, s, m, past)

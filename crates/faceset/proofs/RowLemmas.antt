@@ -1,11 +1,13 @@
 -- Rows of indexes, row by row.
-use Rattle.std.proofs.Common.{◌≡◌, ℕ, ◌+◌, ◌<◌, List, [], ◌∷◌, ◌++◌, length, take, get_or, Option, Some, None, refl, sym, ◌∙◌, ap, arith}
-use Rattle.std.specs.Option.{unwrap_or}
-use Rattle.std.specs.List.{AllZip}
+use Rattle.std.proofs.Common.{◌≡◌, ℕ, ◌+◌, ◌<◌, List, [], ◌∷◌, ◌++◌, length, take, get_or, Option, Some, None, refl, sym, subst, ◌∙◌, ap, arith}
+use Rattle.std.specs.Option.{unwrap_or, MatchOption}
+use Rattle.std.specs.List.{AllZip, Any}
 use Rattle.std.proofs.lemmas.List.{take_more}
 use Rattle.p21_reader.specs.declared.value.Value21.{Value21}
 use Rattle.ifc_schema.specs.Values.{items_of}
-use Rattle.faceset.specs.Sets.{items_in}
+use Rattle.bim_model.specs.declared.geometry.Point.{Point}
+use Rattle.bim_model.specs.declared.geometry.Triangle.{Triangle}
+use Rattle.faceset.specs.Sets.{items_in, IsCorner, IsMisnamed, IsTriangle, HasThree}
 
 zip_push : {X Y : Type 0} (R : X → Y → Type 0) (xs : List X) (ys : List Y) (x : X) (y : Y) → AllZip R xs ys → R x y → AllZip R (xs ++ x ∷ []) (ys ++ y ∷ [])
 zip_push R [] [] x y are is = (is, tt)
@@ -31,9 +33,12 @@ some_of : (o : Option (List Value21)) (xs : List Value21) → 0 < length xs → 
 some_of None xs some e = absurd (omega (arith, ap length e))
 some_of (Some ys) xs some e = ap Some e
 
--- a row of three items is these three
-pub row_of_three : (row a b c : Value21) (xs : List Value21) → items_in row ≡ xs → length xs ≡ 3 → a ≡ get_or xs 0 a → b ≡ get_or xs 1 b → c ≡ get_or xs 2 c
-    → items_of row ≡ Some (a ∷ b ∷ c ∷ [])
-row_of_three row a b c xs items e p q s =
+-- what the three items of a row give, the row gives
+pub triangle_told : (numbers : Option (List Value21)) (points : List Point) (row a b c : Value21) (xs : List Value21) (r : Option Triangle) → items_in row ≡ xs → length xs ≡ 3
+    → a ≡ get_or xs 0 a → b ≡ get_or xs 1 b → c ≡ get_or xs 2 c
+    → MatchOption r (Any (IsMisnamed numbers (length points)) (a ∷ b ∷ c ∷ [])) (λ t. IsCorner numbers points a t.a × IsCorner numbers points b t.b × IsCorner numbers points c t.c)
+    → MatchOption r (HasThree row → Any (IsMisnamed numbers (length points)) (items_in row)) (IsTriangle numbers points row)
+triangle_told numbers points row a b c xs None items e p q s h = λ three. subst (Any (IsMisnamed numbers (length points))) (sym (items ∙ three_of xs a b c e p q s)) h
+triangle_told numbers points row a b c xs (Some t) items e p q s h =
     let whole : items_in row ≡ a ∷ b ∷ c ∷ [] = items ∙ three_of xs a b c e p q s in
-    some_of (items_of row) (a ∷ b ∷ c ∷ []) (omega arith) whole
+    record { a = a; b = b; c = c; three = some_of (items_of row) (a ∷ b ∷ c ∷ []) (omega arith) whole; first = h.0; second = h.1; third = h.2 }

@@ -38,6 +38,7 @@ fn count_faces(exchange: &Exchange, values: &[Value21], most: u64) -> Option<u64
 
 /// How many triangles the set has: one for each row, and n - 2 for a face of n corners. None where they are more than `most`. Takes no
 /// memory, and cuts no face.
+#[tactic(auto, unfolding(crate::specs::Sets::faces_of))]
 pub fn triangle_count(exchange: &Exchange, set: &Instance, most: u64) -> Option<u64>
     ensures some { IfSome result (λ n. (n ≡ triangle_count exchange.now set.now) × (n ≤ most)) }
     ensures none { IfNone result (most < triangle_count exchange.now set.now) }

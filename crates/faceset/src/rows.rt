@@ -18,11 +18,16 @@ fn triangle_of(
 ) -> Option<Triangle>
     ensures { MatchOption result (Any (IsMisnamed (option_copied numbers.entry) (length points.now)) (a.now ∷ b.now ∷ c.now ∷ [])) (λ t. IsCorner (option_copied numbers.entry) points.now a.now t.a × IsCorner (option_copied numbers.entry) points.now b.now t.b × IsCorner (option_copied numbers.entry) points.now c.now t.c) }
 {
-    Some(Triangle {
-        a: corner(a, numbers, points)?,
-        b: corner(b, numbers, points)?,
-        c: corner(c, numbers, points)?,
-    })
+    let Some(a) = corner(a, numbers, points) else {
+        return None;
+    };
+    let Some(b) = corner(b, numbers, points) else {
+        return None;
+    };
+    let Some(c) = corner(c, numbers, points) else {
+        return None;
+    };
+    Some(Triangle { a, b, c })
 }
 
 /// The triangle of a row. None of one that isn't three indexes of points.
