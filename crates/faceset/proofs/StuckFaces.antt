@@ -1,5 +1,5 @@
 -- The least face that can't be cut, value by value.
-use Rattle.std.proofs.Common.{◌≡◌, ℕ, zero, suc, ◌+◌, ◌<◌, ◌≤◌, Bool, true, false, cond, ltb, List, [], ◌∷◌, ◌++◌, length, take, get_or, take_all, filter_map, Option, Some, None, Contains, MatchOption, ◌⊎◌, inl, inr, refl, sym, ◌∙◌, ap, subst, arith}
+use Rattle.std.proofs.Common.{◌≡◌, ℕ, zero, suc, ◌+◌, ◌<◌, ◌≤◌, Bool, true, false, cond, ltb, List, [], ◌∷◌, ◌++◌, length, take, get_or, take_all, filter_map, Option, Some, None, Contains, Result, Ok, Err, IfOk, MatchOption, ◌⊎◌, inl, inr, refl, sym, ◌∙◌, ap, subst, arith}
 use Rattle.std.specs.List.{cons_option}
 use Rattle.std.proofs.lemmas.Bool.{ltb-true, ltb-false}
 use Rattle.std.proofs.lemmas.List.{take_more}
@@ -135,7 +135,7 @@ set_out : (world : List Instance) (points : List Point) (set : Instance) → is_
 unfolding face_ids
 set_out world points set polygonal id h = record { polygonal = polygonal; listed = h.listed; face = h.face; found = h.found; stuck = h.stuck }
 
-pub set_least : (world : List Instance) (points : List Point) (set : Instance) (numbers : Option (List Value21)) (values : List Value21) (found : Option ℕ) → is_polygonal set ≡ true → numbers ≡ numbering set → values ≡ listed set 2
+set_least : (world : List Instance) (points : List Point) (set : Instance) (numbers : Option (List Value21)) (values : List Value21) (found : Option ℕ) → is_polygonal set ≡ true → numbers ≡ numbering set → values ≡ listed set 2
     → LeastOf (IsStuckIn world numbers points values) found
     → MatchOption found ((id : ℕ) → HasStuck world points set id → ⊥) (λ id. HasStuck world points set id × ((k : ℕ) → k < id → HasStuck world points set k → ⊥))
 set_least world points set numbers values found polygonal same all h =
@@ -151,3 +151,9 @@ set_least world points set numbers values found polygonal same all h =
 
 pub flat_unstuck : (world : List Instance) (points : List Point) (set : Instance) → is_polygonal set ≡ false → (id : ℕ) → HasStuck world points set id → ⊥
 flat_unstuck world points set flat id h = let e = sym flat ∙ h.polygonal in grind (arith, e)
+
+pub set_least_in : {E : Type 0} (world : List Instance) (points : List Point) (set : Instance) (numbers : Option (List Value21)) (values : List Value21) (r : Result (Option ℕ) E) → is_polygonal set ≡ true → numbers ≡ numbering set → values ≡ listed set 2
+    → IfOk r (LeastOf (IsStuckIn world numbers points values))
+    → IfOk r (λ found. MatchOption found ((id : ℕ) → HasStuck world points set id → ⊥) (λ id. HasStuck world points set id × ((k : ℕ) → k < id → HasStuck world points set k → ⊥)))
+set_least_in world points set numbers values (Err e) polygonal same all h = h
+set_least_in world points set numbers values (Ok found) polygonal same all h = set_least world points set numbers values found polygonal same all h

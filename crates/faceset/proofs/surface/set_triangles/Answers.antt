@@ -13,10 +13,10 @@ returns-then-is_polygonal-clause-count c =
 
 pub returns-else-is_polygonal-clause-triangles : goal.returns-else-is_polygonal-clause-triangles
 returns-else-is_polygonal-clause-triangles c =
-    flat_made c.args.exchange.now c.args.points.now c.args.set.now (option_copied c.numbering-numbers.result) c.listed-2.result.now c.triangles.result
-    (sym c.is_polygonal.ensures ∙ c.if-is_polygonal.false) c.numbering-numbers.ensures c.listed-2.ensures c.triangles.ensures
+    flat_made c.args.exchange.now c.args.points.now c.args.set.now (option_copied c.numbering-numbers.result) c.listed-else-is_polygonal.result.now c.triangles.result
+    (sym c.is_polygonal.ensures ∙ c.if-is_polygonal.false) c.numbering-numbers.ensures c.listed-else-is_polygonal.ensures c.triangles.ensures
 
 pub returns-else-is_polygonal-clause-count : goal.returns-else-is_polygonal-clause-count
 returns-else-is_polygonal-clause-count c =
-    flat_count c.args.exchange.now c.args.points.now c.args.set.now (option_copied c.numbering-numbers.result) c.listed-2.result.now c.triangles.result
-    (sym c.is_polygonal.ensures ∙ c.if-is_polygonal.false) c.listed-2.ensures c.triangles.ensures
+    flat_count c.args.exchange.now c.args.points.now c.args.set.now (option_copied c.numbering-numbers.result) c.listed-else-is_polygonal.result.now c.triangles.result
+    (sym c.is_polygonal.ensures ∙ c.if-is_polygonal.false) c.listed-else-is_polygonal.ensures c.triangles.ensures
