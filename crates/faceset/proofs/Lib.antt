@@ -4,8 +4,10 @@ pub mod Zips
 pub mod Corners
 pub mod Joins
 pub mod Unique
-pub mod Faces
+pub mod Held
+pub mod FaceLists
 pub mod StuckFaces
+pub mod SetParts
 pub mod Scans
 pub mod Anys
 pub mod Named

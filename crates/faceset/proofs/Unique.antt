@@ -91,7 +91,7 @@ only_joined P Q true is h = h
 only_joined P Q false is h = absurd (grind (arith, is))
 
 has_face : (world : List Instance) (set : Instance) (id : ℕ) (face : Instance) → Contains (face_ids set) id → look world id ≡ Some face → Contains (faces_of world set) face
-unfolding faces_of, face_ids
+unfolding faces_of face_ids
 has_face world set id face listed found = contains_mapped (look world) (face_ids set) id face listed found
 
 -- a set with triangles has no face that can't be cut

@@ -1,5 +1,5 @@
 -- Lists of one length whose items go with each other, pair by pair.
-use Rattle.std.proofs.Common.{◌≡◌, ℕ, zero, suc, ◌+◌, ◌<◌, List, [], ◌∷◌, ◌++◌, length, take, get_or, refl, sym, ◌∙◌, ap, arith}
+use Rattle.std.proofs.Common.{◌≡◌, ℕ, zero, suc, ◌+◌, ◌<◌, List, [], ◌∷◌, ◌++◌, length, take, get_or, refl, sym, ◌∙◌, ap, subst, arith}
 use Rattle.std.specs.List.{AllZip, All}
 use Rattle.std.proofs.lemmas.List.{take_more}
 use Rattle.std.proofs.lemmas.List.Elements.{All-nil, All-cons}
@@ -36,3 +36,9 @@ zip_all R P each [] [] are = All-nil P
 zip_all R P each [] (y ∷ ys) are = absurd are
 zip_all R P each (x ∷ xs) [] are = absurd are
 zip_all R P each (x ∷ xs) (y ∷ ys) are = All-cons P y ys (each x y are.0) (zip_all R P each xs ys are.1)
+
+pub zip_at : {A B : Type 0} (R : A → B → Type 0) (xs : List A) (ys : List B) (k : ℕ) (x : A) → k < length xs → get_or xs k x ≡ x → AllZip R xs ys → (y : B) × R x y
+zip_at R [] ys k x lt at are = absurd (omega (arith, lt))
+zip_at R (u ∷ xs) [] k x lt at are = absurd are
+zip_at R (u ∷ xs) (v ∷ ys) zero x lt at are = (v, subst (λ z. R z v) at are.0)
+zip_at R (u ∷ xs) (v ∷ ys) (suc k) x lt at are = zip_at R xs ys k x (omega (arith, lt)) at are.1
