@@ -1,5 +1,5 @@
 -- What sets and elements have once the stages before their surfaces have found no fault.
-use Rattle.std.proofs.Common.{◌≡◌, ℕ, zero, suc, ◌<◌, ◌⊎◌, inl, inr, true, false, List, [], ◌∷◌, length, get_or, sum_by, Option, Some, None, option_and_then, Contains, refl, sym, ap, ◌∙◌, subst, arith}
+use Rattle.std.proofs.Common.{◌≡◌, ℕ, zero, suc, ◌<◌, inl, inr, true, false, List, [], ◌∷◌, length, get_or, Option, Some, None, option_and_then, Contains, refl, sym, ap, ◌∙◌, subst, arith}
 use Rattle.std.specs.Bool.{MatchBool}
 use Rattle.std.specs.Option.{MatchOption}
 use Rattle.std.specs.List.{All, slice_get}
@@ -25,10 +25,10 @@ use Rattle.ifc_units.specs.Lengths.{IsPoint, ArePoints, PointRefused, PointsRefu
 use Rattle.placement.specs.declared.frame.Frame.{Frame}
 use Rattle.placement.specs.Frames.{lengths_of, frame_at}
 use Rattle.placement.specs.Operators.{IsOrigin, OperatorFrame}
-use Rattle.faceset.specs.Sets.{is_set, is_polygonal, points_of, spelled_points, spelled_triangles, faces_of, listed, listed_in, HasThree, IsOutlined, IsSound}
-use Rattle.model_build.specs.Finding.{Finds, IsUsed, reference_at}
+use Rattle.faceset.specs.Sets.{is_set, is_polygonal, points_of, spelled_points, spelled_triangles, faces_of, listed, listed_in, HasThree, IsOutlined}
+use Rattle.model_build.specs.Finding.{IsUsed, reference_at}
 use Rattle.model_build.specs.PointTables.{IsTable, ListsPoints, LengthFault, told_of, kept_at}
-use Rattle.model_build.specs.Items.{bodies, spelled_items, is_mapped_item, is_item, spelled_sets, counted, count_of}
+use Rattle.model_build.specs.Items.{bodies, spelled_items, is_mapped_item, spelled_sets, counted, count_of}
 use Rattle.model_build.specs.Least.{IsBadSet, IsOblique}
 use Rattle.model_build.specs.Sound.{IsSoundSet, ReadySet, ReadyMapped, ReadyItem, ReadyBody}
 use Rattle.model_build.specs.Outcomes.{HasChains, IsStanding, IsReady, IsSettled, AreReady, AreSound}

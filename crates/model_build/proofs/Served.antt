@@ -1,6 +1,6 @@
 -- The items of elements and the sets of mapped items, where all that is used has the form of its row, and nothing is unsupported.
 use Rattle.std.proofs.Common.{◌≡◌, ℕ, zero, suc, ◌<◌, ◌≤◌, ◌⊎◌, inl, inr, true, false, List, [], ◌∷◌, length, get_or, flat_map, filter_map, sum_by, Option, Some, None, option_and_then, Contains, refl, sym, ap, ◌∙◌, subst, arith, length-append}
-use Rattle.std.specs.List.{slice_get, All, cons_option}
+use Rattle.std.specs.List.{All, cons_option}
 use Rattle.std.proofs.lemmas.List.Elements.{All-nil, All-head, All-tail, All-append}
 use Rattle.std.proofs.lemmas.List.Sums.{sum_by-cons}
 use Rattle.bim_model.specs.declared.upload.Mode.{Mode}
@@ -261,8 +261,10 @@ operator_there world scale mode item shaped none u =
       | inl t ↦ (
         n.to,
         refers,
-        target_used world u.id item a.value n.to u.used u.found u.holds a.there n.refers (record { target = n.target; found = n.found; meant = is_a_held entity.Operator n.target t }),
-        record { instance = n.target; found = n.found; holds = t },
+        (
+          target_used world u.id item a.value n.to u.used u.found u.holds a.there n.refers (record { target = n.target; found = n.found; meant = is_a_held entity.Operator n.target t }),
+          record { instance = n.target; found = n.found; holds = t },
+        ),
       )
       | inr f ↦ absurd (none n.to (
         u.id,
