@@ -1,10 +1,21 @@
-//! The face sets of a model (IFC4 ADD2 TC1, IfcTriangulatedFaceSet): which points their indexes name, and their triangles.
+//! The face sets of a model (IFC4 ADD2 TC1, IfcTriangulatedFaceSet, IfcPolygonalFaceSet): which points their indexes name, and their triangles.
 #![tactic(auto)]
 
+mod bad;
+mod counts;
+mod faces;
 mod indexes;
+mod naming;
+mod rows;
 mod sets;
+mod stuck;
+mod surface;
 #[cfg(test)]
 mod tests;
 
+pub use bad::has_bad_index;
+pub use counts::triangle_count;
 pub use indexes::place_of;
-pub use sets::{has_bad_row, items_in, listed, triangles};
+pub use sets::{is_polygonal, is_set, items_in, listed, outline};
+pub use stuck::least_stuck;
+pub use surface::set_triangles;

@@ -16,7 +16,7 @@ use Rattle.model_build.specs.Named.{IsNamed, ListsNamed}
 use Rattle.model_build.specs.Profile.{LoopFault}
 use Rattle.model_build.specs.Outcomes.{IsErrorOf, HasChains}
 use Rattle.model_build.proofs.Shaped.{element_guid, guid_there}
-use Rattle.model_build.proofs.Sets.{element_is}
+use Rattle.model_build.proofs.Served.{element_is}
 use Rattle.model_build.proofs.Told.{listed_named, named_listed}
 
 -- each element has a global identifier
@@ -35,7 +35,6 @@ loop_fault world Of ids named ls nl (faults.PlacementLoop id) h = record {
   here = (refl, h.endless);
   lower = λ k below of other f. f.1 (h.least k (named_listed world Of ids named k ls nl of) below);
 }
-loop_fault world Of ids named ls nl faults.NotBuilt h = absurd h
 loop_fault world Of ids named ls nl faults.NotPart21 h = absurd h
 loop_fault world Of ids named ls nl (faults.BadToken _) h = absurd h
 loop_fault world Of ids named ls nl (faults.BadStatement _) h = absurd h

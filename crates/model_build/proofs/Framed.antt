@@ -28,7 +28,7 @@ use Rattle.model_build.specs.Outcomes.{IsChecked, AreMeasured}
 use Rattle.model_build.proofs.Attributes.{Shaped}
 use Rattle.model_build.proofs.Shaped.{point_numbers, location_used, parent_used, axes_used, placement_used}
 use Rattle.model_build.proofs.OneAxes.{refers_absent}
-use Rattle.model_build.proofs.Sets.{element_is}
+use Rattle.model_build.proofs.Served.{element_is}
 use Rattle.model_build.proofs.Readable.{readable_point}
 use Rattle.model_build.proofs.Readied.{Measured}
 

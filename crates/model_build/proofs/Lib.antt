@@ -8,9 +8,10 @@ pub mod Told
 pub mod Keywords
 pub mod Attributes
 pub mod Shaped
+pub mod Listed
 pub mod Bodied
 pub mod Flawless
-pub mod Sets
+pub mod Served
 pub mod OneAxes
 pub mod OneFrame
 pub mod OneSet
@@ -25,5 +26,6 @@ pub mod Readied
 pub mod Framed
 pub mod Checking
 pub mod Thens
+pub mod Clears
 pub mod Modelling
 pub mod Profiled

@@ -1,64 +1,69 @@
--- The items of bodies (IFC4 ADD2 TC1, IfcProduct, IfcShapeRepresentation, IfcTriangulatedFaceSet).
-use Rattle.std.specs.Prelude.{◌≡◌, ℕ, ◌<◌, ◌&&◌, Bool, true, false, List, [], length, filter, flat_map, sum_by, Option, Some, None}
-use Rattle.std.specs.List.{slice_get, list_all}
+-- The items of bodies (IFC4 ADD2 TC1, IfcProduct, IfcShapeRepresentation, IfcMappedItem, IfcRepresentationMap).
+use Rattle.std.specs.Prelude.{◌≡◌, ℕ, ◌<◌, ◌||◌, Bool, List, [], filter, filter_map, flat_map, sum_by, Option, Some, None, option_and_then, if◌then◌else◌}
 use Rattle.bim_model.specs.declared.upload.UploadFault.TheVariants as faults
 use Rattle.bim_model.specs.declared.upload.Many.TheVariants as many
 use Rattle.p21_reader.specs.declared.value.Value21.{Value21}
 use Rattle.p21_reader.specs.declared.value.Instance.{Instance}
-use Rattle.ifc_schema.specs.declared.entity.Entity.TheVariants.{TriangulatedFaceSet}
+use Rattle.ifc_schema.specs.declared.entity.Entity.TheVariants.{MappedItem}
 use Rattle.ifc_schema.specs.Looking.{look, is_a}
-use Rattle.ifc_schema.specs.Values.{is_absent}
-use Rattle.ifc_schema.specs.Bodies.{is_body_representation, target_passes}
-use Rattle.ifc_schema.specs.Used.{Used}
+use Rattle.ifc_schema.specs.Bodies.{is_body_representation}
 use Rattle.ifc_schema.specs.StageFive.{IsModelElement, Lists}
-use Rattle.faceset.specs.Sets.{listed, spelled_triangles}
+use Rattle.faceset.specs.Sets.{listed, is_set, triangle_count}
 use Rattle.model_build.specs.Stages.{Stage}
-use Rattle.model_build.specs.Finding.{Finds, target_at, led_to}
+use Rattle.model_build.specs.Finding.{target_at, led_to}
 
 abbrev pub listed_by : Option Instance → ℕ → List Value21
 listed_by None at = []
 listed_by (Some i) at = listed i at
 
--- the shape representations of an element whose identifier is `Body`
+-- the bodies among the instances that values refer to: shape representations whose identifier is `Body`
+abbrev pub bodies_among : List Instance → List Value21 → List Instance
+bodies_among world values = filter is_body_representation (led_to world values)
+
+-- the bodies of an element
 abbrev pub bodies : List Instance → Instance → List Instance
-bodies world i = filter is_body_representation (led_to world (listed_by (target_at world i 6) 2))
+bodies world i = bodies_among world (listed_by (target_at world i 6) 2)
 
-abbrev pub items_of_body : Instance → List Value21
-items_of_body r = listed r 3
+-- the items of a representation, as they are spelled
+abbrev pub spelled_items : Instance → List Value21
+spelled_items r = listed r 3
 
--- the items of these, as they are spelled; one that is listed twice stands twice
-abbrev pub body_items : List Instance → Instance → List Value21
-body_items world i = flat_map items_of_body (bodies world i)
+-- the items of a representation, in their order; one that is listed twice stands twice
+abbrev pub items_of : List Instance → Instance → List Instance
+items_of world r = led_to world (spelled_items r)
 
--- the sets of these
-abbrev pub body_sets : List Instance → Instance → List Instance
-body_sets world i = led_to world (body_items world i)
+-- the items of all bodies of an element, in their order
+abbrev pub body_items : List Instance → Instance → List Instance
+body_items world i = flat_map (items_of world) (bodies world i)
 
-abbrev pub is_missing : Option Value21 → Bool
-is_missing None = true
-is_missing (Some v) = is_absent v
+abbrev pub is_mapped_item : Instance → Bool
+is_mapped_item i = is_a MappedItem i
 
--- an item that is served: a triangulated face set whose indexes name points without a detour (PnIndex)
-abbrev pub is_served : Instance → Bool
-is_served i = is_a TriangulatedFaceSet i && is_missing (slice_get i.values 4)
+-- an item of a kind that is read
+abbrev pub is_item : Instance → Bool
+is_item i = is_set i || is_mapped_item i
 
-abbrev pub is_served_item : List Instance → Value21 → Bool
-is_served_item world = target_passes world is_served
+-- Mapped items.
 
--- it is a body, and one of its items isn't served
-abbrev pub HasOther : List Instance → Instance → Type 0
-HasOther world i = (is_body_representation i ≡ true) × (list_all (is_served_item world) (items_of_body i) ≡ false)
+-- the map that a mapped item uses
+abbrev pub map_of : List Instance → Instance → Option Instance
+map_of world item = target_at world item 0
 
-abbrev pub ItemStage : List Instance → Stage
-ItemStage world fault = (fault ≡ faults.NotBuilt) × (id : ℕ) × Used world id × Finds world id (HasOther world)
+-- what it maps: the items of the mapped representation, as they are spelled
+abbrev pub spelled_sets : List Instance → Instance → List Value21
+spelled_sets world item = listed_by (option_and_then (λ m. target_at world m 1) (map_of world item)) 3
 
--- how many triangles a set has
-abbrev pub row_count : Instance → ℕ
-row_count s = length (spelled_triangles s)
+abbrev pub mapped_sets : List Instance → Instance → List Instance
+mapped_sets world item = led_to world (spelled_sets world item)
+
+-- How many triangles there are.
+
+abbrev pub item_count : List Instance → Instance → ℕ
+item_count world item = if is_mapped_item item then sum_by (triangle_count world) (mapped_sets world item) else triangle_count world item
 
 abbrev pub counted : List Instance → Option Instance → ℕ
 counted world None = 0
-counted world (Some i) = sum_by row_count (body_sets world i)
+counted world (Some i) = sum_by (item_count world) (body_items world i)
 
 -- how many an element has, by its number
 abbrev pub count_of : List Instance → ℕ → ℕ

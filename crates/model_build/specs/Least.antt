@@ -1,11 +1,12 @@
--- The least of listed numbers of which something holds.
-use Rattle.std.specs.Prelude.{◌≡◌, ℕ, ◌<◌, true, List, Contains}
+-- The least of numbers of which something holds.
+use Rattle.std.specs.Prelude.{◌≡◌, ℕ, ◌<◌, ◌⊎◌, true, List, Contains, Option, MatchOption}
 use Rattle.p21_reader.specs.declared.value.Instance.{Instance}
-use Rattle.ifc_schema.specs.declared.entity.Entity.TheVariants.{AxisPlacement, TriangulatedFaceSet}
+use Rattle.ifc_schema.specs.declared.entity.Entity.TheVariants.{AxisPlacement, Operator, FaceWithVoids}
 use Rattle.ifc_schema.specs.Looking.{is_a}
-use Rattle.faceset.specs.Sets.{HasBadIndex}
+use Rattle.faceset.specs.Sets.{is_set, HasBadIndex}
 use Rattle.placement.specs.declared.axes.Axes.{Axes}
 use Rattle.placement.specs.Directions.{HasAxes}
+use Rattle.placement.specs.Operators.{HasOperatorAxes}
 use Rattle.model_build.specs.Finding.{Finds}
 
 pub record IsLeastOf (ids : List ℕ) (P : ℕ → Type 0) (id : ℕ) : Type 0 where
@@ -17,13 +18,39 @@ pub record IsLeastOf (ids : List ℕ) (P : ℕ → Type 0) (id : ℕ) : Type 0 w
 abbrev pub NoneOf : List ℕ → (ℕ → Type 0) → Type 0
 NoneOf ids P = (id : ℕ) → Contains ids id → P id → ⊥
 
--- the instance of that number is a set, and one of its indexes names no point
+-- Numbers that others show.
+
+-- the least one of which it holds
+pub record IsLeast (P : ℕ → Type 0) (id : ℕ) : Type 0 where
+  pub here : P id
+  pub lower : (k : ℕ) → k < id → P k → ⊥
+
+-- none, or the least one of which it holds
+abbrev pub LeastOf : (ℕ → Type 0) → Option ℕ → Type 0
+LeastOf P found = MatchOption found ((id : ℕ) → P id → ⊥) (IsLeast P)
+
+-- one of the listed ones shows it
+abbrev pub ShownBy : (ℕ → ℕ → Type 0) → List ℕ → ℕ → Type 0
+ShownBy Shown froms id = (from : ℕ) × Contains froms from × Shown from id
+
+-- The kinds of faults.
+
+-- the instance of that number is a set, and one of its indexes counts nothing
 abbrev pub IsBadSet : List Instance → ℕ → Type 0
-IsBadSet world id = Finds world id (λ i. (is_a TriangulatedFaceSet i ≡ true) × HasBadIndex world i)
+IsBadSet world id = Finds world id (λ i. (is_set i ≡ true) × HasBadIndex world i)
+
+-- the instance of that number is a face with voids
+abbrev pub IsVoided : List Instance → ℕ → Type 0
+IsVoided world id = Finds world id (λ i. is_a FaceWithVoids i ≡ true)
 
 abbrev pub IsAxisPlacement : List Instance → ℕ → Type 0
 IsAxisPlacement world id = Finds world id (λ i. is_a AxisPlacement i ≡ true)
 
--- the instance of that number is an axis placement without axes along the grid's
+abbrev pub IsOperator : List Instance → ℕ → Type 0
+IsOperator world id = Finds world id (λ i. is_a Operator i ≡ true)
+
+-- the instance of that number is an axis placement or an operator, without axes along the grid's
 abbrev pub IsOblique : List Instance → ℕ → Type 0
-IsOblique world id = IsAxisPlacement world id × ((axes : Axes) → HasAxes world id axes → ⊥)
+IsOblique world id =
+    (IsAxisPlacement world id × ((axes : Axes) → HasAxes world id axes → ⊥))
+    ⊎ (IsOperator world id × ((axes : Axes) → HasOperatorAxes world id axes → ⊥))

@@ -4,6 +4,9 @@ pub mod Texts
 pub mod Storeys
 pub mod Order
 pub mod Items
+pub mod Unsupported
+pub mod Showing
+pub mod Faces
 pub mod Named
 pub mod PointTables
 pub mod Surfaces

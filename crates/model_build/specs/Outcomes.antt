@@ -20,27 +20,28 @@ use Rattle.ifc_units.specs.declared.scale.Scale.{Scale}
 use Rattle.placement.specs.declared.frame.Frame.{Frame}
 use Rattle.placement.specs.Chains.{AreChains}
 use Rattle.model_build.specs.Stages.{Stage}
-use Rattle.model_build.specs.Finding.{Finds}
+use Rattle.model_build.specs.Finding.{Finds, reference_at}
 use Rattle.model_build.specs.Texts.{guid_of, NoneRepeats}
-use Rattle.model_build.specs.Least.{NoneOf, IsOblique}
-use Rattle.model_build.specs.PointTables.{LengthFault}
-use Rattle.model_build.specs.Items.{HasOther, body_sets, row_count, count_of}
+use Rattle.model_build.specs.Least.{NoneOf, IsVoided, IsBadSet, IsOblique}
+use Rattle.model_build.specs.PointTables.{ListsPoints, LengthFault}
+use Rattle.model_build.specs.Items.{bodies, body_items, item_count, count_of}
+use Rattle.model_build.specs.Unsupported.{IsUnsupported}
+use Rattle.model_build.specs.Faces.{HasManyCorners}
+use Rattle.faceset.specs.Sets.{is_set, HasStuck}
+use Rattle.bim_model.specs.declared.geometry.Point.{Point}
+use Rattle.ifc_schema.specs.Looking.{look}
 use Rattle.model_build.specs.Named.{ListsNamed}
 use Rattle.model_build.specs.Surfaces.{IsPlacedBy, IsSurface, IsBeyond}
 use Rattle.model_build.specs.Elements.{IsElement}
 use Rattle.model_build.specs.declared.lack.Lack.{Lack}
 use Rattle.model_build.specs.declared.lack.Lack.TheVariants.{Beyond, Unready}
 use Rattle.model_build.specs.declared.lack.Lacking.{Lacking}
-use Rattle.model_build.specs.Sound.{IsSound, Carries}
+use Rattle.model_build.specs.Sound.{IsSoundSet, ReadyBody, Carries}
 
 -- the error has that fault; want of memory is free
 abbrev pub IsErrorOf : Stage → BuildError → Type 0
 IsErrorOf S (errors.Fault fault) = S fault
 IsErrorOf S errors.Memory = Unit {0}
-
--- none of the listed instances is a body with an item that isn't served
-abbrev pub AreServed : List Instance → List ℕ → Type 0
-AreServed world used = Any (λ id. Finds world id (HasOther world)) used → ⊥
 
 -- the chains of the placements that the listed elements name
 abbrev pub HasChains : List Instance → List ℕ → List ℕ → Type 0
@@ -53,12 +54,12 @@ pub record IsStanding (placements : List ℕ) (i : Instance) : Type 0 where
   pub names : (is_absent value ≡ true) ⊎ ((id : ℕ) × (reference_of value ≡ Some id) × Contains placements id)
 
 -- what an element has once the earlier stages have found no fault
-pub record IsReady (world : List Instance) (scale : Scale) (mode : Mode) (placements : List ℕ) (i : Instance) : Type 0 where
+pub record IsReady (world : List Instance) (scale : Scale) (mode : Mode) (placements listed : List ℕ) (i : Instance) : Type 0 where
   pub guid : (g : List ℕ) × (guid_of i ≡ Some g) × IsGuid g
   pub class : (keyword : List ℕ) × (i.keyword ≡ Some keyword)
   pub standing : IsStanding placements i
-  pub sets : All (IsSound world scale mode) (body_sets world i)
-  pub some : 0 < sum_by row_count (body_sets world i)
+  pub items : All (ReadyBody world scale mode listed) (bodies world i)
+  pub some : 0 < sum_by (item_count world) (body_items world i)
 
 -- the frame carries points as the placement of the element does
 pub record IsFrameOf (world : List Instance) (scale : Scale) (mode : Mode) (i : Instance) (frame : Frame) : Type 0 where
@@ -70,7 +71,7 @@ pub record IsFrameOf (world : List Instance) (scale : Scale) (mode : Mode) (i : 
 pub record IsNearSurface (world : List Instance) (scale : Scale) (mode : Mode) (i : Instance) (triangles : List Triangle) : Type 0 where
   pub surface : IsSurface world scale mode i triangles
   pub near : All IsInReach (corners_of triangles)
-  pub count : length triangles ≡ sum_by row_count (body_sets world i)
+  pub count : length triangles ≡ sum_by (item_count world) (body_items world i)
 
 -- the element of that number, in reach
 pub record IsNearElement (world : List Instance) (scale : Scale) (mode : Mode) (id : ℕ) (element : Element) : Type 0 where
@@ -79,33 +80,53 @@ pub record IsNearElement (world : List Instance) (scale : Scale) (mode : Mode) (
   pub near : All IsInReach (corners_of element.triangles)
   pub count : length element.triangles ≡ count_of world id
 
-abbrev pub Lacks : List Instance → Scale → Mode → List ℕ → Instance → Lack → Type 0
-Lacks world scale mode placements i Beyond = IsBeyond world scale mode i
-Lacks world scale mode placements i Unready = IsReady world scale mode placements i → ⊥
+abbrev pub Lacks : List Instance → Scale → Mode → List ℕ → List ℕ → Instance → Lack → Type 0
+Lacks world scale mode placements listed i Beyond = IsBeyond world scale mode i
+Lacks world scale mode placements listed i Unready = IsReady world scale mode placements listed i → ⊥
 
-abbrev pub LacksAt : List Instance → Scale → Mode → List ℕ → ℕ → Lack → Type 0
-LacksAt world scale mode placements id Beyond = Finds world id (IsBeyond world scale mode)
-LacksAt world scale mode placements id Unready = Finds world id (IsReady world scale mode placements) → ⊥
+abbrev pub LacksAt : List Instance → Scale → Mode → List ℕ → List ℕ → ℕ → Lack → Type 0
+LacksAt world scale mode placements listed id Beyond = Finds world id (IsBeyond world scale mode)
+LacksAt world scale mode placements listed id Unready = Finds world id (IsReady world scale mode placements listed) → ⊥
 
 -- the first of the listed ones that lacks something
-pub record IsFirstLacking (world : List Instance) (scale : Scale) (mode : Mode) (placements ids : List ℕ) (found : Lacking) : Type 0 where
-  pub listed : Contains ids found.id
-  pub lacks : LacksAt world scale mode placements found.id found.lack
+pub record IsFirstLacking (world : List Instance) (scale : Scale) (mode : Mode) (placements listed ids : List ℕ) (found : Lacking) : Type 0 where
+  pub here : Contains ids found.id
+  pub lacks : LacksAt world scale mode placements listed found.id found.lack
   pub lower : (k : ℕ) → k < found.id → Contains ids k → (element : Element) × IsNearElement world scale mode k element
 
 -- What is known of a file whose checks up to that of the items found no fault.
-pub record IsChecked (world : List Instance) (scale : Scale) (survey : Survey) (chains : List ℕ) : Type 0 where
+pub record IsChecked (world : List Instance) (scale : Scale) (mode : Mode) (survey : Survey) (chains : List ℕ) : Type 0 where
   pub surveyed : Surveyed world survey
   pub unit : IsLengthUnit world scale
   pub distinct : NoneRepeats world (element_ids survey)
   pub has_chains : HasChains world (element_ids survey) chains
   pub square : NoneOf (used_ids survey) (IsOblique world)
-  pub served : AreServed world (used_ids survey)
+  pub supported : (id : ℕ) → IsUnsupported world scale mode id → ⊥
+
+-- none of the listed instances is a face of more than a thousand corners
+abbrev pub HaveFewCorners : List Instance → List ℕ → Type 0
+HaveFewCorners world used = Any (λ id. Finds world id HasManyCorners) used → ⊥
 
 -- none of the listed instances has a length that isn't on the grid or is beyond the reach
 abbrev pub AreMeasured : List Instance → Scale → Mode → List ℕ → Type 0
 AreMeasured world scale mode used = (id : ℕ) → Contains used id → (fault : UploadFault) → LengthFault world scale mode id fault → ⊥
 
--- the elements of these numbers have all that is wanted
-abbrev pub AreReady : List Instance → Scale → Mode → List ℕ → List ℕ → Type 0
-AreReady world scale mode placements ids = (id : ℕ) → Contains ids id → Finds world id (IsReady world scale mode placements)
+-- What is known once the checks up to that of the corners found no fault.
+pub record IsSettled (world : List Instance) (scale : Scale) (mode : Mode) (survey : Survey) (chains : List ℕ) : Type 0 where
+  pub checked : IsChecked world scale mode survey chains
+  pub solid : NoneOf (used_ids survey) (IsVoided world)
+  pub indexed : NoneOf (used_ids survey) (IsBadSet world)
+  pub measured : AreMeasured world scale mode (used_ids survey)
+  pub few : HaveFewCorners world (used_ids survey)
+
+-- none of the elements of these numbers lacks what is wanted
+abbrev pub AreReady : List Instance → Scale → Mode → List ℕ → List ℕ → List ℕ → Type 0
+AreReady world scale mode placements listed ids = (id : ℕ) → Contains ids id → (Finds world id (IsReady world scale mode placements listed) → ⊥) → ⊥
+
+-- the listed sets are sound
+abbrev pub AreSound : List Instance → Scale → Mode → List ℕ → Type 0
+AreSound world scale mode listed = (id : ℕ) → Contains listed id → (s : Instance) → look world id ≡ Some s → is_set s ≡ true → IsSoundSet world scale mode s
+
+-- the set of that number, whose points are on the grid, has that face, which can't be cut
+abbrev pub ShowsStuckSet : List Instance → Scale → Mode → ℕ → ℕ → Type 0
+ShowsStuckSet world scale mode set id = Finds world set (λ s. (is_set s ≡ true) × (list : ℕ) × (reference_at s 0 ≡ Some list) × (points : List Point) × ListsPoints world scale mode list points × HasStuck world points s id)

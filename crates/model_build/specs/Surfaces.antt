@@ -1,6 +1,7 @@
 -- The surface of an element: the triangles of all items of its bodies, in their order, placed in the building (IFC4 ADD2 TC1, IfcProduct,
--- IfcTriangulatedFaceSet).
-use Rattle.std.specs.Prelude.{◌≡◌, ℕ, true, List, [], ◌∷◌, ◌++◌, map, Any, Option, Some, None}
+-- IfcMappedItem).
+use Rattle.std.specs.Prelude.{◌≡◌, ℕ, true, List, map, Any, Option, Some, None}
+use Rattle.std.specs.Bool.{MatchBool}
 use Rattle.std.specs.List.{slice_get}
 use Rattle.bim_model.specs.declared.upload.Mode.{Mode}
 use Rattle.bim_model.specs.declared.geometry.Point.{Point}
@@ -9,26 +10,40 @@ use Rattle.bim_model.specs.Boxes.{corners_of}
 use Rattle.bim_model.specs.Models.{IsInReach}
 use Rattle.p21_reader.specs.declared.value.Instance.{Instance}
 use Rattle.ifc_units.specs.declared.scale.Scale.{Scale}
-use Rattle.ifc_units.specs.Lengths.{ArePoints}
 use Rattle.ifc_schema.specs.Values.{is_absent}
 use Rattle.ifc_schema.specs.Bodies.{some_passes}
 use Rattle.placement.specs.declared.frame.Frame.{Frame}
 use Rattle.placement.specs.Frames.{carried}
 use Rattle.placement.specs.Placed.{FrameOf}
-use Rattle.faceset.specs.Sets.{spelled_points, spelled_triangles, AreTriangles}
+use Rattle.placement.specs.Operators.{OperatorFrame}
+use Rattle.faceset.specs.Sets.{Joined, SetTriangles}
 use Rattle.model_build.specs.Finding.{reference_at}
-use Rattle.model_build.specs.Items.{body_sets}
+use Rattle.model_build.specs.Items.{body_items, is_mapped_item, mapped_sets}
+use Rattle.model_build.specs.Faces.{SetPoints}
 
--- the triangles of a set in its own coordinates, in the order of its rows
-pub record SetTriangles (world : List Instance) (scale : Scale) (mode : Mode) (set : Instance) (triangles : List Triangle) : Type 0 where
+-- the triangles of a set in its own coordinates
+pub record SetSurface (world : List Instance) (scale : Scale) (mode : Mode) (set : Instance) (triangles : List Triangle) : Type 0 where
   pub points : List Point
-  pub are_points : ArePoints scale mode (spelled_points world set) points
-  pub are_triangles : AreTriangles points (spelled_triangles set) triangles
+  pub are_points : SetPoints world scale mode set points
+  pub are_triangles : SetTriangles world points set triangles
 
--- the triangles of sets, one set after another
-abbrev pub AreOfSets : List Instance → Scale → Mode → List Instance → List Triangle → Type 0
-AreOfSets world scale mode [] triangles = triangles ≡ []
-AreOfSets world scale mode (s ∷ ss) triangles = (first rest : List Triangle) × SetTriangles world scale mode s first × AreOfSets world scale mode ss rest × (triangles ≡ first ++ rest)
+abbrev pub moved : Frame → Triangle → Triangle
+moved frame t = record { a = carried frame t.a; b = carried frame t.b; c = carried frame t.c }
+
+-- the triangles of a mapped item: those of the sets that it maps, carried by its operator
+pub record MappedSurface (world : List Instance) (scale : Scale) (mode : Mode) (item : Instance) (triangles : List Triangle) : Type 0 where
+  pub operator : ℕ
+  pub refers : reference_at item 1 ≡ Some operator
+  pub frame : Frame
+  pub is_frame : OperatorFrame world scale mode operator frame
+  pub own : List Triangle
+  pub of_sets : Joined (SetSurface world scale mode) (mapped_sets world item) own
+  pub all : triangles ≡ map (moved frame) own
+
+-- the triangles of an item in the coordinates of its element
+abbrev pub ItemSurface : List Instance → Scale → Mode → Instance → List Triangle → Type 0
+ItemSurface world scale mode item triangles =
+    MatchBool (is_mapped_item item) (MappedSurface world scale mode item triangles) (SetSurface world scale mode item triangles)
 
 -- how an element is placed: by a frame, or not at all where it names no placement
 abbrev pub IsPlacedBy : List Instance → Scale → Mode → Instance → Option Frame → Type 0
@@ -45,7 +60,7 @@ placed_by frame t = record { a = carried_by frame t.a; b = carried_by frame t.b;
 -- the triangles of an element in the building
 pub record IsSurface (world : List Instance) (scale : Scale) (mode : Mode) (i : Instance) (triangles : List Triangle) : Type 0 where
   pub own : List Triangle
-  pub of_sets : AreOfSets world scale mode (body_sets world i) own
+  pub of_items : Joined (ItemSurface world scale mode) (body_items world i) own
   pub frame : Option Frame
   pub placed : IsPlacedBy world scale mode i frame
   pub all : triangles ≡ map (placed_by frame) own

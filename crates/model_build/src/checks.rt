@@ -1,23 +1,28 @@
 //! The checks of a file, one for each kind of fault.
-ghost use Rattle.std.specs.Prelude.{◌≡◌, ℕ, Contains, Any, IfOk, IfErr, MatchOption, sum_by, ◌≤◌};
-ghost use Rattle.ifc_schema.specs.declared.entity.Entity.TheVariants.{AxisPlacement, TriangulatedFaceSet};
-ghost use Rattle.ifc_schema.specs.Used.{Used};
+ghost use Rattle.std.specs.Prelude.{ℕ, IfOk, IfErr, MatchOption, sum_by, ◌≤◌};
 ghost use Rattle.ifc_schema.specs.StageFive.{Surveyed, IsModelElement, used_ids, element_ids};
 ghost use Rattle.model_build.specs.Stages.{LeastFault};
-ghost use Rattle.model_build.specs.Finding.{IsUsed};
 ghost use Rattle.model_build.specs.Texts.{GuidFault, NoneRepeats};
-ghost use Rattle.model_build.specs.Items.{ItemStage, TrianglesStage, count_of, most_triangles};
-ghost use Rattle.model_build.specs.Least.{NoneOf, IsBadSet, IsOblique};
+ghost use Rattle.model_build.specs.Items.{TrianglesStage, count_of, most_triangles};
+ghost use Rattle.model_build.specs.Unsupported.{IsUnsupported};
+ghost use Rattle.model_build.specs.Faces.{CornersStage, IsStuckFace};
+ghost use Rattle.model_build.specs.Least.{NoneOf, IsVoided, IsBadSet, IsOblique};
 ghost use Rattle.model_build.specs.Named.{IsNamed};
-ghost use Rattle.model_build.specs.Profile.{LoopFault, ObliqueFault, IndexFault};
-ghost use Rattle.model_build.specs.Outcomes.{IsErrorOf, AreServed, HasChains};
+ghost use Rattle.model_build.specs.PointTables.{IsTable};
+ghost use Rattle.model_build.specs.Profile.{LoopFault, ObliqueStage, ItemStage, VoidStage, IndexStage, StuckStage};
+ghost use Rattle.model_build.specs.Outcomes.{IsErrorOf, HasChains, HaveFewCorners};
 
+use crate::counts::count_triangles;
+use crate::faces::{first_voided, some_has_many_corners};
 use crate::guids::first_repeated;
-use crate::items::{count_triangles, has_other};
 use crate::least::{first_bad_index, first_oblique};
+use crate::mapping::least_mapping;
 use crate::named::placements;
-use bim_model::{BuildError, Many, UploadFault};
+use crate::stuck::first_stuck;
+use crate::unsupported::{least_in_bodies, least_in_mapped, lesser};
+use bim_model::{BuildError, Items, Many, Mode, Point, UploadFault};
 use ifc_schema::Survey;
+use ifc_units::Scale;
 use p21_reader::Exchange;
 use placement::Chains;
 use std::alloc::{AllocError, Global};
@@ -47,10 +52,10 @@ pub fn chains_of(alloc: Global, exchange: &Exchange, survey: &Survey) -> Result<
     Chains::of(alloc, exchange, &named)
 }
 
-/// The fault of an axis placement that gives no axes along the grid's.
+/// The fault of an axis placement or an operator that gives no axes along the grid's.
 pub fn oblique_fault(exchange: &Exchange, survey: &Survey) -> Option<UploadFault>
     requires { Surveyed exchange.now survey.now }
-    ensures { MatchOption result (NoneOf (used_ids survey.now) (IsOblique exchange.now)) (LeastFault (IsUsed AxisPlacement exchange.now) (ObliqueFault exchange.now)) }
+    ensures { MatchOption result (NoneOf (used_ids survey.now) (IsOblique exchange.now)) (ObliqueStage exchange.now) }
 {
     match first_oblique(exchange, survey.used()) {
         Some(id) => Some(UploadFault::Oblique { id }),
@@ -58,31 +63,78 @@ pub fn oblique_fault(exchange: &Exchange, survey: &Survey) -> Option<UploadFault
     }
 }
 
-/// The fault of a body with an item that isn't served.
+/// The fault of an item that isn't read, or is mapped in a way that isn't.
 pub fn item_fault(
     alloc: Global,
     exchange: &Exchange,
     survey: &Survey,
+    scale: Scale,
+    mode: Mode,
 ) -> Result<Option<UploadFault>, AllocError>
     requires { Surveyed exchange.now survey.now }
-    ensures { IfOk result (λ found. MatchOption found (AreServed exchange.now (used_ids survey.now)) (ItemStage exchange.now)) }
+    ensures { IfOk result (λ found. MatchOption found ((id : ℕ) → IsUnsupported exchange.now scale mode id → ⊥) (ItemStage exchange.now scale mode)) }
 {
-    let other = has_other(alloc, exchange, survey.used())?;
-    if other {
-        Ok(Some(UploadFault::NotBuilt))
-    } else {
-        Ok(None)
+    let in_bodies = least_in_bodies(alloc, exchange, survey.used())?;
+    let in_mapped = least_in_mapped(exchange, survey.mapped());
+    let mapping = least_mapping(exchange, survey.used(), scale, mode);
+    match lesser(in_bodies, lesser(in_mapped, mapping)) {
+        Some(id) => Ok(Some(UploadFault::UnsupportedItem { id })),
+        None => Ok(None),
     }
 }
 
-/// The fault of a set with an index that names no point.
+/// The fault of a face with voids.
+pub fn void_fault(exchange: &Exchange, survey: &Survey) -> Option<UploadFault>
+    requires { Surveyed exchange.now survey.now }
+    ensures { MatchOption result (NoneOf (used_ids survey.now) (IsVoided exchange.now)) (VoidStage exchange.now) }
+{
+    match first_voided(exchange, survey.used()) {
+        Some(id) => Some(UploadFault::VoidedFace { id }),
+        None => None,
+    }
+}
+
+/// The fault of a set with an index that counts nothing.
 pub fn index_fault(exchange: &Exchange, survey: &Survey) -> Option<UploadFault>
     requires { Surveyed exchange.now survey.now }
-    ensures { MatchOption result (NoneOf (used_ids survey.now) (IsBadSet exchange.now)) (LeastFault (IsUsed TriangulatedFaceSet exchange.now) (IndexFault exchange.now)) }
+    ensures { MatchOption result (NoneOf (used_ids survey.now) (IsBadSet exchange.now)) (IndexStage exchange.now) }
 {
     match first_bad_index(exchange, survey.used()) {
         Some(id) => Some(UploadFault::BadIndex { id }),
         None => None,
+    }
+}
+
+/// The fault of a face with more than a thousand corners.
+pub fn corners_fault(exchange: &Exchange, survey: &Survey) -> Option<UploadFault>
+    requires { Surveyed exchange.now survey.now }
+    ensures { MatchOption result (HaveFewCorners exchange.now (used_ids survey.now)) (CornersStage exchange.now) }
+{
+    if some_has_many_corners(exchange, survey.used()) {
+        Some(UploadFault::TooMany {
+            what: Many::Corners,
+        })
+    } else {
+        None
+    }
+}
+
+/// The fault of a face that can't be cut.
+pub fn stuck_fault(
+    alloc: Global,
+    exchange: &Exchange,
+    survey: &Survey,
+    table: &[Option<Items<Point>>],
+    scale: Scale,
+    mode: Mode,
+) -> Result<Option<UploadFault>, AllocError>
+    requires surveyed { Surveyed exchange.now survey.now }
+    requires table { IsTable exchange.now scale mode table.now }
+    ensures { IfOk result (λ found. MatchOption found ((id : ℕ) → IsStuckFace exchange.now scale mode id → ⊥) (StuckStage exchange.now scale mode)) }
+{
+    match first_stuck(alloc, exchange, table, survey.used(), scale, mode)? {
+        Some(id) => Ok(Some(UploadFault::FaceStuck { id })),
+        None => Ok(None),
     }
 }
 

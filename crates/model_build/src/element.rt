@@ -9,17 +9,18 @@ ghost use Rattle.placement.specs.Placed.{AreFrames, frame_in};
 ghost use Rattle.spatial_tree.specs.Trees.{ListsStoreys};
 ghost use Rattle.ifc_schema.specs.Looking.{look};
 ghost use Rattle.model_build.specs.Framed.{Framed, AllFramed};
-ghost use Rattle.model_build.specs.PointTables.{IsTable};
+ghost use Rattle.model_build.specs.Sound.{AreSets};
 ghost use Rattle.model_build.specs.Outcomes.{IsStanding, IsFrameOf, IsNearSurface, IsNearElement, Lacks, LacksAt, IsFirstLacking};
 
 use crate::find::fetch;
-use crate::items::body_sets;
 use crate::lack::{Lack, Lacking};
+use crate::sets::Sets;
 use crate::storeys::storey_name;
 use crate::surface::{all_moved, own_triangles};
 use crate::texts::{guid_of, name_of};
-use bim_model::{Duplicate, Element, Items, Point, Triangle};
+use bim_model::{Duplicate, Element, Items, Mode, Triangle};
 use ifc_schema::{is_absent, reference_of};
+use ifc_units::Scale;
 use p21_reader::{Exchange, Instance};
 use placement::{Frame, Frames};
 use spatial_tree::Tree;
@@ -44,17 +45,18 @@ fn surface_of(
     alloc: Global,
     exchange: &Exchange,
     frames: &Frames,
-    table: &[Option<Items<Point>>],
+    sets: &Sets,
     instance: &Instance,
+    scale: Scale,
+    mode: Mode,
 ) -> Result<Result<Vec<Triangle>, Lack>, AllocError>
     requires { AllFramed (frame_in frames.now) }
-    ensures { (scale : Scale) (mode : Mode) (placements : List ℕ) → AreFrames exchange.now scale mode placements (frame_in frames.now) → IsTable exchange.now scale mode table.now → IfOk result (λ made. MatchResult made (λ triangles. IsNearSurface exchange.now scale mode instance.now triangles.items) (Lacks exchange.now scale mode placements instance.now)) }
+    ensures { (placements listed : List ℕ) → AreFrames exchange.now scale mode placements (frame_in frames.now) → AreSets exchange.now scale mode listed sets.now → IfOk result (λ made. MatchResult made (λ triangles. IsNearSurface exchange.now scale mode instance.now triangles.items) (Lacks exchange.now scale mode placements listed instance.now)) }
 {
     let Some(frame) = frame_of(frames, instance) else {
         return Ok(Err(Lack::Unready));
     };
-    let sets = body_sets(alloc, exchange, instance)?;
-    let Some(own) = own_triangles(alloc, exchange, table, &sets)? else {
+    let Some(own) = own_triangles(alloc, exchange, sets, instance, scale, mode)? else {
         return Ok(Err(Lack::Unready));
     };
     match all_moved(alloc, &frame, &own)? {
@@ -69,12 +71,14 @@ fn element_of(
     exchange: &Exchange,
     tree: &Tree,
     frames: &Frames,
-    table: &[Option<Items<Point>>],
+    sets: &Sets,
     instance: &Instance,
+    scale: Scale,
+    mode: Mode,
 ) -> Result<Result<Element, Lack>, AllocError>
     requires storeys { ListsStoreys exchange.now tree.now }
     requires framed { AllFramed (frame_in frames.now) }
-    ensures { (scale : Scale) (mode : Mode) (placements : List ℕ) → look exchange.now instance.now.id ≡ Some instance.now → AreFrames exchange.now scale mode placements (frame_in frames.now) → IsTable exchange.now scale mode table.now → IfOk result (λ made. MatchResult made (IsNearElement exchange.now scale mode instance.now.id) (Lacks exchange.now scale mode placements instance.now)) }
+    ensures { (placements listed : List ℕ) → look exchange.now instance.now.id ≡ Some instance.now → AreFrames exchange.now scale mode placements (frame_in frames.now) → AreSets exchange.now scale mode listed sets.now → IfOk result (λ made. MatchResult made (IsNearElement exchange.now scale mode instance.now.id) (Lacks exchange.now scale mode placements listed instance.now)) }
 {
     let Some(guid) = guid_of(alloc, instance)? else {
         return Ok(Err(Lack::Unready));
@@ -82,7 +86,7 @@ fn element_of(
     let Some(keyword) = &instance.keyword else {
         return Ok(Err(Lack::Unready));
     };
-    match surface_of(alloc, exchange, frames, table, instance)? {
+    match surface_of(alloc, exchange, frames, sets, instance, scale, mode)? {
         Ok(triangles) => Ok(Ok(Element {
             guid,
             class: keyword.copy(alloc)?,
@@ -100,15 +104,17 @@ fn element_at(
     exchange: &Exchange,
     tree: &Tree,
     frames: &Frames,
-    table: &[Option<Items<Point>>],
+    sets: &Sets,
     id: u64,
+    scale: Scale,
+    mode: Mode,
 ) -> Result<Result<Element, Lack>, AllocError>
     requires storeys { ListsStoreys exchange.now tree.now }
     requires framed { AllFramed (frame_in frames.now) }
-    ensures { (scale : Scale) (mode : Mode) (placements : List ℕ) → AreFrames exchange.now scale mode placements (frame_in frames.now) → IsTable exchange.now scale mode table.now → IfOk result (λ made. MatchResult made (IsNearElement exchange.now scale mode id) (LacksAt exchange.now scale mode placements id)) }
+    ensures { (placements listed : List ℕ) → AreFrames exchange.now scale mode placements (frame_in frames.now) → AreSets exchange.now scale mode listed sets.now → IfOk result (λ made. MatchResult made (IsNearElement exchange.now scale mode id) (LacksAt exchange.now scale mode placements listed id)) }
 {
     match fetch(exchange, id) {
-        Some(instance) => element_of(alloc, exchange, tree, frames, table, instance),
+        Some(instance) => element_of(alloc, exchange, tree, frames, sets, instance, scale, mode),
         None => Ok(Err(Lack::Unready)),
     }
 }
@@ -119,17 +125,19 @@ pub fn elements_of(
     exchange: &Exchange,
     tree: &Tree,
     frames: &Frames,
-    table: &[Option<Items<Point>>],
+    sets: &Sets,
     ids: &[u64],
+    scale: Scale,
+    mode: Mode,
 ) -> Result<Result<Vec<Element>, Lacking>, AllocError>
     requires storeys { ListsStoreys exchange.now tree.now }
     requires framed { AllFramed (frame_in frames.now) }
     requires rises { IsStrictlyIncreasing ids.now }
-    ensures { (scale : Scale) (mode : Mode) (placements : List ℕ) → AreFrames exchange.now scale mode placements (frame_in frames.now) → IsTable exchange.now scale mode table.now → IfOk result (λ made. MatchResult made (λ elements. AllZip (IsNearElement exchange.now scale mode) ids.now elements.items) (IsFirstLacking exchange.now scale mode placements ids.now)) }
+    ensures { (placements listed : List ℕ) → AreFrames exchange.now scale mode placements (frame_in frames.now) → AreSets exchange.now scale mode listed sets.now → IfOk result (λ made. MatchResult made (λ elements. AllZip (IsNearElement exchange.now scale mode) ids.now elements.items) (IsFirstLacking exchange.now scale mode placements listed ids.now)) }
 {
     let mut made = Vec::with_capacity(alloc, ids.len())?;
     for id in ids {
-        match element_at(alloc, exchange, tree, frames, table, *id)? {
+        match element_at(alloc, exchange, tree, frames, sets, *id, scale, mode)? {
             Ok(element) => made.push(element)?,
             Err(lack) => return Ok(Err(Lacking { id: *id, lack })),
         }

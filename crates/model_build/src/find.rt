@@ -2,6 +2,7 @@
 ghost use Rattle.std.specs.Prelude.{◌≡◌, option_copied, option_and_then};
 ghost use Rattle.ifc_schema.specs.Looking.{look};
 ghost use Rattle.ifc_schema.specs.Values.{reference_of};
+ghost use Rattle.placement.specs.Placed.{referred_at, value_at};
 ghost use Rattle.model_build.specs.Finding.{reference_at, target_at};
 
 use ifc_schema::{place_of, reference_of};
@@ -37,4 +38,19 @@ pub fn target_at<'a>(exchange: &'a Exchange, instance: &Instance, at: usize) -> 
 {
     let id = reference_at(instance, at)?;
     fetch(exchange, id)
+}
+
+/// An attribute of the instance of that number.
+pub fn value_at(exchange: &Exchange, id: u64, at: usize) -> Option<&Value21>
+    ensures { option_copied result ≡ value_at exchange.now id at }
+{
+    let instance = fetch(exchange, id)?;
+    instance.values.as_slice().get(at)
+}
+
+/// The number of the instance that the attribute refers to.
+pub fn referred_at(exchange: &Exchange, id: u64, at: usize) -> Option<u64>
+    ensures { result ≡ referred_at exchange.now id at }
+{
+    reference_of(value_at(exchange, id, at)?)
 }

@@ -2,20 +2,26 @@
 #![tactic(auto)]
 
 mod checks;
+mod counts;
 mod element;
+mod faces;
 mod find;
 mod guids;
 mod items;
 mod lack;
 mod least;
+mod mapping;
 mod named;
 mod order;
 mod points;
+mod sets;
 mod stages;
 mod storeys;
+mod stuck;
 mod surface;
 #[cfg(test)]
 mod tests;
 mod texts;
+mod unsupported;
 
 pub use stages::build;

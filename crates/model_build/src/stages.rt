@@ -7,19 +7,22 @@ ghost use Rattle.placement.specs.Placed.{AreFrames, frame_in};
 ghost use Rattle.model_build.specs.Stages.{IsClear};
 ghost use Rattle.model_build.specs.Texts.{NoneRepeats};
 ghost use Rattle.model_build.specs.Items.{count_of, most_triangles};
-ghost use Rattle.model_build.specs.Least.{NoneOf, IsBadSet};
+ghost use Rattle.model_build.specs.Least.{NoneOf, IsVoided, IsBadSet};
 ghost use Rattle.model_build.specs.PointTables.{IsTable};
+ghost use Rattle.model_build.specs.Sound.{AreSets};
 ghost use Rattle.model_build.specs.Elements.{IsModelOf};
-ghost use Rattle.model_build.specs.Outcomes.{IsErrorOf, HasChains, IsChecked, AreMeasured, AreReady};
-ghost use Rattle.model_build.specs.Profile.{ReachStage, AfterLengths, AfterIndexes, AfterItems, AfterChains, AfterTree, AfterUnit, FileFault, Profile, IsCause};
+ghost use Rattle.model_build.specs.Outcomes.{IsErrorOf, HasChains, IsChecked, IsSettled, AreReady};
+ghost use Rattle.model_build.specs.Profile.{ReachStage, AfterCorners, AfterIndexes, AfterItems, AfterChains, AfterTree, AfterUnit, FileFault, Profile, IsCause};
 
 use crate::checks::{
-    chains_of, guid_fault, index_fault, item_fault, oblique_fault, triangles_fault,
+    chains_of, corners_fault, guid_fault, index_fault, item_fault, oblique_fault, stuck_fault,
+    triangles_fault, void_fault,
 };
 use crate::element::elements_of;
 use crate::lack::Lack;
 use crate::order::in_order;
 use crate::points::{first_fault, table_of};
+use crate::sets::Sets;
 use bim_model::{BuildError, Items, Mode, Model, Point, UploadFault};
 use ifc_schema::{Survey, survey};
 use ifc_units::{Scale, length_unit};
@@ -38,18 +41,18 @@ fn model_of(
     tree: &Tree,
     chains: &Chains,
     frames: &Frames,
-    table: &[Option<Items<Point>>],
+    sets: &Sets,
 ) -> Result<Model, BuildError>
-    requires checked { IsChecked exchange.now scale survey.now chains.now }
+    requires settled { IsSettled exchange.now scale mode survey.now chains.now }
     requires storeys { ListsStoreys exchange.now tree.now }
     requires frames { AreFrames exchange.now scale mode chains.now (frame_in frames.now) }
-    requires table { IsTable exchange.now scale mode table.now }
-    requires ready { AreReady exchange.now scale mode chains.now (element_ids survey.now) }
+    requires sets { AreSets exchange.now scale mode (used_ids survey.now) sets.now }
+    requires ready { AreReady exchange.now scale mode chains.now (used_ids survey.now) (element_ids survey.now) }
     requires few { sum_by (count_of exchange.now) (element_ids survey.now) ≤ most_triangles }
     ensures model { IfOk result (λ model. IsClear (ReachStage exchange.now scale mode) × IsModelOf exchange.now mode model) }
     ensures fault { IfErr result (IsErrorOf (ReachStage exchange.now scale mode)) }
 {
-    match elements_of(alloc, exchange, tree, frames, table, survey.elements())? {
+    match elements_of(alloc, exchange, tree, frames, sets, survey.elements(), scale, mode)? {
         Ok(elements) => Ok(Model::from_vec(in_order(elements))),
         Err(lacking) => match lacking.lack {
             Lack::Beyond => Err(BuildError::Fault(UploadFault::TooFar { id: lacking.id })),
@@ -58,8 +61,34 @@ fn model_of(
     }
 }
 
-/// The checks from the number of triangles on, and the model.
-fn after_lengths(
+/// The model of elements whose sets are cut.
+fn after_cuts(
+    alloc: Global,
+    exchange: &Exchange,
+    survey: &Survey,
+    scale: Scale,
+    mode: Mode,
+    tree: &Tree,
+    chains: &Chains,
+    sets: &Sets,
+) -> Result<Model, BuildError>
+    requires settled { IsSettled exchange.now scale mode survey.now chains.now }
+    requires storeys { ListsStoreys exchange.now tree.now }
+    requires sets { AreSets exchange.now scale mode (used_ids survey.now) sets.now }
+    requires few { sum_by (count_of exchange.now) (element_ids survey.now) ≤ most_triangles }
+    ensures model { IfOk result (λ model. IsClear (ReachStage exchange.now scale mode) × IsModelOf exchange.now mode model) }
+    ensures fault { IfErr result (IsErrorOf (ReachStage exchange.now scale mode)) }
+{
+    let Some(frames) = Frames::of(alloc, exchange, chains, scale, mode)? else {
+        unreachable!()
+    };
+    model_of(
+        alloc, exchange, survey, scale, mode, tree, chains, &frames, sets,
+    )
+}
+
+/// The faces are cut, and the model; there are few enough triangles.
+fn cut_all(
     alloc: Global,
     exchange: &Exchange,
     survey: &Survey,
@@ -69,23 +98,46 @@ fn after_lengths(
     chains: &Chains,
     table: &[Option<Items<Point>>],
 ) -> Result<Model, BuildError>
-    requires checked { IsChecked exchange.now scale survey.now chains.now }
+    requires settled { IsSettled exchange.now scale mode survey.now chains.now }
     requires storeys { ListsStoreys exchange.now tree.now }
-    requires indexed { NoneOf (used_ids survey.now) (IsBadSet exchange.now) }
     requires table { IsTable exchange.now scale mode table.now }
-    requires measured { AreMeasured exchange.now scale mode (used_ids survey.now) }
-    ensures model { IfOk result (λ model. IsClear (AfterLengths exchange.now scale mode) × IsModelOf exchange.now mode model) }
-    ensures fault { IfErr result (IsErrorOf (AfterLengths exchange.now scale mode)) }
+    requires few { sum_by (count_of exchange.now) (element_ids survey.now) ≤ most_triangles }
+    ensures model { IfOk result (λ model. IsClear (AfterCorners exchange.now scale mode) × IsModelOf exchange.now mode model) }
+    ensures fault { IfErr result (IsErrorOf (AfterCorners exchange.now scale mode)) }
 {
-    if let Some(fault) = triangles_fault(alloc, exchange, survey)? {
-        return Err(BuildError::Fault(fault));
+    match Sets::of(alloc, exchange, survey.used(), table, scale, mode)? {
+        Some(sets) => after_cuts(alloc, exchange, survey, scale, mode, tree, chains, &sets),
+        None => match stuck_fault(alloc, exchange, survey, table, scale, mode)? {
+            Some(fault) => Err(BuildError::Fault(fault)),
+            None => unreachable!(),
+        },
     }
-    let Some(frames) = Frames::of(alloc, exchange, chains, scale, mode)? else {
-        unreachable!()
+}
+
+/// The checks from the cutting of faces on, and the model. Where there are too many triangles none is made.
+fn after_corners(
+    alloc: Global,
+    exchange: &Exchange,
+    survey: &Survey,
+    scale: Scale,
+    mode: Mode,
+    tree: &Tree,
+    chains: &Chains,
+    table: &[Option<Items<Point>>],
+) -> Result<Model, BuildError>
+    requires settled { IsSettled exchange.now scale mode survey.now chains.now }
+    requires storeys { ListsStoreys exchange.now tree.now }
+    requires table { IsTable exchange.now scale mode table.now }
+    ensures model { IfOk result (λ model. IsClear (AfterCorners exchange.now scale mode) × IsModelOf exchange.now mode model) }
+    ensures fault { IfErr result (IsErrorOf (AfterCorners exchange.now scale mode)) }
+{
+    let Some(many) = triangles_fault(alloc, exchange, survey)? else {
+        return cut_all(alloc, exchange, survey, scale, mode, tree, chains, table);
     };
-    model_of(
-        alloc, exchange, survey, scale, mode, tree, chains, &frames, table,
-    )
+    match stuck_fault(alloc, exchange, survey, table, scale, mode)? {
+        Some(fault) => Err(BuildError::Fault(fault)),
+        None => Err(BuildError::Fault(many)),
+    }
 }
 
 /// The checks from the lengths on, and the model.
@@ -98,8 +150,9 @@ fn after_indexes(
     tree: &Tree,
     chains: &Chains,
 ) -> Result<Model, BuildError>
-    requires checked { IsChecked exchange.now scale survey.now chains.now }
+    requires checked { IsChecked exchange.now scale mode survey.now chains.now }
     requires storeys { ListsStoreys exchange.now tree.now }
+    requires solid { NoneOf (used_ids survey.now) (IsVoided exchange.now) }
     requires indexed { NoneOf (used_ids survey.now) (IsBadSet exchange.now) }
     ensures model { IfOk result (λ model. IsClear (AfterIndexes exchange.now scale mode) × IsModelOf exchange.now mode model) }
     ensures fault { IfErr result (IsErrorOf (AfterIndexes exchange.now scale mode)) }
@@ -108,10 +161,13 @@ fn after_indexes(
     if let Some(fault) = first_fault(exchange, &table, survey.used(), scale, mode) {
         return Err(BuildError::Fault(fault));
     }
-    after_lengths(alloc, exchange, survey, scale, mode, tree, chains, &table)
+    if let Some(fault) = corners_fault(exchange, survey) {
+        return Err(BuildError::Fault(fault));
+    }
+    after_corners(alloc, exchange, survey, scale, mode, tree, chains, &table)
 }
 
-/// The checks from the indexes on, and the model.
+/// The checks from the faces with voids on, and the model.
 fn after_items(
     alloc: Global,
     exchange: &Exchange,
@@ -121,11 +177,14 @@ fn after_items(
     tree: &Tree,
     chains: &Chains,
 ) -> Result<Model, BuildError>
-    requires checked { IsChecked exchange.now scale survey.now chains.now }
+    requires checked { IsChecked exchange.now scale mode survey.now chains.now }
     requires storeys { ListsStoreys exchange.now tree.now }
     ensures model { IfOk result (λ model. IsClear (AfterItems exchange.now scale mode) × IsModelOf exchange.now mode model) }
     ensures fault { IfErr result (IsErrorOf (AfterItems exchange.now scale mode)) }
 {
+    if let Some(fault) = void_fault(exchange, survey) {
+        return Err(BuildError::Fault(fault));
+    }
     if let Some(fault) = index_fault(exchange, survey) {
         return Err(BuildError::Fault(fault));
     }
@@ -153,7 +212,7 @@ fn after_chains(
     if let Some(fault) = oblique_fault(exchange, survey) {
         return Err(BuildError::Fault(fault));
     }
-    if let Some(fault) = item_fault(alloc, exchange, survey)? {
+    if let Some(fault) = item_fault(alloc, exchange, survey, scale, mode)? {
         return Err(BuildError::Fault(fault));
     }
     after_items(alloc, exchange, survey, scale, mode, tree, chains)

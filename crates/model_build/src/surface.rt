@@ -1,64 +1,208 @@
 //! The surfaces of elements.
-ghost use Rattle.std.specs.Prelude.{◌≡◌, ◌∷◌, [], List, Some, map, All, Any, IfOk, MatchOption};
+ghost use Rattle.std.specs.Prelude.{◌≡◌, ℕ, ◌∷◌, ◌++◌, [], List, length, map, flat_map, sum_by, All, Any, IfOk, OnOk, MatchOption};
+ghost use Rattle.std.specs.Bool.{MatchBool};
 ghost use Rattle.bim_model.specs.Boxes.{corners_of};
 ghost use Rattle.bim_model.specs.Models.{IsInReach};
-ghost use Rattle.bim_model.specs.declared.upload.Mode.{Mode};
-ghost use Rattle.ifc_units.specs.declared.scale.Scale.{Scale};
-ghost use Rattle.placement.specs.declared.frame.Frame.{Frame};
-ghost use Rattle.placement.specs.Frames.{IsFrame, AreWithin, most};
 ghost use Rattle.p21_reader.specs.declared.value.Instance.{Instance};
+ghost use Rattle.placement.specs.Frames.{IsFrame, AreWithin, step, most};
+ghost use Rattle.faceset.specs.Sets.{Joined};
+ghost use Rattle.model_build.specs.Finding.{led_to};
+ghost use Rattle.model_build.specs.Items.{items_of, item_count, body_items, bodies};
 ghost use Rattle.model_build.specs.Counting.{Number};
-ghost use Rattle.model_build.specs.PointTables.{IsTable};
-ghost use Rattle.model_build.specs.Surfaces.{SetTriangles, AreOfSets};
-ghost use Rattle.model_build.specs.Sound.{IsSound, moved, IsOut};
+ghost use Rattle.model_build.specs.Surfaces.{ItemSurface, moved};
+ghost use Rattle.model_build.specs.Sound.{AreSets, ReadySet, ReadyMapped, ReadyItem, ReadyBody, Adds, KeptSet, KeptMapped, KeptItem, IsOut};
 
 use crate::find::{fetch, reference_at};
-use crate::points::points_at;
-use bim_model::{Items, Point, Triangle};
-use faceset::{listed, triangles};
-use p21_reader::{Exchange, Instance};
-use placement::Frame;
+use crate::items::{bodies, is_mapped_item, spelled_items, spelled_sets};
+use crate::sets::Sets;
+use bim_model::{Mode, Triangle};
+use ifc_schema::reference_of;
+use ifc_units::Scale;
+use p21_reader::{Exchange, Instance, Value21};
+use placement::{Frame, operator_frame};
 use std::alloc::{AllocError, Global};
 
-/// The triangles of a set in its own coordinates. None where it refers to no list of points on the grid, or a row isn't three indexes
-/// of them.
-fn set_triangles(
-    alloc: Global,
+/// Adds the triangles of the set that a value refers to. False where they aren't there, as in all that follows.
+fn add_set(
     exchange: &Exchange,
-    table: &[Option<Items<Point>>],
-    set: &Instance,
-) -> Result<Option<Vec<Triangle>>, AllocError>
-    ensures { (scale : Scale) (mode : Mode) → IsTable exchange.now scale mode table.now → IfOk result (λ made. MatchOption made (IsSound exchange.now scale mode set.now → ⊥) (λ triangles. SetTriangles exchange.now scale mode set.now triangles.items)) }
+    sets: &Sets,
+    value: &Value21,
+    out: &mut Vec<Triangle>,
+) -> Result<bool, AllocError>
+    ensures near { All IsInReach (corners_of out.old.items) → OnOk result (All IsInReach (corners_of out.new.items)) }
+    ensures added { (scale : Scale) (mode : Mode) (listed : List ℕ) → AreSets exchange.now scale mode listed sets.now → IfOk result (λ done. MatchBool done (Adds (Joined (KeptSet exchange.now scale mode) (led_to exchange.now (value.now ∷ []))) out.old.items out.new.items) (ReadySet exchange.now listed value.now → ⊥)) }
 {
-    let Some(list) = reference_at(set, 0) else {
-        return Ok(None);
+    let Some(id) = reference_of(value) else {
+        return Ok(true);
     };
-    let Some(points) = points_at(exchange, table, list) else {
-        return Ok(None);
-    };
-    triangles(alloc, listed(set, 3), points)
+    if fetch(exchange, id).is_none() {
+        return Ok(true);
+    }
+    match sets.get(id) {
+        Some(triangles) => {
+            out.extend_from_slice(triangles)?;
+            Ok(true)
+        }
+        None => Ok(false),
+    }
 }
 
-/// The triangles of sets, by their numbers, one set after another.
+/// Adds the triangles of the sets that values refer to, one set after another.
+fn add_sets(
+    exchange: &Exchange,
+    sets: &Sets,
+    values: &[Value21],
+    out: &mut Vec<Triangle>,
+) -> Result<bool, AllocError>
+    ensures near { All IsInReach (corners_of out.old.items) → OnOk result (All IsInReach (corners_of out.new.items)) }
+    ensures added { (scale : Scale) (mode : Mode) (listed : List ℕ) → AreSets exchange.now scale mode listed sets.now → IfOk result (λ done. MatchBool done (Adds (Joined (KeptSet exchange.now scale mode) (led_to exchange.now values.now)) out.old.items out.new.items) (All (ReadySet exchange.now listed) values.now → ⊥)) }
+{
+    for value in values {
+        let added = add_set(exchange, sets, value, out)?;
+        if !added {
+            return Ok(false);
+        }
+    }
+    Ok(true)
+}
+
+/// The triangle carried by a frame.
+fn carry(frame: &Frame, triangle: &Triangle) -> Triangle
+    requires frame { IsFrame frame.now }
+    requires near { AreWithin step frame.now.offset }
+    requires reach { All IsInReach (corners_of (triangle.now ∷ [])) }
+    ensures { result ≡ moved frame.now triangle.now }
+{
+    Triangle {
+        a: frame.carry(triangle.a),
+        b: frame.carry(triangle.b),
+        c: frame.carry(triangle.c),
+    }
+}
+
+/// Adds triangles that are carried by a frame.
+fn add_carried(frame: &Frame, own: &[Triangle], out: &mut Vec<Triangle>) -> Result<(), AllocError>
+    requires frame { IsFrame frame.now }
+    requires near { AreWithin step frame.now.offset }
+    requires reach { All IsInReach (corners_of own.now) }
+    ensures { OnOk result (out.new.items ≡ out.old.items ++ map (moved frame.now) own.now) }
+{
+    for triangle in own {
+        out.push(carry(frame, triangle))?;
+    }
+    Ok(())
+}
+
+/// Adds the triangles of a mapped item.
+fn add_mapped(
+    alloc: Global,
+    exchange: &Exchange,
+    sets: &Sets,
+    item: &Instance,
+    scale: Scale,
+    mode: Mode,
+    out: &mut Vec<Triangle>,
+) -> Result<bool, AllocError>
+    ensures { (listed : List ℕ) → AreSets exchange.now scale mode listed sets.now → IfOk result (λ done. MatchBool done (Adds (KeptMapped exchange.now scale mode item.now) out.old.items out.new.items) (ReadyMapped exchange.now scale mode listed item.now → ⊥)) }
+{
+    let Some(operator) = reference_at(item, 1) else {
+        return Ok(false);
+    };
+    let Some(frame) = operator_frame(exchange, operator, scale, mode) else {
+        return Ok(false);
+    };
+    let mut own = Vec::new(alloc);
+    let added = add_sets(exchange, sets, spelled_sets(exchange, item), &mut own)?;
+    if !added {
+        return Ok(false);
+    }
+    add_carried(&frame, &own, out)?;
+    Ok(true)
+}
+
+/// Adds the triangles of the item that a value refers to.
+fn add_item(
+    alloc: Global,
+    exchange: &Exchange,
+    sets: &Sets,
+    value: &Value21,
+    scale: Scale,
+    mode: Mode,
+    out: &mut Vec<Triangle>,
+) -> Result<bool, AllocError>
+    ensures { (listed : List ℕ) → AreSets exchange.now scale mode listed sets.now → IfOk result (λ done. MatchBool done (Adds (Joined (KeptItem exchange.now scale mode) (led_to exchange.now (value.now ∷ []))) out.old.items out.new.items) (ReadyItem exchange.now scale mode listed value.now → ⊥)) }
+{
+    let Some(id) = reference_of(value) else {
+        return Ok(true);
+    };
+    let Some(item) = fetch(exchange, id) else {
+        return Ok(true);
+    };
+    if is_mapped_item(item) {
+        add_mapped(alloc, exchange, sets, item, scale, mode, out)
+    } else {
+        add_set(exchange, sets, value, out)
+    }
+}
+
+/// Adds the triangles of the items that values refer to, one item after another.
+fn add_items(
+    alloc: Global,
+    exchange: &Exchange,
+    sets: &Sets,
+    values: &[Value21],
+    scale: Scale,
+    mode: Mode,
+    out: &mut Vec<Triangle>,
+) -> Result<bool, AllocError>
+    ensures { (listed : List ℕ) → AreSets exchange.now scale mode listed sets.now → IfOk result (λ done. MatchBool done (Adds (Joined (KeptItem exchange.now scale mode) (led_to exchange.now values.now)) out.old.items out.new.items) (All (ReadyItem exchange.now scale mode listed) values.now → ⊥)) }
+{
+    for value in values {
+        let added = add_item(alloc, exchange, sets, value, scale, mode, out)?;
+        if !added {
+            return Ok(false);
+        }
+    }
+    Ok(true)
+}
+
+/// The triangles of the items of the representations of these numbers, one after another. None where those of one aren't there.
+fn bodies_triangles(
+    alloc: Global,
+    exchange: &Exchange,
+    sets: &Sets,
+    ids: &[u64],
+    scale: Scale,
+    mode: Mode,
+) -> Result<Option<Vec<Triangle>>, AllocError>
+    ensures { (listed : List ℕ) (are : List Instance) → AreSets exchange.now scale mode listed sets.now → Number exchange.now ids.now are → IfOk result (λ made. MatchOption made (All (ReadyBody exchange.now scale mode listed) are → ⊥) (λ own. Joined (KeptItem exchange.now scale mode) (flat_map (items_of exchange.now) are) own.items)) }
+{
+    let mut own = Vec::new(alloc);
+    for id in ids {
+        let Some(body) = fetch(exchange, *id) else {
+            return Ok(None);
+        };
+        let added = add_items(alloc, exchange, sets, spelled_items(body), scale, mode, &mut own)?;
+        if !added {
+            return Ok(None);
+        }
+    }
+    Ok(Some(own))
+}
+
+/// The triangles of all items of the bodies of an element, in its own coordinates. None where those of one aren't there.
 pub fn own_triangles(
     alloc: Global,
     exchange: &Exchange,
-    table: &[Option<Items<Point>>],
-    sets: &[u64],
+    sets: &Sets,
+    element: &Instance,
+    scale: Scale,
+    mode: Mode,
 ) -> Result<Option<Vec<Triangle>>, AllocError>
-    ensures { (scale : Scale) (mode : Mode) (are : List Instance) → IsTable exchange.now scale mode table.now → Number exchange.now sets.now are → IfOk result (λ made. MatchOption made (All (IsSound exchange.now scale mode) are → ⊥) (λ triangles. AreOfSets exchange.now scale mode are triangles.items)) }
+    ensures { (listed : List ℕ) → AreSets exchange.now scale mode listed sets.now → IfOk result (λ made. MatchOption made (All (ReadyBody exchange.now scale mode listed) (bodies exchange.now element.now) → ⊥) (λ own. Joined (ItemSurface exchange.now scale mode) (body_items exchange.now element.now) own.items × (length own.items ≡ sum_by (item_count exchange.now) (body_items exchange.now element.now)))) }
 {
-    let mut own = Vec::new(alloc);
-    for id in sets {
-        let Some(set) = fetch(exchange, *id) else {
-            return Ok(None);
-        };
-        let Some(mut more) = set_triangles(alloc, exchange, table, set)? else {
-            return Ok(None);
-        };
-        own.append(&mut more)?;
-    }
-    Ok(Some(own))
+    let found = bodies(alloc, exchange, element)?;
+    bodies_triangles(alloc, exchange, sets, &found, scale, mode)
 }
 
 /// The triangle in the building. None where a corner isn't in reach.

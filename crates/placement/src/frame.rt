@@ -2,7 +2,7 @@
 ghost use Rattle.std.specs.Prelude.{◌≡◌, ℕ, ◌+◌, ◌<◌, ◌≤◌, ◌+ℤ◌, ◌*ℤ◌, MatchOption, IsTrue, ◌↔◌};
 ghost use Rattle.bim_model.specs.declared.geometry.Point.{Point};
 ghost use Rattle.bim_model.specs.Models.{IsInReach};
-ghost use Rattle.placement.specs.Frames.{along, component, carried, IsFrame, IsWithin, AreWithin, IsNear, lengths_of, point_at, most};
+ghost use Rattle.placement.specs.Frames.{along, component, carried, IsFrame, IsWithin, AreWithin, IsNear, lengths_of, point_at, most, step};
 
 use crate::axis::Axis;
 use bim_model::{PER_MM, Point};
@@ -76,6 +76,16 @@ impl Frame {
         ensures { MatchOption result (IsInReach (carried self.now point) → ⊥) (λ placed. (placed ≡ carried self.now point) × IsInReach placed) }
     {
         in_reach(self.moved(lengths_of(point)))
+    }
+
+    /// Where a point of the object lies, wherever that is.
+    pub fn carry(&self, point: Point) -> Point
+        requires frame { IsFrame self.now }
+        requires within { AreWithin step self.now.offset }
+        requires reach { IsInReach point }
+        ensures { result ≡ carried self.now point }
+    {
+        short_point(self.moved(lengths_of(point)))
     }
 
     /// Three lengths along the frame's axes, from its zero point.
@@ -156,6 +166,18 @@ fn in_reach(at: Offset) -> Option<Point>
         })
     } else {
         None
+    }
+}
+
+/// The point at three coordinates, none of which is beyond 1,600 metres.
+fn short_point(at: Offset) -> Point
+    requires { AreWithin (step + step) at }
+    ensures { result ≡ point_at at }
+{
+    Point {
+        x: at.x as i32,
+        y: at.y as i32,
+        z: at.z as i32,
     }
 }
 

@@ -1,6 +1,0 @@
-use Rattle.std.proofs.Common.{take, All}
-use Rattle.faceset.specs.Sets.{IsBadRow}
-use Rattle.faceset.proofs.sets.has_bad_row.Given as goal
-
-abbrev pub invariant-loop-row : goal.invariant-loop-row
-invariant-loop-row l = All (λ v. IsBadRow l.count v → ⊥) (take l.row-index l.rows)

@@ -1,6 +1,0 @@
-use Rattle.std.proofs.Common.{take, All}
-use Rattle.faceset.specs.Indexes.{PointsNowhere}
-use Rattle.faceset.proofs.sets.is_bad_row.Given as goal
-
-abbrev pub invariant-loop-value : goal.invariant-loop-value
-invariant-loop-value l = All (λ v. PointsNowhere l.count v → ⊥) (take l.value-index l.value-items)

@@ -1,0 +1,62 @@
+-- What the cutting of faces answers. No public contract cites it.
+use Rattle.std.specs.Prelude.{◌≡◌, ℕ, ◌<◌, ◌⊎◌, List, length, map, filter_map, Option, Some, None, Any, Contains, MatchOption, nat_lt, if◌then◌else◌}
+use Rattle.std.specs.Bool.{⊤}
+use Rattle.p21_reader.specs.declared.value.Value21.{Value21}
+use Rattle.p21_reader.specs.declared.value.Instance.{Instance}
+use Rattle.bim_model.specs.declared.geometry.Point.{Point}
+use Rattle.bim_model.specs.declared.geometry.Triangle.{Triangle}
+use Rattle.ifc_schema.specs.Looking.{look}
+use Rattle.ifc_schema.specs.Values.{reference_of}
+use Rattle.ear_cut.specs.declared.ears.Ear.{Ear}
+use Rattle.ear_cut.specs.Removal.{cut_of}
+use Rattle.faceset.specs.declared.faces.Outcome.{Outcome}
+use Rattle.faceset.specs.declared.faces.Outcome.TheVariants.{Cut, Stuck, Unready}
+use Rattle.faceset.specs.Sets.{triangle_of, outline, IsMisnamed, IsOutlined, IsCut, IsStuck, face_count}
+
+-- a polygon is cut into these triangles
+pub record CutsInto (corners : List Point) (triangles : List Triangle) : Type 0 where
+  pub ears : List Ear
+  pub cut : cut_of corners ≡ Some ears
+  pub are_triangles : triangles ≡ map (triangle_of corners) ears
+
+-- an index of the face names no point
+abbrev pub HasMisnamed : Option (List Value21) → List Point → Instance → Type 0
+HasMisnamed numbers points face = Any (IsMisnamed numbers (length points)) (outline face)
+
+-- what comes of a face
+abbrev pub IsOutcome : Option (List Value21) → List Point → Instance → Outcome → Type 0
+IsOutcome numbers points face (Cut triangles) = IsCut numbers points face triangles.items
+IsOutcome numbers points face Stuck = IsStuck numbers points face
+IsOutcome numbers points face Unready = IsOutlined face → HasMisnamed numbers points face
+
+-- a face that is cut has as many triangles as its corners tell
+abbrev pub IsCounted : Instance → Outcome → Type 0
+IsCounted face (Cut triangles) = length triangles.items ≡ face_count face
+IsCounted face Stuck = ⊤
+IsCounted face Unready = ⊤
+
+-- a face is stuck, or isn't ready to be cut
+abbrev pub IsLoose : Option (List Value21) → List Point → Instance → Type 0
+IsLoose numbers points face = IsStuck numbers points face ⊎ (IsOutlined face → HasMisnamed numbers points face)
+
+-- Of a row of values that refer to faces: the face of that number is one of them, and can't be cut.
+pub record IsStuckIn (world : List Instance) (numbers : Option (List Value21)) (points : List Point) (values : List Value21) (id : ℕ) : Type 0 where
+  pub listed : Contains (filter_map reference_of values) id
+  pub face : Instance
+  pub found : look world id ≡ Some face
+  pub stuck : IsStuck numbers points face
+
+-- the least number of which it holds
+pub record IsLeast (P : ℕ → Type 0) (id : ℕ) : Type 0 where
+  pub here : P id
+  pub lower : (k : ℕ) → k < id → P k → ⊥
+
+-- none, or the least number of which it holds
+abbrev pub LeastOf : (ℕ → Type 0) → Option ℕ → Type 0
+LeastOf P found = MatchOption found ((id : ℕ) → P id → ⊥) (IsLeast P)
+
+-- the lesser of two numbers that may lack
+abbrev pub lesser : Option ℕ → Option ℕ → Option ℕ
+lesser None b = b
+lesser (Some a) None = Some a
+lesser (Some a) (Some b) = if nat_lt a b then Some a else Some b

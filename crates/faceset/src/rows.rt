@@ -1,0 +1,60 @@
+//! The triangles of triangulated sets.
+ghost use Rattle.std.specs.Prelude.{◌≡◌, ◌⊎◌, ◌∷◌, [], length, All, Any, IfOk, MatchOption, option_copied};
+ghost use Rattle.faceset.specs.Sets.{IsTriangle, AreTriangles, HasThree, IsMisnamed, items_in, IsCorner};
+
+use crate::naming::corner;
+use crate::sets::items_in;
+use bim_model::{Point, Triangle};
+use p21_reader::Value21;
+use std::alloc::{AllocError, Global};
+
+/// The triangle of three indexes.
+fn triangle_of(
+    a: &Value21,
+    b: &Value21,
+    c: &Value21,
+    numbers: Option<&[Value21]>,
+    points: &[Point],
+) -> Option<Triangle>
+    ensures { MatchOption result (Any (IsMisnamed (option_copied numbers.entry) (length points.now)) (a.now ∷ b.now ∷ c.now ∷ [])) (λ t. IsCorner (option_copied numbers.entry) points.now a.now t.a × IsCorner (option_copied numbers.entry) points.now b.now t.b × IsCorner (option_copied numbers.entry) points.now c.now t.c) }
+{
+    let Some(a) = corner(a, numbers, points) else {
+        return None;
+    };
+    let Some(b) = corner(b, numbers, points) else {
+        return None;
+    };
+    let Some(c) = corner(c, numbers, points) else {
+        return None;
+    };
+    Some(Triangle { a, b, c })
+}
+
+/// The triangle of a row. None of one that isn't three indexes of points.
+fn triangle(row: &Value21, numbers: Option<&[Value21]>, points: &[Point]) -> Option<Triangle>
+    ensures { MatchOption result (HasThree row.now → Any (IsMisnamed (option_copied numbers.entry) (length points.now)) (items_in row.now)) (IsTriangle (option_copied numbers.entry) points.now row.now) }
+{
+    match items_in(row) {
+        [a, b, c] => triangle_of(a, b, c, numbers, points),
+        _ => None,
+    }
+}
+
+/// The triangles of rows of three indexes, in their order. None where a row isn't three indexes, or an index names none of the points.
+pub fn triangles(
+    alloc: Global,
+    numbers: Option<&[Value21]>,
+    rows: &[Value21],
+    points: &[Point],
+) -> Result<Option<Vec<Triangle>>, AllocError>
+    ensures { IfOk result (λ found. MatchOption found (Any (λ row. HasThree row → Any (IsMisnamed (option_copied numbers.entry) (length points.now)) (items_in row)) rows.now) (λ made. AreTriangles (option_copied numbers.entry) points.now rows.now made.items)) }
+{
+    let mut made = Vec::with_capacity(alloc, rows.len())?;
+    for row in rows {
+        match triangle(row, numbers, points) {
+            Some(triangle) => made.push(triangle)?,
+            None => return Ok(None),
+        }
+    }
+    Ok(Some(made))
+}

@@ -1,0 +1,81 @@
+//! The triangles of face sets.
+ghost use Rattle.std.specs.Prelude.{◌≡◌, ℕ, ◌++◌, ◌∷◌, [], length, sum_by, All, Any, IfOk, IfSome, MatchOption, option_copied};
+ghost use Rattle.std.specs.Bool.{MatchBool};
+ghost use Rattle.ear_cut.specs.Normals.{IsGridPoint};
+ghost use Rattle.faceset.specs.Sets.{named_faces, Joined, IsCut, SetTriangles, IsSound, HasStuck, IsOutlined, IsStuck, face_count, triangle_count};
+ghost use Rattle.faceset.specs.Cuts.{HasMisnamed, IsLoose};
+
+use crate::faces::{Outcome, cut_face};
+use crate::rows::triangles;
+use crate::sets::{fetch, is_polygonal, listed, numbering};
+use bim_model::{Point, Triangle};
+use ifc_schema::reference_of;
+use p21_reader::{Exchange, Instance, Value21};
+use std::alloc::{AllocError, Global};
+
+/// The triangles of the face that a value refers to; none where it refers to none. None where it isn't cut.
+fn face_triangles(
+    alloc: Global,
+    exchange: &Exchange,
+    numbers: Option<&[Value21]>,
+    points: &[Point],
+    value: &Value21,
+) -> Result<Option<Vec<Triangle>>, AllocError>
+    requires { All IsGridPoint points.now }
+    ensures triangles { IfOk result (λ made. MatchOption made (Any (IsLoose (option_copied numbers.entry) points.now) (named_faces exchange.now (value.now ∷ []))) (λ triangles. Joined (IsCut (option_copied numbers.entry) points.now) (named_faces exchange.now (value.now ∷ [])) triangles.items)) }
+    ensures count { IfOk result (λ made. IfSome made (λ triangles. length triangles.items ≡ sum_by face_count (named_faces exchange.now (value.now ∷ [])))) }
+{
+    let Some(id) = reference_of(value) else {
+        return Ok(Some(Vec::new(alloc)));
+    };
+    let Some(face) = fetch(exchange, id) else {
+        return Ok(Some(Vec::new(alloc)));
+    };
+    match cut_face(alloc, numbers, points, face)? {
+        Outcome::Cut(triangles) => Ok(Some(triangles)),
+        Outcome::Stuck => Ok(None),
+        Outcome::Unready => Ok(None),
+    }
+}
+
+/// The triangles of the faces that values refer to, one face after another. None where one isn't cut.
+fn faces_triangles(
+    alloc: Global,
+    exchange: &Exchange,
+    numbers: Option<&[Value21]>,
+    points: &[Point],
+    values: &[Value21],
+) -> Result<Option<Vec<Triangle>>, AllocError>
+    requires { All IsGridPoint points.now }
+    ensures triangles { IfOk result (λ made. MatchOption made (Any (IsLoose (option_copied numbers.entry) points.now) (named_faces exchange.now values.now)) (λ triangles. Joined (IsCut (option_copied numbers.entry) points.now) (named_faces exchange.now values.now) triangles.items)) }
+    ensures count { IfOk result (λ made. IfSome made (λ triangles. length triangles.items ≡ sum_by face_count (named_faces exchange.now values.now))) }
+{
+    let mut made = Vec::new(alloc);
+    for value in values {
+        let Some(mut more) = face_triangles(alloc, exchange, numbers, points, value)? else {
+            return Ok(None);
+        };
+        made.append(&mut more)?;
+    }
+    Ok(Some(made))
+}
+
+/// The triangles of a face set in its own coordinates, in the order of its rows or faces, each face cut once (IFC4 ADD2 TC1,
+/// IfcTriangulatedFaceSet, IfcPolygonalFaceSet). The points are those of its list. None where it isn't sound, or a face can't be cut.
+pub fn set_triangles(
+    alloc: Global,
+    exchange: &Exchange,
+    points: &[Point],
+    set: &Instance,
+) -> Result<Option<Vec<Triangle>>, AllocError>
+    requires { All IsGridPoint points.now }
+    ensures triangles { IfOk result (λ made. MatchOption made (IsSound exchange.now points.now set.now → (id : ℕ) × HasStuck exchange.now points.now set.now id) (λ triangles. SetTriangles exchange.now points.now set.now triangles.items)) }
+    ensures count { IfOk result (λ made. IfSome made (λ triangles. length triangles.items ≡ triangle_count exchange.now set.now)) }
+{
+    let numbers = numbering(set);
+    if is_polygonal(set) {
+        faces_triangles(alloc, exchange, numbers, points, listed(set, 2))
+    } else {
+        triangles(alloc, numbers, listed(set, 3), points)
+    }
+}

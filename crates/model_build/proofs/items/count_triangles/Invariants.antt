@@ -1,6 +1,0 @@
-use Rattle.std.proofs.Common.{◌≡◌, ◌≤◌, take, sum_by}
-use Rattle.model_build.specs.Items.{most_triangles, count_of}
-use Rattle.model_build.proofs.items.count_triangles.Given as goal
-
-abbrev pub invariant-loop-id : goal.invariant-loop-id
-invariant-loop-id l = (sum_by (count_of l.exchange) (take l.id-index l.elements) ≡ l.count) × (l.count ≤ most_triangles)

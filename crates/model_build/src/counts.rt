@@ -1,0 +1,133 @@
+//! How many triangles a model has.
+ghost use Rattle.std.specs.Prelude.{◌≤◌, ◌+◌, sum_by, IfOk};
+ghost use Rattle.faceset.specs.Sets.{triangle_count};
+ghost use Rattle.model_build.specs.Finding.{led_to};
+ghost use Rattle.model_build.specs.Items.{item_count, count_of, most_triangles};
+ghost use Rattle.model_build.specs.Counting.{CountsTo, body_count};
+
+use crate::find::{fetch, target};
+use crate::items::{bodies, is_mapped_item, spelled_items, spelled_sets};
+use faceset::triangle_count;
+use p21_reader::{Exchange, Instance, Value21};
+use std::alloc::{AllocError, Global};
+
+const MOST_TRIANGLES: u64 = 1_000_000;
+
+/// The number of triangles so far and of a set. None where it is more than a million, as in all that follows.
+fn count_set(exchange: &Exchange, set: &Instance, so_far: u64) -> Option<u64>
+    requires { so_far ≤ most_triangles }
+    ensures { CountsTo (so_far + triangle_count exchange.now set.now) result }
+{
+    let more = triangle_count(exchange, set, MOST_TRIANGLES - so_far)?;
+    Some(so_far + more)
+}
+
+/// .. and of the sets that values refer to.
+fn count_sets(exchange: &Exchange, values: &[Value21], so_far: u64) -> Option<u64>
+    requires { so_far ≤ most_triangles }
+    ensures { CountsTo (so_far + sum_by (triangle_count exchange.now) (led_to exchange.now values.now)) result }
+{
+    let mut count = so_far;
+    for value in values {
+        if let Some(set) = target(exchange, value) {
+            match count_set(exchange, set, count) {
+                Some(counted) => count = counted,
+                None => return None,
+            }
+        }
+    }
+    Some(count)
+}
+
+/// .. and of an item.
+fn count_item(exchange: &Exchange, item: &Instance, so_far: u64) -> Option<u64>
+    requires { so_far ≤ most_triangles }
+    ensures { CountsTo (so_far + item_count exchange.now item.now) result }
+{
+    if is_mapped_item(item) {
+        count_sets(exchange, spelled_sets(exchange, item), so_far)
+    } else {
+        count_set(exchange, item, so_far)
+    }
+}
+
+/// .. and of the items that values refer to.
+fn count_items(exchange: &Exchange, values: &[Value21], so_far: u64) -> Option<u64>
+    requires { so_far ≤ most_triangles }
+    ensures { CountsTo (so_far + sum_by (item_count exchange.now) (led_to exchange.now values.now)) result }
+{
+    let mut count = so_far;
+    for value in values {
+        if let Some(item) = target(exchange, value) {
+            match count_item(exchange, item, count) {
+                Some(counted) => count = counted,
+                None => return None,
+            }
+        }
+    }
+    Some(count)
+}
+
+/// .. and of the items of the representation of that number.
+fn count_body(exchange: &Exchange, id: u64, so_far: u64) -> Option<u64>
+    requires { so_far ≤ most_triangles }
+    ensures { CountsTo (so_far + body_count exchange.now id) result }
+{
+    match fetch(exchange, id) {
+        Some(body) => count_items(exchange, spelled_items(body), so_far),
+        None => Some(so_far),
+    }
+}
+
+/// .. and of the items of the representations of these numbers.
+fn count_bodies(exchange: &Exchange, ids: &[u64], so_far: u64) -> Option<u64>
+    requires { so_far ≤ most_triangles }
+    ensures { CountsTo (so_far + sum_by (body_count exchange.now) ids.now) result }
+{
+    let mut count = so_far;
+    for id in ids {
+        match count_body(exchange, *id, count) {
+            Some(counted) => count = counted,
+            None => return None,
+        }
+    }
+    Some(count)
+}
+
+/// .. and of the element of that number.
+fn count_element(
+    alloc: Global,
+    exchange: &Exchange,
+    id: u64,
+    so_far: u64,
+) -> Result<Option<u64>, AllocError>
+    requires { so_far ≤ most_triangles }
+    ensures { IfOk result (CountsTo (so_far + count_of exchange.now id)) }
+{
+    match fetch(exchange, id) {
+        Some(element) => {
+            let found = bodies(alloc, exchange, element)?;
+            Ok(count_bodies(exchange, &found, so_far))
+        }
+        None => Ok(Some(so_far)),
+    }
+}
+
+/// How many triangles these elements have together. None where they have more than a million. Takes no step more than a million triangles
+/// ask for, beside looking at the representations of each element.
+pub fn count_triangles(
+    alloc: Global,
+    exchange: &Exchange,
+    elements: &[u64],
+) -> Result<Option<u64>, AllocError>
+    ensures { IfOk result (CountsTo (sum_by (count_of exchange.now) elements.now)) }
+{
+    let mut count = 0;
+    for id in elements {
+        match count_element(alloc, exchange, *id, count)? {
+            Some(counted) => count = counted,
+            None => return Ok(None),
+        }
+    }
+    Ok(Some(count))
+}

@@ -1,0 +1,61 @@
+//! Faces that can't be cut.
+ghost use Rattle.std.specs.Prelude.{◌≡◌, ℕ, IfOk};
+ghost use Rattle.model_build.specs.PointTables.{IsTable};
+ghost use Rattle.model_build.specs.Least.{LeastOf, ShownBy};
+ghost use Rattle.model_build.specs.Outcomes.{ShowsStuckSet};
+
+use crate::find::{fetch, reference_at};
+use crate::points::points_at;
+use crate::unsupported::lesser;
+use bim_model::{Items, Mode, Point};
+use faceset::{is_set, least_stuck};
+use ifc_units::Scale;
+use p21_reader::Exchange;
+use std::alloc::{AllocError, Global};
+
+/// The least number of a face that can't be cut, of the set of that number. None where it is no set or refers to no points on the grid.
+fn stuck_in(
+    alloc: Global,
+    exchange: &Exchange,
+    table: &[Option<Items<Point>>],
+    id: u64,
+    scale: Scale,
+    mode: Mode,
+) -> Result<Option<u64>, AllocError>
+    requires { IsTable exchange.now scale mode table.now }
+    ensures { IfOk result (LeastOf (ShowsStuckSet exchange.now scale mode id)) }
+{
+    let Some(set) = fetch(exchange, id) else {
+        return Ok(None);
+    };
+    if !is_set(set) {
+        return Ok(None);
+    }
+    let Some(list) = reference_at(set, 0) else {
+        return Ok(None);
+    };
+    let Some(points) = points_at(exchange, table, list) else {
+        return Ok(None);
+    };
+    least_stuck(alloc, exchange, points, set)
+}
+
+/// The least number of a face that can't be cut, of the sets among the instances of these numbers.
+pub fn first_stuck(
+    alloc: Global,
+    exchange: &Exchange,
+    table: &[Option<Items<Point>>],
+    ids: &[u64],
+    scale: Scale,
+    mode: Mode,
+) -> Result<Option<u64>, AllocError>
+    requires { IsTable exchange.now scale mode table.now }
+    ensures { IfOk result (LeastOf (ShownBy (ShowsStuckSet exchange.now scale mode) ids.now)) }
+{
+    let mut least = None;
+    for id in ids {
+        let here = stuck_in(alloc, exchange, table, *id, scale, mode)?;
+        least = lesser(least, here);
+    }
+    Ok(least)
+}

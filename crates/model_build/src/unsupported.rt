@@ -1,0 +1,113 @@
+//! Items that aren't read (IFC4 ADD2 TC1, IfcShapeRepresentation, IfcMappedItem).
+ghost use Rattle.std.specs.Prelude.{◌≡◌, ℕ, ◌<◌, ◌∷◌, [], Contains, IfOk, MatchOption};
+ghost use Rattle.ifc_schema.specs.Bodies.{is_body_representation};
+ghost use Rattle.model_build.specs.Finding.{Finds};
+ghost use Rattle.model_build.specs.Least.{LeastOf, ShownBy};
+ghost use Rattle.model_build.specs.Showing.{lesser, HasOther, HasInner, BodyShows, MapShows};
+
+use crate::find::fetch;
+use crate::items::{is_body_representation, is_item, is_mapped_item, spelled_items};
+use ifc_schema::reference_of;
+use p21_reader::{Exchange, Value21};
+use std::alloc::{AllocError, Global};
+
+/// The lesser of two numbers that may lack.
+pub fn lesser(a: Option<u64>, b: Option<u64>) -> Option<u64>
+    ensures { result ≡ lesser a b }
+{
+    match (a, b) {
+        (Some(a), Some(b)) => Some(if a < b { a } else { b }),
+        (Some(a), None) => Some(a),
+        (None, b) => b,
+    }
+}
+
+/// The number of the instance that an item refers to, where it is neither a face set nor a mapped item.
+fn other_item(exchange: &Exchange, value: &Value21) -> Option<u64>
+    ensures { LeastOf (HasOther exchange.now (value.now ∷ [])) result }
+{
+    let id = reference_of(value)?;
+    let item = fetch(exchange, id)?;
+    if is_item(item) { None } else { Some(id) }
+}
+
+/// The least of those.
+fn least_other(exchange: &Exchange, values: &[Value21]) -> Option<u64>
+    ensures { LeastOf (HasOther exchange.now values.now) result }
+{
+    let mut least = None;
+    for value in values {
+        least = lesser(least, other_item(exchange, value));
+    }
+    least
+}
+
+/// The number of the instance that an item refers to, where it is a mapped item.
+fn inner_item(exchange: &Exchange, value: &Value21) -> Option<u64>
+    ensures { LeastOf (HasInner exchange.now (value.now ∷ [])) result }
+{
+    let id = reference_of(value)?;
+    let item = fetch(exchange, id)?;
+    if is_mapped_item(item) { Some(id) } else { None }
+}
+
+/// The least of those.
+fn least_inner(exchange: &Exchange, values: &[Value21]) -> Option<u64>
+    ensures { LeastOf (HasInner exchange.now values.now) result }
+{
+    let mut least = None;
+    for value in values {
+        least = lesser(least, inner_item(exchange, value));
+    }
+    least
+}
+
+/// The least number of an item that isn't read, of the representation of that number, where it is a body.
+fn other_in_body(alloc: Global, exchange: &Exchange, id: u64) -> Result<Option<u64>, AllocError>
+    ensures { IfOk result (LeastOf (BodyShows exchange.now id)) }
+{
+    let Some(representation) = fetch(exchange, id) else {
+        return Ok(None);
+    };
+    let body = is_body_representation(alloc, representation)?;
+    if !body {
+        return Ok(None);
+    }
+    Ok(least_other(exchange, spelled_items(representation)))
+}
+
+/// The least number of an item that isn't read, of the bodies among the instances of these numbers.
+pub fn least_in_bodies(
+    alloc: Global,
+    exchange: &Exchange,
+    ids: &[u64],
+) -> Result<Option<u64>, AllocError>
+    ensures { IfOk result (LeastOf (ShownBy (BodyShows exchange.now) ids.now)) }
+{
+    let mut least = None;
+    for id in ids {
+        let here = other_in_body(alloc, exchange, *id)?;
+        least = lesser(least, here);
+    }
+    Ok(least)
+}
+
+/// The least number of an item that isn't read, or is mapped itself, of the mapped representation of that number.
+fn other_in_mapped(exchange: &Exchange, id: u64) -> Option<u64>
+    ensures { LeastOf (MapShows exchange.now id) result }
+{
+    let representation = fetch(exchange, id)?;
+    let items = spelled_items(representation);
+    lesser(least_other(exchange, items), least_inner(exchange, items))
+}
+
+/// The least of those, of the mapped representations of these numbers.
+pub fn least_in_mapped(exchange: &Exchange, ids: &[u64]) -> Option<u64>
+    ensures { LeastOf (ShownBy (MapShows exchange.now) ids.now) result }
+{
+    let mut least = None;
+    for id in ids {
+        least = lesser(least, other_in_mapped(exchange, *id));
+    }
+    least
+}
