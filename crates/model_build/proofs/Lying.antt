@@ -1,18 +1,18 @@
 -- Where lengths lie on the grid, and locations that lie away from its zero.
-use Rattle.std.proofs.Common.{◌≡◌, ℕ, zero, ◌<◌, ◌≤◌, ◌⊎◌, inl, inr, suc, Bool, true, false, ℤ, pos, List, [], ◌∷◌, length, get_or, Option, Some, None, refl, sym, ap, ◌∙◌, subst, arith}
+use Rattle.std.proofs.Common.{◌≡◌, ℕ, zero, ◌<◌, ◌≤◌, ◌⊎◌, inl, inr, suc, Bool, true, false, ℤ, pos, List, [], ◌∷◌, length, get_or, Some, None, refl, sym, ap, ◌∙◌, subst, arith, w32, to_z, of_z, FitsSigned}
 use Rattle.std.specs.Prelude.{unsigned_abs}
 use Rattle.std.specs.Bool.{MatchBool}
-use Rattle.std.specs.List.{AllZip, Any}
-use Rattle.std.proofs.lemmas.Int.{ints}
+use Rattle.std.specs.List.{Any}
+use Rattle.std.proofs.lemmas.Int.{ints, to_z-of_z}
 use Rattle.bim_model.specs.declared.upload.Mode.{Mode}
 use Rattle.p21_reader.specs.declared.value.Value21.{Value21}
-use Rattle.p21_reader.specs.declared.value.Instance.{Instance}
-use Rattle.ifc_schema.specs.Values.{number_of, items_of}
+use Rattle.ifc_schema.specs.Values.{items_of}
 use Rattle.ifc_units.specs.declared.scale.Scale.{Scale}
-use Rattle.ifc_units.specs.declared.fault.GridFault.{GridFault}
 use Rattle.ifc_units.specs.declared.fault.GridFault.TheVariants.{OffGrid, TooFar}
+use Rattle.ifc_units.specs.declared.fault.LengthError.{LengthError}
+use Rattle.ifc_units.specs.declared.fault.LengthError.TheVariants.{Unread, Refused}
 use Rattle.ifc_units.specs.Grid.{IsGridNumber, length_of}
-use Rattle.ifc_units.specs.Lengths.{units, reach, IsLength, LengthRefused, IsUnread}
+use Rattle.ifc_units.specs.Lengths.{units, reach, IsLength, LengthRefused, IsUnread, Fails}
 use Rattle.ifc_units.proofs.LengthFacts.{one_scaled}
 use Rattle.ifc_units.proofs.Unique.{unique}
 use Rattle.model_build.specs.declared.mapping.Lies.{Lies}
@@ -32,13 +32,20 @@ one_number scale mode v g h a b =
 on_grid : (scale : Scale) (mode : Mode) (v : Value21) (g : ℤ) → IsLength scale mode v g → HasGridNumber scale mode v g
 on_grid scale mode v g h = record { bytes = h.bytes; number = h.number; decimal = h.decimal; read = h.read; grid = h.grid }
 
+fits : (g : ℤ) → unsigned_abs g ≤ reach → FitsSigned w32 g
+fits g near = omega (arith, ints, near)
+
+-- a number of 32 bits that is written as 0 is 0
+zero_held : (g : ℤ) → unsigned_abs g ≤ reach → of_z w32 g ≡ 0 → g ≡ pos 0
+zero_held g near e = sym (to_z-of_z w32 g (fits g near)) ∙ ap (to_z w32) e
+
 -- What is known of a value's length says where it lies.
 
-pub at_zero : (scale : Scale) (mode : Mode) (v : Value21) (g : ℤ) → IsLength scale mode v g → g ≡ pos 0 → HasPlace scale mode v AtZero
-at_zero scale mode v g h e = subst (HasGridNumber scale mode v) e (on_grid scale mode v g h)
+pub at_zero : (scale : Scale) (mode : Mode) (v : Value21) (g : ℤ) → IsLength scale mode v g → of_z w32 g ≡ 0 → HasPlace scale mode v AtZero
+at_zero scale mode v g h e = subst (HasGridNumber scale mode v) (zero_held g h.near e) (on_grid scale mode v g h)
 
-pub off_zero : (scale : Scale) (mode : Mode) (v : Value21) (g : ℤ) → IsLength scale mode v g → (g ≡ pos 0 → ⊥) → HasPlace scale mode v OffZero
-off_zero scale mode v g h some = (g, on_grid scale mode v g h, some)
+pub off_zero : (scale : Scale) (mode : Mode) (v : Value21) (g : ℤ) → IsLength scale mode v g → (of_z w32 g ≡ 0 → ⊥) → HasPlace scale mode v OffZero
+off_zero scale mode v g h some = (g, on_grid scale mode v g h, λ e. some (ap (of_z w32) e))
 
 far_off : (g : ℤ) → reach < unsigned_abs g → g ≡ pos 0 → ⊥
 far_off g far e = let f = ap unsigned_abs e in omega (arith, far, f)
@@ -64,14 +71,14 @@ unread scale mode v h = λ g has. elim (side (unsigned_abs g) reach) [
 -- Three lengths.
 
 -- they have grid numbers, which aren't all 0
-record AreOff (scale : Scale) (mode : Mode) (a b c : Value21) : Type 0 where
-  x : ℤ
-  y : ℤ
-  z : ℤ
-  first : HasGridNumber scale mode a x
-  second : HasGridNumber scale mode b y
-  third : HasGridNumber scale mode c z
-  some : Any IsSome (x ∷ y ∷ z ∷ [])
+pub record AreOff (scale : Scale) (mode : Mode) (a b c : Value21) : Type 0 where
+  pub x : ℤ
+  pub y : ℤ
+  pub z : ℤ
+  pub first : HasGridNumber scale mode a x
+  pub second : HasGridNumber scale mode b y
+  pub third : HasGridNumber scale mode c z
+  pub some : Any IsSome (x ∷ y ∷ z ∷ [])
 
 given : (scale : Scale) (mode : Mode) (value a b c : Value21) → items_of value ≡ Some (a ∷ b ∷ c ∷ []) → AreOff scale mode a b c → IsAwayValue scale mode value
 given scale mode value a b c e h = record { a = a; b = b; c = c; three = e; x = h.x; y = h.y; z = h.z; grid = (h.first, (h.second, (h.third, tt))); some = h.some }
@@ -137,3 +144,22 @@ never_three scale mode value vs e none h = none h.a h.b h.c (let f = h.three in 
 
 pub never_list : (scale : Scale) (mode : Mode) (value : Value21) → items_of value ≡ None → IsAwayValue scale mode value → ⊥
 never_list scale mode value e h = let f = h.three in cc
+
+-- a list of three values
+pub three_items : (xs : List Value21) (a b c : Value21) → 3 ≤ length xs → length xs < 4 → a ≡ get_or xs 0 a → b ≡ get_or xs 1 b → c ≡ get_or xs 2 c → xs ≡ a ∷ b ∷ c ∷ []
+three_items [] a b c low high e f g = absurd (omega arith)
+three_items (x ∷ []) a b c low high e f g = absurd (omega arith)
+three_items (x ∷ y ∷ []) a b c low high e f g = absurd (omega arith)
+three_items (x ∷ y ∷ z ∷ []) a b c low high e f g = rw (← e, ← f, ← g) refl
+three_items (x ∷ y ∷ z ∷ w ∷ xs) a b c low high e f g = absurd (omega arith)
+
+-- The errors of a length.
+
+pub fails_far : (scale : Scale) (mode : Mode) (v : Value21) (error : LengthError) → error ≡ Refused TooFar → Fails (IsLength scale mode v) (LengthRefused scale mode v) error → HasPlace scale mode v OffZero
+fails_far scale mode v error e h = too_far scale mode v (subst (Fails (IsLength scale mode v) (LengthRefused scale mode v)) e h)
+
+pub fails_off : (scale : Scale) (mode : Mode) (v : Value21) (error : LengthError) → error ≡ Refused OffGrid → Fails (IsLength scale mode v) (LengthRefused scale mode v) error → HasPlace scale mode v Between
+fails_off scale mode v error e h = off_grid scale mode v (subst (Fails (IsLength scale mode v) (LengthRefused scale mode v)) e h)
+
+pub fails_unread : (scale : Scale) (mode : Mode) (v : Value21) (error : LengthError) → error ≡ Unread → Fails (IsLength scale mode v) (LengthRefused scale mode v) error → HasPlace scale mode v Between
+fails_unread scale mode v error e h = unread scale mode v (subst (Fails (IsLength scale mode v) (LengthRefused scale mode v)) e h)

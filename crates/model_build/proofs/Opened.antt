@@ -1,5 +1,5 @@
 -- Which instances show items to be unsupported: bodies, mapped representations and mapped items.
-use Rattle.std.proofs.Common.{◌≡◌, ℕ, ◌⊎◌, inl, inr, true, false, List, filter_map, Option, Some, Contains, refl, subst, arith}
+use Rattle.std.proofs.Common.{◌≡◌, ℕ, ◌⊎◌, inl, inr, List, filter_map, Option, Some, Contains, refl, sym, ap, ◌∙◌, subst, arith}
 use Rattle.bim_model.specs.declared.upload.Mode.{Mode}
 use Rattle.bim_model.specs.declared.upload.UploadFault.TheVariants as faults
 use Rattle.p21_reader.specs.declared.value.Instance.{Instance}
@@ -12,17 +12,14 @@ use Rattle.ifc_schema.specs.declared.form.Need.TheVariants.{Must}
 use Rattle.ifc_schema.specs.declared.form.When.TheVariants.{Always}
 use Rattle.ifc_schema.specs.Table.{row_of, attribute}
 use Rattle.ifc_schema.specs.Values.{reference_of}
-use Rattle.ifc_schema.specs.Looking.{look, row_at}
-use Rattle.ifc_schema.specs.Bodies.{is_body_representation}
+use Rattle.ifc_schema.specs.Looking.{look}
 use Rattle.ifc_schema.specs.Used.{Used, IsMapped, named}
 use Rattle.ifc_schema.specs.StageFive.{Lists}
 use Rattle.ifc_units.specs.declared.scale.Scale.{Scale}
-use Rattle.model_build.specs.Stages.{LeastFault}
-use Rattle.model_build.specs.Finding.{Finds}
 use Rattle.model_build.specs.Items.{spelled_items}
 use Rattle.model_build.specs.Least.{IsLeast, LeastOf, ShownBy}
 use Rattle.model_build.specs.Unsupported.{ListsItem, ListsOther, ListsNested, Shows, IsUnsupported}
-use Rattle.model_build.specs.Showing.{lesser, HasOther, HasInner, BodyShows, MapShows, ItemShows}
+use Rattle.model_build.specs.Showing.{lesser, BodyShows, MapShows, ItemShows}
 use Rattle.model_build.specs.Profile.{ItemStage}
 use Rattle.model_build.proofs.Attributes.{in_row}
 use Rattle.model_build.proofs.Others.{finding}
@@ -92,13 +89,23 @@ whole world scale mode used mapped us ms id h = from h.0 h.1 h.2
     from by u (inl (inr n)) = nested_found world scale mode used mapped ms by id n
     from by u (inr i) = inr (inr (by, us.all by u, i))
 
-pub unsupported_least : (world : List Instance) (scale : Scale) (mode : Mode) (used mapped : List ℕ) (a b c : Option ℕ) → Lists (Used world) used → Lists (IsMapped world) mapped
+unsupported_least : (world : List Instance) (scale : Scale) (mode : Mode) (used mapped : List ℕ) (a b c : Option ℕ) → Lists (Used world) used → Lists (IsMapped world) mapped
     → LeastOf (ShownBy (BodyShows world) used) a → LeastOf (ShownBy (MapShows world) mapped) b → LeastOf (ShownBy (ItemShows world scale mode) used) c
     → LeastOf (IsUnsupported world scale mode) (lesser a (lesser b c))
 unsupported_least world scale mode used mapped a b c us ms f g h =
     same_least (Found world scale mode used mapped) (IsUnsupported world scale mode) (lesser a (lesser b c)) (sound world scale mode used mapped us ms) (whole world scale mode used mapped us ms)
     (lesser_least (ShownBy (BodyShows world) used) (λ id. ShownBy (MapShows world) mapped id ⊎ ShownBy (ItemShows world scale mode) used id) a (lesser b c) f
     (lesser_least (ShownBy (MapShows world) mapped) (ShownBy (ItemShows world scale mode) used) b c g h))
+
+-- the least that the three searches find
+pub item_least : (world : List Instance) (scale : Scale) (mode : Mode) (used mapped ids maps again : List ℕ) (a b c inner found : Option ℕ) → Lists (Used world) used → Lists (IsMapped world) mapped
+    → ids ≡ used → maps ≡ mapped → again ≡ used → LeastOf (ShownBy (BodyShows world) ids) a → LeastOf (ShownBy (MapShows world) maps) b → LeastOf (ShownBy (ItemShows world scale mode) again) c
+    → inner ≡ lesser b c → found ≡ lesser a inner → LeastOf (IsUnsupported world scale mode) found
+item_least world scale mode used mapped ids maps again a b c inner found us ms d e f g h k same is =
+    let whole : found ≡ lesser a (lesser b c) = is ∙ ap (lesser a) same in
+    subst (LeastOf (IsUnsupported world scale mode)) (sym whole)
+    (unsupported_least world scale mode used mapped a b c us ms (subst (λ ns. LeastOf (ShownBy (BodyShows world) ns) a) d g) (subst (λ ns. LeastOf (ShownBy (MapShows world) ns) b) e h)
+    (subst (λ ns. LeastOf (ShownBy (ItemShows world scale mode) ns) c) f k))
 
 -- the fault of the least one
 pub item_stage : (world : List Instance) (scale : Scale) (mode : Mode) (id : ℕ) → IsLeast (IsUnsupported world scale mode) id → ItemStage world scale mode (faults.UnsupportedItem id)
