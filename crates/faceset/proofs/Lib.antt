@@ -1,4 +1,15 @@
 pub mod Values
 pub mod Decimals
+pub mod Zips
+pub mod Corners
+pub mod Joins
+pub mod Unique
+pub mod Held
+pub mod FaceLists
+pub mod StuckFaces
+pub mod SetParts
 pub mod Scans
-pub mod Triples
+pub mod Anys
+pub mod Named
+pub mod RowLemmas
+pub mod Badness

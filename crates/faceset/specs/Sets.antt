@@ -98,9 +98,12 @@ HasBadIndex world set =
     HasBadNumber (numbering set) (length (spelled_points world set))
     ⊎ Any (Any (PointsNowhere (counted_by (numbering set) (length (spelled_points world set))))) (rows_of world set)
 
--- an index counts nothing, or the numbers of the points aren't all right
+-- an index names none of so many points: it counts nothing, or a number that names no point
 abbrev pub IsMisnamed : Option (List Value21) → ℕ → Value21 → Type 0
-IsMisnamed numbers count v = PointsNowhere (counted_by numbers count) v ⊎ HasBadNumber numbers count
+IsMisnamed None count v = PointsNowhere count v
+IsMisnamed (Some numbers) count v =
+    PointsNowhere (length numbers) v
+    ⊎ ((at : ℕ) × PointsAt (length numbers) v at × (number : Value21) × (slice_get numbers at ≡ Some number) × PointsNowhere count number)
 
 -- a value is the index of that corner among the points
 pub record IsCorner (numbers : Option (List Value21)) (points : List Point) (v : Value21) (corner : Point) : Type 0 where
@@ -133,6 +136,13 @@ AreCorners numbers points = AllZip (IsCorner numbers points)
 abbrev pub triangle_of : List Point → Ear → Triangle
 triangle_of corners ear = record { a = point_at corners ear.a; b = point_at corners ear.b; c = point_at corners ear.c }
 
+abbrev pub most_corners : ℕ
+most_corners = 1000
+
+-- a face of three corners or more, but not too many
+abbrev pub IsOutlined : Instance → Type 0
+IsOutlined face = (2 < length (outline face)) × (length (outline face) ≤ most_corners)
+
 -- a face cut into triangles
 pub record IsCut (numbers : Option (List Value21)) (points : List Point) (face : Instance) (triangles : List Triangle) : Type 0 where
   pub corners : List Point
@@ -143,6 +153,7 @@ pub record IsCut (numbers : Option (List Value21)) (points : List Point) (face :
 
 -- a face that can't be cut
 pub record IsStuck (numbers : Option (List Value21)) (points : List Point) (face : Instance) : Type 0 where
+  pub outlined : IsOutlined face
   pub corners : List Point
   pub are_corners : AreCorners numbers points (outline face) corners
   pub stuck : cut_of corners ≡ None
@@ -179,16 +190,9 @@ pub record HasStuck (world : List Instance) (points : List Point) (set : Instanc
 
 -- What the earlier checks leave of a set.
 
-abbrev pub most_corners : ℕ
-most_corners = 1000
-
 -- a row of exactly three values
 abbrev pub HasThree : Value21 → Type 0
 HasThree row = (a b c : Value21) × (items_of row ≡ Some (a ∷ b ∷ c ∷ []))
-
--- a face of three corners or more, but not too many
-abbrev pub IsOutlined : Instance → Type 0
-IsOutlined face = (2 < length (outline face)) × (length (outline face) ≤ most_corners)
 
 -- each row or face has as many indexes as it may have, and each of them names a point
 pub record IsSound (world : List Instance) (points : List Point) (set : Instance) : Type 0 where

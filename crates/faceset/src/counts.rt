@@ -7,6 +7,7 @@ use ifc_schema::reference_of;
 use p21_reader::{Exchange, Instance, Value21};
 
 /// How many triangles the face has that a value refers to.
+#[tactic(auto, using(crate::proofs::Named::named_none, crate::proofs::Named::named_nowhere, crate::proofs::Named::named_one))]
 fn count_face(exchange: &Exchange, value: &Value21) -> u64
     ensures { result ≡ sum_by face_count (named_faces exchange.now (value.now ∷ [])) }
 {
@@ -37,6 +38,7 @@ fn count_faces(exchange: &Exchange, values: &[Value21], most: u64) -> Option<u64
 
 /// How many triangles the set has: one for each row, and n - 2 for a face of n corners. None where they are more than `most`. Takes no
 /// memory, and cuts no face.
+#[tactic(auto, unfolding(crate::specs::Sets::faces_of))]
 pub fn triangle_count(exchange: &Exchange, set: &Instance, most: u64) -> Option<u64>
     ensures some { IfSome result (λ n. (n ≡ triangle_count exchange.now set.now) × (n ≤ most)) }
     ensures none { IfNone result (most < triangle_count exchange.now set.now) }

@@ -1,10 +1,10 @@
 //! Faces cut into triangles.
-ghost use Rattle.std.specs.Prelude.{◌≡◌, ◌≤◌, ◌<◌, length, map, All, Any, IfOk, MatchOption, option_copied};
+ghost use Rattle.std.specs.Prelude.{◌≡◌, ◌≤◌, ◌<◌, ◌+◌, length, map, All, Any, IfOk, IfSome, MatchOption, option_copied};
 ghost use Rattle.ear_cut.specs.Normals.{IsGridPoint};
 ghost use Rattle.ear_cut.specs.Areas.{point_at};
 ghost use Rattle.ear_cut.specs.Removal.{cut_of};
 ghost use Rattle.faceset.specs.Sets.{AreCorners, triangle_of, outline, IsMisnamed, IsOutlined, most_corners};
-ghost use Rattle.faceset.specs.Cuts.{CutsInto, IsOutcome};
+ghost use Rattle.faceset.specs.Cuts.{CutsInto, IsOutcome, IsCounted};
 
 use crate::naming::corner;
 use crate::sets::outline;
@@ -35,7 +35,7 @@ fn corners_of(
     points: &[Point],
 ) -> Result<Option<Vec<Point>>, AllocError>
     requires { All IsGridPoint points.now }
-    ensures { IfOk result (λ found. MatchOption found (Any (IsMisnamed (option_copied numbers) (length points.now)) indexes.now) (λ made. AreCorners (option_copied numbers) points.now indexes.now made.items × All IsGridPoint made.items)) }
+    ensures { IfOk result (λ found. MatchOption found (Any (IsMisnamed (option_copied numbers.entry) (length points.now)) indexes.now) (λ made. AreCorners (option_copied numbers.entry) points.now indexes.now made.items × All IsGridPoint made.items)) }
 {
     let mut made = Vec::with_capacity(alloc, indexes.len())?;
     for value in indexes {
@@ -82,7 +82,8 @@ fn cut_corners(alloc: Global, corners: &[Point]) -> Result<Option<Vec<Triangle>>
     requires three { 2 < length corners.now }
     requires few { length corners.now ≤ most_corners }
     requires in_grid { All IsGridPoint corners.now }
-    ensures { IfOk result (λ found. MatchOption found (cut_of corners.now ≡ None) (λ made. CutsInto corners.now made.items)) }
+    ensures triangles { IfOk result (λ found. MatchOption found (cut_of corners.now ≡ None) (λ made. CutsInto corners.now made.items)) }
+    ensures count { IfOk result (λ found. IfSome found (λ made. length made.items + 2 ≡ length corners.now)) }
 {
     match cut(alloc, corners) {
         Ok(ears) => Ok(Some(triangles_of(alloc, corners, &ears)?)),
@@ -99,7 +100,8 @@ pub fn cut_face(
     face: &Instance,
 ) -> Result<Outcome, AllocError>
     requires { All IsGridPoint points.now }
-    ensures { IfOk result (IsOutcome (option_copied numbers) points.now face.now) }
+    ensures outcome { IfOk result (IsOutcome (option_copied numbers.entry) points.now face.now) }
+    ensures count { IfOk result (IsCounted face.now) }
 {
     let indexes = outline(face);
     if indexes.len() < 3 || indexes.len() > MOST_CORNERS {

@@ -1,5 +1,5 @@
 //! Which corners the indexes of a set name.
-ghost use Rattle.std.specs.Prelude.{◌≡◌, ◌<◌, ◌⊎◌, ◌^◌, ℕ, length, MatchOption, option_copied, IfOk};
+ghost use Rattle.std.specs.Prelude.{◌≡◌, ◌<◌, ◌⊎◌, ◌^◌, ℕ, length, Some, MatchOption, option_copied, IfOk};
 ghost use Rattle.bim_model.specs.declared.geometry.Point.{Point};
 ghost use Rattle.faceset.specs.Indexes.{PointsNowhere};
 ghost use Rattle.faceset.specs.Sets.{NamesPoint, counted_by, HasBadNumber, IsCorner, IsMisnamed};
@@ -8,22 +8,34 @@ use crate::indexes::place_of;
 use bim_model::Point;
 use p21_reader::Value21;
 
+/// Which of so many points, counted from 0, an index names by the numbers of the points.
+fn place_numbered(value: &Value21, numbers: &[Value21], count: usize) -> Option<usize>
+    requires { count < 2 ^ 63 }
+    ensures { MatchOption result (IsMisnamed (Some numbers.now) count value.now) (NamesPoint (Some numbers.now) count value.now) }
+{
+    match place_of(value, numbers.len()) {
+        Some(at) => place_of(&numbers[at], count),
+        None => None,
+    }
+}
+
 /// Which of so many points, counted from 0, an index names, directly or by the numbers of the points.
 pub fn place_named(value: &Value21, numbers: Option<&[Value21]>, count: usize) -> Option<usize>
     requires { count < 2 ^ 63 }
-    ensures { MatchOption result (IsMisnamed (option_copied numbers) count value.now) (NamesPoint (option_copied numbers) count value.now) }
+    ensures { MatchOption result (IsMisnamed (option_copied numbers.entry) count value.now) (NamesPoint (option_copied numbers.entry) count value.now) }
 {
-    let Some(numbers) = numbers else {
-        return place_of(value, count);
-    };
-    let at = place_of(value, numbers.len())?;
-    place_of(&numbers[at], count)
+    match numbers {
+        Some(numbers) => place_numbered(value, numbers, count),
+        None => place_of(value, count),
+    }
 }
 
 /// The corner that an index names.
 pub fn corner(value: &Value21, numbers: Option<&[Value21]>, points: &[Point]) -> Option<Point>
-    ensures { MatchOption result (IsMisnamed (option_copied numbers) (length points.now) value.now) (IsCorner (option_copied numbers) points.now value.now) }
+    ensures { MatchOption result (IsMisnamed (option_copied numbers.entry) (length points.now) value.now) (IsCorner (option_copied numbers.entry) points.now value.now) }
 {
-    let place = place_named(value, numbers, points.len())?;
-    Some(points[place])
+    match place_named(value, numbers, points.len()) {
+        Some(place) => Some(points[place]),
+        None => None,
+    }
 }

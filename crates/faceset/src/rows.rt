@@ -1,5 +1,5 @@
 //! The triangles of triangulated sets.
-ghost use Rattle.std.specs.Prelude.{◌≡◌, ◌⊎◌, length, All, Any, IfOk, MatchOption, option_copied};
+ghost use Rattle.std.specs.Prelude.{◌≡◌, ◌⊎◌, ◌∷◌, [], length, All, Any, IfOk, MatchOption, option_copied};
 ghost use Rattle.faceset.specs.Sets.{IsTriangle, AreTriangles, HasThree, IsMisnamed, items_in, IsCorner};
 
 use crate::naming::corner;
@@ -16,18 +16,23 @@ fn triangle_of(
     numbers: Option<&[Value21]>,
     points: &[Point],
 ) -> Option<Triangle>
-    ensures { MatchOption result (Any (IsMisnamed (option_copied numbers) (length points.now)) (a.now ∷ b.now ∷ c.now ∷ [])) (λ t. IsCorner (option_copied numbers) points.now a.now t.a × IsCorner (option_copied numbers) points.now b.now t.b × IsCorner (option_copied numbers) points.now c.now t.c) }
+    ensures { MatchOption result (Any (IsMisnamed (option_copied numbers.entry) (length points.now)) (a.now ∷ b.now ∷ c.now ∷ [])) (λ t. IsCorner (option_copied numbers.entry) points.now a.now t.a × IsCorner (option_copied numbers.entry) points.now b.now t.b × IsCorner (option_copied numbers.entry) points.now c.now t.c) }
 {
-    Some(Triangle {
-        a: corner(a, numbers, points)?,
-        b: corner(b, numbers, points)?,
-        c: corner(c, numbers, points)?,
-    })
+    let Some(a) = corner(a, numbers, points) else {
+        return None;
+    };
+    let Some(b) = corner(b, numbers, points) else {
+        return None;
+    };
+    let Some(c) = corner(c, numbers, points) else {
+        return None;
+    };
+    Some(Triangle { a, b, c })
 }
 
 /// The triangle of a row. None of one that isn't three indexes of points.
 fn triangle(row: &Value21, numbers: Option<&[Value21]>, points: &[Point]) -> Option<Triangle>
-    ensures { MatchOption result (HasThree row.now → Any (IsMisnamed (option_copied numbers) (length points.now)) (items_in row.now)) (IsTriangle (option_copied numbers) points.now row.now) }
+    ensures { MatchOption result (HasThree row.now → Any (IsMisnamed (option_copied numbers.entry) (length points.now)) (items_in row.now)) (IsTriangle (option_copied numbers.entry) points.now row.now) }
 {
     match items_in(row) {
         [a, b, c] => triangle_of(a, b, c, numbers, points),
@@ -42,7 +47,7 @@ pub fn triangles(
     rows: &[Value21],
     points: &[Point],
 ) -> Result<Option<Vec<Triangle>>, AllocError>
-    ensures { IfOk result (λ found. MatchOption found (Any (λ row. HasThree row → Any (IsMisnamed (option_copied numbers) (length points.now)) (items_in row)) rows.now) (λ made. AreTriangles (option_copied numbers) points.now rows.now made.items)) }
+    ensures { IfOk result (λ found. MatchOption found (Any (λ row. HasThree row → Any (IsMisnamed (option_copied numbers.entry) (length points.now)) (items_in row)) rows.now) (λ made. AreTriangles (option_copied numbers.entry) points.now rows.now made.items)) }
 {
     let mut made = Vec::with_capacity(alloc, rows.len())?;
     for row in rows {

@@ -1,7 +1,7 @@
 //! Faces that can't be cut.
-ghost use Rattle.std.specs.Prelude.{◌≡◌, ℕ, ◌++◌, ◌∷◌, [], All, IfOk, MatchOption, option_copied};
+ghost use Rattle.std.specs.Prelude.{◌≡◌, ◌<◌, ℕ, ◌++◌, ◌∷◌, [], All, IfOk, MatchOption, option_copied};
 ghost use Rattle.ear_cut.specs.Normals.{IsGridPoint};
-ghost use Rattle.faceset.specs.Sets.{HasStuck, IsSound, IsReadied};
+ghost use Rattle.faceset.specs.Sets.{HasStuck, IsSound};
 ghost use Rattle.faceset.specs.Cuts.{IsStuckIn, LeastOf, lesser};
 
 use crate::faces::{Outcome, cut_face};
@@ -31,7 +31,7 @@ fn stuck_face(
     value: &Value21,
 ) -> Result<Option<u64>, AllocError>
     requires { All IsGridPoint points.now }
-    ensures { IfOk result (LeastOf (IsStuckIn exchange.now (option_copied numbers) points.now (value.now ∷ []))) }
+    ensures { IfOk result (LeastOf (IsStuckIn exchange.now (option_copied numbers.entry) points.now (value.now ∷ []))) }
 {
     let Some(id) = reference_of(value) else {
         return Ok(None);
@@ -55,7 +55,7 @@ fn least_in(
     values: &[Value21],
 ) -> Result<Option<u64>, AllocError>
     requires { All IsGridPoint points.now }
-    ensures { IfOk result (LeastOf (IsStuckIn exchange.now (option_copied numbers) points.now values.now)) }
+    ensures { IfOk result (LeastOf (IsStuckIn exchange.now (option_copied numbers.entry) points.now values.now)) }
 {
     let mut least = None;
     for value in values {

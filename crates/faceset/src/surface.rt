@@ -1,8 +1,8 @@
 //! The triangles of face sets.
-ghost use Rattle.std.specs.Prelude.{◌≡◌, ℕ, ◌++◌, ◌∷◌, [], All, Any, IfOk, OnOk, MatchOption, option_copied};
+ghost use Rattle.std.specs.Prelude.{◌≡◌, ℕ, ◌++◌, ◌∷◌, [], length, sum_by, All, Any, IfOk, IfSome, MatchOption, option_copied};
 ghost use Rattle.std.specs.Bool.{MatchBool};
 ghost use Rattle.ear_cut.specs.Normals.{IsGridPoint};
-ghost use Rattle.faceset.specs.Sets.{named_faces, Joined, IsCut, SetTriangles, IsSound, HasStuck, IsOutlined, IsStuck};
+ghost use Rattle.faceset.specs.Sets.{named_faces, Joined, IsCut, SetTriangles, IsSound, HasStuck, IsOutlined, IsStuck, face_count, triangle_count};
 ghost use Rattle.faceset.specs.Cuts.{HasMisnamed, IsLoose};
 
 use crate::faces::{Outcome, cut_face};
@@ -22,7 +22,8 @@ fn face_triangles(
     value: &Value21,
 ) -> Result<Option<Vec<Triangle>>, AllocError>
     requires { All IsGridPoint points.now }
-    ensures { IfOk result (λ made. MatchOption made (Any (IsLoose (option_copied numbers) points.now) (named_faces exchange.now (value.now ∷ []))) (λ triangles. Joined (IsCut (option_copied numbers) points.now) (named_faces exchange.now (value.now ∷ [])) triangles.items)) }
+    ensures triangles { IfOk result (λ made. MatchOption made (Any (IsLoose (option_copied numbers.entry) points.now) (named_faces exchange.now (value.now ∷ []))) (λ triangles. Joined (IsCut (option_copied numbers.entry) points.now) (named_faces exchange.now (value.now ∷ [])) triangles.items)) }
+    ensures count { IfOk result (λ made. IfSome made (λ triangles. length triangles.items ≡ sum_by face_count (named_faces exchange.now (value.now ∷ [])))) }
 {
     let Some(id) = reference_of(value) else {
         return Ok(Some(Vec::new(alloc)));
@@ -46,7 +47,8 @@ fn faces_triangles(
     values: &[Value21],
 ) -> Result<Option<Vec<Triangle>>, AllocError>
     requires { All IsGridPoint points.now }
-    ensures { IfOk result (λ made. MatchOption made (Any (IsLoose (option_copied numbers) points.now) (named_faces exchange.now values.now)) (λ triangles. Joined (IsCut (option_copied numbers) points.now) (named_faces exchange.now values.now) triangles.items)) }
+    ensures triangles { IfOk result (λ made. MatchOption made (Any (IsLoose (option_copied numbers.entry) points.now) (named_faces exchange.now values.now)) (λ triangles. Joined (IsCut (option_copied numbers.entry) points.now) (named_faces exchange.now values.now) triangles.items)) }
+    ensures count { IfOk result (λ made. IfSome made (λ triangles. length triangles.items ≡ sum_by face_count (named_faces exchange.now values.now))) }
 {
     let mut made = Vec::new(alloc);
     for value in values {
@@ -67,7 +69,8 @@ pub fn set_triangles(
     set: &Instance,
 ) -> Result<Option<Vec<Triangle>>, AllocError>
     requires { All IsGridPoint points.now }
-    ensures { IfOk result (λ made. MatchOption made (IsSound exchange.now points.now set.now → (id : ℕ) × HasStuck exchange.now points.now set.now id) (λ triangles. SetTriangles exchange.now points.now set.now triangles.items)) }
+    ensures triangles { IfOk result (λ made. MatchOption made (IsSound exchange.now points.now set.now → (id : ℕ) × HasStuck exchange.now points.now set.now id) (λ triangles. SetTriangles exchange.now points.now set.now triangles.items)) }
+    ensures count { IfOk result (λ made. IfSome made (λ triangles. length triangles.items ≡ triangle_count exchange.now set.now)) }
 {
     let numbers = numbering(set);
     if is_polygonal(set) {

@@ -20,7 +20,7 @@ use Rattle.placement.specs.Directions.{Directs, LiesAlong, without, first_direct
 use Rattle.placement.specs.Placed.{value_at, referred_at}
 use Rattle.placement.specs.Operators.{MayDirect, OperatorDirections, HasOperatorDirections, GiveOperatorAxes, HasOperatorAxes, ObliqueOperator, third_direction, IsOrigin, OperatorFrame}
 use Rattle.placement.proofs.Aligned.{one_axis}
-use Rattle.placement.proofs.Square.{vector, same_vector, GiveSame, refers_absent, same_directs}
+use Rattle.placement.proofs.Square.{same_vector, GiveSame, refers_absent, same_directs}
 use Rattle.placement.proofs.OneFrame.{same_axes}
 use Rattle.placement.proofs.Owning.{unpointed}
 

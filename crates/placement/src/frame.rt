@@ -85,12 +85,7 @@ impl Frame {
         requires reach { IsInReach point }
         ensures { result ≡ carried self.now point }
     {
-        let at = self.moved(lengths_of(point));
-        Point {
-            x: at.x as i32,
-            y: at.y as i32,
-            z: at.z as i32,
-        }
+        short_point(self.moved(lengths_of(point)))
     }
 
     /// Three lengths along the frame's axes, from its zero point.
@@ -171,6 +166,18 @@ fn in_reach(at: Offset) -> Option<Point>
         })
     } else {
         None
+    }
+}
+
+/// The point at three coordinates, none of which is beyond 1,600 metres.
+fn short_point(at: Offset) -> Point
+    requires { AreWithin (step + step) at }
+    ensures { result ≡ point_at at }
+{
+    Point {
+        x: at.x as i32,
+        y: at.y as i32,
+        z: at.z as i32,
     }
 }
 

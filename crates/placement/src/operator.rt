@@ -107,6 +107,7 @@ fn axes_along(
     Some(Axes { x, y, z })
 }
 
+#[tactic(auto, using(crate::proofs::Operating::across_both))]
 fn third_direction(z: Axis, x: Axis, given: Option<Direction>) -> Vector
     requires z { z.direction < 3 }
     requires x { x.direction < 3 }

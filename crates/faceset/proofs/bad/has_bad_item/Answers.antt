@@ -1,12 +1,10 @@
-use Rattle.std.proofs.Common.{rules, Any, sym, subst}
+use Rattle.std.proofs.Common.{rules}
 use Rattle.faceset.specs.Indexes.{PointsNowhere}
 use Rattle.faceset.proofs.Scans.{any_never, any_more}
 use Rattle.faceset.proofs.bad.has_bad_item.Goals as goal
 
 pub loop-value-preserved : goal.loop-value-preserved
-loop-value-preserved c = any_more (PointsNowhere c.args.count) c.items_in-value-items.result.now c.loop-value.value-index c.value-item.result c.loop-value-test.true c.value-item.is (search rules) c.loop-value.invariant
+loop-value-preserved c = any_more (PointsNowhere c.args.count) c.args.values.now c.loop-value.value-index c.value-item.result c.loop-value-test.true c.value-item.is (search rules) c.loop-value.invariant
 
 pub returns : goal.returns
-returns c = λ bad.
-    any_never (PointsNowhere c.args.count) c.items_in-value-items.result.now c.loop-value.value-index (search rules) c.loop-value.invariant
-    (subst (Any (PointsNowhere c.args.count)) (sym c.items_in-value-items.ensures) bad)
+returns c = any_never (PointsNowhere c.args.count) c.args.values.now c.loop-value.value-index (search rules) c.loop-value.invariant

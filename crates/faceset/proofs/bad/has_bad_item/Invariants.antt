@@ -3,4 +3,4 @@ use Rattle.faceset.specs.Indexes.{PointsNowhere}
 use Rattle.faceset.proofs.bad.has_bad_item.Given as goal
 
 abbrev pub invariant-loop-value : goal.invariant-loop-value
-invariant-loop-value l = All (λ v. PointsNowhere l.count v → ⊥) (take l.value-index l.value-items)
+invariant-loop-value l = All (λ v. PointsNowhere l.count v → ⊥) (take l.value-index l.values)

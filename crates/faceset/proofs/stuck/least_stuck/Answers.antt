@@ -1,0 +1,9 @@
+use Rattle.std.proofs.Common.{rules, arith, ◌≡◌, true, option_copied}
+use Rattle.faceset.specs.Sets.{is_polygonal}
+use Rattle.faceset.proofs.StuckFaces.{set_least_in}
+use Rattle.faceset.proofs.stuck.least_stuck.Goals as goal
+
+pub returns : goal.returns
+returns c =
+    let polygonal : is_polygonal c.args.set.now ≡ true = first_of (search rules, grind arith) in
+    set_least_in c.args.exchange.now c.args.points.now c.args.set.now (option_copied c.numbering.result) c.listed.result.now c.least_in.result polygonal c.numbering.ensures c.listed.ensures c.least_in.ensures
