@@ -17,6 +17,11 @@ pub mod OneSet
 pub mod OneSurface
 pub mod Collecting
 pub mod LeastOf
+pub mod Lesser
+pub mod Others
+pub mod Lying
+pub mod Mapped
+pub mod Opened
 pub mod Staged
 pub mod Surfaced
 pub mod Made

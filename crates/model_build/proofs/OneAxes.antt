@@ -126,7 +126,7 @@ same_directions world id a b c d r s =
 -- Axes.
 
 -- axes are equal by their three
-same_axes : (a b : Axes) → a.x ≡ b.x → a.y ≡ b.y → a.z ≡ b.z → a ≡ b
+pub same_axes : (a b : Axes) → a.x ≡ b.x → a.y ≡ b.y → a.z ≡ b.z → a ≡ b
 same_axes a b e f g = let r : Axes = record { x = b.x; y = b.y; z = b.z } in let h : record { x = a.x; y = a.y; z = a.z } ≡ r = rw (e, f, g) refl in h
 
 -- what two directions give is one set of axes

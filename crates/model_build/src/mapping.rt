@@ -151,6 +151,17 @@ fn is_shifted(exchange: &Exchange, id: u64, scale: Scale, mode: Mode) -> bool
     is_turned(exchange, origin) || is_away(exchange, origin, scale, mode)
 }
 
+/// The number of a mapped item, where its mapping origin isn't the identity.
+fn other_origin(exchange: &Exchange, id: u64, scale: Scale, mode: Mode) -> Option<u64>
+    ensures { LeastOf (λ own. (id ≡ own) × IsOtherOrigin exchange.now scale mode id) result }
+{
+    if is_shifted(exchange, id, scale, mode) {
+        Some(id)
+    } else {
+        None
+    }
+}
+
 /// The least number that the instance of that number, where it is a mapped item, shows to be unsupported: its target or itself.
 fn other_mapping(exchange: &Exchange, id: u64, scale: Scale, mode: Mode) -> Option<u64>
     ensures { LeastOf (ItemShows exchange.now scale mode id) result }
@@ -159,11 +170,7 @@ fn other_mapping(exchange: &Exchange, id: u64, scale: Scale, mode: Mode) -> Opti
     if !is_mapped_item(item) {
         return None;
     }
-    let own = if is_shifted(exchange, id, scale, mode) {
-        Some(id)
-    } else {
-        None
-    };
+    let own = other_origin(exchange, id, scale, mode);
     lesser(own, other_target(exchange, item))
 }
 

@@ -1,0 +1,7 @@
+use Rattle.std.proofs.Common.{take}
+use Rattle.model_build.specs.Least.{LeastOf, ShownBy}
+use Rattle.model_build.specs.Showing.{MapShows}
+use Rattle.model_build.proofs.unsupported.least_in_mapped.Given as goal
+
+abbrev pub invariant-loop-id : goal.invariant-loop-id
+invariant-loop-id l = LeastOf (ShownBy (MapShows l.exchange) (take l.id-index l.ids)) l.least
