@@ -1,34 +1,28 @@
--- The bodies of elements and their items, where all that is used has the form of its row.
-use Rattle.std.proofs.Common.{◌≡◌, ℕ, ◌<◌, ◌⊎◌, inl, inr, Bool, true, false, ◌&&◌, List, [], ◌∷◌, length, get_or, filter, filter_map, Option, Some, None, option_and_then, Contains, refl, sym, ap, ◌∙◌, subst, arith}
-use Rattle.std.specs.List.{slice_get, list_all, list_any, All, Any, cons_option}
-use Rattle.std.proofs.lemmas.List.{get_or_default}
+-- The bodies of elements, where all that is used has the form of its row.
+use Rattle.std.proofs.Common.{◌≡◌, ℕ, ◌<◌, ◌⊎◌, inl, inr, Bool, true, false, ◌&&◌, List, [], ◌∷◌, length, filter, filter_map, Option, Some, None, option_and_then, Contains, refl, sym, ap, ◌∙◌, subst, arith}
+use Rattle.std.specs.List.{slice_get, list_any, All, cons_option}
 use Rattle.std.proofs.lemmas.List.Elements.{All-nil, All-cons, All-head, All-tail}
-use Rattle.std.proofs.lemmas.List.Sums.{AllPass-from_list_all}
 use Rattle.p21_reader.specs.declared.value.Value21.{Value21}
 use Rattle.p21_reader.specs.declared.value.Instance.{Instance}
 use Rattle.ifc_schema.specs.declared.entity.Entity.TheVariants as entity
-use Rattle.ifc_schema.specs.declared.form.Attribute.{Attribute}
 use Rattle.ifc_schema.specs.declared.form.Targets.TheVariants as targets
 use Rattle.ifc_schema.specs.declared.form.Leaf.TheVariants as leaf
-use Rattle.ifc_schema.specs.declared.form.Count.{Count}
 use Rattle.ifc_schema.specs.declared.form.Count.TheVariants.{AtLeast}
-use Rattle.ifc_schema.specs.declared.form.Shape.{Shape}
 use Rattle.ifc_schema.specs.declared.form.Shape.TheVariants as shape
 use Rattle.ifc_schema.specs.declared.form.Need.TheVariants.{Must, OrAbsent}
-use Rattle.ifc_schema.specs.declared.form.When.TheVariants.{Always, WithItems}
-use Rattle.ifc_schema.specs.Forms.{holds, followed}
+use Rattle.ifc_schema.specs.declared.form.When.TheVariants.{Always}
 use Rattle.ifc_schema.specs.Table.{row_of, attribute}
 use Rattle.ifc_schema.specs.Values.{reference_of, items_of}
-use Rattle.ifc_schema.specs.Looking.{look, entity_at, is_a, row_at, is_keyword_of}
-use Rattle.ifc_schema.specs.Bodies.{applies, some_passes, target_passes, has_body, is_body, is_body_shape, is_body_representation, lists_body}
-use Rattle.ifc_schema.specs.Flaws.{LeafFlaw, ShapeFlaw}
-use Rattle.ifc_schema.specs.Used.{Used, LeadsTo, RefersTo, StandsIn}
+use Rattle.ifc_schema.specs.Looking.{look, entity_at, is_a, row_at}
+use Rattle.ifc_schema.specs.Bodies.{some_passes, target_passes, has_body, is_body, is_body_shape, is_body_representation, lists_body}
+use Rattle.ifc_schema.specs.Used.{Used}
 use Rattle.ifc_schema.specs.StageFive.{is_subject}
 use Rattle.model_build.specs.Finding.{target_at, led_to}
-use Rattle.model_build.specs.Items.{bodies, items_of_body, listed_by, is_served, is_served_item, is_missing}
-use Rattle.model_build.proofs.Keywords.{is_shape, is_representation, is_element, is_a_held}
-use Rattle.model_build.proofs.Attributes.{Shaped, formed_there, At, in_row, attribute_flaw, must_at, at_more, Refers, referred_any, ListOf, list_there, list_more, follows}
-use Rattle.model_build.proofs.Shaped.{NamesUsed, one_used, listed_there, listed_all, listed_some}
+use Rattle.model_build.specs.Items.{bodies, listed_by}
+use Rattle.model_build.proofs.Keywords.{is_shape, is_element, is_a_held}
+use Rattle.model_build.proofs.Attributes.{in_row}
+use Rattle.model_build.proofs.Shaped.{one_used, listed_there}
+use Rattle.model_build.proofs.Listed.{list_used}
 
 pub both : (a b : Bool) → (a && b) ≡ true → (a ≡ true) × (b ≡ true)
 both true b h = (refl, h)
@@ -169,19 +163,6 @@ pub record UsedAs (world : List Instance) (P : Instance → Type 0) (r : Instanc
 abbrev pub IsBody : Instance → Type 0
 IsBody r = is_body_representation r ≡ true
 
--- what a list refers to is used, where it is of the entities that are followed
-list_used : (world : List Instance) (from : ℕ) (i : Instance) (a : Attribute) (count : Count) (list : Value21) (values : List Value21) (to : ℕ) (r : Instance) (k : ℕ) (d : Value21) → Used world from → look world from ≡ Some i
-    → Contains (row_at i) a → a.shape ≡ shape.List count → applies world false i a.when ≡ true → slice_get i.values a.at ≡ Some list → items_of list ≡ Some values
-    → k < length values → reference_of (get_or values k d) ≡ Some to → LeadsTo world (followed a.leaf) to → Used world to
-list_used world from i a count list values to r k d u e c s w t items lt refers l =
-    follows world from to i a list u e c w t (stands a.shape count list values to (k, get_or values k d, lt, same values k d lt, refers) s items) l
-  where
-    same : (values : List Value21) (k : ℕ) (d : Value21) → k < length values → get_or values k (get_or values k d) ≡ get_or values k d
-    same values k d lt = get_or_default values k (get_or values k d) d lt
-
-    stands : (sh : Shape) (count : Count) (list : Value21) (values : List Value21) (to : ℕ) → Any (RefersTo to) values → sh ≡ shape.List count → items_of list ≡ Some values → StandsIn to sh list
-    stands sh count list values to any s items = rw s (rw items any)
-
 -- the shape of an element that is used
 pub shape_used : (world : List Instance) (id : ℕ) (i : Instance) → Used world id → look world id ≡ Some i → is_subject (entity_at i) ≡ true → (s : BodyShape world i) → Used world s.to
 unfolding row_of
@@ -204,7 +185,7 @@ bodies_used world id i u e is body =
     let m = both (is_a entity.Representation r) (is_body r) t in
     record {
       id = to;
-      used = list_used world s.to s.shape a (AtLeast 0) s.list s.values to r k d us s.found c refl refl s.list_there s.items lt f (record { target = r; found = l; meant = is_a_held entity.Representation r m.0 });
+      used = list_used world s.to s.shape a (AtLeast 0) s.list s.values to k d us s.found c refl refl s.list_there s.items lt f (record { target = r; found = l; meant = is_a_held entity.Representation r m.0 });
       found = l;
       holds = t;
     })))
@@ -212,61 +193,3 @@ bodies_used world id i u e is body =
 -- there is one
 pub bodies_some : (world : List Instance) (i : Instance) → has_body world i ≡ true → 0 < length (bodies world i)
 bodies_some world i body = let s = body_shape world i body in subst (λ rs. 0 < length rs) (sym (bodies_are world i s)) (led_some world is_body_representation s.values s.lists)
-
--- Items.
-
-when_body : (world : List Instance) (m : Bool) (r : Instance) → is_body r ≡ true → applies world m r WithItems ≡ true
-when_body world true r h = refl
-when_body world false r h = h
-
--- a body that is used lists one or more items, which are references that lead to instances
-pub items_there : (world : List Instance) (id : ℕ) (r : Instance) → Shaped world → Used world id → look world id ≡ Some r → is_body_representation r ≡ true → At r 3 (ListOf (AtLeast 1) (Refers world))
-unfolding row_of
-items_there world id r shaped u e is =
-    let m = both (is_a entity.Representation r) (is_body r) is in
-    let f = formed_there world id r (shaped id u) e in
-    let s = shape.List (AtLeast 1) in
-    let l = leaf.AnyReference targets.Items in
-    let c : Contains (row_at r) (attribute 3 WithItems Must s l) = in_row entity.Representation r (attribute 3 WithItems Must s l) (is_representation r m.0) (1, omega arith, refl) in
-    at_more r 3 (λ v. ShapeFlaw world l s v None) (ListOf (AtLeast 1) (Refers world))
-    (λ v h. list_more (AtLeast 1) (λ x. LeafFlaw world l x None) (Refers world) (referred_any world targets.Items) v (list_there (AtLeast 1) (LeafFlaw world l) v h))
-    (must_at world f.mapped r 3 WithItems s l (when_body world f.mapped r m.1) (attribute_flaw world f.mapped r (attribute 3 WithItems Must s l) f.formed c))
-
-pub items_refer : (world : List Instance) (id : ℕ) (r : Instance) → Shaped world → Used world id → look world id ≡ Some r → is_body_representation r ≡ true → All (Refers world) (items_of_body r)
-items_refer world id r shaped u e is = listed_all r 3 (AtLeast 1) (Refers world) (items_there world id r shaped u e is)
-
-pub items_some : (world : List Instance) (id : ℕ) (r : Instance) → Shaped world → Used world id → look world id ≡ Some r → is_body_representation r ≡ true → 0 < length (items_of_body r)
-items_some world id r shaped u e is = listed_some r 3 (Refers world) (items_there world id r shaped u e is)
-
-item_meant : (i : Instance) → is_a entity.TriangulatedFaceSet i ≡ true → holds targets.Items i.keyword ≡ true
-item_meant i h = from i.keyword h
-  where
-    from : (keyword : Option (List ℕ)) → is_keyword_of entity.TriangulatedFaceSet keyword ≡ true → holds targets.Items keyword ≡ true
-    from None h = h
-    from (Some keyword) h = rw h refl
-
--- an item that is served is a set that is used
-pub items_used : (world : List Instance) (id : ℕ) (r : Instance) → Shaped world → Used world id → look world id ≡ Some r → is_body_representation r ≡ true → list_all (is_served_item world) (items_of_body r) ≡ true
-    → All (λ v. NamesUsed world entity.TriangulatedFaceSet v × (target_passes world is_served v ≡ true)) (items_of_body r)
-unfolding row_of
-items_used world id r shaped u e is served =
-    let m = both (is_a entity.Representation r) (is_body r) is in
-    let t = items_there world id r shaped u e is in
-    let a = attribute 3 WithItems Must (shape.List (AtLeast 1)) (leaf.AnyReference targets.Items) in
-    let c : Contains (row_at r) a = in_row entity.Representation r a (is_representation r m.0) (1, omega arith, refl) in
-    let same : items_of_body r ≡ t.holds.values = listed_there r 3 t.value t.holds.values t.there t.holds.items in
-    let all : All (λ v. is_served_item world v ≡ true) t.holds.values = subst (All (λ v. is_served_item world v ≡ true)) same (AllPass-from_list_all (is_served_item world) (items_of_body r) served) in
-    subst (All (λ v. NamesUsed world entity.TriangulatedFaceSet v × (target_passes world is_served v ≡ true))) (sym same)
-    (λ k d lt. (
-    let p = passed world is_served (get_or t.holds.values k d) (all k d lt) in
-    let n = both (is_a entity.TriangulatedFaceSet p.target) (is_missing (slice_get p.target.values 4)) p.passes in (
-      record {
-        to = p.to;
-        refers = p.refers;
-        is = (
-          list_used world id r a (AtLeast 1) t.value t.holds.values p.to p.target k d u e c refl (when_body world false r m.1) t.there t.holds.items lt p.refers (record { target = p.target; found = p.found; meant = item_meant p.target n.0 }),
-          record { instance = p.target; found = p.found; holds = n.0 },
-        );
-      },
-      all k d lt,
-    )))

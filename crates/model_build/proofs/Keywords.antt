@@ -24,7 +24,7 @@ entity_from : (X : Entity) (word : List ℕ) (keyword : Option (List ℕ)) (i : 
 entity_from X word None i e one own h = cc
 entity_from X word (Some keyword) i e one own h = rw e (ap entity_of (keyword_is X keyword word one h) ∙ own)
 
-entity_there : (X : Entity) (word : List ℕ) (i : Instance) → keywords_of X ≡ word ∷ [] → entity_of word ≡ Some X → is_a X i ≡ true → entity_at i ≡ Some X
+pub entity_there : (X : Entity) (word : List ℕ) (i : Instance) → keywords_of X ≡ word ∷ [] → entity_of word ≡ Some X → is_a X i ≡ true → entity_at i ≡ Some X
 entity_there X word i one own h = entity_from X word i.keyword i refl one own h
 
 pub is_storey : (i : Instance) → is_a entity.Storey i ≡ true → entity_at i ≡ Some entity.Storey

@@ -8,6 +8,7 @@ pub mod Told
 pub mod Keywords
 pub mod Attributes
 pub mod Shaped
+pub mod Listed
 pub mod Bodied
 pub mod Flawless
 pub mod Served
@@ -30,5 +31,6 @@ pub mod Readied
 pub mod Framed
 pub mod Checking
 pub mod Thens
+pub mod Clears
 pub mod Modelling
 pub mod Profiled

@@ -1,5 +1,5 @@
 -- From the stages to the profile.
-use Rattle.std.proofs.Common.{ℕ, List, inl, inr, Contains, Result, Ok, Err, sum_by, ◌≤◌, refl, subst}
+use Rattle.std.proofs.Common.{ℕ, List, inl, inr, Contains, Result, Ok, Err, refl, subst}
 use Rattle.std.specs.Result.{IfOk, IfErr}
 use Rattle.bim_model.specs.declared.upload.Mode.{Mode}
 use Rattle.bim_model.specs.declared.upload.UploadFault.{UploadFault}
@@ -10,21 +10,19 @@ use Rattle.p21_reader.specs.declared.value.Instance.{Instance}
 use Rattle.p21_reader.specs.Uploads.{SpellsExchange}
 use Rattle.p21_reader.specs.Uploads as reader
 use Rattle.ifc_schema.specs.Used.{Used}
-use Rattle.ifc_schema.specs.StageFive.{StageFive, IsModelElement, Lists}
+use Rattle.ifc_schema.specs.StageFive.{StageFive, Lists}
 use Rattle.ifc_units.specs.declared.scale.Scale.{Scale}
 use Rattle.ifc_units.specs.Units.{IsLengthUnit, LengthUnitFault}
 use Rattle.ifc_units.proofs.UnitFacts.{one_unit}
 use Rattle.spatial_tree.specs.Trees.{StageSeven, IsTree}
 use Rattle.model_build.specs.Stages.{Stage, IsClear, Then, LeastFault}
-use Rattle.model_build.specs.Items.{count_of, most_triangles, TrianglesStage}
 use Rattle.model_build.specs.PointTables.{LengthFault}
 use Rattle.model_build.specs.Elements.{IsModelOf}
 use Rattle.model_build.specs.Outcomes.{IsErrorOf, AreMeasured}
 use Rattle.model_build.specs.Profile.{AfterUnit, FileFault, Profile, IsCause}
-use Rattle.model_build.proofs.Staged.{triangles_clear}
 use Rattle.model_build.proofs.Thens.{then_clear, then_error}
 
--- The stages of lengths, of triangles and of the tree.
+-- The stages of lengths and of the tree.
 
 pub measured_clear : (world : List Instance) (scale : Scale) (mode : Mode) (used : List ℕ) → Lists (Used world) used → AreMeasured world scale mode used → IsClear (LeastFault (Used world) (LengthFault world scale mode))
 measured_clear world scale mode used ls h fault l = h l.id (ls.all l.id l.of) fault l.here
@@ -32,9 +30,6 @@ measured_clear world scale mode used ls h fault l = h l.id (ls.all l.id l.of) fa
 pub measured_fault : (world : List Instance) (scale : Scale) (mode : Mode) (used : List ℕ) (fault : UploadFault) → Lists (Used world) used → LeastFault (Contains used) (LengthFault world scale mode) fault
     → LeastFault (Used world) (LengthFault world scale mode) fault
 measured_fault world scale mode used fault ls l = record { id = l.id; of = ls.each l.id l.of; here = l.here; lower = λ k below of other f. l.lower k below (ls.all k of) other f }
-
-pub few_clear : (world : List Instance) (elements : List ℕ) → Lists (IsModelElement world) elements → sum_by (count_of world) elements ≤ most_triangles → IsClear (TrianglesStage world)
-few_clear world elements ls few = triangles_clear world elements (sum_by (count_of world) elements) ls refl few
 
 pub tree_clear : (world : List Instance) → IsTree world → IsClear (StageSeven world)
 tree_clear world h fault s = h s.id s.flawed

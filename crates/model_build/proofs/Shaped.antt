@@ -74,7 +74,7 @@ used_one : (world : List Instance) (from : ℕ) (i : Instance) (at : ℕ) (w : W
 used_one world from i at w n X v u e c t s r = record { to = r.to; refers = r.refers; is = (one_used world from i at w n X v u e c t s r, record { instance = r.target; found = r.found; holds = r.is }) }
 
 -- an attribute that must refer to an instance of that entity
-used_must : (world : List Instance) (from : ℕ) (i : Instance) (at : ℕ) (X : Entity) → Shaped world → Used world from → look world from ≡ Some i → Contains (row_at i) (attribute at Always Must shape.One (leaf.Reference (targets.One X)))
+pub used_must : (world : List Instance) (from : ℕ) (i : Instance) (at : ℕ) (X : Entity) → Shaped world → Used world from → look world from ≡ Some i → Contains (row_at i) (attribute at Always Must shape.One (leaf.Reference (targets.One X)))
     → At i at (NamesUsed world X)
 used_must world from i at X shaped u e c =
     let f = formed_there world from i (shaped from u) e in

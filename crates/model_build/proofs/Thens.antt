@@ -1,5 +1,6 @@
 -- One stage after another.
-use Rattle.std.proofs.Common.{inl, inr, Result, Ok, Err}
+use Rattle.std.proofs.Common.{◌≡◌, inl, inr, Option, Some, None, Result, Ok, Err, subst}
+use Rattle.std.specs.Option.{MatchOption}
 use Rattle.std.specs.Result.{IfOk, IfErr}
 use Rattle.bim_model.specs.declared.upload.BuildError.{BuildError}
 use Rattle.bim_model.specs.declared.upload.BuildError.TheVariants as errors
@@ -27,3 +28,11 @@ then_err S R (Err e) s h = then_error S R e s h
 pub first_error : (S R : Stage) (e : BuildError) → IsErrorOf S e → IsErrorOf (Then S R) e
 first_error S R (errors.Fault fault) h = inl h
 first_error S R errors.Memory h = h
+
+-- what an answer says of nothing, and of something
+
+pub of_none : {A : Type 0} (N : Type 0) (S : A → Type 0) (r : Option A) → r ≡ None → MatchOption r N S → N
+of_none N S r e h = subst (λ o. MatchOption o N S) e h
+
+pub of_some : {A : Type 0} (N : Type 0) (S : A → Type 0) (r : Option A) (x : A) → r ≡ Some x → MatchOption r N S → S x
+of_some N S r x e h = subst (λ o. MatchOption o N S) e h

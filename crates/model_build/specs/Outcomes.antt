@@ -119,9 +119,9 @@ pub record IsSettled (world : List Instance) (scale : Scale) (mode : Mode) (surv
   pub measured : AreMeasured world scale mode (used_ids survey)
   pub few : HaveFewCorners world (used_ids survey)
 
--- the elements of these numbers have all that is wanted
+-- none of the elements of these numbers lacks what is wanted
 abbrev pub AreReady : List Instance → Scale → Mode → List ℕ → List ℕ → List ℕ → Type 0
-AreReady world scale mode placements listed ids = (id : ℕ) → Contains ids id → Finds world id (IsReady world scale mode placements listed)
+AreReady world scale mode placements listed ids = (id : ℕ) → Contains ids id → (Finds world id (IsReady world scale mode placements listed) → ⊥) → ⊥
 
 -- the listed sets are sound
 abbrev pub AreSound : List Instance → Scale → Mode → List ℕ → Type 0
