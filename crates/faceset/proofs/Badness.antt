@@ -1,5 +1,5 @@
 -- Whether an index is bad, put together.
-use Rattle.std.proofs.Common.{◌≡◌, ℕ, ◌⊎◌, inl, inr, Bool, true, false, List, Option, Some, None, length, map, Any, sym, subst}
+use Rattle.std.proofs.Common.{◌≡◌, ℕ, inl, inr, Bool, true, false, List, Option, Some, None, length, Any, sym, subst}
 use Rattle.std.specs.Bool.{MatchBool}
 use Rattle.std.specs.Option.{IfSome, IfNone, MatchOption}
 use Rattle.p21_reader.specs.declared.value.Value21.{Value21}

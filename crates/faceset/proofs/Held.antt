@@ -1,7 +1,6 @@
 -- What holds of all points of a set holds of all corners of its triangles.
-use Rattle.std.proofs.Common.{◌≡◌, ℕ, ◌<◌, ◌≤◌, pos, Bool, true, false, List, [], ◌∷◌, ◌++◌, length, map, get_or, Option, All, ◌⊎◌, inl, inr, refl, sym, ◌∙◌, ap, subst}
+use Rattle.std.proofs.Common.{◌≡◌, ℕ, ◌<◌, ◌≤◌, pos, Bool, true, false, List, [], ◌∷◌, ◌++◌, length, map, Option, All, ◌⊎◌, inl, inr, refl, sym, ap, subst}
 use Rattle.std.specs.Bool.{MatchBool}
-use Rattle.std.specs.List.{AllZip}
 use Rattle.std.proofs.lemmas.Bool.{cases_lt}
 use Rattle.std.proofs.lemmas.List.{get_or_past}
 use Rattle.std.proofs.lemmas.List.Elements.{All-nil, All-cons, All-append, All-get_or}
@@ -13,7 +12,7 @@ use Rattle.bim_model.specs.Boxes.{corners_of}
 use Rattle.ear_cut.specs.declared.ears.Ear.{Ear}
 use Rattle.ear_cut.specs.Areas.{point_at}
 use Rattle.ear_cut.specs.Corners.{nobody}
-use Rattle.faceset.specs.Sets.{numbering, is_polygonal, faces_of, spelled_triangles, outline, triangle_of, IsCorner, AreCorners, IsTriangle, AreTriangles, IsCut, Joined, SetTriangles}
+use Rattle.faceset.specs.Sets.{numbering, is_polygonal, faces_of, spelled_triangles, outline, triangle_of, IsCorner, AreTriangles, IsCut, Joined, SetTriangles}
 use Rattle.faceset.proofs.Zips.{zip_all}
 use Rattle.faceset.proofs.Corners.{corner_has}
 

@@ -1,5 +1,5 @@
 -- What each of some things gives, joined.
-use Rattle.std.proofs.Common.{◌≡◌, ℕ, zero, suc, ◌+◌, ◌<◌, List, [], ◌∷◌, ◌++◌, append_assoc, length, map, filter_map, get_or, sum_by, Option, Some, None, Any, Contains, refl, sym, ◌∙◌, ap, subst, arith}
+use Rattle.std.proofs.Common.{◌≡◌, ℕ, zero, suc, ◌<◌, List, [], ◌∷◌, ◌++◌, append_assoc, length, filter_map, get_or, Option, Some, None, Any, Contains, refl, sym, ◌∙◌, ap, subst, arith}
 use Rattle.std.specs.List.{cons_option}
 use Rattle.std.proofs.lemmas.List.{append-nil}
 use Rattle.bim_model.specs.declared.geometry.Triangle.{Triangle}

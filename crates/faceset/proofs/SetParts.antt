@@ -1,5 +1,5 @@
 -- The triangles of a whole set, and why there are none.
-use Rattle.std.proofs.Common.{◌≡◌, ℕ, ◌+◌, ◌<◌, Bool, true, false, List, [], ◌∷◌, length, map, get_or, sum_by, Option, Some, None, Result, Ok, Err, Vec, Global, IfOk, MatchOption, All, Any, Contains, ◌⊎◌, inl, inr, refl, sym, ◌∙◌, ap, subst, arith}
+use Rattle.std.proofs.Common.{◌≡◌, ℕ, ◌<◌, Bool, true, false, List, length, map, sum_by, Option, Some, None, Result, Ok, Err, Vec, Global, IfOk, MatchOption, All, Any, Contains, ◌⊎◌, inl, inr, refl, sym, ◌∙◌, ap, subst, arith}
 use Rattle.std.specs.Prelude.{if◌then◌else◌}
 use Rattle.std.specs.Bool.{MatchBool}
 use Rattle.std.specs.Option.{IfSome}
@@ -15,7 +15,7 @@ use Rattle.faceset.specs.Indexes.{PointsNowhere}
 use Rattle.faceset.specs.Sets.{listed, items_in, outline, numbering, spelled_points, spelled_triangles, is_polygonal, named_faces, faces_of, face_ids, rows_of, counted_by, HasBadNumber, HasBadIndex, IsMisnamed, IsOutlined, HasThree, IsSound, IsCut, IsStuck, HasStuck, IsTriangle, AreTriangles, Joined, SetTriangles, face_count, triangle_count}
 use Rattle.faceset.specs.Cuts.{IsLoose}
 use Rattle.faceset.proofs.Zips.{zip_length}
-use Rattle.faceset.proofs.Joins.{GivesOne, gives_one, contains_mapped}
+use Rattle.faceset.proofs.Joins.{gives_one, contains_mapped}
 
 -- Bad indexes.
 

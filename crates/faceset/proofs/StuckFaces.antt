@@ -10,8 +10,7 @@ use Rattle.p21_reader.specs.declared.value.Instance.{Instance}
 use Rattle.bim_model.specs.declared.geometry.Point.{Point}
 use Rattle.ifc_schema.specs.Looking.{look}
 use Rattle.ifc_schema.specs.Values.{reference_of}
-use Rattle.faceset.specs.declared.faces.Outcome.{Outcome}
-use Rattle.faceset.specs.Sets.{IsStuck, IsOutlined, IsMisnamed, AreCorners, IsCorner, outline, listed, face_ids, is_polygonal, numbering, HasStuck}
+use Rattle.faceset.specs.Sets.{IsStuck, IsOutlined, IsCorner, outline, listed, face_ids, is_polygonal, numbering, HasStuck}
 use Rattle.faceset.specs.Cuts.{IsStuckIn, IsLeast, LeastOf, lesser, HasMisnamed}
 use Rattle.faceset.proofs.Zips.{zip_at}
 use Rattle.faceset.proofs.Unique.{named_well}
@@ -72,7 +71,7 @@ pub least_more : (world : List Instance) (numbers : Option (List Value21)) (poin
 least_more world numbers points vs i v old here lt at before now =
     let more : take (i + 1) vs ≡ take i vs ++ v ∷ [] = take_more vs i v lt ∙ ap (λ (x : Value21). take i vs ++ x ∷ []) (sym at) in
     rw more (least_join (IsStuckIn world numbers points (take i vs)) (IsStuckIn world numbers points (v ∷ [])) (IsStuckIn world numbers points (take i vs ++ v ∷ []))
-        (stuck_left world numbers points (take i vs) (v ∷ [])) (stuck_right world numbers points (take i vs) (v ∷ [])) (stuck_split world numbers points (take i vs) (v ∷ [])) old here before now)
+    (stuck_left world numbers points (take i vs) (v ∷ [])) (stuck_right world numbers points (take i vs) (v ∷ [])) (stuck_split world numbers points (take i vs) (v ∷ [])) old here before now)
 
 pub least_none : (world : List Instance) (numbers : Option (List Value21)) (points : List Point) → LeastOf (IsStuckIn world numbers points []) None
 least_none world numbers points = λ id h. (let lt = h.listed.1 in absurd (omega (arith, lt)))

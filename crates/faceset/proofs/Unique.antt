@@ -1,5 +1,5 @@
 -- An index names one point at most, so a set has one list of triangles at most.
-use Rattle.std.proofs.Common.{◌≡◌, ℕ, suc, ◌<◌, ℤ, pos, Bool, true, false, List, [], ◌∷◌, ◌++◌, length, map, get_or, Option, Some, None, Contains, ◌⊎◌, inl, inr, refl, sym, ◌∙◌, ap, subst, arith}
+use Rattle.std.proofs.Common.{◌≡◌, ℕ, suc, pos, Bool, true, false, List, [], ◌∷◌, length, map, get_or, Option, Some, None, Contains, inl, inr, sym, ◌∙◌, ap, subst, arith}
 use Rattle.std.specs.Bool.{MatchBool}
 use Rattle.std.specs.List.{slice_get}
 use Rattle.std.proofs.lemmas.Option.{same_Some, none-some}
@@ -8,9 +8,8 @@ use Rattle.p21_reader.specs.declared.value.Instance.{Instance}
 use Rattle.bim_model.specs.declared.geometry.Point.{Point}
 use Rattle.bim_model.specs.declared.geometry.Triangle.{Triangle}
 use Rattle.ifc_schema.specs.Looking.{look}
-use Rattle.ifc_schema.specs.Values.{items_of}
 use Rattle.ear_cut.specs.Removal.{cut_of}
-use Rattle.faceset.specs.Indexes.{Writes, PointsAt, PointsNowhere}
+use Rattle.faceset.specs.Indexes.{Writes, PointsAt}
 use Rattle.faceset.specs.Sets.{NamesPoint, IsMisnamed, IsCorner, AreCorners, IsTriangle, AreTriangles, triangle_of, outline, IsCut, IsStuck, Joined, SetTriangles, HasStuck, numbering, is_polygonal, faces_of, face_ids, spelled_triangles}
 use Rattle.faceset.proofs.Decimals.{one_number}
 use Rattle.faceset.proofs.Zips.{zip_same}

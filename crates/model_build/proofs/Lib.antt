@@ -1,4 +1,5 @@
 pub mod Tables
+pub mod Gridded
 pub mod Leasts
 pub mod Naming
 pub mod Repeating
@@ -24,6 +25,10 @@ pub mod Others
 pub mod Lying
 pub mod Mapped
 pub mod Opened
+pub mod Operated
+pub mod Squared
+pub mod Cornered
+pub mod StuckSets
 pub mod Staged
 pub mod Surfaced
 pub mod Made

@@ -1,4 +1,4 @@
-use Rattle.std.proofs.Common.{rules, arith}
+use Rattle.std.proofs.Common.{arith}
 use Rattle.faceset.specs.Sets.{face_count}
 use Rattle.faceset.proofs.Named.{summed_more, summed_past}
 use Rattle.faceset.proofs.counts.count_faces.Goals as goal

@@ -2,7 +2,6 @@ use Rattle.std.proofs.Common.{rules, option_copied}
 use Rattle.faceset.specs.Sets.{IsCut}
 use Rattle.faceset.specs.Cuts.{IsLoose}
 use Rattle.faceset.proofs.FaceLists.{any_here, joined_more, count_more}
-use Rattle.faceset.proofs.Held.{set_holds}
 use Rattle.faceset.proofs.surface.faces_triangles.Goals as goal
 
 pub returns-in_default-clause-triangles : goal.returns-in_default-clause-triangles
@@ -13,8 +12,9 @@ returns-in_default-clause-triangles c =
 pub loop-value-preserved : goal.loop-value-preserved
 loop-value-preserved c =
     let part = rw c.in-Some.is at c.in_ok-more.ensures.triangles in
-    let count = rw c.in-Some.is at c.in_ok-more.ensures.count in
-    (joined_more (IsCut (option_copied c.args.numbers) c.args.points.now) c.args.exchange.now c.args.values.now c.loop-value.value-index c.value-item.result c.loop-value.made.items c.in-Some.more.items c.append.new.self.items
-        c.loop-value-test.true c.value-item.is (search rules) c.loop-value.invariant.0 part,
-    count_more c.args.exchange.now c.args.values.now c.loop-value.value-index c.value-item.result c.loop-value.made.items c.in-Some.more.items c.append.new.self.items
-        c.loop-value-test.true c.value-item.is (search rules) c.loop-value.invariant.1 count)
+    let count = rw c.in-Some.is at c.in_ok-more.ensures.count in (
+      joined_more (IsCut (option_copied c.args.numbers) c.args.points.now) c.args.exchange.now c.args.values.now c.loop-value.value-index c.value-item.result c.loop-value.made.items c.in-Some.more.items c.append.new.self.items
+          c.loop-value-test.true c.value-item.is (search rules) c.loop-value.invariant.0 part,
+      count_more c.args.exchange.now c.args.values.now c.loop-value.value-index c.value-item.result c.loop-value.made.items c.in-Some.more.items c.append.new.self.items
+          c.loop-value-test.true c.value-item.is (search rules) c.loop-value.invariant.1 count,
+    )

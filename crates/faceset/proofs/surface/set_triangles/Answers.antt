@@ -1,4 +1,4 @@
-use Rattle.std.proofs.Common.{rules, sym, ◌∙◌, option_copied}
+use Rattle.std.proofs.Common.{sym, ◌∙◌, option_copied}
 use Rattle.faceset.proofs.SetParts.{polygonal_made, polygonal_count, flat_made, flat_count}
 use Rattle.faceset.proofs.surface.set_triangles.Goals as goal
 
