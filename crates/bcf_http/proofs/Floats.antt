@@ -48,7 +48,6 @@ unfolding error_many
 many_has_none code name what = refl
 
 upload_has_none : (f : UploadFault) → has_float (upload_fault_tree f) ≡ false
-upload_has_none fault.NotBuilt = error_has_none _ _
 upload_has_none fault.NotPart21 = error_has_none _ _
 upload_has_none (fault.BadToken at) = at_has_none _ _ at
 upload_has_none (fault.BadStatement at) = at_has_none _ _ at

@@ -43,7 +43,6 @@ many_word many.Corners = codes "corners"
 many_word many.Triangles = codes "triangles"
 
 abbrev pub upload_fault_tree : UploadFault → Data
-upload_fault_tree fault.NotBuilt = error_tree (codes "U0") (codes "NotBuilt")
 upload_fault_tree fault.NotPart21 = error_tree (codes "U1") (codes "NotPart21")
 upload_fault_tree (fault.BadToken at) = error_at (codes "U2") (codes "BadToken") at
 upload_fault_tree (fault.BadStatement at) = error_at (codes "U3") (codes "BadStatement") at

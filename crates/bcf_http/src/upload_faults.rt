@@ -75,7 +75,6 @@ pub fn upload_fault_out(alloc: Global, fault: UploadFault) -> Result<Value, Allo
     ensures { IfOk result (λ v. view v ≡ upload_fault_tree fault) }
 {
     match fault {
-        UploadFault::NotBuilt => error_out(alloc, "U0", "NotBuilt"),
         UploadFault::NotPart21 => error_out(alloc, "U1", "NotPart21"),
         UploadFault::BadToken { at } => error_at(alloc, "U2", "BadToken", at),
         UploadFault::BadStatement { at } => error_at(alloc, "U3", "BadStatement", at),

@@ -30,8 +30,6 @@ pub enum Many {
 /// (ISO 10303-21, clear text encoding).
 #[derive(Clone, Copy, Debug, PartialEq, Eq)]
 pub enum UploadFault {
-    /// U0: an item of a body is of a kind that is not served yet.
-    NotBuilt,
     /// U1: the first two tokens aren't `ISO-10303-21` and `;`.
     NotPart21,
     /// U2: the file can't go on at `at`, and no token begins there.
@@ -52,11 +50,11 @@ pub enum UploadFault {
     OffGrid { id: u64 },
     /// U10: a coordinate is beyond 800,000 mm.
     TooFar { id: u64 },
-    /// U11: an axis placement gives no axes along those of the grid.
+    /// U11: an axis placement or an operator gives no axes along those of the grid.
     Oblique { id: u64 },
     /// U12: the placements above this one never end.
     PlacementLoop { id: u64 },
-    /// U13: an item of a body is of a kind that isn't read.
+    /// U13: an item of a body is of a kind that isn't read, or is mapped in a way that isn't.
     UnsupportedItem { id: u64 },
     /// U14: an index of this face set names nothing.
     BadIndex { id: u64 },
