@@ -1,6 +1,7 @@
 #!/usr/bin/env python3
 """Writes an IFC file to standard output: bench/shared_shape.py COUNT [body], so many walls that share one shape of so many representations, of which
-none is a body, or the last one alone. The survey of such a file takes COUNT times its logarithm many steps."""
+none is a body, or the last one alone. The survey of such a file looks at each representation once for its shape,
+and not once for each wall."""
 import sys
 
 HEAD = "ISO-10303-21;\nHEADER;\nFILE_SCHEMA(('IFC4'));\nENDSEC;\nDATA;\n"
