@@ -16,7 +16,7 @@ use Rattle.ifc_units.proofs.PointFacts.{one_points}
 use Rattle.faceset.specs.Sets.{is_set, listed, listed_in, points_of, HasStuck}
 use Rattle.model_build.specs.Finding.{reference_at}
 use Rattle.model_build.specs.PointTables.{ListsPoints}
-use Rattle.model_build.specs.Faces.{SetPoints, ShowsStuck, IsStuckFace}
+use Rattle.model_build.specs.Faces.{SetPoints, IsStuckFace}
 use Rattle.model_build.specs.Least.{IsLeast, LeastOf, ShownBy}
 use Rattle.model_build.specs.Profile.{StuckStage}
 use Rattle.model_build.specs.Outcomes.{ShowsStuckSet}
