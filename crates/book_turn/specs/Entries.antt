@@ -1,5 +1,5 @@
 -- Lists of entries, oldest first, each made by some pass in some turn.
-use Rattle.std.specs.Prelude.{ℕ, ◌≡◌, ◌<◌, ◌≤◌, List, [], ◌∷◌, true, Option, None, Some, leb}
+use Rattle.std.specs.Prelude.{ℕ, ◌≡◌, ◌<◌, ◌≤◌, List, [], ◌∷◌, true, Option, None, Some, if◌then◌else◌, leb}
 use Rattle.book_turn.specs.Numbers.{has}
 
 -- no entry, or one

@@ -1,5 +1,5 @@
 -- Lists of numbers: of passes, and of turns.
-use Rattle.std.specs.Prelude.{ℕ, zero, suc, ◌+◌, max, List, [], ◌∷◌, Bool, false, eqb, ◌||◌}
+use Rattle.std.specs.Prelude.{ℕ, zero, suc, ◌+◌, max, List, [], ◌∷◌, Bool, false, if◌then◌else◌, eqb, ◌||◌}
 
 -- 1 where the numbers are one, and else 0
 abbrev pub same : ℕ → ℕ → ℕ

@@ -1,5 +1,5 @@
 -- What a pass knows, and how its knowledge changes. Nothing here is there when the program runs.
-use Rattle.std.specs.Prelude.{ℕ, ◌≡◌, ◌<◌, max, List, [], ◌∷◌, ◌++◌, None, Some, ltb}
+use Rattle.std.specs.Prelude.{ℕ, ◌≡◌, ◌<◌, max, List, [], ◌∷◌, ◌++◌, None, Some, if◌then◌else◌, ltb}
 use Rattle.book_turn.specs.declared.rule.View.{View}
 use Rattle.book_turn.specs.declared.rule.Beginning.{Beginning}
 use Rattle.book_turn.specs.declared.rule.Stage.{Stage}

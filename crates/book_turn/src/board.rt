@@ -1,7 +1,7 @@
 //! The table that the passes of a turn share, and a seat's steps on it.
-ghost use Rattle.std.specs.Prelude.{ℕ, ◌≡◌, ◌<◌, ◌≤◌, ◌^◌, ◌+◌, ◌*◌, [], ◌∷◌, Some, length, true, replicate, IfSome, IfOk};
+ghost use Rattle.std.specs.Prelude.{ℕ, ◌≡◌, ◌<◌, ◌≤◌, ◌^◌, ◌+◌, ◌*◌, [], ◌∷◌, ◌++◌, Some, length, true, replicate, IfSome, IfOk};
 ghost use Rattle.book_turn.specs.Views.{kept_view, given_view, first_view};
-ghost use Rattle.book_turn.specs.Steps.{drew, looked, passed, Adds, Glued, Serves, TakesTurn};
+ghost use Rattle.book_turn.specs.Steps.{drew, looked, passed, Adds, Glued, Comes, Serves, TakesTurn};
 ghost use Rattle.book_turn.specs.Entries.{IsAfter};
 ghost use Rattle.book_turn.specs.Numbers.{has};
 ghost use Rattle.atomic_table.specs.Table.{step};

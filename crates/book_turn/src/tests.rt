@@ -1,4 +1,4 @@
-ghost use Rattle.std.specs.Prelude.{◌≡◌, ◌+◌, [], ◌∷◌, length, vec_len, Some, None, IfSome, All};
+ghost use Rattle.std.specs.Prelude.{ℕ, ◌≡◌, ◌+◌, [], ◌∷◌, length, vec_len, Some, None, IfSome, All, if◌then◌else◌};
 ghost use Rattle.book_turn.specs.Entries.{calls_by};
 ghost use Rattle.book_turn.specs.Passes.{BelongsTo, IsSingle, KeepsNumbers};
 ghost use Rattle.book_turn.specs.Counts.{own_count};

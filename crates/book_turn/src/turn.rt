@@ -1,5 +1,5 @@
 //! A turn: an object that threads share, and the calls on it.
-ghost use Rattle.std.specs.Prelude.{◌≡◌, ◌<◌, ◌≤◌, [], length, IfOk, IfErr, All};
+ghost use Rattle.std.specs.Prelude.{ℕ, ◌≡◌, ◌<◌, ◌≤◌, [], length, IfOk, IfErr, All};
 ghost use Rattle.book_turn.specs.Passes.{BelongsTo, IsSingle, KeepsNumbers, new_passes, Answered, Joined};
 ghost use Rattle.book_turn.specs.Faults.{Failed};
 ghost use Rattle.book_turn.specs.Views.{dealt_view};

@@ -1,5 +1,5 @@
 -- What the cutting of faces answers. No public contract cites it.
-use Rattle.std.specs.Prelude.{◌≡◌, ℕ, ◌<◌, ◌⊎◌, List, length, map, filter_map, Option, Some, None, Any, Contains, MatchOption, nat_lt}
+use Rattle.std.specs.Prelude.{◌≡◌, ℕ, ◌<◌, ◌⊎◌, List, length, map, filter_map, Option, Some, None, Any, Contains, MatchOption, nat_lt, if◌then◌else◌}
 use Rattle.std.specs.Bool.{⊤}
 use Rattle.p21_reader.specs.declared.value.Value21.{Value21}
 use Rattle.p21_reader.specs.declared.value.Instance.{Instance}

@@ -1,5 +1,5 @@
 -- Face sets by their values (IFC4 ADD2 TC1, IfcTriangulatedFaceSet, IfcPolygonalFaceSet, IfcIndexedPolygonalFace).
-use Rattle.std.specs.Prelude.{◌≡◌, ℕ, ◌<◌, ◌≤◌, ◌-◌, ◌⊎◌, Bool, true, ◌||◌, List, [], ◌∷◌, ◌++◌, length, map, filter_map, sum_by, Option, Some, None, Any, All, Contains, option_and_then, MatchOption}
+use Rattle.std.specs.Prelude.{◌≡◌, ℕ, ◌<◌, ◌≤◌, ◌-◌, ◌⊎◌, Bool, true, ◌||◌, if◌then◌else◌, List, [], ◌∷◌, ◌++◌, length, map, filter_map, sum_by, Option, Some, None, Any, All, Contains, option_and_then, MatchOption}
 use Rattle.std.specs.Bool.{MatchBool}
 use Rattle.std.specs.Option.{unwrap_or}
 use Rattle.std.specs.List.{slice_get, AllZip}

@@ -1,5 +1,5 @@
 -- What the book answers and what it adds, of its history alone.
-use Rattle.std.specs.Prelude.{ℕ, ◌+◌, ◌/◌, ◌<◌, ◌^◌, ◌&&◌, ◌==◌, ◌++◌, List, [], ◌∷◌, length, fold, filter, nat_lt, nat_le, All, AllPairs, Option, Some, None}
+use Rattle.std.specs.Prelude.{ℕ, ◌+◌, ◌/◌, ◌<◌, ◌^◌, ◌&&◌, ◌==◌, ◌++◌, List, [], ◌∷◌, length, fold, filter, nat_lt, nat_le, All, AllPairs, if◌then◌else◌, Option, Some, None}
 use Rattle.bim_model.specs.Identifiers.{identifier}
 use Rattle.bim_model.specs.Models.{triangle_count}
 use Rattle.bim_model.specs.Snapshots.{with_model}

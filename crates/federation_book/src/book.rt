@@ -1,8 +1,8 @@
 //! The book.
-ghost use Rattle.std.specs.Prelude.{◌≡◌, ◌≤◌, ◌<◌, ◌+◌, ◌-◌, ◌^◌, ◌++◌, ◌∷◌, [], Option, Some, List, length, IfOk, OnOk, OnErr, IfSome};
+ghost use Rattle.std.specs.Prelude.{◌≡◌, ◌≤◌, ◌<◌, ◌+◌, ◌-◌, ◌^◌, ◌++◌, ◌∷◌, [], ℕ, Option, Some, List, length, vec_len, vec_capacity, slice_get, IfOk, OnOk, OnErr, IfSome};
 ghost use Rattle.bim_model.specs.Models.{triangle_count};
 ghost use Rattle.federation_book.specs.History.{body_of, reply_of, added_by, entry_of, state_of, topics_of, newest_of, new_topic, project_of, topic_list, newest_version, BookState, IsBefore, IsHistory};
-ghost use Rattle.federation_book.specs.Kept.{state_kept, IsKept};
+ghost use Rattle.federation_book.specs.Kept.{state_kept, IsKept, KeepStates};
 
 use crate::project::Project;
 use crate::types::{BookFault, BookReply, BookRequest, Change, Entry, ReplyBody};

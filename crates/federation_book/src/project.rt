@@ -1,5 +1,5 @@
 //! What the book keeps of each project.
-ghost use Rattle.std.specs.Prelude.{◌≡◌, ◌+◌, IfOk};
+ghost use Rattle.std.specs.Prelude.{◌≡◌, ◌≤◌, ◌+◌, ◌++◌, ◌∷◌, [], List, IfOk, OnOk, OnErr};
 ghost use Rattle.federation_book.specs.History.{untouched, new_topic, named_model};
 ghost use Rattle.federation_book.specs.Kept.{state_kept};
 ghost use Rattle.bim_model.specs.Snapshots.{with_model};

@@ -1,4 +1,5 @@
 //! The book as an object whose calls take turns.
+ghost use Rattle.std.specs.Prelude.{◌≡◌, ◌++◌, List, Option, Some, OnOk, OnErr, IfOk};
 
 use crate::book::Book;
 use crate::types::{BookReply, BookRequest, Entry};

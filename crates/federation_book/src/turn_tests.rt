@@ -1,6 +1,6 @@
 //! A book whose calls take turns: by two passes of one thread, and by two threads.
 ghost use Rattle.std.specs.Prelude.{◌≡◌, IfSome};
-ghost use Rattle.book_turn.specs.Passes.{IsSingle};
+ghost use Rattle.book_turn.specs.Passes.{BelongsTo, IsSingle, KeepsNumbers};
 
 use crate::book::Book;
 use crate::tests::{is_list, is_refused, is_topic, to_post};

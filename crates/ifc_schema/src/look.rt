@@ -1,5 +1,6 @@
 //! What references lead to.
-ghost use Rattle.std.specs.Prelude.{◌≡◌, MatchOption, option_copied, None, ◌<◌};
+ghost use Rattle.std.specs.Prelude.{◌≡◌, MatchOption, option_copied, option_and_then, None, ◌<◌, length, slice_index_or};
+ghost use Rattle.std.specs.Bool.{MatchBool};
 ghost use Rattle.ifc_schema.specs.Looking.{look, entity_at, is_a, row_at};
 ghost use Rattle.ifc_schema.specs.Places.{IsPlaceOf};
 

@@ -1,5 +1,5 @@
 //! The instances that are used are met, one after another.
-ghost use Rattle.std.specs.Prelude.{◌≡◌, ◌<◌, ℕ, [], length, OnOk, IfOk, Any, slice_index_or};
+ghost use Rattle.std.specs.Prelude.{◌≡◌, ◌<◌, ◌≤◌, ℕ, [], length, OnOk, IfOk, Any, slice_index_or};
 ghost use Rattle.std.specs.Bool.{OnTrue, OnFalse};
 ghost use Rattle.p21_reader.specs.Uploads.{Rises};
 ghost use Rattle.p21_reader.specs.declared.value.Instance.{Instance};

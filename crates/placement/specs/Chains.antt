@@ -1,5 +1,5 @@
 -- Chains of placements (IFC4 ADD2 TC1, IfcLocalPlacement): a placement stands in its parent, which may stand in one of its own.
-use Rattle.std.specs.Prelude.{◌≡◌, ℕ, ◌<◌, ◌≤◌, ◌⊎◌, List, length, take, slice_index_or, Option, Some, None, option_map, option_and_then, Contains}
+use Rattle.std.specs.Prelude.{◌≡◌, ℕ, ◌<◌, ◌≤◌, ◌⊎◌, if◌then◌else◌, List, length, take, slice_index_or, Option, Some, None, option_map, option_and_then, Contains}
 use Rattle.std.specs.List.{slice_get}
 use Rattle.bim_model.specs.declared.upload.BuildError.{BuildError}
 use Rattle.bim_model.specs.declared.upload.BuildError.TheVariants as errors

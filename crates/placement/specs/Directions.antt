@@ -1,5 +1,5 @@
 -- The axes of an axis placement (IFC4 ADD2 TC1, IfcAxis2Placement3D, and its function IfcBuildAxes), where they lie along the grid's.
-use Rattle.std.specs.Prelude.{◌≡◌, ℕ, ◌<◌, ◌==◌, ◌||◌, Bool, true, ℤ, pos, negsuc, ◌-ℤ◌, ◌*ℤ◌, List, [], ◌∷◌, Option, Some, None, option_and_then}
+use Rattle.std.specs.Prelude.{◌≡◌, ℕ, ◌<◌, ◌==◌, ◌||◌, Bool, true, if◌then◌else◌, ℤ, pos, negsuc, ◌-ℤ◌, ◌*ℤ◌, List, [], ◌∷◌, Option, Some, None, option_and_then}
 use Rattle.std.specs.List.{slice_get}
 use Rattle.std.specs.Ordering.{is_lt}
 use Rattle.bim_text.specs.declared.decimal.Decimal.{Decimal}

@@ -1,5 +1,5 @@
 -- Frames: where the points of an object lie in what it is placed in (IFC4 ADD2 TC1, IfcAxis2Placement3D).
-use Rattle.std.specs.Prelude.{◌≢◌, ℕ, ◌<◌, ◌==◌, ℤ, pos, negsuc, ◌+ℤ◌, ◌-ℤ◌, ◌*ℤ◌, ◌≤ℤ◌}
+use Rattle.std.specs.Prelude.{◌≢◌, ℕ, ◌<◌, ◌==◌, if◌then◌else◌, ℤ, pos, negsuc, ◌+ℤ◌, ◌-ℤ◌, ◌*ℤ◌, ◌≤ℤ◌}
 use Rattle.bim_model.specs.declared.geometry.Point.{Point}
 use Rattle.bim_model.specs.Models.{farthest}
 use Rattle.placement.specs.declared.axis.Axis.{Axis}

@@ -1,5 +1,5 @@
 -- Where a mapped item lies (IFC4 ADD2 TC1, IfcCartesianTransformationOperator3D): the axes and the origin of an operator, along the grid's.
-use Rattle.std.specs.Prelude.{◌≡◌, ℕ, ◌==◌, ◌||◌, pos, List, Option, Some, None}
+use Rattle.std.specs.Prelude.{◌≡◌, ℕ, ◌==◌, ◌||◌, if◌then◌else◌, pos, List, Option, Some, None}
 use Rattle.std.specs.List.{slice_get}
 use Rattle.bim_model.specs.declared.geometry.Point.{Point}
 use Rattle.bim_model.specs.declared.upload.Mode.{Mode}

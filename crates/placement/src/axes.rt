@@ -1,5 +1,5 @@
 //! The axes of axis placements.
-ghost use Rattle.std.specs.Prelude.{◌≡◌, ◌≢◌, ◌+◌, ◌<◌, Option, IfSome, IfNone, MatchOption};
+ghost use Rattle.std.specs.Prelude.{◌≡◌, ◌≢◌, ◌+◌, ◌<◌, ℕ, Option, IfSome, IfNone, MatchOption};
 ghost use Rattle.p21_reader.specs.declared.value.Value21.{Value21};
 ghost use Rattle.placement.specs.declared.direction.Direction.{Direction};
 ghost use Rattle.placement.specs.declared.frame.Offset.{Offset};

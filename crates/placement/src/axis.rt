@@ -1,5 +1,5 @@
 //! Directions along the grid.
-ghost use Rattle.std.specs.Prelude.{◌≡◌, ℕ, ◌*ℤ◌};
+ghost use Rattle.std.specs.Prelude.{◌≡◌, ℕ, ◌≤◌, ◌*ℤ◌};
 ghost use Rattle.placement.specs.Frames.{sign_of, IsWithin, most};
 
 /// A direction along one of the grid's axes, or against it.

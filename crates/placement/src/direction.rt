@@ -1,5 +1,5 @@
 //! The directions of a file.
-ghost use Rattle.std.specs.Prelude.{◌≡◌};
+ghost use Rattle.std.specs.Prelude.{◌≡◌, ◌<◌};
 ghost use Rattle.placement.specs.Directions.{is_dwarfed, is_faint, sign, cleaned_component, cleaned};
 
 use bim_text::Decimal;

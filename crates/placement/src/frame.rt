@@ -1,5 +1,5 @@
 //! Frames along the grid.
-ghost use Rattle.std.specs.Prelude.{◌≡◌, ℕ, ◌+◌, ◌<◌, ◌+ℤ◌, ◌*ℤ◌, MatchOption, IsTrue, ◌↔◌};
+ghost use Rattle.std.specs.Prelude.{◌≡◌, ℕ, ◌+◌, ◌<◌, ◌≤◌, ◌+ℤ◌, ◌*ℤ◌, MatchOption, IsTrue, ◌↔◌};
 ghost use Rattle.bim_model.specs.declared.geometry.Point.{Point};
 ghost use Rattle.bim_model.specs.Models.{IsInReach};
 ghost use Rattle.placement.specs.Frames.{along, component, carried, IsFrame, IsWithin, AreWithin, IsNear, lengths_of, point_at, most, step};

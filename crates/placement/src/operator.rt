@@ -1,5 +1,5 @@
 //! Where mapped items lie: the axes and the frames of operators.
-ghost use Rattle.std.specs.Prelude.{◌≡◌, ◌≢◌, ◌<◌, Option, IfSome, IfNone, MatchOption, slice_get};
+ghost use Rattle.std.specs.Prelude.{◌≡◌, ◌≢◌, ◌<◌, ℕ, Option, IfSome, IfNone, MatchOption, slice_get};
 ghost use Rattle.bim_model.specs.declared.geometry.Point.{Point};
 ghost use Rattle.placement.specs.declared.direction.Direction.{Direction};
 ghost use Rattle.placement.specs.declared.frame.Frame.{Frame};

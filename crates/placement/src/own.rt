@@ -1,5 +1,5 @@
 //! The frame of a placement in what it stands in.
-ghost use Rattle.std.specs.Prelude.{◌≡◌, option_copied, IfSome, MatchOption};
+ghost use Rattle.std.specs.Prelude.{◌≡◌, ℕ, option_copied, IfSome, MatchOption};
 ghost use Rattle.bim_model.specs.declared.geometry.Point.{Point};
 ghost use Rattle.p21_reader.specs.declared.value.Value21.{Value21};
 ghost use Rattle.placement.specs.declared.frame.Frame.{Frame};

@@ -1,8 +1,8 @@
 //! What a file says of points and directions.
-ghost use Rattle.std.specs.Prelude.{◌≡◌, Option, IfSome, IfNone, option_copied, option_map};
+ghost use Rattle.std.specs.Prelude.{◌≡◌, ℕ, Option, IfSome, IfNone, option_copied, option_map};
 ghost use Rattle.p21_reader.specs.declared.value.Value21.{Value21};
 ghost use Rattle.ifc_schema.specs.Looking.{look};
-ghost use Rattle.placement.specs.Directions.{IsDirection, three_numbers, coordinates, numbers_of};
+ghost use Rattle.placement.specs.Directions.{IsDirection, Directs, Directions, all_three, three_numbers, coordinates, numbers_of};
 ghost use Rattle.placement.specs.Seen.{spelled_of};
 ghost use Rattle.placement.specs.declared.direction.Direction.{Direction};
 
