@@ -1,9 +1,8 @@
 //! Indexes that name nothing.
 ghost use Rattle.std.specs.Prelude.{◌≡◌, ◌<◌, ◌^◌, ◌∷◌, [], map, Any, option_copied};
 ghost use Rattle.std.specs.Bool.{MatchBool};
-ghost use Rattle.ifc_schema.specs.Looking.{look};
 ghost use Rattle.faceset.specs.Indexes.{PointsNowhere};
-ghost use Rattle.faceset.specs.Sets.{items_in, outline, faces_of, face_ids, spelled_triangles, rows_of, HasBadNumber, HasBadIndex, counted_by, numbering, spelled_points, named_faces};
+ghost use Rattle.faceset.specs.Sets.{items_in, outline, faces_of, rows_of, HasBadNumber, HasBadIndex, counted_by, numbering, spelled_points, named_faces};
 
 use crate::indexes::place_of;
 use crate::sets::{fetch, is_polygonal, items_in, listed, numbering, outline, spelled_points};

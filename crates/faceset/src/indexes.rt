@@ -1,5 +1,5 @@
 //! The indexes of face sets.
-ghost use Rattle.std.specs.Prelude.{◌≡◌, ◌<◌, ◌^◌, ℕ, suc, pos, IfSome, IfNone};
+ghost use Rattle.std.specs.Prelude.{◌<◌, ◌^◌, ℕ, suc, pos, IfSome, IfNone};
 ghost use Rattle.bim_text.specs.Values.{SameValue};
 ghost use Rattle.bim_text.specs.Decimals.{value_of};
 ghost use Rattle.faceset.specs.Indexes.{whole, Writes, PointsAt, PointsNowhere};

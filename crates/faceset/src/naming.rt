@@ -1,8 +1,7 @@
 //! Which corners the indexes of a set name.
-ghost use Rattle.std.specs.Prelude.{◌≡◌, ◌<◌, ◌⊎◌, ◌^◌, ℕ, length, Some, MatchOption, option_copied, IfOk};
+ghost use Rattle.std.specs.Prelude.{◌<◌, ◌^◌, length, Some, MatchOption, option_copied};
 ghost use Rattle.bim_model.specs.declared.geometry.Point.{Point};
-ghost use Rattle.faceset.specs.Indexes.{PointsNowhere};
-ghost use Rattle.faceset.specs.Sets.{NamesPoint, counted_by, HasBadNumber, IsCorner, IsMisnamed};
+ghost use Rattle.faceset.specs.Sets.{NamesPoint, IsCorner, IsMisnamed};
 
 use crate::indexes::place_of;
 use bim_model::Point;

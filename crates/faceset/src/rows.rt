@@ -1,5 +1,5 @@
 //! The triangles of triangulated sets.
-ghost use Rattle.std.specs.Prelude.{◌≡◌, ◌⊎◌, ◌∷◌, [], length, All, Any, IfOk, MatchOption, option_copied};
+ghost use Rattle.std.specs.Prelude.{◌∷◌, [], length, All, Any, IfOk, MatchOption, option_copied};
 ghost use Rattle.faceset.specs.Sets.{IsTriangle, AreTriangles, HasThree, IsMisnamed, items_in, IsCorner};
 
 use crate::naming::corner;

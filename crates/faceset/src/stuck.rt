@@ -1,7 +1,7 @@
 //! Faces that can't be cut.
-ghost use Rattle.std.specs.Prelude.{◌≡◌, ◌<◌, ℕ, ◌++◌, ◌∷◌, [], All, IfOk, MatchOption, option_copied};
+ghost use Rattle.std.specs.Prelude.{◌≡◌, ◌<◌, ℕ, ◌∷◌, [], All, IfOk, MatchOption, option_copied};
 ghost use Rattle.ear_cut.specs.Normals.{IsGridPoint};
-ghost use Rattle.faceset.specs.Sets.{HasStuck, IsSound};
+ghost use Rattle.faceset.specs.Sets.{HasStuck};
 ghost use Rattle.faceset.specs.Cuts.{IsStuckIn, LeastOf, lesser};
 
 use crate::faces::{Outcome, cut_face};

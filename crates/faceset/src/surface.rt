@@ -1,9 +1,8 @@
 //! The triangles of face sets.
-ghost use Rattle.std.specs.Prelude.{◌≡◌, ℕ, ◌++◌, ◌∷◌, [], length, sum_by, All, Any, IfOk, IfSome, MatchOption, option_copied};
-ghost use Rattle.std.specs.Bool.{MatchBool};
+ghost use Rattle.std.specs.Prelude.{◌≡◌, ℕ, ◌∷◌, [], length, sum_by, All, Any, IfOk, IfSome, MatchOption, option_copied};
 ghost use Rattle.ear_cut.specs.Normals.{IsGridPoint};
-ghost use Rattle.faceset.specs.Sets.{named_faces, Joined, IsCut, SetTriangles, IsSound, HasStuck, IsOutlined, IsStuck, face_count, triangle_count};
-ghost use Rattle.faceset.specs.Cuts.{HasMisnamed, IsLoose};
+ghost use Rattle.faceset.specs.Sets.{named_faces, Joined, IsCut, SetTriangles, IsSound, HasStuck, face_count, triangle_count};
+ghost use Rattle.faceset.specs.Cuts.{IsLoose};
 
 use crate::faces::{Outcome, cut_face};
 use crate::rows::triangles;

@@ -1,5 +1,4 @@
 //! The book as an object whose calls take turns.
-ghost use Rattle.std.specs.Prelude.{◌≡◌, ◌++◌, List, Option, Some, OnOk, OnErr, IfOk};
 
 use crate::book::Book;
 use crate::types::{BookReply, BookRequest, Entry};
