@@ -3,6 +3,7 @@ use Rattle.std.specs.Prelude.{◌≡◌, ℕ, ◌+◌, ◌==◌, ◌&&◌, Bool,
 use Rattle.std.specs.List.{list_all}
 use Rattle.std.specs.Str.{bytes_eq}
 use Rattle.bim_model.specs.Guids.{is_guid_char}
+use Rattle.bim_text.specs.Texts.{text_of_spelling}
 use Rattle.bim_text.specs.declared.compare.Wanted.{Wanted}
 use Rattle.bim_text.specs.declared.compare.Wanted.TheVariants.{Text, Guid}
 
