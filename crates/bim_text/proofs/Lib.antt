@@ -11,5 +11,3 @@ pub mod RowLemmas
 pub mod Cleaning
 pub mod AllRows
 pub mod Unique
-pub mod Keeping
-pub mod Saying
