@@ -1,4 +1,5 @@
 pub mod Tables
+pub mod Gridded
 pub mod Leasts
 pub mod Naming
 pub mod Repeating
@@ -16,6 +17,7 @@ pub mod OneAxes
 pub mod OneFrame
 pub mod OneSet
 pub mod OneSurface
+pub mod Cutting
 pub mod Collecting
 pub mod LeastOf
 pub mod Lesser
@@ -23,6 +25,10 @@ pub mod Others
 pub mod Lying
 pub mod Mapped
 pub mod Opened
+pub mod Operated
+pub mod Squared
+pub mod Cornered
+pub mod StuckSets
 pub mod Staged
 pub mod Surfaced
 pub mod Made

@@ -1,19 +1,14 @@
--- What the searches of items say of the stages of a file.
-use Rattle.std.proofs.Common.{◌≡◌, ℕ, zero, suc, ◌<◌, ◌≤◌, ◌⊎◌, inl, inr, List, [], ◌∷◌, get_or, sum_by, Contains, refl, sym, ap, subst, arith}
-use Rattle.std.specs.List.{Any, AllPairs}
+-- What the count of triangles says of the stages of a file.
+use Rattle.std.proofs.Common.{◌≡◌, ℕ, zero, suc, ◌<◌, ◌≤◌, ◌⊎◌, inl, inr, List, [], ◌∷◌, get_or, sum_by, Some, Contains, refl, sym, ap, subst, arith}
+use Rattle.std.specs.List.{AllPairs}
 use Rattle.std.proofs.lemmas.List.Kept.{AllPairs-from_increasing}
 use Rattle.p21_reader.specs.declared.value.Instance.{Instance}
 use Rattle.bim_model.specs.declared.upload.UploadFault.TheVariants as faults
 use Rattle.bim_model.specs.declared.upload.Many.TheVariants as many
-use Rattle.ifc_schema.specs.Used.{Used}
 use Rattle.ifc_schema.specs.StageFive.{Lists, IsModelElement}
-use Rattle.placement.specs.Directions.{HasDirections}
 use Rattle.model_build.specs.Stages.{IsClear}
-use Rattle.model_build.specs.Finding.{Finds}
-use Rattle.model_build.specs.Items.{HasOther, ItemStage, count_of, most_triangles, TrianglesStage}
-use Rattle.model_build.specs.Least.{IsAxisPlacement}
-use Rattle.model_build.proofs.Attributes.{Shaped}
-use Rattle.model_build.proofs.Shaped.{has_directions}
+use Rattle.model_build.specs.Items.{count_of, most_triangles, TrianglesStage}
+use Rattle.model_build.specs.Counting.{CountsTo}
 
 -- Numbers that rise, and are those of which something holds, are one list.
 
@@ -63,28 +58,18 @@ one_list (x ∷ xs) (y ∷ ys) r s f g =
 pub same_lists : (P : ℕ → Type 0) (xs ys : List ℕ) → Lists P xs → Lists P ys → xs ≡ ys
 same_lists P xs ys a b = one_list xs ys (AllPairs-from_increasing xs a.rises) (AllPairs-from_increasing ys b.rises) (λ n c. b.all n (a.each n c)) (λ n c. a.all n (b.each n c))
 
--- Items.
-
-pub other_stage : (world : List Instance) (used : List ℕ) → Lists (Used world) used → Any (λ id. Finds world id (HasOther world)) used → ItemStage world faults.NotBuilt
-other_stage world used ls any = (refl, any.1, ls.each any.1 (any.0, any.2, any.3), any.4)
-
-pub other_clear : (world : List Instance) (used : List ℕ) → Lists (Used world) used → (Any (λ id. Finds world id (HasOther world)) used → ⊥) → IsClear (ItemStage world)
-other_clear world used ls none fault h = let c = ls.all h.1 h.2 in none (c.0, h.1, c.1, c.2, h.3)
-
 -- Triangles.
+
+pub few_triangles : (count n : ℕ) → CountsTo count (Some n) → count ≤ most_triangles
+few_triangles count n h = subst (λ (m : ℕ). m ≤ most_triangles) h.0 h.1
 
 pub triangles_stage : (world : List Instance) (elements : List ℕ) → Lists (IsModelElement world) elements → most_triangles < sum_by (count_of world) elements → TrianglesStage world (faults.TooMany many.Triangles)
 triangles_stage world elements ls above = (refl, sum_by (count_of world) elements, record { ids = elements; lists = ls; sum = refl }, above)
 
-pub triangles_clear : (world : List Instance) (elements : List ℕ) (n : ℕ) → Lists (IsModelElement world) elements → sum_by (count_of world) elements ≡ n → n ≤ most_triangles → IsClear (TrianglesStage world)
-triangles_clear world elements n ls sum few fault h =
+pub triangles_clear : (world : List Instance) (elements : List ℕ) → Lists (IsModelElement world) elements → sum_by (count_of world) elements ≤ most_triangles → IsClear (TrianglesStage world)
+triangles_clear world elements ls few fault h =
     let same = same_lists (IsModelElement world) h.2.ids elements h.2.lists ls in
     let e = ap (sum_by (count_of world)) same in
     let s = h.2.sum in
     let l = h.3 in
     omega arith
-
--- Axis placements.
-
-pub directions_read : (world : List Instance) (used : List ℕ) → Shaped world → Lists (Used world) used → (id : ℕ) → Contains used id → IsAxisPlacement world id → HasDirections world id
-directions_read world used shaped ls id c p = has_directions world id shaped (ls.each id c, p)

@@ -1,13 +1,18 @@
-use Rattle.std.proofs.Common.{ℕ, ◌<◌, List, Option, subst}
-use Rattle.std.specs.Option.{IfNone}
-use Rattle.std.specs.List.{sum_by}
+use Rattle.std.proofs.Common.{ℕ, ◌<◌, ◌≤◌, List, Option, sum_by, subst}
 use Rattle.ifc_schema.specs.StageFive.{element_ids}
 use Rattle.model_build.specs.Items.{count_of, most_triangles}
-use Rattle.model_build.proofs.Staged.{triangles_stage}
+use Rattle.model_build.specs.Counting.{CountsTo}
+use Rattle.model_build.proofs.Staged.{triangles_stage, few_triangles}
 use Rattle.model_build.proofs.checks.triangles_fault.Goals as goal
+
+pub returns-in-Some : goal.returns-in-Some
+returns-in-Some c =
+    subst (λ (ids : List ℕ). sum_by (count_of c.args.exchange.now) ids ≤ most_triangles) c.elements.ensures
+    (few_triangles (sum_by (count_of c.args.exchange.now) c.elements.result.now) c.in-Some._count
+    (subst (λ (found : Option ℕ). CountsTo (sum_by (count_of c.args.exchange.now) c.elements.result.now) found) c.in-Some.is c.in_ok-_count.ensures))
 
 pub returns-in-None : goal.returns-in-None
 returns-in-None c =
     triangles_stage c.args.exchange.now (element_ids c.args.survey.now) c.requires.elements
     (subst (λ (ids : List ℕ). most_triangles < sum_by (count_of c.args.exchange.now) ids) c.elements.ensures
-    (subst (λ (r : Option ℕ). IfNone r (most_triangles < sum_by (count_of c.args.exchange.now) c.elements.result.now)) c.in-None.is c.in_ok-_count.ensures.none))
+    (subst (λ (found : Option ℕ). CountsTo (sum_by (count_of c.args.exchange.now) c.elements.result.now) found) c.in-None.is c.in_ok-_count.ensures))
