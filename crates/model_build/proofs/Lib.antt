@@ -31,6 +31,8 @@ pub mod Cornered
 pub mod StuckSets
 pub mod Staged
 pub mod Surfaced
+pub mod Kept
+pub mod Joining
 pub mod Made
 pub mod Readable
 pub mod Readied

@@ -1,5 +1,5 @@
 -- What sets and items have once the earlier stages have found no fault. No public contract cites it.
-use Rattle.std.specs.Prelude.{◌≡◌, ℕ, ◌<◌, true, List, ◌++◌, Option, Some, Contains, All, length, sum_by}
+use Rattle.std.specs.Prelude.{◌≡◌, ◌≢◌, ℕ, true, List, ◌++◌, Option, Some, Contains, All, length, sum_by}
 use Rattle.std.specs.Bool.{MatchBool}
 use Rattle.std.specs.Map.{lookup}
 use Rattle.std.specs.Ordering.{nat_cmp}
@@ -46,6 +46,11 @@ pub record IsKept (world : List Instance) (scale : Scale) (mode : Mode) (triangl
 abbrev pub AllNear : List (ℕ × List Triangle) → Type 0
 AllNear entries = (id : ℕ) (triangles : List Triangle) → set_in entries id ≡ Some triangles → All IsInReach (corners_of triangles)
 
+-- the triangles of one set more
+pub record Puts (old new : ℕ → Option (List Triangle)) (id : ℕ) (triangles : List Triangle) : Type 0 where
+  pub here : new id ≡ Some triangles
+  pub others : (other : ℕ) → other ≢ id → new other ≡ old other
+
 -- each of the listed sets has its triangles there
 pub record AreSets (world : List Instance) (scale : Scale) (mode : Mode) (listed : List ℕ) (entries : List (ℕ × List Triangle)) : Type 0 where
   pub sound : (id : ℕ) (triangles : List Triangle) → set_in entries id ≡ Some triangles → Finds world id (IsKept world scale mode triangles)
@@ -55,11 +60,15 @@ pub record AreSets (world : List Instance) (scale : Scale) (mode : Mode) (listed
 abbrev pub IsUncutSet : List Instance → Scale → Mode → Instance → Type 0
 IsUncutSet world scale mode set = (sound : IsSoundSet world scale mode set) → (face : ℕ) × sets.HasStuck world sound.points set face
 
+-- the instance of that number is a set like that
+abbrev pub IsUncutAt : List Instance → Scale → Mode → ℕ → Type 0
+IsUncutAt world scale mode id = Finds world id (λ s. (sets.is_set s ≡ true) × IsUncutSet world scale mode s)
+
 -- one of the listed sets is like that
 pub record IsUncut (world : List Instance) (scale : Scale) (mode : Mode) (listed : List ℕ) : Type 0 where
   pub id : ℕ
   pub here : Contains listed id
-  pub set : Finds world id (λ s. (sets.is_set s ≡ true) × IsUncutSet world scale mode s)
+  pub set : IsUncutAt world scale mode id
 
 -- Items whose surfaces can be had from those of the listed sets.
 

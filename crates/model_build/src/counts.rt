@@ -1,5 +1,5 @@
 //! How many triangles a model has.
-ghost use Rattle.std.specs.Prelude.{◌≤◌, ◌+◌, sum_by, IfOk};
+ghost use Rattle.std.specs.Prelude.{◌≤◌, ◌+◌, ◌∷◌, [], sum_by, IfOk};
 ghost use Rattle.faceset.specs.Sets.{triangle_count};
 ghost use Rattle.model_build.specs.Finding.{led_to};
 ghost use Rattle.model_build.specs.Items.{item_count, count_of, most_triangles};
@@ -22,6 +22,17 @@ fn count_set(exchange: &Exchange, set: &Instance, so_far: u64) -> Option<u64>
     Some(so_far + more)
 }
 
+/// .. and of the set that a value refers to.
+fn count_set_of(exchange: &Exchange, value: &Value21, so_far: u64) -> Option<u64>
+    requires { so_far ≤ most_triangles }
+    ensures { CountsTo (so_far + sum_by (triangle_count exchange.now) (led_to exchange.now (value.now ∷ []))) result }
+{
+    match target(exchange, value) {
+        Some(set) => count_set(exchange, set, so_far),
+        None => Some(so_far),
+    }
+}
+
 /// .. and of the sets that values refer to.
 fn count_sets(exchange: &Exchange, values: &[Value21], so_far: u64) -> Option<u64>
     requires { so_far ≤ most_triangles }
@@ -29,12 +40,10 @@ fn count_sets(exchange: &Exchange, values: &[Value21], so_far: u64) -> Option<u6
 {
     let mut count = so_far;
     for value in values {
-        if let Some(set) = target(exchange, value) {
-            match count_set(exchange, set, count) {
-                Some(counted) => count = counted,
-                None => return None,
-            }
-        }
+        let Some(counted) = count_set_of(exchange, value, count) else {
+            return None;
+        };
+        count = counted;
     }
     Some(count)
 }
@@ -51,6 +60,17 @@ fn count_item(exchange: &Exchange, item: &Instance, so_far: u64) -> Option<u64>
     }
 }
 
+/// .. and of the item that a value refers to.
+fn count_item_of(exchange: &Exchange, value: &Value21, so_far: u64) -> Option<u64>
+    requires { so_far ≤ most_triangles }
+    ensures { CountsTo (so_far + sum_by (item_count exchange.now) (led_to exchange.now (value.now ∷ []))) result }
+{
+    match target(exchange, value) {
+        Some(item) => count_item(exchange, item, so_far),
+        None => Some(so_far),
+    }
+}
+
 /// .. and of the items that values refer to.
 fn count_items(exchange: &Exchange, values: &[Value21], so_far: u64) -> Option<u64>
     requires { so_far ≤ most_triangles }
@@ -58,12 +78,10 @@ fn count_items(exchange: &Exchange, values: &[Value21], so_far: u64) -> Option<u
 {
     let mut count = so_far;
     for value in values {
-        if let Some(item) = target(exchange, value) {
-            match count_item(exchange, item, count) {
-                Some(counted) => count = counted,
-                None => return None,
-            }
-        }
+        let Some(counted) = count_item_of(exchange, value, count) else {
+            return None;
+        };
+        count = counted;
     }
     Some(count)
 }
@@ -86,10 +104,10 @@ fn count_bodies(exchange: &Exchange, ids: &[u64], so_far: u64) -> Option<u64>
 {
     let mut count = so_far;
     for id in ids {
-        match count_body(exchange, *id, count) {
-            Some(counted) => count = counted,
-            None => return None,
-        }
+        let Some(counted) = count_body(exchange, *id, count) else {
+            return None;
+        };
+        count = counted;
     }
     Some(count)
 }

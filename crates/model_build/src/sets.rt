@@ -1,10 +1,10 @@
 //! The triangles of sets, made once for each set.
-ghost use Rattle.std.specs.Prelude.{◌≡◌, ℕ, List, Contains, All, IfOk, IfSome, MatchOption, option_copied};
-ghost use Rattle.std.specs.List.Sorted.{IsStrictlyIncreasing};
+ghost use Rattle.std.specs.Prelude.{◌≡◌, ℕ, ◌++◌, ◌∷◌, [], List, All, IfOk, OnOk, OnErr, IfSome, None, MatchOption, option_copied};
+ghost use Rattle.std.specs.Bool.{MatchBool};
 ghost use Rattle.bim_model.specs.Boxes.{corners_of};
 ghost use Rattle.bim_model.specs.Models.{IsInReach};
 ghost use Rattle.model_build.specs.PointTables.{IsTable};
-ghost use Rattle.model_build.specs.Sound.{AreSets, IsKept, IsSoundSet, IsUncut, IsUncutSet, set_in};
+ghost use Rattle.model_build.specs.Sound.{AreSets, IsKept, IsUncut, IsUncutAt, IsUncutSet, Puts, set_in};
 
 use crate::find::{fetch, reference_at};
 use crate::points::points_at;
@@ -56,6 +56,18 @@ fn triangles_of(
     set_triangles(alloc, exchange, points, set)
 }
 
+fn put(
+    sets: &mut BTreeMap<u64, Items<Triangle>>,
+    id: u64,
+    triangles: Items<Triangle>,
+) -> Result<(), AllocError>
+    ensures ok { OnOk result (Puts (set_in sets.old.entries) (set_in sets.new.entries) id triangles) }
+    ensures err { OnErr result ((other : ℕ) → set_in sets.new.entries other ≡ set_in sets.old.entries other) }
+{
+    sets.insert(id, triangles)?;
+    Ok(())
+}
+
 impl Sets {
     /// The triangles of the listed sets, each face cut once. None where one of them isn't cut.
     pub fn of(
@@ -69,18 +81,55 @@ impl Sets {
         requires { IsTable exchange.now scale mode table.now }
         ensures { IfOk result (λ sets. MatchOption sets (IsUncut exchange.now scale mode listed.now) (AreSets exchange.now scale mode listed.now)) }
     {
-        let mut sets = BTreeMap::new(alloc);
+        let mut sets = Sets::new(alloc);
         for id in listed {
-            if let Some(set) = fetch(exchange, *id) {
-                if is_set(set) {
-                    let Some(made) = triangles_of(alloc, exchange, table, set, scale, mode)? else {
-                        return Ok(None);
-                    };
-                    sets.insert(*id, Items::from_vec(made))?;
-                }
+            let added = sets.add(alloc, exchange, *id, table, scale, mode)?;
+            if !added {
+                return Ok(None);
             }
         }
-        Ok(Some(Sets { sets }))
+        Ok(Some(sets))
+    }
+
+    fn new(alloc: Global) -> Sets
+        ensures { (id : ℕ) → set_in result id ≡ None }
+    {
+        Sets {
+            sets: BTreeMap::new(alloc),
+        }
+    }
+
+    /// Adds the triangles of the instance of that number, where it is a set. False where it isn't cut.
+    fn add(
+        &mut self,
+        alloc: Global,
+        exchange: &Exchange,
+        id: u64,
+        table: &[Option<Items<Point>>],
+        scale: Scale,
+        mode: Mode,
+    ) -> Result<bool, AllocError>
+        requires { IsTable exchange.now scale mode table.now }
+        ensures { IfOk result (λ done. MatchBool done ((listed : List ℕ) → AreSets exchange.now scale mode listed self.old → AreSets exchange.now scale mode (listed ++ id ∷ []) self.new) (IsUncutAt exchange.now scale mode id)) }
+    {
+        let Some(set) = fetch(exchange, id) else {
+            return Ok(true);
+        };
+        if !is_set(set) {
+            return Ok(true);
+        }
+        let Some(made) = triangles_of(alloc, exchange, table, set, scale, mode)? else {
+            return Ok(false);
+        };
+        self.put(id, Items::from_vec(made))?;
+        Ok(true)
+    }
+
+    fn put(&mut self, id: u64, triangles: Items<Triangle>) -> Result<(), AllocError>
+        requires { All IsInReach (corners_of triangles) }
+        ensures { OnOk result (Puts (set_in self.old) (set_in self.new) id triangles) }
+    {
+        put(&mut self.sets, id, triangles)
     }
 
     /// The triangles of the set of that number; none of one that isn't among them.

@@ -35,9 +35,9 @@ fn add_set(
     let Some(id) = reference_of(value) else {
         return Ok(true);
     };
-    if fetch(exchange, id).is_none() {
+    let Some(_set) = fetch(exchange, id) else {
         return Ok(true);
-    }
+    };
     match sets.get(id) {
         Some(triangles) => {
             out.extend_from_slice(triangles)?;
@@ -139,10 +139,11 @@ fn add_item(
         return Ok(true);
     };
     if is_mapped_item(item) {
-        add_mapped(alloc, exchange, sets, item, scale, mode, out)
-    } else {
-        add_set(exchange, sets, value, out)
+        let mapped = add_mapped(alloc, exchange, sets, item, scale, mode, out)?;
+        return Ok(mapped);
     }
+    let added = add_set(exchange, sets, value, out)?;
+    Ok(added)
 }
 
 /// Adds the triangles of the items that values refer to, one item after another.
@@ -182,7 +183,15 @@ fn bodies_triangles(
         let Some(body) = fetch(exchange, *id) else {
             return Ok(None);
         };
-        let added = add_items(alloc, exchange, sets, spelled_items(body), scale, mode, &mut own)?;
+        let added = add_items(
+            alloc,
+            exchange,
+            sets,
+            spelled_items(body),
+            scale,
+            mode,
+            &mut own,
+        )?;
         if !added {
             return Ok(None);
         }

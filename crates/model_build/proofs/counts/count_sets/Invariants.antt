@@ -1,7 +1,8 @@
 use Rattle.std.proofs.Common.{◌≡◌, ◌≤◌, ◌+◌, take, sum_by}
+use Rattle.faceset.specs.Sets.{triangle_count}
+use Rattle.model_build.specs.Finding.{led_to}
 use Rattle.model_build.specs.Items.{most_triangles}
-use Rattle.model_build.specs.Counting.{rows_at}
 use Rattle.model_build.proofs.counts.count_sets.Given as goal
 
-abbrev pub invariant-loop-set : goal.invariant-loop-set
-invariant-loop-set l = (l.so_far + sum_by (rows_at l.exchange) (take l.set-index l.sets) ≡ l.count) × (l.count ≤ most_triangles)
+abbrev pub invariant-loop-value : goal.invariant-loop-value
+invariant-loop-value l = (l.so_far + sum_by (triangle_count l.exchange) (led_to l.exchange (take l.value-index l.values)) ≡ l.count) × (l.count ≤ most_triangles)

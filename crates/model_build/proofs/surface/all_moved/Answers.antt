@@ -1,4 +1,5 @@
-use Rattle.model_build.specs.Sound.{moved, IsOut}
+use Rattle.model_build.specs.Sound.{IsOut}
+use Rattle.model_build.specs.Surfaces.{moved}
 use Rattle.model_build.proofs.Surfaced.{any_corner, moved_more}
 use Rattle.model_build.proofs.surface.all_moved.Goals as goal
 

@@ -1,7 +1,7 @@
 use Rattle.std.proofs.Common.{◌≡◌, All, map, take}
 use Rattle.bim_model.specs.Boxes.{corners_of}
 use Rattle.bim_model.specs.Models.{IsInReach}
-use Rattle.model_build.specs.Sound.{moved}
+use Rattle.model_build.specs.Surfaces.{moved}
 use Rattle.model_build.proofs.surface.all_moved.Given as goal
 
 abbrev pub invariant-loop-triangle : goal.invariant-loop-triangle
