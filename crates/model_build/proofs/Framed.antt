@@ -10,7 +10,6 @@ use Rattle.ifc_schema.specs.declared.entity.Entity.TheVariants as entity
 use Rattle.ifc_schema.specs.declared.outcome.Survey.{Survey}
 use Rattle.ifc_schema.specs.Values.{reference_of, is_absent}
 use Rattle.ifc_schema.specs.Looking.{look}
-use Rattle.ifc_schema.specs.Used.{Used}
 use Rattle.ifc_schema.specs.StageFive.{IsModelElement, used_ids, element_ids}
 use Rattle.ifc_schema.proofs.Listing.{element_used}
 use Rattle.ifc_units.specs.declared.scale.Scale.{Scale}
@@ -23,14 +22,13 @@ use Rattle.placement.specs.Placed.{referred_at, IsLocation, OwnFrame, LacksFrame
 use Rattle.model_build.specs.Finding.{IsUsed, reference_at}
 use Rattle.model_build.specs.PointTables.{told_of}
 use Rattle.model_build.specs.Named.{IsNamed}
-use Rattle.model_build.specs.Least.{IsOblique}
 use Rattle.model_build.specs.Outcomes.{IsChecked, AreMeasured}
 use Rattle.model_build.proofs.Attributes.{Shaped}
 use Rattle.model_build.proofs.Shaped.{point_numbers, location_used, parent_used, axes_used, placement_used}
 use Rattle.model_build.proofs.OneAxes.{refers_absent}
 use Rattle.model_build.proofs.Served.{element_is}
 use Rattle.model_build.proofs.Readable.{readable_point}
-use Rattle.model_build.proofs.Readied.{Measured}
+use Rattle.model_build.proofs.Readied.{Measured, Squared}
 
 -- The placements of chains are used.
 
@@ -107,26 +105,22 @@ location_some world scale mode id shaped measured u none =
       },
     ))
 
--- no axis placement that is used lies askew
-abbrev pub Square : List Instance → Type 0
-Square world = (id : ℕ) → Used world id → IsOblique world id → ⊥
-
-own_some : (world : List Instance) (scale : Scale) (mode : Mode) (id : ℕ) → Shaped world → Measured world scale mode → Square world → IsUsed entity.Placement world id → ((f : Frame) → OwnFrame world scale mode id f → ⊥) → ⊥
+own_some : (world : List Instance) (scale : Scale) (mode : Mode) (id : ℕ) → Shaped world → Measured world scale mode → Squared world → IsUsed entity.Placement world id → ((f : Frame) → OwnFrame world scale mode id f → ⊥) → ⊥
 own_some world scale mode id shaped measured square u none =
     let a = axes_used world id u.1.instance shaped u.0 u.1.found u.1.holds in
     let n = a.holds in
     let refers : referred_at world id 1 ≡ Some n.to = ap (λ o. option_and_then reference_of (option_and_then (λ (j : Instance). slice_get j.values 1) o)) u.1.found ∙ ap (option_and_then reference_of) a.there ∙ n.refers in
     location_some world scale mode n.to shaped measured n.is
-    (λ p is. square n.to n.is.0 (
+    (λ p is. square n.to n.is.0 (inl (
       n.is.1,
       λ axes has. none (frame_at axes (lengths_of p)) (record {
         to = n.to;
         refers = refers;
         given = record { axes = axes; has_axes = has; location = p; is_location = is; frame = refl };
       }),
-    ))
+    )))
 
-pub none_lacks : (world : List Instance) (scale : Scale) (mode : Mode) (survey : Survey) (chains : List ℕ) → IsChecked world scale survey chains → AreMeasured world scale mode (used_ids survey) → LacksFrame world scale mode chains → ⊥
+pub none_lacks : (world : List Instance) (scale : Scale) (mode : Mode) (survey : Survey) (chains : List ℕ) → IsChecked world scale mode survey chains → AreMeasured world scale mode (used_ids survey) → LacksFrame world scale mode chains → ⊥
 none_lacks world scale mode survey chains h measured l =
     let s = h.surveyed in
     let c = h.has_chains in

@@ -17,6 +17,7 @@ pub mod OneAxes
 pub mod OneFrame
 pub mod OneSet
 pub mod OneSurface
+pub mod Cutting
 pub mod Collecting
 pub mod LeastOf
 pub mod Lesser

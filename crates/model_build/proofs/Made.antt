@@ -1,5 +1,5 @@
 -- The elements that instances make.
-use Rattle.std.proofs.Common.{◌≡◌, ℕ, ◌+◌, ◌==◌, ◌<◌, inl, inr, true, false, List, [], ◌∷◌, ◌++◌, length, get_or, take, map, sum_by, Option, Some, None, option_and_then, Result, Ok, Err, Contains, refl, sym, ap, ◌∙◌, subst, arith, length-append}
+use Rattle.std.proofs.Common.{◌≡◌, ℕ, ◌+◌, ◌==◌, ◌<◌, inl, inr, true, false, List, [], ◌∷◌, ◌++◌, length, get_or, take, map, sum_by, Option, Some, None, option_and_then, Result, Ok, Err, Contains, refl, sym, ap, ◌∙◌, subst, arith}
 use Rattle.std.specs.Option.{MatchOption}
 use Rattle.std.specs.declared.alloc.AllocError.{AllocError}
 use Rattle.std.specs.Prelude.{IfOk}
@@ -10,12 +10,10 @@ use Rattle.std.proofs.lemmas.Bool.Decides.{nat_tests}
 use Rattle.std.proofs.lemmas.Option.{slice_get-get_or}
 use Rattle.std.proofs.lemmas.List.{take_more, length-map, length-take-le, get_or-take}
 use Rattle.std.proofs.lemmas.List.Elements.{Contains-get_or}
-use Rattle.std.proofs.lemmas.List.Sums.{sum_by-cons}
 use Rattle.std.proofs.lemmas.Slice.Zip.{AllZip-long, all_zipped_more}
 use Rattle.bim_model.specs.Boxes.{corners_of}
 use Rattle.bim_model.specs.Models.{IsInReach}
 use Rattle.bim_model.specs.declared.element.Element.{Element}
-use Rattle.bim_model.specs.declared.geometry.Point.{Point}
 use Rattle.bim_model.specs.declared.geometry.Triangle.{Triangle}
 use Rattle.bim_model.specs.declared.upload.Mode.{Mode}
 use Rattle.p21_reader.specs.declared.value.Value21.{Value21}
@@ -25,10 +23,10 @@ use Rattle.ifc_schema.specs.Looking.{look}
 use Rattle.ifc_units.specs.declared.scale.Scale.{Scale}
 use Rattle.placement.specs.declared.frame.Frame.{Frame}
 use Rattle.placement.specs.Placed.{AreFrames}
-use Rattle.faceset.specs.Sets.{AreTriangles, spelled_triangles}
-use Rattle.model_build.specs.Items.{body_sets, row_count}
-use Rattle.model_build.specs.Sound.{moved, IsOut}
-use Rattle.model_build.specs.Surfaces.{AreOfSets, placed_by, IsSurface, IsBeyond}
+use Rattle.faceset.specs.Sets.{Joined}
+use Rattle.model_build.specs.Items.{body_items, item_count}
+use Rattle.model_build.specs.Sound.{IsOut}
+use Rattle.model_build.specs.Surfaces.{ItemSurface, moved, placed_by, IsSurface, IsBeyond}
 use Rattle.model_build.specs.Framed.{AllFramed}
 use Rattle.model_build.specs.Outcomes.{IsStanding, IsReady, IsFrameOf, IsNearSurface, IsNearElement, Lacks, LacksAt, IsFirstLacking}
 use Rattle.model_build.specs.declared.lack.Lack.{Lack}
@@ -40,13 +38,7 @@ use Rattle.model_build.proofs.Leasts.{earlier}
 use Rattle.model_build.proofs.Tables.{zipped_at}
 use Rattle.model_build.proofs.Bodied.{tells}
 
--- what is said of nothing, and of a thing that is there
-
-pub of_none : {A : Type 0} (N : Type 0) (S : A → Type 0) (r : Option A) → r ≡ None → MatchOption r N S → N
-of_none N S r e h = subst (λ o. MatchOption o N S) e h
-
-pub of_some : {A : Type 0} (N : Type 0) (S : A → Type 0) (r : Option A) (x : A) → r ≡ Some x → MatchOption r N S → S x
-of_some N S r x e h = subst (λ o. MatchOption o N S) e h
+-- what is said of a result
 
 pub of_ok : {A E : Type 0} (S : A → Type 0) (F : E → Type 0) (r : Result A E) (x : A) → r ≡ Ok x → MatchResult r S F → S x
 of_ok S F r x e h = subst (λ o. MatchResult o S F) e h
@@ -90,42 +82,25 @@ placed_told world scale mode placements frames i value id (Some f) there present
 
 -- The surface of an element.
 
--- as many triangles as rows
-triangles_long : (points : List Point) (rows : List Value21) (ts : List Triangle) → AreTriangles points rows ts → length ts ≡ length rows
-triangles_long points [] [] h = refl
-triangles_long points [] (t ∷ ts) h = absurd h
-triangles_long points (r ∷ rs) [] h = absurd h
-triangles_long points (r ∷ rs) (t ∷ ts) h = let e = triangles_long points rs ts h.1 in omega arith
-
-sets_long : (world : List Instance) (scale : Scale) (mode : Mode) (sets : List Instance) (ts : List Triangle) → AreOfSets world scale mode sets ts → length ts ≡ sum_by row_count sets
-sets_long world scale mode [] ts h = ap length h
-sets_long world scale mode (s ∷ ss) ts h =
-    let first : length h.0 ≡ row_count s = triangles_long h.2.points (spelled_triangles s) h.0 h.2.are_triangles in
-    let rest : length h.1 ≡ sum_by row_count ss = sets_long world scale mode ss h.1 h.3 in
-    let all : length ts ≡ length (h.0 ++ h.1) = ap length h.4 in
-    let parts : length (h.0 ++ h.1) ≡ length h.0 + length h.1 = length-append h.0 h.1 in
-    let sum : sum_by row_count (s ∷ ss) ≡ row_count s + sum_by row_count ss = sum_by-cons row_count s ss in
-    omega arith
-
-surface_there : (world : List Instance) (scale : Scale) (mode : Mode) (i : Instance) (frame : Frame) (own ts : List Triangle) → IsFrameOf world scale mode i frame → AreOfSets world scale mode (body_sets world i) own
+surface_there : (world : List Instance) (scale : Scale) (mode : Mode) (i : Instance) (frame : Frame) (own ts : List Triangle) → IsFrameOf world scale mode i frame → Joined (ItemSurface world scale mode) (body_items world i) own
     → ts ≡ map (moved frame) own → IsSurface world scale mode i ts
 surface_there world scale mode i frame own ts f are e = record {
   own = own;
-  of_sets = are;
+  of_items = are;
   frame = f.given;
   placed = f.placed;
   all = e ∙ same_map (moved frame) (placed_by f.given) (λ t. same_triangle (moved frame t) (placed_by f.given t) (f.carries.same t.a) (f.carries.same t.b) (f.carries.same t.c)) own;
 }
 
-pub near_surface : (world : List Instance) (scale : Scale) (mode : Mode) (i : Instance) (frame : Frame) (own ts : List Triangle) → IsFrameOf world scale mode i frame → AreOfSets world scale mode (body_sets world i) own
-    → (ts ≡ map (moved frame) own) × All IsInReach (corners_of ts) → IsNearSurface world scale mode i ts
-near_surface world scale mode i frame own ts f are is = record {
+pub near_surface : (world : List Instance) (scale : Scale) (mode : Mode) (i : Instance) (frame : Frame) (own ts : List Triangle) → IsFrameOf world scale mode i frame → Joined (ItemSurface world scale mode) (body_items world i) own
+    → length own ≡ sum_by (item_count world) (body_items world i) → (ts ≡ map (moved frame) own) × All IsInReach (corners_of ts) → IsNearSurface world scale mode i ts
+near_surface world scale mode i frame own ts f are many is = record {
   surface = surface_there world scale mode i frame own ts f are is.0;
   near = is.1;
-  count = ap length is.0 ∙ length-map own (moved frame) ∙ sets_long world scale mode (body_sets world i) own are;
+  count = ap length is.0 ∙ length-map own (moved frame) ∙ many;
 }
 
-pub beyond_there : (world : List Instance) (scale : Scale) (mode : Mode) (i : Instance) (frame : Frame) (own : List Triangle) → IsFrameOf world scale mode i frame → AreOfSets world scale mode (body_sets world i) own
+pub beyond_there : (world : List Instance) (scale : Scale) (mode : Mode) (i : Instance) (frame : Frame) (own : List Triangle) → IsFrameOf world scale mode i frame → Joined (ItemSurface world scale mode) (body_items world i) own
     → Any IsOut (corners_of (map (moved frame) own)) → IsBeyond world scale mode i
 beyond_there world scale mode i frame own f are out = record {
   triangles = map (moved frame) own;
@@ -135,9 +110,9 @@ beyond_there world scale mode i frame own f are out = record {
 
 -- The element of a number.
 
-lack_there : (world : List Instance) (scale : Scale) (mode : Mode) (placements : List ℕ) (id : ℕ) (i : Instance) (lack : Lack) → look world id ≡ Some i → Lacks world scale mode placements i lack → LacksAt world scale mode placements id lack
-lack_there world scale mode placements id i Beyond found h = record { instance = i; found = found; holds = h }
-lack_there world scale mode placements id i Unready found h = λ f. h (subst (IsReady world scale mode placements) (one (look world id) f.instance i f.found found) f.holds)
+lack_there : (world : List Instance) (scale : Scale) (mode : Mode) (placements listed : List ℕ) (id : ℕ) (i : Instance) (lack : Lack) → look world id ≡ Some i → Lacks world scale mode placements listed i lack → LacksAt world scale mode placements listed id lack
+lack_there world scale mode placements listed id i Beyond found h = record { instance = i; found = found; holds = h }
+lack_there world scale mode placements listed id i Unready found h = λ f. h (subst (IsReady world scale mode placements listed) (one (look world id) f.instance i f.found found) f.holds)
 
 equal : (a b : ℕ) → (a == b) ≡ true → a ≡ b
 equal a b e = grind (arith, nat_tests)
@@ -151,16 +126,16 @@ id_of (j ∷ js) id i found = elim (tells (j.id == id)) [
   | inr f ↦ (let m = rw f at found in id_of js id i m)
 ]
 
-pub made_at : (world : List Instance) (scale : Scale) (mode : Mode) (placements : List ℕ) (id : ℕ) (i : Instance) (r : Result (Result Element Lack) AllocError) → look world id ≡ Some i
-    → (look world i.id ≡ Some i → IfOk r (λ made. MatchResult made (IsNearElement world scale mode i.id) (Lacks world scale mode placements i)))
-    → IfOk r (λ made. MatchResult made (IsNearElement world scale mode id) (LacksAt world scale mode placements id))
-made_at world scale mode placements id i (Err e) found h = h (let same = id_of world id i found in subst (λ k. look world k ≡ Some i) (sym same) found)
-made_at world scale mode placements id i (Ok (Ok element)) found h =
+pub made_at : (world : List Instance) (scale : Scale) (mode : Mode) (placements listed : List ℕ) (id : ℕ) (i : Instance) (r : Result (Result Element Lack) AllocError) → look world id ≡ Some i
+    → (look world i.id ≡ Some i → IfOk r (λ made. MatchResult made (IsNearElement world scale mode i.id) (Lacks world scale mode placements listed i)))
+    → IfOk r (λ made. MatchResult made (IsNearElement world scale mode id) (LacksAt world scale mode placements listed id))
+made_at world scale mode placements listed id i (Err e) found h = h (let same = id_of world id i found in subst (λ k. look world k ≡ Some i) (sym same) found)
+made_at world scale mode placements listed id i (Ok (Ok element)) found h =
     let same = id_of world id i found in
     subst (λ k. IsNearElement world scale mode k element) same (h (subst (λ k. look world k ≡ Some i) (sym same) found))
-made_at world scale mode placements id i (Ok (Err lack)) found h =
+made_at world scale mode placements listed id i (Ok (Err lack)) found h =
     let same = id_of world id i found in
-    lack_there world scale mode placements id i lack found (h (subst (λ k. look world k ≡ Some i) (sym same) found))
+    lack_there world scale mode placements listed id i lack found (h (subst (λ k. look world k ≡ Some i) (sym same) found))
 
 -- Elements, one after another.
 
@@ -184,10 +159,10 @@ made_before world scale mode ids at place (e ∷ es) before lt are =
     let near = zipped_at (IsNearElement world scale mode) ks made place (get_or ks place 0) (get_or made place e) are id there in
     (get_or made place e, subst (λ n. IsNearElement world scale mode n (get_or made place e)) (get_or-take at ids place 0 before) near)
 
-pub first_lacking : (world : List Instance) (scale : Scale) (mode : Mode) (placements ids : List ℕ) (at : ℕ) (made : List Element) (lack : Lack) → IsStrictlyIncreasing ids → at < length ids → AllZip (IsNearElement world scale mode) (take at ids) made
-    → LacksAt world scale mode placements (get_or ids at 0) lack → IsFirstLacking world scale mode placements ids (record { id = get_or ids at 0; lack = lack })
-first_lacking world scale mode placements ids at made lack up lt are h = record {
-  listed = Contains-get_or ids at 0 lt;
+pub first_lacking : (world : List Instance) (scale : Scale) (mode : Mode) (placements listed ids : List ℕ) (at : ℕ) (made : List Element) (lack : Lack) → IsStrictlyIncreasing ids → at < length ids → AllZip (IsNearElement world scale mode) (take at ids) made
+    → LacksAt world scale mode placements listed (get_or ids at 0) lack → IsFirstLacking world scale mode placements listed ids (record { id = get_or ids at 0; lack = lack })
+first_lacking world scale mode placements listed ids at made lack up lt are h = record {
+  here = Contains-get_or ids at 0 lt;
   lacks = h;
   lower = λ k below c. (
       let e = earlier ids at (get_or ids at 0) k up lt refl below c in

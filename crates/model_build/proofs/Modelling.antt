@@ -14,20 +14,21 @@ use Rattle.bim_model.specs.Models.{IsInReach, IsModelled, IsModel, triangle_coun
 use Rattle.p21_reader.specs.declared.value.Instance.{Instance}
 use Rattle.ifc_schema.specs.Looking.{look}
 use Rattle.ifc_schema.specs.declared.outcome.Survey.{Survey}
-use Rattle.ifc_schema.specs.StageFive.{IsModelElement, Lists, element_ids}
+use Rattle.ifc_schema.specs.StageFive.{IsModelElement, Lists, used_ids, element_ids}
 use Rattle.ifc_units.specs.declared.scale.Scale.{Scale}
 use Rattle.model_build.specs.Stages.{IsClear}
 use Rattle.model_build.specs.Finding.{Finds}
 use Rattle.model_build.specs.Texts.{HasGuid}
-use Rattle.model_build.specs.Items.{counted, count_of, most_triangles}
+use Rattle.model_build.specs.Items.{count_of, most_triangles}
 use Rattle.model_build.specs.Order.{Differ, Rise}
 use Rattle.model_build.specs.Surfaces.{IsBeyond}
 use Rattle.model_build.specs.Elements.{IsElement, IsModelOf}
 use Rattle.model_build.specs.Profile.{ReachStage}
-use Rattle.model_build.specs.Outcomes.{IsReady, IsNearElement, IsFirstLacking, LacksAt, IsChecked, AreReady}
+use Rattle.model_build.specs.Outcomes.{IsNearElement, IsFirstLacking, LacksAt, IsSettled, AreReady}
 use Rattle.model_build.specs.declared.lack.Lacking.{Lacking}
 use Rattle.model_build.specs.declared.lack.Lack.TheVariants.{Beyond, Unready}
 use Rattle.model_build.proofs.OneSurface.{one_surface}
+use Rattle.model_build.proofs.Readied.{count_some}
 use Rattle.model_build.proofs.Told.{zip_by, made_differ, is_model}
 
 same_instance : (world : List Instance) (id : ℕ) (i j : Instance) → look world id ≡ Some i → look world id ≡ Some j → i ≡ j
@@ -66,32 +67,28 @@ reach_clear world scale mode ids made ls z fault h =
     let e = element_there world scale mode ids made h.id z (ls.all h.id h.of) in
     never_beyond world scale mode h.id e.0 e.1 h.here.1
 
-pub reach_fault : (world : List Instance) (scale : Scale) (mode : Mode) (placements ids : List ℕ) (found : Lacking) → Lists (IsModelElement world) ids → IsFirstLacking world scale mode placements ids found → found.lack ≡ Beyond
+pub reach_fault : (world : List Instance) (scale : Scale) (mode : Mode) (placements listed ids : List ℕ) (found : Lacking) → Lists (IsModelElement world) ids → IsFirstLacking world scale mode placements listed ids found → found.lack ≡ Beyond
     → ReachStage world scale mode (faults.TooFar found.id)
-reach_fault world scale mode placements ids found ls h is = record {
+reach_fault world scale mode placements listed ids found ls h is = record {
   id = found.id;
-  of = ls.each found.id h.listed;
-  here = (refl, subst (λ lack. LacksAt world scale mode placements found.id lack) is h.lacks);
+  of = ls.each found.id h.here;
+  here = (refl, subst (λ lack. LacksAt world scale mode placements listed found.id lack) is h.lacks);
   lower = λ k below of other f. (
       let e = h.lower k below (ls.all k of) in
       never_beyond world scale mode k e.0 e.1 f.1);
 }
 
-pub never_unready : (world : List Instance) (scale : Scale) (mode : Mode) (placements ids : List ℕ) (found : Lacking) → AreReady world scale mode placements ids → IsFirstLacking world scale mode placements ids found → found.lack ≡ Unready → ⊥
-never_unready world scale mode placements ids found ready h is = subst (λ lack. LacksAt world scale mode placements found.id lack) is h.lacks (ready found.id h.listed)
+pub never_unready : (world : List Instance) (scale : Scale) (mode : Mode) (placements listed ids : List ℕ) (found : Lacking) → AreReady world scale mode placements listed ids → IsFirstLacking world scale mode placements listed ids found → found.lack ≡ Unready → ⊥
+never_unready world scale mode placements listed ids found ready h is = ready found.id h.here (subst (λ lack. LacksAt world scale mode placements listed found.id lack) is h.lacks)
 
 -- The model.
 
-some_triangles : (world : List Instance) (scale : Scale) (mode : Mode) (placements : List ℕ) (id : ℕ) → Finds world id (IsReady world scale mode placements) → 0 < count_of world id
-some_triangles world scale mode placements id h = subst (λ o. 0 < counted world o) (sym h.found) h.holds.some
-
-modelled : (world : List Instance) (scale : Scale) (mode : Mode) (placements ids : List ℕ) (made : List Element) → AreReady world scale mode placements ids → AllZip (IsNearElement world scale mode) ids made → All IsModelled made
-modelled world scale mode placements ids made ready z k d lt =
+modelled : (world : List Instance) (scale : Scale) (mode : Mode) (ids : List ℕ) (made : List Element) → ((id : ℕ) → Contains ids id → 0 < count_of world id) → AllZip (IsNearElement world scale mode) ids made → All IsModelled made
+modelled world scale mode ids made some z k d lt =
     let long = AllZip-long (IsNearElement world scale mode) ids made z in
     let within : k < length ids = omega (arith, lt, long) in
     let near = zip_at (IsNearElement world scale mode) ids made k 0 d z within in
-    let some = some_triangles world scale mode placements (get_or ids k 0) (ready (get_or ids k 0) (Contains-get_or ids k 0 within)) in
-    record { guid = near.guid; some = subst (λ n. 0 < n) (sym near.count) some; near = near.near }
+    record { guid = near.guid; some = subst (λ n. 0 < n) (sym near.count) (some (get_or ids k 0) (Contains-get_or ids k 0 within)); near = near.near }
 
 counts : (world : List Instance) (scale : Scale) (mode : Mode) (ids : List ℕ) (made : List Element) → AllZip (IsNearElement world scale mode) ids made → triangle_count made ≡ sum_by (count_of world) ids
 counts world scale mode [] [] z = refl
@@ -101,29 +98,29 @@ counts world scale mode (id ∷ ids) (e ∷ made) z =
     let more = counts world scale mode ids made z.1 in
     rw (sum_by-cons (count_of world) id ids, sum_by-cons (λ (e : Element). length e.triangles) e made, z.0.count, more) refl
 
-made_rises : (world : List Instance) (scale : Scale) (mode : Mode) (survey : Survey) (chains : List ℕ) (made elements : List Element) → IsChecked world scale survey chains → AllZip (IsNearElement world scale mode) (element_ids survey) made
+made_rises : (world : List Instance) (scale : Scale) (mode : Mode) (survey : Survey) (chains : List ℕ) (made elements : List Element) → IsSettled world scale mode survey chains → AllZip (IsNearElement world scale mode) (element_ids survey) made
     → (Differ made → Rise elements) → Rise elements
-made_rises world scale mode survey chains made elements checked z rise =
+made_rises world scale mode survey chains made elements settled z rise =
     let ids = element_ids survey in
     let guids = zip_by (IsNearElement world scale mode) (λ id (e : Element). HasGuid world id e.guid.chars) ids made (λ id e near. record { instance = near.is_element.instance; found = near.is_element.found; holds = near.is_element.guid }) z in
-    rise (made_differ world ids made checked.surveyed.elements.rises checked.distinct guids)
+    rise (made_differ world ids made settled.checked.surveyed.elements.rises settled.checked.distinct guids)
 
-pub model_made : (world : List Instance) (scale : Scale) (mode : Mode) (survey : Survey) (chains : List ℕ) (made elements : List Element) → IsChecked world scale survey chains → AreReady world scale mode chains (element_ids survey)
+pub model_made : (world : List Instance) (scale : Scale) (mode : Mode) (survey : Survey) (chains : List ℕ) (made elements : List Element) → IsSettled world scale mode survey chains → AreReady world scale mode chains (used_ids survey) (element_ids survey)
     → sum_by (count_of world) (element_ids survey) ≤ most_triangles → AllZip (IsNearElement world scale mode) (element_ids survey) made → IsPermutation made elements → (Differ made → Rise elements) → IsModel elements
-model_made world scale mode survey chains made elements checked ready few z order rise =
+model_made world scale mode survey chains made elements settled ready few z order rise =
     let ids = element_ids survey in
-    is_model made elements order (made_rises world scale mode survey chains made elements checked z rise) (modelled world scale mode chains ids made ready z)
+    is_model made elements order (made_rises world scale mode survey chains made elements settled z rise) (modelled world scale mode ids made (count_some world scale mode chains (used_ids survey) ids ready) z)
     (subst (λ n. n ≤ most_triangles) (sym (counts world scale mode ids made z)) few)
 
-pub model_is : (world : List Instance) (scale : Scale) (mode : Mode) (survey : Survey) (chains : List ℕ) (made elements : List Element) → IsChecked world scale survey chains → AllZip (IsNearElement world scale mode) (element_ids survey) made
+pub model_is : (world : List Instance) (scale : Scale) (mode : Mode) (survey : Survey) (chains : List ℕ) (made elements : List Element) → IsSettled world scale mode survey chains → AllZip (IsNearElement world scale mode) (element_ids survey) made
     → IsPermutation made elements → (Differ made → Rise elements) → IsModelOf world mode elements
-model_is world scale mode survey chains made elements checked z order rise = record {
+model_is world scale mode survey chains made elements settled z order rise = record {
   scale = scale;
-  unit = checked.unit;
+  unit = settled.checked.unit;
   ids = element_ids survey;
-  lists = checked.surveyed.elements;
+  lists = settled.checked.surveyed.elements;
   made = made;
   each = zip_by (IsNearElement world scale mode) (IsElement world scale mode) (element_ids survey) made (λ id e near. near.is_element) z;
   order = order;
-  rising = made_rises world scale mode survey chains made elements checked z rise;
+  rising = made_rises world scale mode survey chains made elements settled z rise;
 }

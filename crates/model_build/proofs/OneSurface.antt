@@ -11,12 +11,13 @@ use Rattle.ifc_schema.specs.Bodies.{some_passes}
 use Rattle.ifc_units.specs.declared.scale.Scale.{Scale}
 use Rattle.placement.specs.declared.frame.Frame.{Frame}
 use Rattle.placement.specs.Placed.{FrameOf}
+use Rattle.faceset.proofs.Joins.{joined_same}
 use Rattle.model_build.specs.Finding.{reference_at}
-use Rattle.model_build.specs.Items.{body_sets}
-use Rattle.model_build.specs.Surfaces.{IsPlacedBy, carried_by, placed_by, IsSurface}
+use Rattle.model_build.specs.Items.{body_items}
+use Rattle.model_build.specs.Surfaces.{ItemSurface, IsPlacedBy, carried_by, placed_by, IsSurface}
 use Rattle.model_build.proofs.OneAxes.{one, refers_absent}
 use Rattle.model_build.proofs.OneFrame.{frames_agree}
-use Rattle.model_build.proofs.OneSet.{same_triangle, one_of_sets}
+use Rattle.model_build.proofs.OneSet.{same_triangle, one_item}
 
 -- an attribute that is absent is no reference
 none_refers : {A : Type 0} (o : Option Value21) (to : ℕ) → some_passes is_absent o ≡ true → option_and_then reference_of o ≡ Some to → A
@@ -41,6 +42,6 @@ same_map f g h (x ∷ xs) = ap₂ (λ y ys. y ∷ ys) (h x) (same_map f g h xs)
 
 pub one_surface : (world : List Instance) (scale : Scale) (mode : Mode) (i : Instance) (ts us : List Triangle) → IsSurface world scale mode i ts → IsSurface world scale mode i us → ts ≡ us
 one_surface world scale mode i ts us h k =
-    let own = one_of_sets world scale mode (body_sets world i) h.own k.own h.of_sets k.of_sets in
+    let own = joined_same (ItemSurface world scale mode) (one_item world scale mode) (body_items world i) h.own k.own h.of_items k.of_items in
     let moves = placed_once h.frame k.frame (carried_once world scale mode i h.frame k.frame h.placed k.placed) in
     h.all ∙ ap (λ (xs : List Triangle). map (placed_by h.frame) xs) own ∙ same_map (placed_by h.frame) (placed_by k.frame) moves k.own ∙ sym k.all

@@ -26,7 +26,7 @@ use Rattle.model_build.proofs.Others.{finding}
 use Rattle.model_build.proofs.Lesser.{lesser_least, same_least}
 
 -- a mapped representation is used: its map names it
-mapped_used : (world : List Instance) (id : ℕ) → IsMapped world id → Used world id
+pub mapped_used : (world : List Instance) (id : ℕ) → IsMapped world id → Used world id
 unfolding row_of
 mapped_used world id h =
     let m = h.maps in

@@ -332,11 +332,11 @@ set_some world s shaped solid few u = elim (tells (is_polygonal s)) [
 pub item_some : (world : List Instance) (scale : Scale) (mode : Mode) (i : Instance) → Shaped world → NoneShown world scale mode → Solid world → Few world → UsedAs world IsItem i → 0 < item_count world i
 item_some world scale mode i shaped none solid few u = elim (tells (is_mapped_item i)) [
   | inl t ↦ (
-    let v : UsedAs world IsMappedItem i = record { id = u.id; used = u.used; found = u.found; holds = t } in
-    let names = sets_named world scale mode i shaped none v in
-    let many = names_many world IsSet (spelled_sets world i) names in
-    let some = sets_some world i shaped v in
-    rw t (sum_some (triangle_count world) (UsedAs world IsSet) (λ s w. set_some world s shaped solid few w) (mapped_sets world i) (names_led world IsSet (spelled_sets world i) names) (omega (arith, many, some))))
+      let v : UsedAs world IsMappedItem i = record { id = u.id; used = u.used; found = u.found; holds = t } in
+      let names = sets_named world scale mode i shaped none v in
+      let many = names_many world IsSet (spelled_sets world i) names in
+      let some = sets_some world i shaped v in
+      rw t (sum_some (triangle_count world) (UsedAs world IsSet) (λ s w. set_some world s shaped solid few w) (mapped_sets world i) (names_led world IsSet (spelled_sets world i) names) (omega (arith, many, some))))
   | inr n ↦ rw n (set_some world i shaped solid few (record { id = u.id; used = u.used; found = u.found; holds = left n u.holds }))
 ]
   where

@@ -52,7 +52,16 @@ fn model_of(
     ensures model { IfOk result (λ model. IsClear (ReachStage exchange.now scale mode) × IsModelOf exchange.now mode model) }
     ensures fault { IfErr result (IsErrorOf (ReachStage exchange.now scale mode)) }
 {
-    match elements_of(alloc, exchange, tree, frames, sets, survey.elements(), scale, mode)? {
+    match elements_of(
+        alloc,
+        exchange,
+        tree,
+        frames,
+        sets,
+        survey.elements(),
+        scale,
+        mode,
+    )? {
         Ok(elements) => Ok(Model::from_vec(in_order(elements))),
         Err(lacking) => match lacking.lack {
             Lack::Beyond => Err(BuildError::Fault(UploadFault::TooFar { id: lacking.id })),

@@ -1,0 +1,11 @@
+use Rattle.model_build.proofs.Framed.{none_lacks}
+use Rattle.model_build.proofs.Readied.{elements_ready}
+use Rattle.model_build.proofs.Thens.{of_none}
+use Rattle.model_build.proofs.stages.after_cuts.Goals as goal
+
+pub unreachable-requires : goal.unreachable-requires
+unreachable-requires c =
+    none_lacks c.args.exchange.now c.args.scale c.args.mode c.args.survey.now c.args.chains.now c.requires.settled.checked c.requires.settled.measured (of_none _ _ c.in_ok-frames.field-0 c.in_default.is c.in_ok-frames.ensures)
+
+pub model_of-requires-clause-ready : goal.model_of-requires-clause-ready
+model_of-requires-clause-ready c = elements_ready c.args.exchange.now c.args.scale c.args.mode c.args.survey.now c.args.chains.now c.requires.settled
