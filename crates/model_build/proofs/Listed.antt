@@ -48,7 +48,7 @@ pub is_map : (i : Instance) → is_a entity.RepresentationMap i ≡ true → ent
 unfolding entity_of is_of
 is_map i h = entity_there entity.RepresentationMap (codes "IFCREPRESENTATIONMAP") i refl refl h
 
-is_transformation : (i : Instance) → is_a entity.Operator i ≡ true → entity_at i ≡ Some entity.Operator
+pub is_transformation : (i : Instance) → is_a entity.Operator i ≡ true → entity_at i ≡ Some entity.Operator
 unfolding entity_of is_of
 is_transformation i h = entity_there entity.Operator (codes "IFCCARTESIANTRANSFORMATIONOPERATOR3D") i refl refl h
 

@@ -1,5 +1,5 @@
 -- The directions of an operator that is used can be read.
-use Rattle.std.proofs.Common.{◌≡◌, ℕ, ◌⊎◌, inl, inr, Bool, true, false, List, Option, Some, None, codes, Contains, refl, arith}
+use Rattle.std.proofs.Common.{◌≡◌, ℕ, ◌⊎◌, inl, inr, Bool, true, false, List, Option, Some, None, Contains, refl, arith}
 use Rattle.std.specs.Bool.{⊤, MatchBool}
 use Rattle.std.specs.List.{slice_get}
 use Rattle.p21_reader.specs.declared.value.Value21.{Value21}
@@ -14,23 +14,18 @@ use Rattle.ifc_schema.specs.declared.form.Shape.TheVariants as shape
 use Rattle.ifc_schema.specs.declared.form.Need.TheVariants.{OrMissing}
 use Rattle.ifc_schema.specs.declared.form.When.{When}
 use Rattle.ifc_schema.specs.declared.form.When.TheVariants.{Always}
-use Rattle.ifc_schema.specs.Entities.{is_of, entity_of}
 use Rattle.ifc_schema.specs.Table.{row_of, attribute}
 use Rattle.ifc_schema.specs.Values.{is_absent}
-use Rattle.ifc_schema.specs.Looking.{look, entity_at, is_a, row_at}
+use Rattle.ifc_schema.specs.Looking.{look, row_at}
 use Rattle.ifc_schema.specs.Flaws.{LeafFlaw, ShapeFlaw, PlaceFlaw}
 use Rattle.ifc_schema.specs.Used.{Used}
 use Rattle.placement.specs.declared.direction.Direction.{Direction}
 use Rattle.placement.specs.Directions.{Directs}
 use Rattle.placement.specs.Operators.{MayDirect, HasOperatorDirections}
 use Rattle.model_build.specs.Finding.{IsUsed}
-use Rattle.model_build.proofs.Keywords.{entity_there}
 use Rattle.model_build.proofs.Attributes.{Shaped, formed_there, OrAway, in_row, attribute_flaw, RefersToA, referred}
 use Rattle.model_build.proofs.Shaped.{one_used, direction_there}
-
-pub is_transformation : (i : Instance) → is_a entity.Operator i ≡ true → entity_at i ≡ Some entity.Operator
-unfolding entity_of is_of
-is_transformation i h = entity_there entity.Operator (codes "IFCCARTESIANTRANSFORMATIONOPERATOR3D") i refl refl h
+use Rattle.model_build.proofs.Listed.{is_transformation}
 
 -- an attribute is missing or absent, or it holds of it
 abbrev OrMissed : (Value21 → Type 0) → Option Value21 → Type 0

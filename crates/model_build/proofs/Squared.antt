@@ -16,7 +16,8 @@ use Rattle.model_build.specs.Least.{IsAxisPlacement, IsOperator, IsOblique}
 use Rattle.model_build.proofs.Keywords.{is_axis_placement}
 use Rattle.model_build.proofs.Attributes.{Shaped}
 use Rattle.model_build.proofs.Shaped.{has_directions}
-use Rattle.model_build.proofs.Operated.{is_transformation, has_operator_directions}
+use Rattle.model_build.proofs.Listed.{is_transformation}
+use Rattle.model_build.proofs.Operated.{has_operator_directions}
 
 -- no instance is both
 not_both : (world : List Instance) (id : ℕ) → IsAxisPlacement world id → IsOperator world id → ⊥

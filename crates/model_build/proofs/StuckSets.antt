@@ -27,7 +27,7 @@ use Rattle.model_build.proofs.Lesser.{same_least}
 use Rattle.model_build.proofs.Others.{found_least}
 
 -- a list has one list of points at most
-lists_same : (world : List Instance) (scale : Scale) (mode : Mode) (list : ℕ) (ps qs : List Point) → ListsPoints world scale mode list ps → ListsPoints world scale mode list qs → ps ≡ qs
+pub lists_same : (world : List Instance) (scale : Scale) (mode : Mode) (list : ℕ) (ps qs : List Point) → ListsPoints world scale mode list ps → ListsPoints world scale mode list qs → ps ≡ qs
 lists_same world scale mode list ps qs a b =
     let same : a.instance ≡ b.instance = (let f = a.found in let g = b.found in cc) in
     one_points scale mode (listed b.instance 0) ps qs (subst (λ (i : Instance). ArePoints scale mode (listed i 0) ps) same a.holds.are) b.holds.are
@@ -38,7 +38,7 @@ spelled_listed : (world : List Instance) (s i : Instance) (list : ℕ) → refer
 unfolding points_of
 spelled_listed world s i list refers found = ap (option_and_then (look world)) refers ∙ found
 
-from_list : (world : List Instance) (scale : Scale) (mode : Mode) (s : Instance) (list : ℕ) (points : List Point) → reference_at s 0 ≡ Some list → ListsPoints world scale mode list points → SetPoints world scale mode s points
+pub from_list : (world : List Instance) (scale : Scale) (mode : Mode) (s : Instance) (list : ℕ) (points : List Point) → reference_at s 0 ≡ Some list → ListsPoints world scale mode list points → SetPoints world scale mode s points
 from_list world scale mode s list points refers l =
     subst (λ (o : Option Instance). ArePoints scale mode (listed_in o) points) (sym (spelled_listed world s l.instance list refers l.found)) l.holds.are
 
