@@ -35,7 +35,6 @@ loop_fault world Of ids named ls nl (faults.PlacementLoop id) h = record {
   here = (refl, h.endless);
   lower = λ k below of other f. f.1 (h.least k (named_listed world Of ids named k ls nl of) below);
 }
-loop_fault world Of ids named ls nl faults.NotBuilt h = absurd h
 loop_fault world Of ids named ls nl faults.NotPart21 h = absurd h
 loop_fault world Of ids named ls nl (faults.BadToken _) h = absurd h
 loop_fault world Of ids named ls nl (faults.BadStatement _) h = absurd h
