@@ -229,7 +229,7 @@ fn finds_bad_indexes_and_counts(rt: HostRuntime) -> Result<(), Fail> {
             "at {text}"
         );
         assert_eq!(rt;
-            triangle_count(&exchange, set, count - 1),
+            triangle_count(&exchange, set, count.saturating_sub(1)),
             None,
             "at {text}"
         );
