@@ -1,6 +1,5 @@
-//! A book whose calls take turns: by two passes of one thread, and by two threads.
-ghost use Rattle.std.specs.Prelude.{◌≡◌, IfSome};
-ghost use Rattle.book_turn.specs.Passes.{BelongsTo, IsSingle, KeepsNumbers};
+//! A book whose calls take turns, by two passes of one thread.
+ghost use Rattle.book_turn.specs.Passes.{IsSingle};
 
 use crate::book::Book;
 use crate::tests::{is_list, is_refused, is_topic, to_post};
@@ -12,7 +11,6 @@ use std::alloc::Global;
 use std::process::Abort;
 use std::sync::Wait;
 use std::test::Fail;
-use std::thread::{Threads, join};
 
 // The turn that a call takes, and its reply. None where it has none.
 fn ask<R: Wait>(
@@ -104,79 +102,4 @@ fn are_stamped(rt: &impl Abort, entries: &[Entry], stamps: &[(u64, u32, u64)]) {
             *stamp
         );
     }
-}
-
-// Makes so many topics in the project. None where a call isn't answered.
-fn post_all<R: Wait>(
-    rt: &R,
-    alloc: Global,
-    turn: &Turn<Book>,
-    mut pass: Pass<Book>,
-    project: u128,
-    times: u32,
-) -> Option<Pass<Book>>
-    requires { IsSingle turn.now pass }
-    ensures { IfSome result (λ p. IsSingle turn.now p) }
-{
-    for _ in 0..times {
-        let request = to_post(alloc, project, "Pipe").ok()?;
-        let (_, body) = ask(rt, turn, &mut pass, request)?;
-        let ReplyBody::TopicIs(_) = body else {
-            return None;
-        };
-    }
-    Some(pass)
-}
-
-fn in_two_threads<R: Threads + Wait + Sync>(rt: &R, alloc: Global) -> Option<Book>
-    ensures { IfSome result (λ book. book.projects ≡ 2) }
-{
-    let (turn, mut passes) = Turn::new(alloc, Book::new(alloc, 2).ok()?, 2).ok()?;
-    let second = passes.pop()?;
-    let first = passes.pop()?;
-    let shared = &turn;
-    let (a, b) = join(
-        rt,
-        move || -> Option<Pass<Book>>
-            requires { IsSingle shared.now first }
-            ensures { IfSome result (λ p. IsSingle shared.entry.now p) }
-        { post_all(rt, alloc, shared, first, id_of(1, 0), 20) },
-        move || -> Option<Pass<Book>>
-            requires { IsSingle shared.now second }
-            ensures { IfSome result (λ p. IsSingle shared.entry.now p) }
-        { post_all(rt, alloc, shared, second, id_of(2, 0), 20) },
-    );
-    let mut into = a?;
-    turn.join(&mut into, b?);
-    Some(turn.close(into))
-}
-
-// How many entries each of the two passes made. None where the turns don't rise, an entry isn't of its pass's project, or
-// the calls of a pass aren't numbered in their order.
-fn shares(entries: &[Entry]) -> Option<(u64, u64)> {
-    let mut last = 0;
-    let mut made = [0; 2];
-    for entry in entries {
-        let stamp = entry.stamp;
-        let calls = made.get_mut(stamp.pass as usize)?;
-        if stamp.turn <= last
-            || entry.project.saturating_sub(1) != stamp.pass
-            || stamp.call.saturating_sub(1) != *calls
-        {
-            return None;
-        }
-        last = stamp.turn;
-        *calls = stamp.call;
-    }
-    Some((made[0], made[1]))
-}
-
-#[test]
-fn threads_stand_in_one_history(rt: HostRuntime) -> Result<(), Fail> {
-    let Some(book) = in_two_threads(&rt, rt.alloc()) else {
-        panic!(rt; "no answer in two threads")
-    };
-    assert_eq!(rt; book.journal().len(), 40);
-    assert_eq!(rt; shares(book.journal()), Some((20, 20)));
-    Ok(())
 }
