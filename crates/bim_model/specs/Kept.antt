@@ -6,4 +6,4 @@ use Rattle.bim_model.specs.declared.bytes.Kept.TheVariants.{Short, Middle, Long}
 abbrev pub kept_bytes : Kept → List ℕ
 kept_bytes (Short few) = take few.count few.room
 kept_bytes (Middle several) = take several.value.count several.value.room
-kept_bytes (Long many) = many.value.items
+kept_bytes (Long many) = many.items

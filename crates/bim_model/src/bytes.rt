@@ -2,6 +2,7 @@
 ghost use Rattle.std.specs.Prelude.{◌≡◌, ◌≤◌, length, take, IfOk};
 
 use crate::items::Duplicate;
+use crate::shared::Shared;
 use std::alloc::{AllocError, Global};
 use std::marker::Model;
 
@@ -25,10 +26,11 @@ struct Several {
 enum Kept {
     Short(Few),
     Middle(Box<Several>),
-    Long(Box<Vec<u8>>),
+    Long(Shared<Vec<u8>>),
 }
 
-/// Bytes that it owns, in 16 bytes of its own: up to fourteen lie in place and take no memory beside.
+/// Bytes that it owns, in 16 bytes of its own: up to fourteen lie in place and take no memory beside. Copies share what lies outside and is
+/// longer than 23 bytes, so that a copy takes no more room however long it is.
 #[derive(Drop)]
 pub struct Bytes {
     kept: Kept,
@@ -67,7 +69,7 @@ impl Bytes {
         ensures { IfOk result (λ made. made ≡ bytes.items) }
     {
         Ok(Bytes {
-            kept: Kept::Long(Box::new(alloc, bytes)?),
+            kept: Kept::Long(Shared::new(alloc, bytes)?),
         })
     }
 
@@ -78,7 +80,7 @@ impl Bytes {
         match &self.kept {
             Kept::Short(few) => &few.room[..few.count as usize],
             Kept::Middle(several) => &several.room[..several.count as usize],
-            Kept::Long(many) => many.as_slice(),
+            Kept::Long(many) => many.get().as_slice(),
         }
     }
 }
@@ -107,6 +109,11 @@ fn several_of(bytes: &[u8]) -> Several
 
 impl Duplicate for Bytes {
     fn copy(&self, alloc: Global) -> Result<Bytes, AllocError> {
-        Bytes::of(alloc, self.as_slice())
+        match &self.kept {
+            Kept::Long(many) => Ok(Bytes {
+                kept: Kept::Long(many.share()?),
+            }),
+            _ => Bytes::of(alloc, self.as_slice()),
+        }
     }
 }

@@ -6,7 +6,7 @@ use crate::items::Duplicate;
 use std::alloc::{AllocError, Global};
 use std::marker::Model;
 
-/// A text that it owns, in UTF-8: up to fourteen bytes lie in place and take no memory beside.
+/// A text that it owns, in UTF-8: up to fourteen bytes lie in place and take no memory beside, and copies share long ones.
 #[derive(Drop)]
 pub struct Text {
     bytes: Bytes,
@@ -42,6 +42,7 @@ impl Text {
 
 impl Duplicate for Text {
     fn copy(&self, alloc: Global) -> Result<Text, AllocError> {
-        Text::of(alloc, self.as_str())
+        let bytes = self.bytes.copy(alloc)?;
+        Ok(Text { bytes })
     }
 }
