@@ -11,3 +11,5 @@ pub mod RowLemmas
 pub mod Cleaning
 pub mod AllRows
 pub mod Unique
+pub mod Keeping
+pub mod Saying

@@ -3,3 +3,4 @@ pub mod Numbers
 pub mod Decimals
 pub mod Scanning
 pub mod Texts
+pub mod Says

@@ -1,5 +1,7 @@
 //! Bytes of texts: their classes, and the numbers that hexadecimal digits write.
 ghost use Rattle.std.specs.Prelude.{◌≡◌, ◌+◌, ◌*◌, ◌^◌, ◌<◌, ◌≤◌, ◌⊎◌, slice_index, drop, length};
+ghost use Rattle.std.specs.List.{list_all};
+ghost use Rattle.bim_model.specs.Guids.{is_guid_char as guid_char};
 ghost use Rattle.bim_text.specs.Texts.{is_hexadecimal, nibble, two, four, eight, group, run};
 
 /// The byte at a place, 0 past the end.
@@ -16,7 +18,7 @@ pub fn is_hexadecimal(byte: u8) -> bool
 }
 
 /// The value of a hexadecimal digit, 0 of another byte.
-fn nibble(byte: u8) -> u32
+pub fn nibble(byte: u8) -> u32
     ensures value { result ≡ nibble byte }
     ensures small { result < 16 }
 {
@@ -71,4 +73,17 @@ pub fn count_hexadecimals(bytes: &[u8], from: usize) -> usize
         at += 1;
     }
     at - from
+}
+
+fn is_guid_char(byte: u8) -> bool
+    ensures { result ≡ guid_char byte }
+{
+    byte.is_ascii_alphanumeric() || byte == b'_' || byte == b'$'
+}
+
+/// Whether all bytes are of the alphabet of globally unique identifiers.
+pub fn are_guid_chars(bytes: &[u8]) -> bool
+    ensures { result ≡ list_all guid_char bytes.now }
+{
+    bytes.iter().all(|byte| is_guid_char(*byte))
 }

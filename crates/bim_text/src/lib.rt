@@ -2,8 +2,11 @@
 #![tactic(auto)]
 
 mod bytes;
+mod compare;
+mod cursor;
 mod decimal;
 mod digits;
+mod escapes;
 mod laws;
 mod order;
 mod print;
@@ -11,6 +14,7 @@ mod rows;
 mod spelling;
 mod text;
 
+pub use compare::{says, says_guid};
 pub use decimal::Decimal;
 pub use laws::{one_decimal, one_value, plain_texts};
 pub use print::print_i64;

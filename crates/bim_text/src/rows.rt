@@ -60,7 +60,7 @@ fn is_page(rest: &[u8]) -> bool
 
 /// The character of a code; U+FFFD where it has none.
 #[tactic(auto, unfolding(crate::specs::Texts::character))]
-fn character(code: u32) -> char
+pub fn character(code: u32) -> char
     ensures { result ≡ character code }
 {
     char::from_u32(code).unwrap_or('\u{FFFD}')
@@ -118,7 +118,7 @@ fn push_escape(out: &mut String, rest: &[u8]) -> Result<usize, AllocError>
 }
 
 /// How many bytes a UTF-8 sequence has that begins with this byte.
-fn sequence_len(first: u8) -> usize
+pub fn sequence_len(first: u8) -> usize
     ensures { result ≡ sequence_len first }
 {
     if first < 224 {

@@ -1,4 +1,4 @@
-use crate::{Decimal, print_i64, text_of};
+use crate::{Decimal, print_i64, says, says_guid, text_of};
 use bim_model::Text;
 use std::cmp::Ordering;
 use std::test::Fail;
@@ -353,6 +353,8 @@ fn decimals_and_texts(rt: HostRuntime) -> Result<(), Fail> {
         let text = text_of(rt.alloc(), row.spelled)?;
         let wanted = Text::of(rt.alloc(), row.text)?;
         assert_eq!(rt; text.as_str(), wanted.as_str());
+        assert_eq!(rt; says(row.spelled, row.text), true);
+        assert_eq!(rt; says(row.spelled, "Pipe"), false);
     }
     Ok(())
 }
@@ -446,5 +448,23 @@ fn sizes_and_numbers(rt: HostRuntime) -> Result<(), Fail> {
         out.as_slice(),
         b"0 -1 10 9223372036854775807 -9223372036854775808 ".as_slice()
     );
+    Ok(())
+}
+
+/// What is spelled, and whether it is a globally unique identifier.
+const GUIDS: [(&[u8], bool); 6] = [
+    (b"0000000000000000000001", true),
+    (b"_$\\X\\30\\PA\\0000000000000000001", true),
+    (b"\\X2\\00300031\\X0\\00000000000000000001", true),
+    (b"000000000000000000001", false),
+    (b"\\X\\2D000000000000000000001", false),
+    (b"\\X2\\003000310032\\X0\\00000000000000000001", false),
+];
+
+#[test]
+fn identifiers(rt: HostRuntime) -> Result<(), Fail> {
+    for (spelled, is) in GUIDS {
+        assert_eq!(rt; says_guid(spelled), is);
+    }
     Ok(())
 }

@@ -37,7 +37,7 @@ fn plain_end(bytes: &[u8], from: usize) -> usize
 
 /// The place behind a byte, or behind the second of two apostrophes.
 #[tactic(auto, using(crate::proofs::Cleaning::cleanings))]
-fn next_place(spelled: &[u8], at: usize) -> usize
+pub fn next_place(spelled: &[u8], at: usize) -> usize
     requires { at < length spelled.now }
     ensures kept { 32 ≤ slice_index spelled.now at → cleaned (drop at spelled.now) ≡ slice_index spelled.now at ∷ cleaned (drop result spelled.now) }
     ensures dropped { slice_index spelled.now at < 32 → cleaned (drop at spelled.now) ≡ cleaned (drop result spelled.now) }
@@ -98,7 +98,7 @@ fn decode(alloc: Global, bytes: &[u8]) -> Result<Text, AllocError>
     Text::of(alloc, out.as_str())
 }
 
-fn are_plain(bytes: &[u8]) -> bool
+pub fn are_plain(bytes: &[u8]) -> bool
     ensures { result ≡ list_all is_plain bytes.now }
 {
     bytes.iter().all(|byte| is_plain(*byte))
