@@ -96,8 +96,8 @@ layer_is (layer.Words bs) = refl
 layer_is (layer.Enumeration bs) = refl
 layer_is (layer.Bits bs) = refl
 layer_is (layer.Reference n) = refl
-layer_is (layer.List vs) = ap (λ z. Opening ∷ (z ++ Closing ∷ [])) (joined_is vs.items)
-layer_is (layer.Typed w v) = ap (λ z. KeywordOf w ∷ Opening ∷ (z ++ Closing ∷ [])) v.value.1
+layer_is (layer.List vs) = ap (λ z. Opening ∷ (z ++ Closing ∷ [])) (joined_is vs.value.items)
+layer_is (layer.Typed w v) = ap (λ z. KeywordOf w.value ∷ Opening ∷ (z ++ Closing ∷ [])) v.value.1
 
 print_is : (v : Value21) → print v ≡ spell (content v)
 print_is = ind-Value21 (λ v. print v ≡ spell (content v)) (λ x y is.

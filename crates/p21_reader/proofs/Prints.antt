@@ -12,8 +12,8 @@ print_absent = ap print (sym rolls-Absent) ∙ fold-roll-Value21 (List Lexeme) p
 pub print_number : (bs : List ℕ) → print (variants.Number bs) ≡ NumberOf bs ∷ []
 print_number bs = ap print (sym (rolls-Number bs)) ∙ fold-roll-Value21 (List Lexeme) print_step (layer.Number bs)
 
-pub print_list : (v : _) → print (variants.List v) ≡ Opening ∷ (print_all v.items ++ Closing ∷ [])
+pub print_list : (v : _) → print (variants.List v) ≡ Opening ∷ (print_all v.value.items ++ Closing ∷ [])
 print_list v = ap print (sym (rolls-List v)) ∙ fold-roll-Value21 (List Lexeme) print_step (layer.List v)
 
-pub print_typed : (w : List ℕ) (v : _) → print (variants.Typed w v) ≡ KeywordOf w ∷ Opening ∷ (print v.value ++ Closing ∷ [])
+pub print_typed : (w : _) (v : _) → print (variants.Typed w v) ≡ KeywordOf w.value ∷ Opening ∷ (print v.value ++ Closing ∷ [])
 print_typed w v = ap print (sym (rolls-Typed w v)) ∙ fold-roll-Value21 (List Lexeme) print_step (layer.Typed w v)

@@ -456,6 +456,7 @@ fn assert_value(rt: &impl Abort, values: &[Value21], row: Kept) {
 #[test]
 fn instances(rt: HostRuntime) -> Result<(), Fail> {
     let bytes = joined(rt.alloc(), [HEAD, DATA, TAIL])?;
+    assert_eq!(rt; size_of::<Value21>(), 24);
     let exchange = read(rt.alloc(), bytes.as_slice()).ok().ok_or("refused")?;
     assert_eq!(rt; exchange.instances().len(), 3);
     assert_instance(&rt, &exchange, 3, "-", 0);

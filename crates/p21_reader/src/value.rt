@@ -17,10 +17,10 @@ pub enum Value21 {
     Bits(Bytes),
     /// The instance of that name.
     Reference(u64),
-    /// Values in parentheses.
-    List(Vec<Value21>),
+    /// Values in parentheses. They lie in a block of their own, so that a value takes 24 bytes.
+    List(Box<Vec<Value21>>),
     /// A keyword, in upper case, and a value in parentheses.
-    Typed(Text, Box<Value21>),
+    Typed(Box<Text>, Box<Value21>),
 }
 
 /// An instance: `#id=KEYWORD(values);`.

@@ -28,13 +28,13 @@ fn plain(
 }
 
 /// Makes a list of the values from `start` on.
-fn split(stack: &mut Vec<Value21>, start: usize) -> Result<(), ReadFault>
+fn split(alloc: Global, stack: &mut Vec<Value21>, start: usize) -> Result<(), ReadFault>
     requires { start ≤ length stack.old.items }
     ensures made { OnOk result (IsListed start stack.old.items stack.new.items) }
     ensures fault { IfErr result (λ fault. fault ≡ ReadFault.Memory) }
 {
     let values = stack.split_off(start)?;
-    stack.push(Value21::List(values))?;
+    stack.push(Value21::List(Box::new(alloc, values)?))?;
     Ok(())
 }
 
@@ -49,7 +49,8 @@ fn wrap(alloc: Global, bytes: &[u8], word: Piece, stack: &mut Vec<Value21>) -> R
 {
     let keyword = keyword_of(alloc, bytes, word)?;
     let inner = stack.pop().unwrap();
-    stack.push(Value21::Typed(keyword, Box::new(alloc, inner)?))?;
+    let value = Value21::Typed(Box::new(alloc, keyword)?, Box::new(alloc, inner)?);
+    stack.push(value)?;
     Ok(())
 }
 
@@ -102,7 +103,7 @@ fn list(
 {
     let start = stack.len();
     let end = values(alloc, bytes, at, depth, stack)?;
-    split(stack, start)?;
+    split(alloc, stack, start)?;
     Ok(end)
 }
 
