@@ -1,11 +1,11 @@
 -- How the place of an instance and what a number leads to belong together.
-use Rattle.std.proofs.Common.{◌≡◌, ◌≢◌, ℕ, zero, suc, ◌<◌, ◌≤◌, ◌==◌, nat_lt, ◌⊎◌, inl, inr, Bool, true, false, List, [], ◌∷◌, length, get_or, Some, None, refl, ap, map, ◌∙◌, arith}
+use Rattle.std.proofs.Common.{◌≡◌, ◌≢◌, ℕ, zero, suc, ◌<◌, ◌≤◌, ◌+◌, ◌==◌, nat_lt, ◌⊎◌, inl, inr, Bool, true, false, List, [], ◌∷◌, length, get_or, Some, None, refl, ap, map, ◌∙◌, arith}
 use Rattle.std.proofs.lemmas.Bool.{eqb-true, eqb-false, ne_eqb}
 use Rattle.std.proofs.lemmas.Bool.Decides.{nat_tests}
 use Rattle.std.proofs.lemmas.List.{get_or_default, get_or-map, length-map}
 use Rattle.std.specs.List.{HoldsAt}
 use Rattle.std.specs.List.Sorted.{IsNonDecreasingBy}
-use Rattle.std.proofs.lemmas.Map.Keys.{non_decreasing_from_sorted}
+use Rattle.std.proofs.lemmas.Map.Keys.{non_decreasing_from_sorted, IsStrictlyIncreasing-from_sorted}
 use Rattle.p21_reader.specs.declared.value.Instance.{Instance}
 use Rattle.p21_reader.specs.Uploads.{Rises}
 use Rattle.ifc_schema.specs.Looking.{look}
@@ -118,3 +118,18 @@ rising world r = λ i j d le lt.
     let a = get_or-map f world i d d.id (omega arith) in
     let b = get_or-map f world j d d.id lt in
     rw (← a, ← b) u
+
+-- where numbers rise, one that has the number stands at its place
+pub risen_place : (world : List Instance) (id at : ℕ) → Rises world → at < length world → (get_or world at some_instance).id ≡ id → IsPlaceOf world id at
+risen_place world id at r lt e = record {
+  within = lt;
+  number = λ d. ap (λ (i : Instance). i.id) (get_or_default world at d some_instance lt) ∙ e;
+  first = λ k l d h.
+      let f : Instance → ℕ = λ (j : Instance). j.id in
+      let s = IsStrictlyIncreasing-from_sorted (map f world) r k (rw length-map omega arith) in
+      let a = get_or-map f world k d 0 (omega arith) in
+      let b = get_or-map f world (k + 1) d 0 (omega arith) in
+      let u = rising world r (k + 1) at d (omega arith) lt in
+      let v = ap f (get_or_default world at d some_instance lt) in
+      omega arith;
+}

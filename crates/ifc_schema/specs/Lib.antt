@@ -11,3 +11,4 @@ pub mod Used
 pub mod StageFive
 pub mod Marks
 pub mod Steps
+pub mod Views

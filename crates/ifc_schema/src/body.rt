@@ -1,5 +1,5 @@
 //! Which elements have a body.
-ghost use Rattle.std.specs.Prelude.{◌≡◌, Bool, IfOk, length, map};
+ghost use Rattle.std.specs.Prelude.{◌≡◌, Bool, List, IfOk, length, map};
 ghost use Rattle.p21_reader.specs.declared.value.Instance.{Instance};
 ghost use Rattle.ifc_schema.specs.Bodies.{is_body, is_body_representation, target_passes, lists_body, is_body_shape, body_shapes, has_body, applies};
 
@@ -13,25 +13,23 @@ use std::alloc::{AllocError, Global};
 
 /// Whether the identifier of a representation is `Body`.
 #[tactic(auto, unfolding(crate::specs::Bodies::is_body))]
-pub fn is_body(alloc: Global, instance: &Instance) -> Result<bool, AllocError>
-    ensures { IfOk result (λ body. body ≡ is_body instance.now) }
+pub fn is_body(instance: &Instance) -> bool
+    ensures { result ≡ is_body instance.now }
 {
     match instance.values.as_slice().get(1) {
         Some(value) => match words_of(value) {
-            Some(spelled) => says_body(alloc, spelled),
-            None => Ok(false),
+            Some(spelled) => says_body(spelled),
+            None => false,
         },
-        None => Ok(false),
+        None => false,
     }
 }
 
-fn is_body_representation(alloc: Global, instance: &Instance) -> Result<bool, AllocError>
-    ensures { IfOk result (λ body. body ≡ is_body_representation instance.now) }
+/// Whether it is a shape representation whose identifier is `Body`.
+pub fn is_body_representation(instance: &Instance) -> bool
+    ensures { result ≡ is_body_representation instance.now }
 {
-    if !is_a(Entity::Representation, instance) {
-        return Ok(false);
-    }
-    is_body(alloc, instance)
+    is_a(Entity::Representation, instance) && is_body(instance)
 }
 
 /// Which instances are representations that are bodies, place by place.
@@ -40,7 +38,7 @@ fn body_representations(alloc: Global, exchange: &Exchange) -> Result<Vec<bool>,
 {
     let mut bits = Vec::with_capacity(alloc, exchange.instances().len())?;
     for instance in exchange.instances() {
-        bits.push(is_body_representation(alloc, instance)?)?;
+        bits.push(is_body_representation(instance))?;
     }
     Ok(bits)
 }
@@ -112,26 +110,13 @@ pub fn has_body(exchange: &Exchange, bodied: &[bool], element: &Instance) -> boo
     }
 }
 
-/// Whether an attribute is followed in this instance.
-pub fn applies(
-    alloc: Global,
-    exchange: &Exchange,
-    bodied: &[bool],
-    mapped: bool,
-    instance: &Instance,
-    when: When,
-) -> Result<bool, AllocError>
-    requires bodied { bodied.now ≡ body_shapes exchange.now }
-    ensures { IfOk result (λ applied. applied ≡ applies exchange.now mapped instance.now when) }
+/// Whether an attribute is followed in this instance; whether it has a body and is mapped is given.
+pub fn applies(bodied: bool, mapped: bool, instance: &Instance, when: When) -> bool
+    ensures { (world : List Instance) → bodied ≡ has_body world instance.now → result ≡ applies world mapped instance.now when }
 {
     match when {
-        When::Always => Ok(true),
-        When::WithBody => Ok(has_body(exchange, bodied, instance)),
-        When::WithItems => {
-            if mapped {
-                return Ok(true);
-            }
-            is_body(alloc, instance)
-        }
+        When::Always => true,
+        When::WithBody => bodied,
+        When::WithItems => mapped || is_body(instance),
     }
 }

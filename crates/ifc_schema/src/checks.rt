@@ -29,67 +29,51 @@ fn fault_of(id: u64, flaw: Flaw) -> UploadFault
 }
 
 /// What is wrong first with the instance at a place, which is used.
-fn flaw_at(
-    alloc: Global,
-    exchange: &Exchange,
-    bodied: &[bool],
-    work: &Work,
-    at: usize,
-) -> Result<Option<Flaw>, AllocError>
+fn flaw_at(exchange: &Exchange, bodied: &[bool], work: &Work, at: usize) -> Option<Flaw>
     requires known { Known exchange.now work.now }
     requires bodied { bodied.now ≡ body_shapes exchange.now }
     requires marked { 0 < rank_at work.now at }
-    ensures { IfOk result (λ flaw. (id : ℕ) → IsPlaceOf exchange.now id at → UsedFlaw exchange.now id flaw) }
+    ensures { (id : ℕ) → IsPlaceOf exchange.now id at → UsedFlaw exchange.now id result }
 {
     let mapped = work.marks[at].is_mapped();
-    let flaw = instance_flaw(alloc, exchange, bodied, mapped, &exchange.instances()[at])?;
-    Ok(flaw)
+    let instance = &exchange.instances()[at];
+    let bodied = has_body(exchange, bodied, instance);
+    instance_flaw(exchange, bodied, mapped, instance)
 }
 
 /// The fault of the instance at a place, where it is used.
-fn fault_at(
-    alloc: Global,
-    exchange: &Exchange,
-    bodied: &[bool],
-    work: &Work,
-    at: usize,
-) -> Result<Option<UploadFault>, AllocError>
+fn fault_at(exchange: &Exchange, bodied: &[bool], work: &Work, at: usize) -> Option<UploadFault>
     requires known { Known exchange.now work.now }
     requires within { at < length exchange.now }
     requires bodied { bodied.now ≡ body_shapes exchange.now }
-    ensures { IfOk result (CheckedAt exchange.now at) }
+    ensures { CheckedAt exchange.now at result }
 {
     if !work.marks[at].is_seen() {
-        return Ok(None);
+        return None;
     }
-    let flaw = flaw_at(alloc, exchange, bodied, work, at)?;
+    let flaw = flaw_at(exchange, bodied, work, at);
     match flaw {
         Some(flaw) => {
             let fault = fault_of(exchange.instances()[at].id, flaw);
-            Ok(Some(fault))
+            Some(fault)
         }
-        None => Ok(None),
+        None => None,
     }
 }
 
 /// The fault of the least instance that is used and lacks the form of its row.
-fn least_fault(
-    alloc: Global,
-    exchange: &Exchange,
-    bodied: &[bool],
-    work: &Work,
-) -> Result<Option<UploadFault>, AllocError>
+fn least_fault(exchange: &Exchange, bodied: &[bool], work: &Work) -> Option<UploadFault>
     requires known { Known exchange.now work.now }
     requires bodied { bodied.now ≡ body_shapes exchange.now }
-    ensures { IfOk result (Checked exchange.now) }
+    ensures { Checked exchange.now result }
 {
     for at in 0..exchange.instances().len() {
-        let fault = fault_at(alloc, exchange, bodied, work, at)?;
+        let fault = fault_at(exchange, bodied, work, at);
         if fault.is_some() {
-            return Ok(fault);
+            return fault;
         }
     }
-    Ok(None)
+    None
 }
 
 /// Adds the number of the instance at a place, where it is used.
@@ -218,7 +202,7 @@ pub fn survey(alloc: Global, exchange: &Exchange) -> Result<Survey, BuildError>
 {
     let bodied = body_shapes(alloc, exchange)?;
     let work = mark_used(alloc, exchange, &bodied)?;
-    let fault = least_fault(alloc, exchange, &bodied, &work)?;
+    let fault = least_fault(exchange, &bodied, &work);
     if let Some(fault) = fault {
         return Err(BuildError::Fault(fault));
     }

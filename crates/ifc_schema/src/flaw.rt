@@ -1,5 +1,5 @@
 //! What is wrong first with an instance.
-ghost use Rattle.std.specs.Prelude.{◌≡◌, IfOk};
+ghost use Rattle.std.specs.Prelude.{◌≡◌};
 ghost use Rattle.ifc_schema.specs.Forms.{fits, holds, allows_absent, allows_missing};
 ghost use Rattle.ifc_schema.specs.Flaws.{
   bad_unless,
@@ -17,7 +17,7 @@ ghost use Rattle.ifc_schema.specs.Flaws.{
   InstanceFlaw,
 };
 ghost use Rattle.ifc_schema.specs.Words.{says_guid};
-ghost use Rattle.ifc_schema.specs.Bodies.{some_passes, body_shapes};
+ghost use Rattle.ifc_schema.specs.Bodies.{some_passes, has_body};
 ghost use Rattle.ifc_schema.specs.Values.{words_of, reference_of};
 
 use crate::body::applies;
@@ -26,7 +26,6 @@ use crate::look::{look, row_at};
 use crate::value::{is_absent, is_enumeration, items_of, number_of, reference_of, words_of};
 use crate::words::{is_number, is_whole, says_guid};
 use p21_reader::{Exchange, Instance, Value21};
-use std::alloc::{AllocError, Global};
 
 /// What is wrong with an instance that lacks the form of its row.
 #[derive(Clone, Copy)]
@@ -61,15 +60,12 @@ fn whole_flaw(exchange: &Exchange, value: &Value21) -> Option<Flaw>
     }
 }
 
-fn identifier_flaw(alloc: Global, value: &Value21) -> Result<Option<Flaw>, AllocError>
-    ensures { IfOk result (λ flaw. flaw ≡ bad_unless (some_passes says_guid (words_of value.now))) }
+fn identifier_flaw(value: &Value21) -> Option<Flaw>
+    ensures { result ≡ bad_unless (some_passes says_guid (words_of value.now)) }
 {
     match words_of(value) {
-        Some(spelled) => {
-            let says = says_guid(alloc, spelled)?;
-            Ok(bad_unless(says))
-        }
-        None => Ok(Some(Flaw::BadShape)),
+        Some(spelled) => bad_unless(says_guid(spelled)),
+        None => Some(Flaw::BadShape),
     }
 }
 
@@ -174,76 +170,62 @@ fn table_flaw(
     }
 }
 
-fn shape_flaw(
-    alloc: Global,
-    exchange: &Exchange,
-    leaf: Leaf,
-    shape: Shape,
-    value: &Value21,
-) -> Result<Option<Flaw>, AllocError>
-    ensures { IfOk result (ShapeFlaw exchange.now leaf shape value.now) }
+fn shape_flaw(exchange: &Exchange, leaf: Leaf, shape: Shape, value: &Value21) -> Option<Flaw>
+    ensures { ShapeFlaw exchange.now leaf shape value.now result }
 {
     match shape {
-        Shape::One => Ok(leaf_flaw(exchange, leaf, value)),
-        Shape::Identifier => identifier_flaw(alloc, value),
-        Shape::List(count) => Ok(list_flaw(exchange, leaf, count, value)),
-        Shape::Table(outer, inner) => Ok(table_flaw(exchange, leaf, outer, inner, value)),
+        Shape::One => leaf_flaw(exchange, leaf, value),
+        Shape::Identifier => identifier_flaw(value),
+        Shape::List(count) => list_flaw(exchange, leaf, count, value),
+        Shape::Table(outer, inner) => table_flaw(exchange, leaf, outer, inner, value),
     }
 }
 
-fn value_flaw(
-    alloc: Global,
-    exchange: &Exchange,
-    attribute: Attribute,
-    value: &Value21,
-) -> Result<Option<Flaw>, AllocError>
-    ensures { IfOk result (ValueFlaw exchange.now attribute value.now) }
+fn value_flaw(exchange: &Exchange, attribute: Attribute, value: &Value21) -> Option<Flaw>
+    ensures { ValueFlaw exchange.now attribute value.now result }
 {
     if attribute.need.allows_absent() && is_absent(value) {
-        Ok(None)
+        None
     } else {
-        shape_flaw(alloc, exchange, attribute.leaf, attribute.shape, value)
+        shape_flaw(exchange, attribute.leaf, attribute.shape, value)
     }
 }
 
 /// What is wrong with an attribute of an instance.
 fn attribute_flaw(
-    alloc: Global,
     exchange: &Exchange,
-    bodied: &[bool],
+    bodied: bool,
     mapped: bool,
     instance: &Instance,
     attribute: Attribute,
-) -> Result<Option<Flaw>, AllocError>
-    requires bodied { bodied.now ≡ body_shapes exchange.now }
-    ensures { IfOk result (AttributeFlaw exchange.now mapped instance.now attribute) }
+) -> Option<Flaw>
+    requires bodied { bodied ≡ has_body exchange.now instance.now }
+    ensures { AttributeFlaw exchange.now mapped instance.now attribute result }
 {
-    let applied = applies(alloc, exchange, bodied, mapped, instance, attribute.when)?;
-    if !applied {
-        return Ok(None);
+    if !applies(bodied, mapped, instance, attribute.when) {
+        return None;
     }
     match instance.values.as_slice().get(attribute.at) {
-        Some(value) => value_flaw(alloc, exchange, attribute, value),
-        None => Ok(bad_unless(attribute.need.allows_missing())),
+        Some(value) => value_flaw(exchange, attribute, value),
+        None => bad_unless(attribute.need.allows_missing()),
     }
 }
 
 /// What is wrong first with an instance; whether it is mapped is given. None where it has the form of its row.
 pub fn instance_flaw(
-    alloc: Global,
     exchange: &Exchange,
-    bodied: &[bool],
+    bodied: bool,
     mapped: bool,
     instance: &Instance,
-) -> Result<Option<Flaw>, AllocError>
-    requires bodied { bodied.now ≡ body_shapes exchange.now }
-    ensures { IfOk result (InstanceFlaw exchange.now mapped instance.now) }
+) -> Option<Flaw>
+    requires bodied { bodied ≡ has_body exchange.now instance.now }
+    ensures { InstanceFlaw exchange.now mapped instance.now result }
 {
     for attribute in row_at(instance) {
-        let flaw = attribute_flaw(alloc, exchange, bodied, mapped, instance, *attribute)?;
+        let flaw = attribute_flaw(exchange, bodied, mapped, instance, *attribute);
         if flaw.is_some() {
-            return Ok(flaw);
+            return flaw;
         }
     }
-    Ok(None)
+    None
 }

@@ -2,7 +2,7 @@
 ghost use Rattle.std.specs.Prelude.{◌≡◌, ◌≤◌, ℕ, length, OnOk, Any};
 ghost use Rattle.ifc_schema.specs.Places.{IsPlaceOf};
 ghost use Rattle.ifc_schema.specs.Used.{Used, IsMapped, RefersTo, SomeItem, StandsIn, LeadsTo, NamesBy, Maps};
-ghost use Rattle.ifc_schema.specs.Bodies.{body_shapes};
+ghost use Rattle.ifc_schema.specs.Bodies.{has_body};
 ghost use Rattle.ifc_schema.specs.Marks.{Grows, IsMarked, SoundAt, rank, rank_at};
 
 use crate::body::applies;
@@ -12,7 +12,7 @@ use crate::look::{entity_at, place_of};
 use crate::value::{items_of, reference_of};
 use crate::work::{Mark, Work};
 use p21_reader::{Exchange, Instance, Value21};
-use std::alloc::{AllocError, Global};
+use std::alloc::AllocError;
 
 /// Gives an instance this mark, or leaves it a higher one, where it is of one of these entities.
 fn mark_target(
@@ -147,16 +147,15 @@ fn follow_shape(
 
 /// Marks what an attribute of an instance names.
 fn follow_attribute(
-    alloc: Global,
     exchange: &Exchange,
-    bodied: &[bool],
+    bodied: bool,
     mapped: bool,
     instance: &Instance,
     attribute: Attribute,
     work: &mut Work,
 ) -> Result<(), AllocError>
     requires size { length work.old.marks.items ≡ length exchange.now }
-    requires bodied { bodied.now ≡ body_shapes exchange.now }
+    requires bodied { bodied ≡ has_body exchange.now instance.now }
     requires used { (to : ℕ) → NamesBy exchange.now mapped instance.now attribute to → Used exchange.now to }
     ensures grows { OnOk result (Grows exchange.now work.old work.new) }
     ensures marked { OnOk result ((to : ℕ) → NamesBy exchange.now mapped instance.now attribute to → IsMarked exchange.now work.new 0 to) }
@@ -165,7 +164,7 @@ fn follow_attribute(
     if targets.is_nothing() {
         return Ok(());
     }
-    if !applies(alloc, exchange, bodied, mapped, instance, attribute.when)? {
+    if !applies(bodied, mapped, instance, attribute.when) {
         return Ok(());
     }
     match instance.values.as_slice().get(attribute.at) {
@@ -176,22 +175,21 @@ fn follow_attribute(
 
 /// Marks what the attributes of an instance name.
 pub fn follow_attributes(
-    alloc: Global,
     exchange: &Exchange,
-    bodied: &[bool],
+    bodied: bool,
     mapped: bool,
     instance: &Instance,
     row: &[Attribute],
     work: &mut Work,
 ) -> Result<(), AllocError>
     requires size { length work.old.marks.items ≡ length exchange.now }
-    requires bodied { bodied.now ≡ body_shapes exchange.now }
+    requires bodied { bodied ≡ has_body exchange.now instance.now }
     requires used { (to : ℕ) → Any (λ a. NamesBy exchange.now mapped instance.now a to) row.now → Used exchange.now to }
     ensures grows { OnOk result (Grows exchange.now work.old work.new) }
     ensures marked { OnOk result ((to : ℕ) → Any (λ a. NamesBy exchange.now mapped instance.now a to) row.now → IsMarked exchange.now work.new 0 to) }
 {
     for attribute in row {
-        follow_attribute(alloc, exchange, bodied, mapped, instance, *attribute, work)?;
+        follow_attribute(exchange, bodied, mapped, instance, *attribute, work)?;
     }
     Ok(())
 }

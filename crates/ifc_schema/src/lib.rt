@@ -14,6 +14,9 @@ mod table;
 #[cfg(test)]
 mod tests;
 mod value;
+#[cfg(test)]
+mod view_tests;
+mod views;
 mod visit;
 mod words;
 mod work;
@@ -24,3 +27,8 @@ pub use entity::Entity;
 pub use look::{is_a, place_of};
 pub use outcome::Survey;
 pub use value::{is_absent, items_of, number_of, reference_of, words_of};
+pub use views::{
+    AxisView, ElementView, FaceView, FacesetView, MappedView, OperatorView, PlacementView,
+    RepresentationView, axis_placement, element, faceset, mapped_item, operator, placement,
+    polygon_face, representation,
+};

@@ -9,6 +9,7 @@ ghost use Rattle.ifc_schema.specs.Bodies.{body_shapes};
 ghost use Rattle.ifc_schema.specs.Marks.{Grows, SoundAt, mark_at, rank_at, is_mapped, IsFollowed, FollowedAt, IsRootAt, Going, Known};
 ghost use Rattle.ifc_schema.specs.Looking.{row_at};
 
+use crate::body::has_body;
 use crate::entity::is_root;
 use crate::follow::{follow_attributes, follow_map};
 use crate::look::{entity_at, row_at};
@@ -18,7 +19,6 @@ use std::alloc::{AllocError, Global};
 
 /// Marks what an instance names.
 fn follow(
-    alloc: Global,
     exchange: &Exchange,
     bodied: &[bool],
     mapped: bool,
@@ -33,26 +33,13 @@ fn follow(
     ensures grows { OnOk result (Grows exchange.now work.old work.new) }
     ensures followed { OnOk result (IsFollowed exchange.now work.new mapped instance.now) }
 {
-    follow_attributes(
-        alloc,
-        exchange,
-        bodied,
-        mapped,
-        instance,
-        row_at(instance),
-        work,
-    )?;
+    let bodied = has_body(exchange, bodied, instance);
+    follow_attributes(exchange, bodied, mapped, instance, row_at(instance), work)?;
     follow_map(exchange, instance, work)
 }
 
 /// Marks what the instance at a place names.
-fn visit(
-    alloc: Global,
-    exchange: &Exchange,
-    bodied: &[bool],
-    at: usize,
-    work: &mut Work,
-) -> Result<(), AllocError>
+fn visit(exchange: &Exchange, bodied: &[bool], at: usize, work: &mut Work) -> Result<(), AllocError>
     requires size { length work.old.marks.items ≡ length exchange.now }
     requires bodied { bodied.now ≡ body_shapes exchange.now }
     requires sound { SoundAt exchange.now at (mark_at work.old at) }
@@ -61,14 +48,7 @@ fn visit(
     ensures followed { OnOk result (FollowedAt exchange.now work.new (is_mapped (mark_at work.old at)) at) }
 {
     let mapped = work.marks[at].is_mapped();
-    follow(
-        alloc,
-        exchange,
-        bodied,
-        mapped,
-        &exchange.instances()[at],
-        work,
-    )
+    follow(exchange, bodied, mapped, &exchange.instances()[at], work)
 }
 
 /// Marks the instance at a place, where it is used wherever it stands.
@@ -111,12 +91,7 @@ fn is_first(instances: &[Instance], at: usize) -> bool
 }
 
 /// Follows rows until none is left to follow.
-fn follow_all(
-    alloc: Global,
-    exchange: &Exchange,
-    bodied: &[bool],
-    work: &mut Work,
-) -> Result<(), AllocError>
+fn follow_all(exchange: &Exchange, bodied: &[bool], work: &mut Work) -> Result<(), AllocError>
     requires bodied { bodied.now ≡ body_shapes exchange.now }
     requires going { Going exchange.now work.old }
     ensures going { OnOk result (Going exchange.now work.new) }
@@ -124,7 +99,7 @@ fn follow_all(
     ensures grows { OnOk result ((at : ℕ) → 0 < rank_at work.old at → 0 < rank_at work.new at) }
 {
     while let Some(at) = work.stack.pop() {
-        visit(alloc, exchange, bodied, at, work)?;
+        visit(exchange, bodied, at, work)?;
     }
     Ok(())
 }
@@ -136,6 +111,6 @@ pub fn mark_used(alloc: Global, exchange: &Exchange, bodied: &[bool]) -> Result<
 {
     let mut work = Work::new(alloc, exchange.instances().len())?;
     mark_roots(exchange, &mut work)?;
-    follow_all(alloc, exchange, bodied, &mut work)?;
+    follow_all(exchange, bodied, &mut work)?;
     Ok(work)
 }

@@ -14,6 +14,6 @@ returns-in-Some c =
     let r : 0 < rank_at work c.args.at = seen_there world work c.args.at m c.requires.known c.requires.within c.index.ensures s in
     let i = c.index-instances-at.result in
     let e : i ≡ get_or world c.args.at i = rw (← c.instances.ensures.same) c.index-instances-at.is in
-    let f : (id : ℕ) → IsPlaceOf world id c.args.at → UsedFlaw world id c.in_ok-flaw.flaw = c.in_ok-flaw.ensures in
+    let f : (id : ℕ) → IsPlaceOf world id c.args.at → UsedFlaw world id c.flaw_at-flaw.result = c.flaw_at-flaw.ensures in
     let t : c.fault_of-fault.result ≡ fault_of i.id c.in-Some.flaw = cc (c.fault_of-fault.ensures, c.index-instances-at.is) in
     fault_there world work c.args.at i c.in-Some.flaw c.fault_of-fault.result c.requires.known r e (λ id p. subst (UsedFlaw world id) c.in-Some.is (f id p)) t

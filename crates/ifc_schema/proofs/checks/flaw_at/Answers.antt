@@ -11,4 +11,4 @@ returns c = λ id p.
     let e : i ≡ get_or world c.args.at i = rw (← c.instances.ensures.same) c.index-instances-at.is in
     let b : c.is_mapped-mapped.result ≡ is_mapped (mark_at c.args.work.now c.args.at) =
     c.is_mapped-mapped.ensures ∙ (ap is_mapped c.index.ensures ∙ flag_there c.args.work.now c.args.at c.requires.marked c.index.result.now) in
-    used_flaw world c.args.work.now id c.args.at i c.is_mapped-mapped.result c.in_ok-flaw.flaw c.requires.known p e b c.in_ok-flaw.ensures
+    used_flaw world c.args.work.now id c.args.at i c.is_mapped-mapped.result c.instance_flaw.result c.requires.known p e b c.instance_flaw.ensures

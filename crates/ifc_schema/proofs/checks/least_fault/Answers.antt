@@ -8,14 +8,14 @@ pub returns-then-is_some : goal.returns-then-is_some
 returns-then-is_some c =
     let world = c.args.exchange.now in
     let rises : Rises world = rw (← c.instances-at-end.ensures.same) c.instances-at-end.ensures.rises in
-    let k : CheckedAt world c.loop-at.at c.in_ok-fault.fault = c.in_ok-fault.ensures in
-    checked_some world c.loop-at.at c.in_ok-fault.fault rises (sym c.is_some.ensures ∙ c.if-is_some.true) k c.loop-at.invariant
+    let k : CheckedAt world c.loop-at.at c.fault_at-fault.result = c.fault_at-fault.ensures in
+    checked_some world c.loop-at.at c.fault_at-fault.result rises (sym c.is_some.ensures ∙ c.if-is_some.true) k c.loop-at.invariant
 
 pub loop-at-preserved : goal.loop-at-preserved
 loop-at-preserved c =
     let world = c.args.exchange.now in
-    let k : CheckedAt world c.loop-at.at c.in_ok-fault.fault = c.in_ok-fault.ensures in
-    below_more _ _ c.loop-at.invariant (checked_none world c.loop-at.at c.in_ok-fault.fault (sym c.is_some.ensures ∙ c.if-is_some.false) k)
+    let k : CheckedAt world c.loop-at.at c.fault_at-fault.result = c.fault_at-fault.ensures in
+    below_more _ _ c.loop-at.invariant (checked_none world c.loop-at.at c.fault_at-fault.result (sym c.is_some.ensures ∙ c.if-is_some.false) k)
 
 pub returns : goal.returns
 returns c =

@@ -6,6 +6,6 @@ use Rattle.ifc_schema.proofs.flaw.instance_flaw.Goals as goal
 
 pub loop-attribute-preserved : goal.loop-attribute-preserved
 loop-attribute-preserved c = below_more _ _ c.loop-attribute.invariant (λ d.
-    no_flaw (AttributeFlaw c.args.exchange.now c.args.mapped c.args.instance.now) _ _ c.in_ok-flaw.flaw
+    no_flaw (AttributeFlaw c.args.exchange.now c.args.mapped c.args.instance.now) _ _ c.attribute_flaw-flaw.result
     (get_or_default c.row_at-attribute-items.result.now c.loop-attribute.attribute-index _ d c.loop-attribute-test.true)
-    (sym c.is_some.ensures ∙ c.if-is_some.false) c.in_ok-flaw.ensures)
+    (sym c.is_some.ensures ∙ c.if-is_some.false) c.attribute_flaw-flaw.ensures)

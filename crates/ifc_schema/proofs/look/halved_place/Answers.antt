@@ -3,7 +3,7 @@ use Rattle.std.proofs.lemmas.List.{get_or_default}
 use Rattle.std.proofs.lemmas.List.Sorted.{IsPartitionedBy-ltb, IsPartitionPoint-from_clause}
 use Rattle.p21_reader.specs.declared.value.Instance.{Instance}
 use Rattle.ifc_schema.proofs.PlaceLemmas.{rising, halved_place, halved_none, some_instance}
-use Rattle.ifc_schema.proofs.look.place_of.Goals as goal
+use Rattle.ifc_schema.proofs.look.halved_place.Goals as goal
 
 pub returns-then-instances-at : goal.returns-then-instances-at
 returns-then-instances-at c =

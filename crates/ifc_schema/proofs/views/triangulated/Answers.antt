@@ -1,0 +1,25 @@
+use Rattle.std.proofs.Common.{◌≡◌, Some, false, arith, refl}
+use Rattle.ifc_schema.specs.declared.entity.Entity.TheVariants as entity
+use Rattle.ifc_schema.specs.Looking.{entity_at}
+use Rattle.ifc_schema.proofs.Rows as rows
+use Rattle.ifc_schema.proofs.views.triangulated.Goals as goal
+
+pub attribute-points-requires : goal.attribute-points-requires
+attribute-points-requires c =
+    let is : entity_at c.in_ok-instance.instance.now ≡ Some entity.TriangulatedFaceSet = cc (c.in-Some-TriangulatedFaceSet.ensures, c.in-Some-TriangulatedFaceSet.field-0-is) in
+    omega (arith, rows.triangulated c.args.exchange.now false c.in_ok-instance.instance.now is c.in_ok-instance.ensures.shaped)
+
+pub attribute-faces-requires : goal.attribute-faces-requires
+attribute-faces-requires c =
+    let is : entity_at c.in_ok-instance.instance.now ≡ Some entity.TriangulatedFaceSet = cc (c.in-Some-TriangulatedFaceSet.ensures, c.in-Some-TriangulatedFaceSet.field-0-is) in
+    omega (arith, rows.triangulated c.args.exchange.now false c.in_ok-instance.instance.now is c.in_ok-instance.ensures.shaped)
+
+pub returns : goal.returns
+returns c =
+    let is : entity_at c.in_ok-instance.instance.now ≡ Some entity.TriangulatedFaceSet = cc (c.in-Some-TriangulatedFaceSet.ensures, c.in-Some-TriangulatedFaceSet.field-0-is) in
+    record {
+      instance = c.in_ok-instance.instance.now;
+      formed = c.in_ok-instance.ensures;
+      kind = is;
+      fields = record { polygonal = refl; points = c.attribute-points.ensures; faces = c.attribute-faces.ensures; pn_index = c.attribute_if_any-pn_index.ensures };
+    }
