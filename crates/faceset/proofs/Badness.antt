@@ -1,5 +1,5 @@
 -- Whether an index is bad, put together.
-use Rattle.std.proofs.Common.{◌≡◌, ℕ, inl, inr, Bool, true, false, List, Option, Some, None, length, Any, sym, subst}
+use Rattle.std.proofs.Common.{◌≡◌, ℕ, inl, inr, Bool, true, false, List, Option, Some, None, Result, Ok, Err, IfOk, length, Any, sym, subst}
 use Rattle.std.specs.Bool.{MatchBool}
 use Rattle.std.specs.Option.{IfSome, IfNone, MatchOption}
 use Rattle.p21_reader.specs.declared.value.Value21.{Value21}
@@ -16,7 +16,7 @@ same_count : (world : List Instance) (set : Instance) (numbers : Option (List Va
 same_count world set numbers count within e f g = subst (λ n. within ≡ counted_by n (length (spelled_points world set))) e (subst (λ k. within ≡ counted_by numbers k) f g)
 
 -- where no number is bad, the rows decide
-pub bad_rows : (world : List Instance) (set : Instance) (numbers : Option (List Value21)) (count within : ℕ) (bad : Bool) → numbers ≡ numbering set → count ≡ length (spelled_points world set)
+bad_rows : (world : List Instance) (set : Instance) (numbers : Option (List Value21)) (count within : ℕ) (bad : Bool) → numbers ≡ numbering set → count ≡ length (spelled_points world set)
     → within ≡ counted_by numbers count → (HasBadNumber numbers count → ⊥)
     → MatchBool bad (Any (Any (PointsNowhere within)) (rows_of world set)) (Any (Any (PointsNowhere within)) (rows_of world set) → ⊥)
     → MatchBool bad (HasBadIndex world set) (HasBadIndex world set → ⊥)
@@ -25,6 +25,13 @@ bad_rows world set numbers count within false e f g none h = λ bad. elim bad [
   | inl number ↦ none (subst (λ n. HasBadNumber n count) (sym e) (subst (HasBadNumber (numbering set)) (sym f) number))
   | inr row ↦ h (subst (λ k. Any (Any (PointsNowhere k)) (rows_of world set)) (sym (same_count world set numbers count within e f g)) row)
 ]
+
+pub bad_rows_in : {E : Type 0} (world : List Instance) (set : Instance) (numbers : Option (List Value21)) (count within : ℕ) (r : Result Bool E) → numbers ≡ numbering set → count ≡ length (spelled_points world set)
+    → within ≡ counted_by numbers count → (HasBadNumber numbers count → ⊥)
+    → IfOk r (λ bad. MatchBool bad (Any (Any (PointsNowhere within)) (rows_of world set)) (Any (Any (PointsNowhere within)) (rows_of world set) → ⊥))
+    → IfOk r (λ bad. MatchBool bad (HasBadIndex world set) (HasBadIndex world set → ⊥))
+bad_rows_in world set numbers count within (Err e) same many counts none h = h
+bad_rows_in world set numbers count within (Ok bad) same many counts none h = bad_rows world set numbers count within bad same many counts none h
 
 -- an index that counts the points
 pub named_directly : (count : ℕ) (v : Value21) (r : Option ℕ) → IfSome r (PointsAt count v) → IfNone r (PointsNowhere count v) → MatchOption r (IsMisnamed None count v) (NamesPoint None count v)

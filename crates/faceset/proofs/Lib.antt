@@ -11,5 +11,7 @@ pub mod SetParts
 pub mod Scans
 pub mod Anys
 pub mod Named
+pub mod Numbered
+pub mod Reaching
 pub mod RowLemmas
 pub mod Badness

@@ -1,12 +1,10 @@
 -- What the cutting of faces answers. No public contract cites it.
-use Rattle.std.specs.Prelude.{◌≡◌, ℕ, ◌<◌, ◌⊎◌, List, length, map, filter_map, Option, Some, None, Any, Contains, MatchOption, nat_lt, if◌then◌else◌}
+use Rattle.std.specs.Prelude.{◌≡◌, ℕ, ◌<◌, ◌⊎◌, List, length, map, Option, Some, Any, MatchOption}
 use Rattle.std.specs.Bool.{⊤}
 use Rattle.p21_reader.specs.declared.value.Value21.{Value21}
 use Rattle.p21_reader.specs.declared.value.Instance.{Instance}
 use Rattle.bim_model.specs.declared.geometry.Point.{Point}
 use Rattle.bim_model.specs.declared.geometry.Triangle.{Triangle}
-use Rattle.ifc_schema.specs.Looking.{look}
-use Rattle.ifc_schema.specs.Values.{reference_of}
 use Rattle.ear_cut.specs.declared.ears.Ear.{Ear}
 use Rattle.ear_cut.specs.Removal.{cut_of}
 use Rattle.faceset.specs.declared.faces.Outcome.{Outcome}
@@ -39,13 +37,6 @@ IsCounted face Unready = ⊤
 abbrev pub IsLoose : Option (List Value21) → List Point → Instance → Type 0
 IsLoose numbers points face = IsStuck numbers points face ⊎ (IsOutlined face → HasMisnamed numbers points face)
 
--- Of a row of values that refer to faces: the face of that number is one of them, and can't be cut.
-pub record IsStuckIn (world : List Instance) (numbers : Option (List Value21)) (points : List Point) (values : List Value21) (id : ℕ) : Type 0 where
-  pub listed : Contains (filter_map reference_of values) id
-  pub face : Instance
-  pub found : look world id ≡ Some face
-  pub stuck : IsStuck numbers points face
-
 -- the least number of which it holds
 pub record IsLeast (P : ℕ → Type 0) (id : ℕ) : Type 0 where
   pub here : P id
@@ -54,9 +45,3 @@ pub record IsLeast (P : ℕ → Type 0) (id : ℕ) : Type 0 where
 -- none, or the least number of which it holds
 abbrev pub LeastOf : (ℕ → Type 0) → Option ℕ → Type 0
 LeastOf P found = MatchOption found ((id : ℕ) → P id → ⊥) (IsLeast P)
-
--- the lesser of two numbers that may lack
-abbrev pub lesser : Option ℕ → Option ℕ → Option ℕ
-lesser None b = b
-lesser (Some a) None = Some a
-lesser (Some a) (Some b) = if nat_lt a b then Some a else Some b

@@ -1,13 +1,16 @@
 //! Indexes that name nothing.
-ghost use Rattle.std.specs.Prelude.{◌≡◌, ◌<◌, ◌^◌, ◌∷◌, [], map, Any, option_copied};
+ghost use Rattle.std.specs.Prelude.{◌≡◌, ◌<◌, ◌^◌, ◌∷◌, [], map, Any, IfOk, OnOk, option_copied};
 ghost use Rattle.std.specs.Bool.{MatchBool};
 ghost use Rattle.faceset.specs.Indexes.{PointsNowhere};
-ghost use Rattle.faceset.specs.Sets.{items_in, outline, faces_of, rows_of, HasBadNumber, HasBadIndex, counted_by, numbering, spelled_points, named_faces};
+ghost use Rattle.faceset.specs.Sets.{items_in, outline, rows_of, HasBadNumber, HasBadIndex, counted_by, named_faces};
+ghost use Rattle.faceset.specs.Reaches.{AreReaches};
 
 use crate::indexes::place_of;
+use crate::reaches::{FaceReaches, reach_of};
 use crate::sets::{fetch, is_polygonal, items_in, listed, numbering, outline, spelled_points};
 use ifc_schema::reference_of;
 use p21_reader::{Exchange, Instance, Value21};
+use std::alloc::AllocError;
 
 /// Whether one of the values counts none of so many things.
 fn has_bad_item(values: &[Value21], count: usize) -> bool
@@ -35,45 +38,73 @@ fn has_bad_row(rows: &[Value21], count: usize) -> bool
     false
 }
 
-/// Whether the value refers to a face of which an index counts none of so many things.
+/// Whether the value refers to a face of which an index counts none of so many things. A face that is known not to have one isn't looked at
+/// again.
 #[tactic(auto, using(crate::proofs::Named::named_none, crate::proofs::Named::named_nowhere, crate::proofs::Named::named_one))]
-fn is_bad_face(exchange: &Exchange, value: &Value21, count: usize) -> bool
-    requires { count < 2 ^ 63 }
-    ensures { MatchBool result (Any (Any (PointsNowhere count)) (map outline (named_faces exchange.now (value.now ∷ [])))) (Any (Any (PointsNowhere count)) (map outline (named_faces exchange.now (value.now ∷ []))) → ⊥) }
+fn is_bad_face(
+    exchange: &Exchange,
+    reaches: &mut FaceReaches,
+    value: &Value21,
+    count: usize,
+) -> Result<bool, AllocError>
+    requires few { count < 2 ^ 63 }
+    requires known { AreReaches exchange.now reaches.old }
+    ensures bad { IfOk result (λ bad. MatchBool bad (Any (Any (PointsNowhere count)) (map outline (named_faces exchange.now (value.now ∷ [])))) (Any (Any (PointsNowhere count)) (map outline (named_faces exchange.now (value.now ∷ []))) → ⊥)) }
+    ensures kept { OnOk result (AreReaches exchange.now reaches.new) }
 {
     let Some(id) = reference_of(value) else {
-        return false;
+        return Ok(false);
     };
-    match fetch(exchange, id) {
-        Some(face) => has_bad_item(outline(face), count),
-        None => false,
+    let Some(face) = fetch(exchange, id) else {
+        return Ok(false);
+    };
+    if reaches.is_within(id, count) {
+        return Ok(false);
     }
+    let Some(reach) = reach_of(outline(face), count) else {
+        return Ok(true);
+    };
+    reaches.put(id, reach)?;
+    Ok(false)
 }
 
 /// Whether an index of the faces that the values refer to counts none of so many things.
-fn has_bad_face(exchange: &Exchange, values: &[Value21], count: usize) -> bool
-    requires { count < 2 ^ 63 }
-    ensures { MatchBool result (Any (Any (PointsNowhere count)) (map outline (named_faces exchange.now values.now))) (Any (Any (PointsNowhere count)) (map outline (named_faces exchange.now values.now)) → ⊥) }
+fn has_bad_face(
+    exchange: &Exchange,
+    reaches: &mut FaceReaches,
+    values: &[Value21],
+    count: usize,
+) -> Result<bool, AllocError>
+    requires few { count < 2 ^ 63 }
+    requires known { AreReaches exchange.now reaches.old }
+    ensures bad { IfOk result (λ bad. MatchBool bad (Any (Any (PointsNowhere count)) (map outline (named_faces exchange.now values.now))) (Any (Any (PointsNowhere count)) (map outline (named_faces exchange.now values.now)) → ⊥)) }
+    ensures kept { OnOk result (AreReaches exchange.now reaches.new) }
 {
     for value in values {
-        if is_bad_face(exchange, value, count) {
-            return true;
+        let bad = is_bad_face(exchange, reaches, value, count)?;
+        if bad {
+            return Ok(true);
         }
     }
-    false
+    Ok(false)
 }
 
 /// Whether an index of the set's rows or faces counts none of so many things.
-#[tactic(auto, unfolding(crate::specs::Sets::faces_of))]
-fn has_bad_rows(exchange: &Exchange, set: &Instance, count: usize) -> bool
-    requires { count < 2 ^ 63 }
-    ensures { MatchBool result (Any (Any (PointsNowhere count)) (rows_of exchange.now set.now)) (Any (Any (PointsNowhere count)) (rows_of exchange.now set.now) → ⊥) }
+fn has_bad_rows(
+    exchange: &Exchange,
+    reaches: &mut FaceReaches,
+    set: &Instance,
+    count: usize,
+) -> Result<bool, AllocError>
+    requires few { count < 2 ^ 63 }
+    requires known { AreReaches exchange.now reaches.old }
+    ensures bad { IfOk result (λ bad. MatchBool bad (Any (Any (PointsNowhere count)) (rows_of exchange.now set.now)) (Any (Any (PointsNowhere count)) (rows_of exchange.now set.now) → ⊥)) }
+    ensures kept { OnOk result (AreReaches exchange.now reaches.new) }
 {
-    if is_polygonal(set) {
-        has_bad_face(exchange, listed(set, 2), count)
-    } else {
-        has_bad_row(listed(set, 3), count)
+    if !is_polygonal(set) {
+        return Ok(has_bad_row(listed(set, 3), count));
     }
+    has_bad_face(exchange, reaches, listed(set, 2), count)
 }
 
 /// Whether a number of the set's PnIndex, where it has one, names none of so many points.
@@ -100,15 +131,21 @@ fn counted_by(numbers: Option<&[Value21]>, count: usize) -> usize
 }
 
 /// Whether an index of the set or of its faces counts nothing, or a number in its PnIndex names no point (IFC4 ADD2 TC1,
-/// IfcTriangulatedFaceSet, IfcPolygonalFaceSet). Takes no memory.
-#[tactic(auto, using(crate::proofs::Badness::bad_number))]
-pub fn has_bad_index(exchange: &Exchange, set: &Instance) -> bool
-    ensures { MatchBool result (HasBadIndex exchange.now set.now) (HasBadIndex exchange.now set.now → ⊥) }
+/// IfcTriangulatedFaceSet, IfcPolygonalFaceSet). What it learns of the faces is kept, so that each face is looked at once by the calls for
+/// many sets of one file.
+pub fn has_bad_index(
+    exchange: &Exchange,
+    reaches: &mut FaceReaches,
+    set: &Instance,
+) -> Result<bool, AllocError>
+    requires { AreReaches exchange.now reaches.old }
+    ensures bad { IfOk result (λ bad. MatchBool bad (HasBadIndex exchange.now set.now) (HasBadIndex exchange.now set.now → ⊥)) }
+    ensures kept { OnOk result (AreReaches exchange.now reaches.new) }
 {
     let numbers = numbering(set);
     let count = spelled_points(exchange, set).len();
     if has_bad_number(numbers, count) {
-        return true;
+        return Ok(true);
     }
-    has_bad_rows(exchange, set, counted_by(numbers, count))
+    has_bad_rows(exchange, reaches, set, counted_by(numbers, count))
 }

@@ -1,71 +1,63 @@
 //! Faces that can't be cut.
-ghost use Rattle.std.specs.Prelude.{◌≡◌, ◌<◌, ℕ, ◌∷◌, [], All, IfOk, MatchOption, option_copied};
+ghost use Rattle.std.specs.Prelude.{◌<◌, ℕ, All, IfOk, MatchOption, option_copied};
+ghost use Rattle.std.specs.Bool.{MatchBool};
+ghost use Rattle.std.specs.List.Sorted.{IsStrictlyIncreasing};
 ghost use Rattle.ear_cut.specs.Normals.{IsGridPoint};
 ghost use Rattle.faceset.specs.Sets.{HasStuck};
-ghost use Rattle.faceset.specs.Cuts.{IsStuckIn, LeastOf, lesser};
+ghost use Rattle.faceset.specs.Cuts.{LeastOf};
+ghost use Rattle.faceset.specs.Numbers.{IsStuckFace, IsStuckIn};
 
 use crate::faces::{Outcome, cut_face};
+use crate::numbers::distinct_numbers;
 use crate::sets::{fetch, is_polygonal, listed, numbering};
 use bim_model::Point;
-use ifc_schema::reference_of;
 use p21_reader::{Exchange, Instance, Value21};
 use std::alloc::{AllocError, Global};
 
-/// The lesser of two numbers that may lack.
-fn lesser(a: Option<u64>, b: Option<u64>) -> Option<u64>
-    ensures { result ≡ lesser a b }
-{
-    match (a, b) {
-        (Some(a), Some(b)) => Some(if a < b { a } else { b }),
-        (Some(a), None) => Some(a),
-        (None, b) => b,
-    }
-}
-
-/// The number of the face that a value refers to, where it can't be cut.
-fn stuck_face(
+/// Whether the face of that number can't be cut.
+fn is_stuck(
     alloc: Global,
     exchange: &Exchange,
     numbers: Option<&[Value21]>,
     points: &[Point],
-    value: &Value21,
-) -> Result<Option<u64>, AllocError>
+    id: u64,
+) -> Result<bool, AllocError>
     requires { All IsGridPoint points.now }
-    ensures { IfOk result (LeastOf (IsStuckIn exchange.now (option_copied numbers.entry) points.now (value.now ∷ []))) }
+    ensures { IfOk result (λ stuck. MatchBool stuck (IsStuckFace exchange.now (option_copied numbers.entry) points.now id) (IsStuckFace exchange.now (option_copied numbers.entry) points.now id → ⊥)) }
 {
-    let Some(id) = reference_of(value) else {
-        return Ok(None);
-    };
     let Some(face) = fetch(exchange, id) else {
-        return Ok(None);
+        return Ok(false);
     };
     match cut_face(alloc, numbers, points, face)? {
-        Outcome::Cut(_triangles) => Ok(None),
-        Outcome::Stuck => Ok(Some(id)),
-        Outcome::Unready => Ok(None),
+        Outcome::Cut(_triangles) => Ok(false),
+        Outcome::Stuck => Ok(true),
+        Outcome::Unready => Ok(false),
     }
 }
 
-/// The least number of a face, among those that the values refer to, that can't be cut.
-fn least_in(
+/// The first of the faces of these numbers, which rise, that can't be cut.
+fn first_in(
     alloc: Global,
     exchange: &Exchange,
     numbers: Option<&[Value21]>,
     points: &[Point],
-    values: &[Value21],
+    ids: &[u64],
 ) -> Result<Option<u64>, AllocError>
-    requires { All IsGridPoint points.now }
-    ensures { IfOk result (LeastOf (IsStuckIn exchange.now (option_copied numbers.entry) points.now values.now)) }
+    requires in_grid { All IsGridPoint points.now }
+    requires rises { IsStrictlyIncreasing ids.now }
+    ensures { IfOk result (LeastOf (IsStuckIn exchange.now (option_copied numbers.entry) points.now ids.now)) }
 {
-    let mut least = None;
-    for value in values {
-        let here = stuck_face(alloc, exchange, numbers, points, value)?;
-        least = lesser(least, here);
+    for id in ids {
+        let stuck = is_stuck(alloc, exchange, numbers, points, *id)?;
+        if stuck {
+            return Ok(Some(*id));
+        }
     }
-    Ok(least)
+    Ok(None)
 }
 
-/// The least number of a face of the set that can't be cut, where the points are those of its list. None where there is none.
+/// The least number of a face of the set that can't be cut, where the points are those of its list. None where there is none. A face that is
+/// listed many times is cut once.
 pub fn least_stuck(
     alloc: Global,
     exchange: &Exchange,
@@ -78,5 +70,6 @@ pub fn least_stuck(
     if !is_polygonal(set) {
         return Ok(None);
     }
-    least_in(alloc, exchange, numbering(set), points, listed(set, 2))
+    let ids = distinct_numbers(alloc, listed(set, 2))?;
+    first_in(alloc, exchange, numbering(set), points, &ids)
 }

@@ -1,7 +1,7 @@
 //! Indexes as they are spelled, and what sets say by them.
 use crate::naming::place_named;
 use crate::rows::triangles;
-use crate::{has_bad_index, place_of, triangle_count};
+use crate::{FaceReaches, has_bad_index, place_of, triangle_count};
 use bim_model::{Bytes, Point, Triangle};
 use p21_reader::{Exchange, Value21, read};
 use std::alloc::{AllocError, Global};
@@ -9,6 +9,10 @@ use std::test::Fail;
 
 fn number(alloc: Global, spelled: &str) -> Result<Value21, AllocError> {
     Ok(Value21::Number(Bytes::of(alloc, spelled.as_bytes())?))
+}
+
+fn list(alloc: Global, numbers: &[&str]) -> Result<Value21, AllocError> {
+    Ok(Value21::List(Box::new(alloc, items(alloc, numbers)?)?))
 }
 
 fn items(alloc: Global, spelled: &[&str]) -> Result<Vec<Value21>, AllocError> {
@@ -95,8 +99,8 @@ fn makes_triangles(rt: HostRuntime) -> Result<(), Fail> {
         c: points[1],
     };
     let mut rows = Vec::new(alloc);
-    rows.push(Value21::List(items(alloc, &["3", "1", "2"])?))?;
-    rows.push(Value21::List(items(alloc, &["2", "2", "1"])?))?;
+    rows.push(list(alloc, &["3", "1", "2"])?)?;
+    rows.push(list(alloc, &["2", "2", "1"])?)?;
     let Some(made) = triangles(alloc, None, &rows, &points)? else {
         return Err("no triangles")?;
     };
@@ -106,7 +110,7 @@ fn makes_triangles(rt: HostRuntime) -> Result<(), Fail> {
         return Err("no triangles")?;
     };
     assert_eq!(rt; made.as_slice(), [back].as_slice());
-    rows.push(Value21::List(items(alloc, &["2", "3", "4"])?))?;
+    rows.push(list(alloc, &["2", "3", "4"])?)?;
     assert!(rt; triangles(alloc, None, &rows, &points)?.is_none());
     Ok(())
 }
@@ -221,7 +225,11 @@ fn finds_bad_indexes_and_counts(rt: HostRuntime) -> Result<(), Fail> {
         let Some(set) = exchange.find(2) else {
             return Err("no set")?;
         };
-        assert_eq!(rt; has_bad_index(&exchange, set), bad, "at {text}");
+        let mut reaches = FaceReaches::new(rt.alloc());
+        let found = has_bad_index(&exchange, &mut reaches, set)?;
+        assert_eq!(rt; found, bad, "at {text}");
+        let again = has_bad_index(&exchange, &mut reaches, set)?;
+        assert_eq!(rt; again, bad, "again at {text}");
         assert_eq!(rt; triangle_count(&exchange, set, 7), Some(count), "at {text}");
         assert_eq!(rt;
             triangle_count(&exchange, set, count),

@@ -6,4 +6,5 @@ use Rattle.faceset.proofs.stuck.least_stuck.Goals as goal
 pub returns : goal.returns
 returns c =
     let polygonal : is_polygonal c.args.set.now ≡ true = first_of (search rules, grind arith) in
-    set_least_in c.args.exchange.now c.args.points.now c.args.set.now (option_copied c.numbering.result) c.listed.result.now c.least_in.result polygonal c.numbering.ensures c.listed.ensures c.least_in.ensures
+    set_least_in c.args.exchange.now c.args.points.now c.args.set.now (option_copied c.numbering.result) c.listed.result.now c.deref.result.now c.first_in.result polygonal c.numbering.ensures c.listed.ensures
+    (rw c.deref.ensures.value c.in_ok-ids.ensures.same) c.first_in.ensures
