@@ -32,6 +32,7 @@ pub mod StuckSets
 pub mod Staged
 pub mod Surfaced
 pub mod Kept
+pub mod Shared
 pub mod Joining
 pub mod Made
 pub mod Readable

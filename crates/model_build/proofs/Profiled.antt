@@ -1,5 +1,5 @@
 -- From the stages to the profile.
-use Rattle.std.proofs.Common.{ℕ, List, inl, inr, Contains, Result, Ok, Err, refl, subst}
+use Rattle.std.proofs.Common.{ℕ, List, inl, inr, Contains, Result, Ok, Err, subst}
 use Rattle.std.specs.Result.{IfOk, IfErr}
 use Rattle.bim_model.specs.declared.upload.Mode.{Mode}
 use Rattle.bim_model.specs.declared.upload.UploadFault.{UploadFault}

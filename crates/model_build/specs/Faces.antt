@@ -11,7 +11,7 @@ use Rattle.ifc_schema.specs.Looking.{is_a}
 use Rattle.ifc_schema.specs.Used.{Used}
 use Rattle.ifc_units.specs.declared.scale.Scale.{Scale}
 use Rattle.ifc_units.specs.Lengths.{ArePoints}
-use Rattle.faceset.specs.Sets.{is_set, outline, spelled_points, most_corners, HasBadIndex, HasStuck}
+use Rattle.faceset.specs.Sets.{is_set, outline, spelled_points, most_corners, HasStuck}
 use Rattle.model_build.specs.Stages.{Stage}
 use Rattle.model_build.specs.Finding.{Finds}
 

@@ -1,5 +1,5 @@
 -- The items of bodies (IFC4 ADD2 TC1, IfcProduct, IfcShapeRepresentation, IfcMappedItem, IfcRepresentationMap).
-use Rattle.std.specs.Prelude.{◌≡◌, ℕ, ◌<◌, ◌||◌, Bool, List, [], filter, filter_map, flat_map, sum_by, Option, Some, None, option_and_then, if◌then◌else◌}
+use Rattle.std.specs.Prelude.{◌≡◌, ℕ, ◌<◌, ◌||◌, Bool, List, [], filter, flat_map, sum_by, Option, Some, None, option_and_then, if◌then◌else◌}
 use Rattle.bim_model.specs.declared.upload.UploadFault.TheVariants as faults
 use Rattle.bim_model.specs.declared.upload.Many.TheVariants as many
 use Rattle.p21_reader.specs.declared.value.Value21.{Value21}
@@ -19,6 +19,10 @@ listed_by (Some i) at = listed i at
 -- the bodies among the instances that values refer to: shape representations whose identifier is `Body`
 abbrev pub bodies_among : List Instance → List Value21 → List Instance
 bodies_among world values = filter is_body_representation (led_to world values)
+
+-- the bodies of a product shape
+abbrev pub bodies_of : List Instance → Instance → List Instance
+bodies_of world shape = bodies_among world (listed shape 2)
 
 -- the bodies of an element
 abbrev pub bodies : List Instance → Instance → List Instance

@@ -15,5 +15,7 @@ pub mod Sound
 pub mod Outcomes
 pub mod Profile
 pub mod Counting
+pub mod Shapes
+pub mod Names
 pub mod Least
 pub mod Framed

@@ -7,8 +7,8 @@ use Rattle.bim_text.specs.declared.decimal.Decimal.{Decimal}
 use Rattle.bim_text.specs.Decimals.{Reads}
 use Rattle.p21_reader.specs.declared.value.Value21.{Value21}
 use Rattle.p21_reader.specs.declared.value.Instance.{Instance}
-use Rattle.ifc_schema.specs.declared.entity.Entity.TheVariants.{MappedItem, Operator}
-use Rattle.ifc_schema.specs.Looking.{look, is_a}
+use Rattle.ifc_schema.specs.declared.entity.Entity.TheVariants.{Operator}
+use Rattle.ifc_schema.specs.Looking.{is_a}
 use Rattle.ifc_schema.specs.Values.{number_of, reference_of, items_of}
 use Rattle.ifc_schema.specs.Bodies.{is_body_representation}
 use Rattle.ifc_schema.specs.Used.{Used, IsMapped}

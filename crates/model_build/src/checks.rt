@@ -9,6 +9,7 @@ ghost use Rattle.model_build.specs.Faces.{CornersStage, IsStuckFace};
 ghost use Rattle.model_build.specs.Least.{NoneOf, IsVoided, IsBadSet, IsOblique};
 ghost use Rattle.model_build.specs.Named.{IsNamed};
 ghost use Rattle.model_build.specs.PointTables.{IsTable};
+ghost use Rattle.model_build.specs.Shapes.{AreShapes};
 ghost use Rattle.model_build.specs.Profile.{LoopFault, ObliqueStage, ItemStage, VoidStage, IndexStage, StuckStage};
 ghost use Rattle.model_build.specs.Outcomes.{IsErrorOf, HasChains, HaveFewCorners};
 
@@ -18,6 +19,7 @@ use crate::guids::first_repeated;
 use crate::least::{first_bad_index, first_oblique};
 use crate::mapping::least_mapping;
 use crate::named::placements;
+use crate::shapes::Shapes;
 use crate::stuck::first_stuck;
 use crate::unsupported::{least_in_bodies, least_in_mapped, lesser};
 use bim_model::{BuildError, Items, Many, Mode, Point, UploadFault};
@@ -65,21 +67,20 @@ pub fn oblique_fault(exchange: &Exchange, survey: &Survey) -> Option<UploadFault
 
 /// The fault of an item that isn't read, or is mapped in a way that isn't.
 pub fn item_fault(
-    alloc: Global,
     exchange: &Exchange,
     survey: &Survey,
     scale: Scale,
     mode: Mode,
-) -> Result<Option<UploadFault>, AllocError>
+) -> Option<UploadFault>
     requires { Surveyed exchange.now survey.now }
-    ensures { IfOk result (λ found. MatchOption found ((id : ℕ) → IsUnsupported exchange.now scale mode id → ⊥) (ItemStage exchange.now scale mode)) }
+    ensures { MatchOption result ((id : ℕ) → IsUnsupported exchange.now scale mode id → ⊥) (ItemStage exchange.now scale mode) }
 {
-    let in_bodies = least_in_bodies(alloc, exchange, survey.used())?;
+    let in_bodies = least_in_bodies(exchange, survey.used());
     let in_mapped = least_in_mapped(exchange, survey.mapped());
     let mapping = least_mapping(exchange, survey.used(), scale, mode);
     match lesser(in_bodies, lesser(in_mapped, mapping)) {
-        Some(id) => Ok(Some(UploadFault::UnsupportedItem { id })),
-        None => Ok(None),
+        Some(id) => Some(UploadFault::UnsupportedItem { id }),
+        None => None,
     }
 }
 
@@ -95,13 +96,17 @@ pub fn void_fault(exchange: &Exchange, survey: &Survey) -> Option<UploadFault>
 }
 
 /// The fault of a set with an index that counts nothing.
-pub fn index_fault(exchange: &Exchange, survey: &Survey) -> Option<UploadFault>
+pub fn index_fault(
+    alloc: Global,
+    exchange: &Exchange,
+    survey: &Survey,
+) -> Result<Option<UploadFault>, AllocError>
     requires { Surveyed exchange.now survey.now }
-    ensures { MatchOption result (NoneOf (used_ids survey.now) (IsBadSet exchange.now)) (IndexStage exchange.now) }
+    ensures { IfOk result (λ found. MatchOption found (NoneOf (used_ids survey.now) (IsBadSet exchange.now)) (IndexStage exchange.now)) }
 {
-    match first_bad_index(exchange, survey.used()) {
-        Some(id) => Some(UploadFault::BadIndex { id }),
-        None => None,
+    match first_bad_index(alloc, exchange, survey.used())? {
+        Some(id) => Ok(Some(UploadFault::BadIndex { id })),
+        None => Ok(None),
     }
 }
 
@@ -143,11 +148,13 @@ pub fn triangles_fault(
     alloc: Global,
     exchange: &Exchange,
     survey: &Survey,
+    shapes: &Shapes,
 ) -> Result<Option<UploadFault>, AllocError>
-    requires { Surveyed exchange.now survey.now }
+    requires surveyed { Surveyed exchange.now survey.now }
+    requires shapes { AreShapes exchange.now shapes.now }
     ensures { IfOk result (λ found. MatchOption found (sum_by (count_of exchange.now) (element_ids survey.now) ≤ most_triangles) (TrianglesStage exchange.now)) }
 {
-    match count_triangles(alloc, exchange, survey.elements())? {
+    match count_triangles(alloc, exchange, shapes, survey.elements())? {
         Some(_count) => Ok(None),
         None => Ok(Some(UploadFault::TooMany {
             what: Many::Triangles,

@@ -4,9 +4,11 @@ ghost use Rattle.faceset.specs.Sets.{triangle_count};
 ghost use Rattle.model_build.specs.Finding.{led_to};
 ghost use Rattle.model_build.specs.Items.{item_count, count_of, most_triangles};
 ghost use Rattle.model_build.specs.Counting.{CountsTo, body_count};
+ghost use Rattle.model_build.specs.Shapes.{AreShapes};
 
 use crate::find::{fetch, target};
-use crate::items::{bodies, is_mapped_item, spelled_items, spelled_sets};
+use crate::items::{is_mapped_item, spelled_items, spelled_sets};
+use crate::shapes::{Shapes, bodies};
 use faceset::triangle_count;
 use p21_reader::{Exchange, Instance, Value21};
 use std::alloc::{AllocError, Global};
@@ -116,15 +118,17 @@ fn count_bodies(exchange: &Exchange, ids: &[u64], so_far: u64) -> Option<u64>
 fn count_element(
     alloc: Global,
     exchange: &Exchange,
+    shapes: &Shapes,
     id: u64,
     so_far: u64,
 ) -> Result<Option<u64>, AllocError>
-    requires { so_far ≤ most_triangles }
+    requires few { so_far ≤ most_triangles }
+    requires shapes { AreShapes exchange.now shapes.now }
     ensures { IfOk result (CountsTo (so_far + count_of exchange.now id)) }
 {
     match fetch(exchange, id) {
         Some(element) => {
-            let found = bodies(alloc, exchange, element)?;
+            let found = bodies(alloc, exchange, shapes, element)?;
             Ok(count_bodies(exchange, &found, so_far))
         }
         None => Ok(Some(so_far)),
@@ -132,17 +136,19 @@ fn count_element(
 }
 
 /// How many triangles these elements have together. None where they have more than a million. Takes no step more than a million triangles
-/// ask for, beside looking at the representations of each element.
+/// ask for, beside copying the numbers of each element's bodies.
 pub fn count_triangles(
     alloc: Global,
     exchange: &Exchange,
+    shapes: &Shapes,
     elements: &[u64],
 ) -> Result<Option<u64>, AllocError>
+    requires { AreShapes exchange.now shapes.now }
     ensures { IfOk result (CountsTo (sum_by (count_of exchange.now) elements.now)) }
 {
     let mut count = 0;
     for id in elements {
-        match count_element(alloc, exchange, *id, count)? {
+        match count_element(alloc, exchange, shapes, *id, count)? {
             Some(counted) => count = counted,
             None => return Ok(None),
         }

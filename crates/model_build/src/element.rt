@@ -10,11 +10,15 @@ ghost use Rattle.spatial_tree.specs.Trees.{ListsStoreys};
 ghost use Rattle.ifc_schema.specs.Looking.{look};
 ghost use Rattle.model_build.specs.Framed.{Framed, AllFramed};
 ghost use Rattle.model_build.specs.Sound.{AreSets};
+ghost use Rattle.model_build.specs.Shapes.{AreShapes};
+ghost use Rattle.model_build.specs.Names.{AreNames};
 ghost use Rattle.model_build.specs.Outcomes.{IsStanding, IsFrameOf, IsNearSurface, IsNearElement, Lacks, LacksAt, IsFirstLacking};
 
 use crate::find::fetch;
 use crate::lack::{Lack, Lacking};
+use crate::names::Names;
 use crate::sets::Sets;
+use crate::shapes::Shapes;
 use crate::storeys::storey_name;
 use crate::surface::{all_moved, own_triangles};
 use crate::texts::{guid_of, name_of};
@@ -45,18 +49,20 @@ fn surface_of(
     alloc: Global,
     exchange: &Exchange,
     frames: &Frames,
+    shapes: &Shapes,
     sets: &Sets,
     instance: &Instance,
     scale: Scale,
     mode: Mode,
 ) -> Result<Result<Vec<Triangle>, Lack>, AllocError>
-    requires { AllFramed (frame_in frames.now) }
+    requires framed { AllFramed (frame_in frames.now) }
+    requires shapes { AreShapes exchange.now shapes.now }
     ensures { (placements listed : List ℕ) → AreFrames exchange.now scale mode placements (frame_in frames.now) → AreSets exchange.now scale mode listed sets.now → IfOk result (λ made. MatchResult made (λ triangles. IsNearSurface exchange.now scale mode instance.now triangles.items) (Lacks exchange.now scale mode placements listed instance.now)) }
 {
     let Some(frame) = frame_of(frames, instance) else {
         return Ok(Err(Lack::Unready));
     };
-    let Some(own) = own_triangles(alloc, exchange, sets, instance, scale, mode)? else {
+    let Some(own) = own_triangles(alloc, exchange, shapes, sets, instance, scale, mode)? else {
         return Ok(Err(Lack::Unready));
     };
     match all_moved(alloc, &frame, &own)? {
@@ -70,14 +76,18 @@ fn element_of(
     alloc: Global,
     exchange: &Exchange,
     tree: &Tree,
+    names: &Names,
     frames: &Frames,
+    shapes: &Shapes,
     sets: &Sets,
     instance: &Instance,
     scale: Scale,
     mode: Mode,
 ) -> Result<Result<Element, Lack>, AllocError>
     requires storeys { ListsStoreys exchange.now tree.now }
+    requires names { AreNames exchange.now names.now }
     requires framed { AllFramed (frame_in frames.now) }
+    requires shapes { AreShapes exchange.now shapes.now }
     ensures { (placements listed : List ℕ) → look exchange.now instance.now.id ≡ Some instance.now → AreFrames exchange.now scale mode placements (frame_in frames.now) → AreSets exchange.now scale mode listed sets.now → IfOk result (λ made. MatchResult made (IsNearElement exchange.now scale mode instance.now.id) (Lacks exchange.now scale mode placements listed instance.now)) }
 {
     let Some(guid) = guid_of(alloc, instance)? else {
@@ -86,12 +96,12 @@ fn element_of(
     let Some(keyword) = &instance.keyword else {
         return Ok(Err(Lack::Unready));
     };
-    match surface_of(alloc, exchange, frames, sets, instance, scale, mode)? {
+    match surface_of(alloc, exchange, frames, shapes, sets, instance, scale, mode)? {
         Ok(triangles) => Ok(Ok(Element {
             guid,
             class: keyword.copy(alloc)?,
             name: name_of(alloc, instance)?,
-            storey: storey_name(alloc, exchange, tree, instance.id)?,
+            storey: storey_name(alloc, exchange, tree, names, instance.id)?,
             triangles: Items::from_vec(triangles),
         })),
         Err(lack) => Ok(Err(lack)),
@@ -103,18 +113,24 @@ fn element_at(
     alloc: Global,
     exchange: &Exchange,
     tree: &Tree,
+    names: &Names,
     frames: &Frames,
+    shapes: &Shapes,
     sets: &Sets,
     id: u64,
     scale: Scale,
     mode: Mode,
 ) -> Result<Result<Element, Lack>, AllocError>
     requires storeys { ListsStoreys exchange.now tree.now }
+    requires names { AreNames exchange.now names.now }
     requires framed { AllFramed (frame_in frames.now) }
+    requires shapes { AreShapes exchange.now shapes.now }
     ensures { (placements listed : List ℕ) → AreFrames exchange.now scale mode placements (frame_in frames.now) → AreSets exchange.now scale mode listed sets.now → IfOk result (λ made. MatchResult made (IsNearElement exchange.now scale mode id) (LacksAt exchange.now scale mode placements listed id)) }
 {
     match fetch(exchange, id) {
-        Some(instance) => element_of(alloc, exchange, tree, frames, sets, instance, scale, mode),
+        Some(instance) => element_of(
+            alloc, exchange, tree, names, frames, shapes, sets, instance, scale, mode,
+        ),
         None => Ok(Err(Lack::Unready)),
     }
 }
@@ -124,20 +140,26 @@ pub fn elements_of(
     alloc: Global,
     exchange: &Exchange,
     tree: &Tree,
+    names: &Names,
     frames: &Frames,
+    shapes: &Shapes,
     sets: &Sets,
     ids: &[u64],
     scale: Scale,
     mode: Mode,
 ) -> Result<Result<Vec<Element>, Lacking>, AllocError>
     requires storeys { ListsStoreys exchange.now tree.now }
+    requires names { AreNames exchange.now names.now }
     requires framed { AllFramed (frame_in frames.now) }
+    requires shapes { AreShapes exchange.now shapes.now }
     requires rises { IsStrictlyIncreasing ids.now }
     ensures { (placements listed : List ℕ) → AreFrames exchange.now scale mode placements (frame_in frames.now) → AreSets exchange.now scale mode listed sets.now → IfOk result (λ made. MatchResult made (λ elements. AllZip (IsNearElement exchange.now scale mode) ids.now elements.items) (IsFirstLacking exchange.now scale mode placements listed ids.now)) }
 {
     let mut made = Vec::with_capacity(alloc, ids.len())?;
     for id in ids {
-        match element_at(alloc, exchange, tree, frames, sets, *id, scale, mode)? {
+        match element_at(
+            alloc, exchange, tree, names, frames, shapes, sets, *id, scale, mode,
+        )? {
             Ok(element) => made.push(element)?,
             Err(lack) => return Ok(Err(Lacking { id: *id, lack })),
         }

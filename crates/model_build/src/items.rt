@@ -2,7 +2,7 @@
 ghost use Rattle.std.specs.Prelude.{◌≡◌, ◌++◌, ◌∷◌, [], map, Some, IfOk, OnOk};
 ghost use Rattle.ifc_schema.specs.Looking.{look};
 ghost use Rattle.ifc_schema.specs.Bodies.{is_body_representation};
-ghost use Rattle.model_build.specs.Items.{spelled_items, is_mapped_item, is_item, spelled_sets, bodies_among, bodies};
+ghost use Rattle.model_build.specs.Items.{spelled_items, is_mapped_item, is_item, spelled_sets, bodies_among, bodies_of};
 ghost use Rattle.model_build.specs.Counting.{Number};
 
 use crate::find::{fetch, target_at};
@@ -12,14 +12,10 @@ use p21_reader::{Exchange, Instance, Value21};
 use std::alloc::{AllocError, Global};
 
 /// Whether it is a shape representation whose identifier is `Body`.
-pub fn is_body_representation(alloc: Global, instance: &Instance) -> Result<bool, AllocError>
-    ensures { IfOk result (λ body. body ≡ is_body_representation instance.now) }
+pub fn is_body_representation(instance: &Instance) -> bool
+    ensures { result ≡ is_body_representation instance.now }
 {
-    if is_a(Entity::Representation, instance) {
-        is_body(alloc, instance)
-    } else {
-        Ok(false)
-    }
+    is_a(Entity::Representation, instance) && is_body(instance)
 }
 
 /// The items of a representation, as they are spelled.
@@ -57,12 +53,7 @@ pub fn spelled_sets<'a>(exchange: &'a Exchange, item: &Instance) -> &'a [Value21
 }
 
 /// Adds the number of the representation that a value refers to, where it is a body.
-fn add_body(
-    alloc: Global,
-    exchange: &Exchange,
-    value: &Value21,
-    found: &mut Vec<u64>,
-) -> Result<(), AllocError>
+fn add_body(exchange: &Exchange, value: &Value21, found: &mut Vec<u64>) -> Result<(), AllocError>
     ensures { OnOk result (map (look exchange.now) found.new.items ≡ map (look exchange.now) found.old.items ++ map Some (bodies_among exchange.now (value.now ∷ []))) }
 {
     let Some(id) = reference_of(value) else {
@@ -71,8 +62,7 @@ fn add_body(
     let Some(instance) = fetch(exchange, id) else {
         return Ok(());
     };
-    let body = is_body_representation(alloc, instance)?;
-    if !body {
+    if !is_body_representation(instance) {
         return Ok(());
     }
     found.push(id)?;
@@ -89,21 +79,18 @@ fn bodies_among(
 {
     let mut found = Vec::new(alloc);
     for value in values {
-        add_body(alloc, exchange, value, &mut found)?;
+        add_body(exchange, value, &mut found)?;
     }
     Ok(found)
 }
 
-/// The numbers of the bodies of an element, in their order. One that is listed twice stands twice.
-pub fn bodies(
+/// The numbers of the bodies of a product shape, in their order. One that is listed twice stands twice.
+pub fn bodies_of(
     alloc: Global,
     exchange: &Exchange,
-    element: &Instance,
+    shape: &Instance,
 ) -> Result<Vec<u64>, AllocError>
-    ensures { IfOk result (λ ids. Number exchange.now ids.items (bodies exchange.now element.now)) }
+    ensures { IfOk result (λ ids. Number exchange.now ids.items (bodies_of exchange.now shape.now)) }
 {
-    match target_at(exchange, element, 6) {
-        Some(shape) => bodies_among(alloc, exchange, listed(shape, 2)),
-        None => Ok(Vec::new(alloc)),
-    }
+    bodies_among(alloc, exchange, listed(shape, 2))
 }

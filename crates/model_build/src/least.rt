@@ -1,38 +1,51 @@
 //! The least of the instances that are used that has a fault.
-ghost use Rattle.std.specs.Prelude.{ℕ, MatchOption, Contains};
+ghost use Rattle.std.specs.Prelude.{ℕ, MatchOption, Contains, IfOk, OnOk};
 ghost use Rattle.std.specs.Bool.{MatchBool};
 ghost use Rattle.std.specs.List.Sorted.{IsStrictlyIncreasing};
 ghost use Rattle.placement.specs.Directions.{HasDirections};
 ghost use Rattle.placement.specs.Operators.{HasOperatorDirections};
+ghost use Rattle.faceset.specs.Reaches.{AreReaches};
 ghost use Rattle.model_build.specs.Least.{IsLeastOf, NoneOf, IsBadSet, IsAxisPlacement, IsOperator, IsOblique};
 
 use crate::find::fetch;
-use faceset::{has_bad_index, is_set};
+use faceset::{FaceReaches, has_bad_index, is_set};
 use ifc_schema::{Entity, is_a};
 use p21_reader::Exchange;
 use placement::{axes_of, operator_axes};
+use std::alloc::{AllocError, Global};
 
-fn is_bad_set(exchange: &Exchange, id: u64) -> bool
-    ensures { MatchBool result (IsBadSet exchange.now id) (IsBadSet exchange.now id → ⊥) }
+fn is_bad_set(exchange: &Exchange, reaches: &mut FaceReaches, id: u64) -> Result<bool, AllocError>
+    requires { AreReaches exchange.now reaches.old }
+    ensures bad { IfOk result (λ bad. MatchBool bad (IsBadSet exchange.now id) (IsBadSet exchange.now id → ⊥)) }
+    ensures kept { OnOk result (AreReaches exchange.now reaches.new) }
 {
-    match fetch(exchange, id) {
-        Some(set) => is_set(set) && has_bad_index(exchange, set),
-        None => false,
+    let Some(set) = fetch(exchange, id) else {
+        return Ok(false);
+    };
+    if !is_set(set) {
+        return Ok(false);
     }
+    has_bad_index(exchange, reaches, set)
 }
 
 /// The least of these instances that is a face set with an index that counts nothing (IFC4 ADD2 TC1, IfcTriangulatedFaceSet,
 /// IfcPolygonalFaceSet, CoordIndex, PnIndex).
-pub fn first_bad_index(exchange: &Exchange, used: &[u64]) -> Option<u64>
+pub fn first_bad_index(
+    alloc: Global,
+    exchange: &Exchange,
+    used: &[u64],
+) -> Result<Option<u64>, AllocError>
     requires { IsStrictlyIncreasing used.now }
-    ensures { MatchOption result (NoneOf used.now (IsBadSet exchange.now)) (IsLeastOf used.now (IsBadSet exchange.now)) }
+    ensures { IfOk result (λ found. MatchOption found (NoneOf used.now (IsBadSet exchange.now)) (IsLeastOf used.now (IsBadSet exchange.now))) }
 {
+    let mut reaches = FaceReaches::new(alloc);
     for id in used {
-        if is_bad_set(exchange, *id) {
-            return Some(*id);
+        let bad = is_bad_set(exchange, &mut reaches, *id)?;
+        if bad {
+            return Ok(Some(*id));
         }
     }
-    None
+    Ok(None)
 }
 
 fn is_axis_placement(exchange: &Exchange, id: u64) -> bool

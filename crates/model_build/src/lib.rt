@@ -12,9 +12,11 @@ mod lack;
 mod least;
 mod mapping;
 mod named;
+mod names;
 mod order;
 mod points;
 mod sets;
+mod shapes;
 mod stages;
 mod storeys;
 mod stuck;
@@ -24,4 +26,4 @@ mod tests;
 mod texts;
 mod unsupported;
 
-pub use stages::build;
+pub use stages::{build, build_owned};

@@ -1,18 +1,23 @@
 //! The model of a file, or its first fault.
-ghost use Rattle.std.specs.Prelude.{Ok, IfOk, IfErr, sum_by, ◌≤◌};
+ghost use Rattle.std.specs.Prelude.{◌≡◌, ◌⊎◌, List, Ok, IfOk, IfErr, MatchResult, sum_by, ◌≤◌};
+ghost use Rattle.p21_reader.specs.declared.value.Instance.{Instance};
+ghost use Rattle.p21_reader.specs.Uploads.{SpellsExchange};
+ghost use Rattle.p21_reader.specs.Uploads as uploads;
 ghost use Rattle.ifc_schema.specs.StageFive.{Surveyed, used_ids, element_ids};
 ghost use Rattle.ifc_units.specs.Units.{IsLengthUnit};
 ghost use Rattle.spatial_tree.specs.Trees.{ListsStoreys};
 ghost use Rattle.placement.specs.Placed.{AreFrames, frame_in};
 ghost use Rattle.model_build.specs.Stages.{IsClear};
 ghost use Rattle.model_build.specs.Texts.{NoneRepeats};
-ghost use Rattle.model_build.specs.Items.{count_of, most_triangles};
+ghost use Rattle.model_build.specs.Items.{TrianglesStage, count_of, most_triangles};
 ghost use Rattle.model_build.specs.Least.{NoneOf, IsVoided, IsBadSet};
 ghost use Rattle.model_build.specs.PointTables.{IsTable};
 ghost use Rattle.model_build.specs.Sound.{AreSets};
+ghost use Rattle.model_build.specs.Shapes.{AreShapes};
+ghost use Rattle.model_build.specs.Names.{AreNames};
 ghost use Rattle.model_build.specs.Elements.{IsModelOf};
-ghost use Rattle.model_build.specs.Outcomes.{IsErrorOf, HasChains, IsChecked, IsSettled, AreReady};
-ghost use Rattle.model_build.specs.Profile.{ReachStage, AfterCorners, AfterIndexes, AfterItems, AfterChains, AfterTree, AfterUnit, FileFault, Profile, IsCause};
+ghost use Rattle.model_build.specs.Outcomes.{IsErrorOf, HasChains, IsChecked, IsSettled, AreReady, AreSound};
+ghost use Rattle.model_build.specs.Profile.{ReachStage, AfterCorners, AfterIndexes, AfterItems, AfterChains, AfterTree, AfterUnit, FileFault, StuckStage, Profile, IsCause};
 
 use crate::checks::{
     chains_of, corners_fault, guid_fault, index_fault, item_fault, oblique_fault, stuck_fault,
@@ -20,10 +25,12 @@ use crate::checks::{
 };
 use crate::element::elements_of;
 use crate::lack::Lack;
+use crate::names::Names;
 use crate::order::in_order;
 use crate::points::{first_fault, table_of};
 use crate::sets::Sets;
-use bim_model::{BuildError, Items, Mode, Model, Point, UploadFault};
+use crate::shapes::Shapes;
+use bim_model::{BuildError, Bytes, Items, Mode, Model, Point, UploadFault};
 use ifc_schema::{Survey, survey};
 use ifc_units::{Scale, length_unit};
 use p21_reader::{Exchange, read};
@@ -40,12 +47,16 @@ fn model_of(
     mode: Mode,
     tree: &Tree,
     chains: &Chains,
+    names: &Names,
     frames: &Frames,
+    shapes: &Shapes,
     sets: &Sets,
 ) -> Result<Model, BuildError>
     requires settled { IsSettled exchange.now scale mode survey.now chains.now }
     requires storeys { ListsStoreys exchange.now tree.now }
+    requires names { AreNames exchange.now names.now }
     requires frames { AreFrames exchange.now scale mode chains.now (frame_in frames.now) }
+    requires shapes { AreShapes exchange.now shapes.now }
     requires sets { AreSets exchange.now scale mode (used_ids survey.now) sets.now }
     requires ready { AreReady exchange.now scale mode chains.now (used_ids survey.now) (element_ids survey.now) }
     requires few { sum_by (count_of exchange.now) (element_ids survey.now) ≤ most_triangles }
@@ -56,7 +67,9 @@ fn model_of(
         alloc,
         exchange,
         tree,
+        names,
         frames,
+        shapes,
         sets,
         survey.elements(),
         scale,
@@ -79,10 +92,12 @@ fn after_cuts(
     mode: Mode,
     tree: &Tree,
     chains: &Chains,
+    shapes: &Shapes,
     sets: &Sets,
 ) -> Result<Model, BuildError>
     requires settled { IsSettled exchange.now scale mode survey.now chains.now }
     requires storeys { ListsStoreys exchange.now tree.now }
+    requires shapes { AreShapes exchange.now shapes.now }
     requires sets { AreSets exchange.now scale mode (used_ids survey.now) sets.now }
     requires few { sum_by (count_of exchange.now) (element_ids survey.now) ≤ most_triangles }
     ensures model { IfOk result (λ model. IsClear (ReachStage exchange.now scale mode) × IsModelOf exchange.now mode model) }
@@ -91,9 +106,33 @@ fn after_cuts(
     let Some(frames) = Frames::of(alloc, exchange, chains, scale, mode)? else {
         unreachable!()
     };
+    let names = Names::of(alloc, exchange, survey.used())?;
     model_of(
-        alloc, exchange, survey, scale, mode, tree, chains, &frames, sets,
+        alloc, exchange, survey, scale, mode, tree, chains, &names, &frames, shapes, sets,
     )
+}
+
+/// The triangles of the sets that are used, or the fault of a face that can't be cut. The table of points ends here.
+fn sets_of(
+    alloc: Global,
+    exchange: &Exchange,
+    survey: &Survey,
+    scale: Scale,
+    mode: Mode,
+    table: Vec<Option<Items<Point>>>,
+) -> Result<Result<Sets, UploadFault>, AllocError>
+    requires surveyed { Surveyed exchange.now survey.now }
+    requires table { IsTable exchange.now scale mode table.items }
+    requires sound { AreSound exchange.now scale mode (used_ids survey.now) }
+    ensures { IfOk result (λ cut. MatchResult cut (AreSets exchange.now scale mode (used_ids survey.now)) (StuckStage exchange.now scale mode)) }
+{
+    match Sets::of(alloc, exchange, survey.used(), &table, scale, mode)? {
+        Some(sets) => Ok(Ok(sets)),
+        None => match stuck_fault(alloc, exchange, survey, &table, scale, mode)? {
+            Some(fault) => Ok(Err(fault)),
+            None => unreachable!(),
+        },
+    }
 }
 
 /// The faces are cut, and the model; there are few enough triangles.
@@ -105,21 +144,43 @@ fn cut_all(
     mode: Mode,
     tree: &Tree,
     chains: &Chains,
-    table: &[Option<Items<Point>>],
+    table: Vec<Option<Items<Point>>>,
+    shapes: &Shapes,
 ) -> Result<Model, BuildError>
     requires settled { IsSettled exchange.now scale mode survey.now chains.now }
     requires storeys { ListsStoreys exchange.now tree.now }
-    requires table { IsTable exchange.now scale mode table.now }
+    requires table { IsTable exchange.now scale mode table.items }
+    requires shapes { AreShapes exchange.now shapes.now }
     requires few { sum_by (count_of exchange.now) (element_ids survey.now) ≤ most_triangles }
     ensures model { IfOk result (λ model. IsClear (AfterCorners exchange.now scale mode) × IsModelOf exchange.now mode model) }
     ensures fault { IfErr result (IsErrorOf (AfterCorners exchange.now scale mode)) }
 {
-    match Sets::of(alloc, exchange, survey.used(), table, scale, mode)? {
-        Some(sets) => after_cuts(alloc, exchange, survey, scale, mode, tree, chains, &sets),
-        None => match stuck_fault(alloc, exchange, survey, table, scale, mode)? {
-            Some(fault) => Err(BuildError::Fault(fault)),
-            None => unreachable!(),
-        },
+    match sets_of(alloc, exchange, survey, scale, mode, table)? {
+        Ok(sets) => after_cuts(
+            alloc, exchange, survey, scale, mode, tree, chains, shapes, &sets,
+        ),
+        Err(fault) => Err(BuildError::Fault(fault)),
+    }
+}
+
+/// The fault of a file with too many triangles. That of a face that can't be cut stands before it.
+fn fault_of_many(
+    alloc: Global,
+    exchange: &Exchange,
+    survey: &Survey,
+    scale: Scale,
+    mode: Mode,
+    table: &[Option<Items<Point>>],
+    many: UploadFault,
+) -> Result<UploadFault, AllocError>
+    requires surveyed { Surveyed exchange.now survey.now }
+    requires table { IsTable exchange.now scale mode table.now }
+    requires many { TrianglesStage exchange.now many }
+    ensures { IfOk result (AfterCorners exchange.now scale mode) }
+{
+    match stuck_fault(alloc, exchange, survey, table, scale, mode)? {
+        Some(fault) => Ok(fault),
+        None => Ok(many),
     }
 }
 
@@ -132,21 +193,22 @@ fn after_corners(
     mode: Mode,
     tree: &Tree,
     chains: &Chains,
-    table: &[Option<Items<Point>>],
+    table: Vec<Option<Items<Point>>>,
 ) -> Result<Model, BuildError>
     requires settled { IsSettled exchange.now scale mode survey.now chains.now }
     requires storeys { ListsStoreys exchange.now tree.now }
-    requires table { IsTable exchange.now scale mode table.now }
+    requires table { IsTable exchange.now scale mode table.items }
     ensures model { IfOk result (λ model. IsClear (AfterCorners exchange.now scale mode) × IsModelOf exchange.now mode model) }
     ensures fault { IfErr result (IsErrorOf (AfterCorners exchange.now scale mode)) }
 {
-    let Some(many) = triangles_fault(alloc, exchange, survey)? else {
-        return cut_all(alloc, exchange, survey, scale, mode, tree, chains, table);
+    let shapes = Shapes::of(alloc, exchange, survey.used())?;
+    let Some(many) = triangles_fault(alloc, exchange, survey, &shapes)? else {
+        return cut_all(
+            alloc, exchange, survey, scale, mode, tree, chains, table, &shapes,
+        );
     };
-    match stuck_fault(alloc, exchange, survey, table, scale, mode)? {
-        Some(fault) => Err(BuildError::Fault(fault)),
-        None => Err(BuildError::Fault(many)),
-    }
+    let fault = fault_of_many(alloc, exchange, survey, scale, mode, &table, many)?;
+    Err(BuildError::Fault(fault))
 }
 
 /// The checks from the lengths on, and the model.
@@ -173,7 +235,7 @@ fn after_indexes(
     if let Some(fault) = corners_fault(exchange, survey) {
         return Err(BuildError::Fault(fault));
     }
-    after_corners(alloc, exchange, survey, scale, mode, tree, chains, &table)
+    after_corners(alloc, exchange, survey, scale, mode, tree, chains, table)
 }
 
 /// The checks from the faces with voids on, and the model.
@@ -194,7 +256,7 @@ fn after_items(
     if let Some(fault) = void_fault(exchange, survey) {
         return Err(BuildError::Fault(fault));
     }
-    if let Some(fault) = index_fault(exchange, survey) {
+    if let Some(fault) = index_fault(alloc, exchange, survey)? {
         return Err(BuildError::Fault(fault));
     }
     after_indexes(alloc, exchange, survey, scale, mode, tree, chains)
@@ -221,7 +283,7 @@ fn after_chains(
     if let Some(fault) = oblique_fault(exchange, survey) {
         return Err(BuildError::Fault(fault));
     }
-    if let Some(fault) = item_fault(alloc, exchange, survey, scale, mode)? {
+    if let Some(fault) = item_fault(exchange, survey, scale, mode) {
         return Err(BuildError::Fault(fault));
     }
     after_items(alloc, exchange, survey, scale, mode, tree, chains)
@@ -288,6 +350,26 @@ pub fn build(alloc: Global, bytes: &[u8], mode: Mode) -> Result<Model, BuildErro
     ensures fault { IfErr result (λ error. IsCause bytes.now mode error) }
 {
     match read(alloc, bytes) {
+        Ok(exchange) => build_file(alloc, &exchange, mode),
+        Err(error) => Err(error),
+    }
+}
+
+/// The instances that bytes spell, which it lets go.
+fn read_owned(alloc: Global, bytes: Bytes) -> Result<Exchange, BuildError>
+    ensures exchange { IfOk result (λ exchange. SpellsExchange bytes exchange) }
+    ensures fault { IfErr result (λ error. uploads.IsCause bytes error) }
+    ensures refused { IfErr result (λ error. error ≡ BuildError.Memory ⊎ ((instances : List Instance) → SpellsExchange bytes instances → ⊥)) }
+{
+    read(alloc, bytes.as_slice())
+}
+
+/// The same of bytes that it owns. They are let go before the model is made.
+pub fn build_owned(alloc: Global, bytes: Bytes, mode: Mode) -> Result<Model, BuildError>
+    ensures model { IfOk result (λ model. Profile bytes mode (Ok model)) }
+    ensures fault { IfErr result (λ error. IsCause bytes mode error) }
+{
+    match read_owned(alloc, bytes) {
         Ok(exchange) => build_file(alloc, &exchange, mode),
         Err(error) => Err(error),
     }

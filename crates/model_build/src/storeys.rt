@@ -1,11 +1,13 @@
 //! The storeys that elements stand in (IFC4 ADD2 TC1, IfcBuildingStorey).
 ghost use Rattle.std.specs.Prelude.{IfOk};
 ghost use Rattle.spatial_tree.specs.Trees.{ListsStoreys};
+ghost use Rattle.model_build.specs.Names.{AreNames};
 ghost use Rattle.model_build.specs.Storeys.{IsStoreyName};
 
 use crate::find::fetch;
+use crate::names::Names;
 use crate::texts::name_of;
-use bim_model::Text;
+use bim_model::{Duplicate, Text};
 use p21_reader::Exchange;
 use spatial_tree::Tree;
 use std::alloc::{AllocError, Global};
@@ -15,14 +17,19 @@ pub fn storey_name(
     alloc: Global,
     exchange: &Exchange,
     tree: &Tree,
+    names: &Names,
     id: u64,
 ) -> Result<Option<Text>, AllocError>
-    requires { ListsStoreys exchange.now tree.now }
+    requires storeys { ListsStoreys exchange.now tree.now }
+    requires names { AreNames exchange.now names.now }
     ensures { IfOk result (λ name. IsStoreyName exchange.now id name) }
 {
     let Some(storey) = tree.storey_of(id) else {
         return Ok(None);
     };
+    if let Some(name) = names.get(storey) {
+        return Ok(Some(name.copy(alloc)?));
+    }
     match fetch(exchange, storey) {
         Some(instance) => Ok(Some(name_of(alloc, instance)?)),
         None => Ok(None),

@@ -9,12 +9,14 @@ ghost use Rattle.faceset.specs.Sets.{Joined};
 ghost use Rattle.model_build.specs.Finding.{led_to};
 ghost use Rattle.model_build.specs.Items.{items_of, item_count, body_items, bodies};
 ghost use Rattle.model_build.specs.Counting.{Number};
+ghost use Rattle.model_build.specs.Shapes.{AreShapes};
 ghost use Rattle.model_build.specs.Surfaces.{ItemSurface, moved};
 ghost use Rattle.model_build.specs.Sound.{AreSets, ReadySet, ReadyMapped, ReadyItem, ReadyBody, Adds, KeptSet, KeptMapped, KeptItem, IsOut};
 
 use crate::find::{fetch, reference_at};
-use crate::items::{bodies, is_mapped_item, spelled_items, spelled_sets};
+use crate::items::{is_mapped_item, spelled_items, spelled_sets};
 use crate::sets::Sets;
+use crate::shapes::{Shapes, bodies};
 use bim_model::{Mode, Triangle};
 use ifc_schema::reference_of;
 use ifc_units::Scale;
@@ -203,14 +205,16 @@ fn bodies_triangles(
 pub fn own_triangles(
     alloc: Global,
     exchange: &Exchange,
+    shapes: &Shapes,
     sets: &Sets,
     element: &Instance,
     scale: Scale,
     mode: Mode,
 ) -> Result<Option<Vec<Triangle>>, AllocError>
+    requires { AreShapes exchange.now shapes.now }
     ensures { (listed : List ℕ) → AreSets exchange.now scale mode listed sets.now → IfOk result (λ made. MatchOption made (All (ReadyBody exchange.now scale mode listed) (bodies exchange.now element.now) → ⊥) (λ own. Joined (ItemSurface exchange.now scale mode) (body_items exchange.now element.now) own.items × (length own.items ≡ sum_by (item_count exchange.now) (body_items exchange.now element.now)))) }
 {
-    let found = bodies(alloc, exchange, element)?;
+    let found = bodies(alloc, exchange, shapes, element)?;
     bodies_triangles(alloc, exchange, sets, &found, scale, mode)
 }
 

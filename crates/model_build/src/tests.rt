@@ -1,6 +1,6 @@
 //! A small file and changes of it, with what they make by hand work.
-use crate::build;
-use bim_model::{BuildError, Mode, UploadFault};
+use crate::{build, build_owned};
+use bim_model::{BuildError, Bytes, Mode, UploadFault};
 use std::alloc::{AllocError, Global};
 use std::test::Fail;
 
@@ -78,7 +78,8 @@ fn builds_a_model(rt: HostRuntime) -> Result<(), Fail> {
         PLACED,
         "#9=IFCLOCALPLACEMENT($,#10);#10=IFCAXIS2PLACEMENT3D(#11,$,#12);#11=IFCCARTESIANPOINT((1000.,0.,0.));#12=IFCDIRECTION((6.1E-17,1.,0.));#13=IFCBUILDINGSTOREY('0000000000000000000003',$,'EG',$,$,$,$,$,$,$);#14=IFCRELCONTAINEDINSPATIALSTRUCTURE('0000000000000000000004',$,$,$,(#8),#13);",
     )?;
-    match build(alloc, text.as_bytes(), Mode::Exact) {
+    let bytes = Bytes::of(alloc, text.as_bytes())?;
+    match build_owned(alloc, bytes, Mode::Exact) {
         Ok(model) => {
             assert_eq!(rt; model.triangle_count(), 1);
             for element in model.elements() {

@@ -1,5 +1,5 @@
 //! Items that aren't read (IFC4 ADD2 TC1, IfcShapeRepresentation, IfcMappedItem).
-ghost use Rattle.std.specs.Prelude.{◌≡◌, ℕ, ◌<◌, ◌∷◌, [], Contains, IfOk, MatchOption};
+ghost use Rattle.std.specs.Prelude.{◌≡◌, ℕ, ◌<◌, ◌∷◌, [], Contains, MatchOption};
 ghost use Rattle.ifc_schema.specs.Bodies.{is_body_representation};
 ghost use Rattle.model_build.specs.Finding.{Finds};
 ghost use Rattle.model_build.specs.Least.{LeastOf, ShownBy};
@@ -9,7 +9,6 @@ use crate::find::fetch;
 use crate::items::{is_body_representation, is_item, is_mapped_item, spelled_items};
 use ifc_schema::reference_of;
 use p21_reader::{Exchange, Value21};
-use std::alloc::{AllocError, Global};
 
 /// The lesser of two numbers that may lack.
 pub fn lesser(a: Option<u64>, b: Option<u64>) -> Option<u64>
@@ -63,33 +62,28 @@ fn least_inner(exchange: &Exchange, values: &[Value21]) -> Option<u64>
 }
 
 /// The least number of an item that isn't read, of the representation of that number, where it is a body.
-fn other_in_body(alloc: Global, exchange: &Exchange, id: u64) -> Result<Option<u64>, AllocError>
-    ensures { IfOk result (LeastOf (BodyShows exchange.now id)) }
+fn other_in_body(exchange: &Exchange, id: u64) -> Option<u64>
+    ensures { LeastOf (BodyShows exchange.now id) result }
 {
     let Some(representation) = fetch(exchange, id) else {
-        return Ok(None);
+        return None;
     };
-    let body = is_body_representation(alloc, representation)?;
-    if !body {
-        return Ok(None);
+    if !is_body_representation(representation) {
+        return None;
     }
-    Ok(least_other(exchange, spelled_items(representation)))
+    least_other(exchange, spelled_items(representation))
 }
 
 /// The least number of an item that isn't read, of the bodies among the instances of these numbers.
-pub fn least_in_bodies(
-    alloc: Global,
-    exchange: &Exchange,
-    ids: &[u64],
-) -> Result<Option<u64>, AllocError>
-    ensures { IfOk result (LeastOf (ShownBy (BodyShows exchange.now) ids.now)) }
+pub fn least_in_bodies(exchange: &Exchange, ids: &[u64]) -> Option<u64>
+    ensures { LeastOf (ShownBy (BodyShows exchange.now) ids.now) result }
 {
     let mut least = None;
     for id in ids {
-        let here = other_in_body(alloc, exchange, *id)?;
+        let here = other_in_body(exchange, *id);
         least = lesser(least, here);
     }
-    Ok(least)
+    least
 }
 
 /// The least number of an item that isn't read, or is mapped itself, of the mapped representation of that number.

@@ -13,6 +13,6 @@ returns-in-Some c =
 
 pub returns-in-None : goal.returns-in-None
 returns-in-None c =
-    triangles_stage c.args.exchange.now (element_ids c.args.survey.now) c.requires.elements
+    triangles_stage c.args.exchange.now (element_ids c.args.survey.now) c.requires.surveyed.elements
     (subst (λ (ids : List ℕ). most_triangles < sum_by (count_of c.args.exchange.now) ids) c.elements.ensures
     (subst (λ (found : Option ℕ). CountsTo (sum_by (count_of c.args.exchange.now) c.elements.result.now) found) c.in-None.is c.in_ok-_count.ensures))

@@ -10,7 +10,7 @@ loop-id-init c = shown_none (BodyShows c.args.exchange.now) c.args.ids.now
 pub loop-id-preserved : goal.loop-id-preserved
 loop-id-preserved c =
     subst (λ (found : Option ℕ). LeastOf (ShownBy (BodyShows c.args.exchange.now) (take (c.loop-id.id-index + 1) c.args.ids.now)) found) (sym c.lesser-least.ensures)
-    (shown_more (BodyShows c.args.exchange.now) c.args.ids.now c.loop-id.id-index c.loop-id.least c.in_ok-here.here c.loop-id-test.true c.loop-id.invariant c.in_ok-here.ensures)
+    (shown_more (BodyShows c.args.exchange.now) c.args.ids.now c.loop-id.id-index c.loop-id.least c.other_in_body-here.result c.loop-id-test.true c.loop-id.invariant c.other_in_body-here.ensures)
 
 pub returns : goal.returns
 returns c = shown_all (BodyShows c.args.exchange.now) c.args.ids.now c.loop-id.id-index c.loop-id.least (search rules) c.loop-id.invariant
