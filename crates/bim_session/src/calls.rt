@@ -6,10 +6,10 @@ ghost use Rattle.bim_session.specs.Session.{Means, MeansCall};
 ghost use Rattle.bim_session.specs.Talking.{IsUnasked};
 
 use bcf_http::{Answer, HttpCall, Refusal, RequestFault, to_call};
-use bim_model::{BuildError, Mode, Shared, Text};
+use bim_model::{BuildError, Bytes, Mode, Shared, Text};
 use federation_book::BookRequest;
 use http_frame::HttpRequest;
-use model_build::build;
+use model_build::build_owned;
 use std::alloc::Global;
 
 /// Why a request does not become a call of the book.
@@ -37,12 +37,12 @@ fn upload_of(
     project: u128,
     name: Text,
     mode: Mode,
-    body: &[u8],
+    body: Bytes,
 ) -> Result<BookRequest, BuildError>
-    ensures call { IfOk result (MeansCall (Ok (HttpCall.Build project name mode body.now))) }
-    ensures fault { IfErr result (λ error. IsCause body.now mode error) }
+    ensures call { IfOk result (MeansCall (Ok (HttpCall.Build project name mode body))) }
+    ensures fault { IfErr result (λ error. IsCause body mode error) }
 {
-    let model = build(alloc, body, mode)?;
+    let model = build_owned(alloc, body, mode)?;
     let model = Shared::new(alloc, model)?;
     Ok(BookRequest::Upload {
         project,
@@ -67,7 +67,7 @@ pub fn call_of(alloc: Global, request: HttpRequest, moment: u64) -> Result<BookR
                 mode,
                 body,
             },
-        ) => match upload_of(alloc, project, name, mode, body.as_slice()) {
+        ) => match upload_of(alloc, project, name, mode, body) {
             Ok(call) => Ok(call),
             Err(BuildError::Fault(fault)) => Err(Unasked::Answered(Answer::Built(fault))),
             Err(BuildError::Memory) => Err(Unasked::Answered(Answer::Memory)),
