@@ -19,7 +19,7 @@ mod upload;
 
 pub use bytes::Bytes;
 pub use element::Element;
-pub use geometry::{Extent, PER_MM, Point, Triangle, extent_of};
+pub use geometry::{Extent, FARTHEST, GRID_LIMIT, PER_MM, Point, Triangle, extent_of};
 pub use guid::Guid;
 pub use identifiers::{id_of, serial_of};
 pub use items::{Duplicate, Items};
