@@ -3,5 +3,8 @@ pub mod Guids
 pub mod Moments
 pub mod Identifiers
 pub mod Boxes
+pub mod Points
+pub mod Polygons
+pub mod Gaps
 pub mod Models
 pub mod Snapshots

@@ -4,7 +4,7 @@ use Rattle.std.proofs.lemmas.Int.{ints, to_z-of_z}
 use Rattle.std.specs.Int.{w32, w64}
 use lib.Signed.{le_z, mag}
 use mir.Val.{SFits}
-use Rattle.box_lanes.specs.Gaps.{gap}
+use Rattle.bim_model.specs.Gaps.{gap}
 
 -- sides that were read from a box
 pub read : (l h ol oh : ℤ) (g : ℕ) {r : Bool} → SFits w32 l → SFits w32 h → SFits w32 ol → SFits w32 oh

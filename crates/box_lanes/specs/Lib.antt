@@ -1,3 +1,3 @@
-pub mod Gaps
+pub mod Places
 pub mod Columns
 pub mod Lanes

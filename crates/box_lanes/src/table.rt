@@ -2,7 +2,8 @@
 ghost use Rattle.std.specs.Prelude.{◌≡◌, ◌+◌, ◌≤◌, ◌<◌, ◌^◌, ◌++◌, ◌∷◌, [], ◌&&◌, length, map, take, int_le, slice_index_or, IfOk};
 ghost use Rattle.std.specs.Simd.Lanes.{mask_l, chunk};
 ghost use Rattle.bim_model.specs.declared.geometry.Extent.{Extent};
-ghost use Rattle.box_lanes.specs.Gaps.{is_within, places_from, places_within};
+ghost use Rattle.bim_model.specs.Gaps.{is_within};
+ghost use Rattle.box_lanes.specs.Places.{places_from, places_within};
 ghost use Rattle.box_lanes.specs.Lanes.{meets, Fits32};
 
 use bim_model::{Extent, Point};

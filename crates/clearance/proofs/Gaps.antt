@@ -1,7 +1,7 @@
 -- Two faces whose boxes are more than d apart on an axis are not near
 use Rattle.std.proofs.Common.{ℕ, ◌≡◌, arith, ℤ, pos, ◌+ℤ◌, ◌-ℤ◌, ◌*ℤ◌, ◌≤ℤ◌, ◌<ℤ◌, refl, subst, [], ◌∷◌}
 use Rattle.std.proofs.lemmas.Int.{ints}
-use Rattle.tri_exact.specs.Space.{Vector, dot_of, Face}
+use Rattle.exact_arith.specs.Space.{Vector, dot_of, Face}
 use Rattle.clearance.specs.Near.{FacesNear}
 use Rattle.exact_arith.proofs.Ring.{ring, at, lit, ◌⊕◌, ◌⊖◌, ◌⊗◌}
 use Rattle.exact_arith.proofs.Triples.{spot, scalar}

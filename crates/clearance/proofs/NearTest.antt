@@ -1,18 +1,17 @@
 -- Two faces: near exactly where one of the tests says so
 use Rattle.std.proofs.Common.{ℕ, ◌+◌, ◌*◌, ◌≡◌, ◌⊎◌, inl, inr, arith, ℤ, pos, negsuc, ◌+ℤ◌, ◌-ℤ◌, ◌*ℤ◌, ◌≤ℤ◌, ◌<ℤ◌, refl, sym, ap, ◌∙◌, subst, [], ◌∷◌}
 use Rattle.std.proofs.lemmas.Int.{ints, by_lt_z}
-use Rattle.tri_exact.specs.Space.{Vector, minus, times, dot_of, cross_of, Face}
+use Rattle.exact_arith.specs.Space.{Vector, minus, times, dot_of, cross_of, Face}
 use Rattle.tri_exact.specs.Within.{mix3, HasArea, FootWithin, EdgesWithin}
 use Rattle.clearance.specs.Near.{FacesNear}
 use Rattle.tri_exact.specs.Pierce.{PiercesFace}
-use Rattle.tri_exact.proofs.Pierce.{slope}
+use Rattle.tri_exact.proofs.Pierce.{slope, slope_is}
 use Rattle.clearance.specs.Planes.{SideNear}
 use Rattle.clearance.specs.Rows.{EdgeNear, EdgesNear}
 use Rattle.exact_arith.proofs.Ring.{ring, at, ◌⊕◌, ◌⊖◌, ◌⊗◌}
 use Rattle.exact_arith.proofs.Order.{mul_positive, nonneg_by}
 use Rattle.tri_exact.proofs.Pose.{Pose, gap, same_vector, length_nonneg}
 use Rattle.tri_exact.proofs.Weights.{Six, a1, a2, a3, b1, b2, b3, weight}
-use Rattle.tri_exact.proofs.Pierce.{slope_is}
 use Rattle.tri_exact.proofs.Posed.{Posed, at_t, swapped, foot_posed, pierce_posed, pierces_yes}
 use Rattle.tri_exact.proofs.FootTest.{foot_yes, foot_no}
 use Rattle.tri_exact.proofs.EdgesTest.{widen, edges_yes, edges_no}

@@ -1,7 +1,7 @@
 -- Two boxes with a gap, and the triangles in them
 use Rattle.std.proofs.Common.{ℕ, inl, inr, ◌≡◌, ◌↔◌, subst}
 use Rattle.bim_model.specs.declared.geometry.Extent.{Extent}
-use Rattle.tri_exact.specs.Space.{Face}
+use Rattle.exact_arith.specs.Space.{Face}
 use Rattle.clearance.specs.Near.{FacesNear}
 use Rattle.clearance.specs.Boxes.{InExtent, Wider, IsOff}
 use Rattle.exact_arith.proofs.Order.{le_trans}

@@ -1,7 +1,7 @@
 -- Two triangles with a gap across a direction, by the places of their corners from one corner on
 use Rattle.std.proofs.Common.{ℕ, ◌≡◌, arith, ℤ, pos, ◌+ℤ◌, ◌-ℤ◌, ◌*ℤ◌, ◌≤ℤ◌, ◌<ℤ◌, sym, subst}
 use Rattle.std.proofs.lemmas.Int.{ints}
-use Rattle.tri_exact.specs.Space.{Vector, Face, minus, dot_of}
+use Rattle.exact_arith.specs.Space.{Vector, Face, minus, dot_of}
 use Rattle.clearance.specs.Near.{FacesNear}
 use Rattle.clearance.specs.Apart.{Apart}
 use Rattle.clearance.proofs.Separate.{separated, height_apart}

@@ -4,7 +4,8 @@ use Rattle.std.specs.Prelude.{slice_index_or, slice_set}
 use Rattle.std.proofs.lemmas.List.{drop_more, take_more_set, append_assoc, append-nil}
 use Rattle.bim_model.specs.declared.geometry.Triangle.{Triangle}
 use Rattle.bim_model.specs.declared.geometry.Extent.{Extent}
-use Rattle.clearance.specs.Near.{Near, NearAny, ListsNear, shape_of}
+use Rattle.clearance.specs.Near.{Near, NearAny, ListsNear}
+use Rattle.bim_model.specs.Points.{shape_of}
 use Rattle.clearance.specs.Boxes.{InExtent, Wider, IsOff}
 use Rattle.clearance.specs.Runs.{RunsIn, Reaches}
 use Rattle.clearance.proofs.OffBoxes.{off_far, widened}

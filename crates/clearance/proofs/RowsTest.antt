@@ -1,7 +1,7 @@
 -- The nine pairs of corners of two faces say what the nine pairs of edges say
 use Rattle.std.proofs.Common.{ℕ, ◌≡◌, ◌⊎◌, inl, inr, arith, ℤ, pos, ◌+ℤ◌, ◌-ℤ◌, ◌*ℤ◌, ◌≤ℤ◌, refl, sym, subst, [], ◌∷◌}
 use Rattle.std.proofs.lemmas.Int.{ints, by_lt_z}
-use Rattle.tri_exact.specs.Space.{Vector, minus, dot_of, Face}
+use Rattle.exact_arith.specs.Space.{Vector, minus, dot_of, Face}
 use Rattle.tri_exact.specs.Within.{PointEdgeWithin, EdgesWithin}
 use Rattle.clearance.specs.Rows.{EdgeNear, EdgesNear, CornerNear, RowNear}
 use Rattle.tri_exact.specs.Edges.{Beside}

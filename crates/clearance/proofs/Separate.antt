@@ -1,7 +1,7 @@
 -- Two faces on the two sides of a gap across a direction are not near
 use Rattle.std.proofs.Common.{ℕ, ◌≡◌, inl, inr, arith, ℤ, pos, ◌+ℤ◌, ◌-ℤ◌, ◌*ℤ◌, ◌≤ℤ◌, ◌<ℤ◌, refl, sym, subst, [], ◌∷◌}
 use Rattle.std.proofs.lemmas.Int.{ints}
-use Rattle.tri_exact.specs.Space.{Vector, minus, dot_of, Face, normal}
+use Rattle.exact_arith.specs.Space.{Vector, minus, dot_of, Face, normal}
 use Rattle.clearance.specs.Near.{FacesNear}
 use Rattle.clearance.specs.Planes.{Clear, IsClear}
 use Rattle.exact_arith.proofs.Ring.{ring, at, lit, ◌⊕◌, ◌⊖◌, ◌⊗◌}

@@ -1,8 +1,9 @@
 -- Boxes along the axes.
-use Rattle.std.specs.Prelude.{ℕ, pos, ◌+ℤ◌, ◌≤ℤ◌, ◌<ℤ◌, ◌⊎◌}
-use Rattle.tri_exact.specs.Space.{Vector, Face}
+use Rattle.std.specs.Prelude.{ℕ, ◌<◌, ◌≤ℤ◌, ◌⊎◌}
+use Rattle.exact_arith.specs.Space.{Vector, Face}
 use Rattle.bim_model.specs.declared.geometry.Extent.{Extent}
-use Rattle.clearance.specs.Near.{vector_of, IsGridPoint}
+use Rattle.bim_model.specs.Points.{vector_of, IsGridPoint}
+use Rattle.bim_model.specs.Gaps.{gap}
 
 -- p lies between the corners l and h of a box
 pub record Between (l h p : Vector) : Type 0 where
@@ -35,6 +36,6 @@ pub record Wider (k m : Extent) : Type 0 where
 -- two boxes with a gap of more than d on an axis
 abbrev pub IsOff : Extent → Extent → ℕ → Type 0
 IsOff k m d =
-    ((k.high.x +ℤ pos d) <ℤ m.low.x ⊎ (m.high.x +ℤ pos d) <ℤ k.low.x)
-    ⊎ (((k.high.y +ℤ pos d) <ℤ m.low.y ⊎ (m.high.y +ℤ pos d) <ℤ k.low.y)
-    ⊎ ((k.high.z +ℤ pos d) <ℤ m.low.z ⊎ (m.high.z +ℤ pos d) <ℤ k.low.z))
+    (d < gap k.low.x k.high.x m.low.x m.high.x)
+    ⊎ ((d < gap k.low.y k.high.y m.low.y m.high.y)
+    ⊎ (d < gap k.low.z k.high.z m.low.z m.high.z))

@@ -1,5 +1,5 @@
 -- Corners as a face.
-use Rattle.tri_exact.specs.Space.{Face}
+use Rattle.exact_arith.specs.Space.{Face}
 use Rattle.tri_exact.specs.Places.{at, IsPoint}
 use Rattle.clearance.specs.declared.corners.Corners.{Corners}
 

@@ -4,10 +4,10 @@
 -- the weights, which is above zero. Two triangles are near where such points of theirs are at most d apart:
 -- |B · (a1·p1 + a2·p2 + a3·p3) - A · (b1·q1 + b2·q2 + b3·q3)|² ≤ d²·A²·B². Two elements are near where a
 -- triangle of one and a triangle of the other are.
-use Rattle.std.specs.Prelude.{ℕ, ◌+◌, ◌*◌, ◌<◌, ◌≤◌, pos, unsigned_abs, List, All, Any}
-use Rattle.tri_exact.specs.Space.{Vector, minus, times, Face}
+use Rattle.std.specs.Prelude.{ℕ, ◌+◌, ◌*◌, ◌<◌, pos, List, All, Any}
+use Rattle.exact_arith.specs.Space.{minus, times, Face}
 use Rattle.tri_exact.specs.Within.{mix3, IsWithin}
-use Rattle.bim_model.specs.declared.geometry.Point.{Point}
+use Rattle.bim_model.specs.Points.{shape_of, IsInGrid}
 use Rattle.bim_model.specs.declared.geometry.Triangle.{Triangle}
 use Rattle.bim_model.specs.declared.element.Element.{Element}
 
@@ -16,23 +16,6 @@ unfoldable pub FacesNear : Face → Face → ℕ → Type 0
 FacesNear t s d =
     (i : ℕ) × (j : ℕ) × (k : ℕ) × (l : ℕ) × (m : ℕ) × (n : ℕ) × (0 < i + j + k) × (0 < l + m + n)
     × IsWithin d ((i + j + k) * (l + m + n)) (minus (times (pos (l + m + n)) (mix3 t (pos i) (pos j) (pos k))) (times (pos (i + j + k)) (mix3 s (pos l) (pos m) (pos n))))
-
-abbrev pub vector_of : Point → Vector
-vector_of p = record { x = p.x; y = p.y; z = p.z }
-
-abbrev pub shape_of : Triangle → Face
-shape_of t = record { a = vector_of t.a; b = vector_of t.b; c = vector_of t.c }
-
--- a point of the grid: each coordinate within 8,000,000
-pub record IsGridPoint (p : Point) : Type 0 where
-  pub x_in : unsigned_abs p.x ≤ 8000000
-  pub y_in : unsigned_abs p.y ≤ 8000000
-  pub z_in : unsigned_abs p.z ≤ 8000000
-
-pub record IsInGrid (t : Triangle) : Type 0 where
-  pub a_in : IsGridPoint t.a
-  pub b_in : IsGridPoint t.b
-  pub c_in : IsGridPoint t.c
 
 -- two triangles are near
 abbrev pub Near : Triangle → Triangle → ℕ → Type 0

@@ -1,6 +1,6 @@
 -- A triangle's plane, and the heights of another triangle's corners over it.
 use Rattle.std.specs.Prelude.{ℕ, ℤ, pos, ◌-ℤ◌, ◌*ℤ◌, ◌≤ℤ◌, ◌<ℤ◌, ◌≡◌, ◌≤◌, ◌⊎◌, unsigned_abs}
-use Rattle.tri_exact.specs.Space.{minus, dot_of, Face, normal}
+use Rattle.exact_arith.specs.Space.{minus, dot_of, Face, normal}
 use Rattle.tri_exact.specs.Within.{FootWithin}
 use Rattle.tri_exact.specs.Pierce.{PiercesFace}
 use Rattle.tri_exact.specs.Places.{at, straight}

@@ -1,6 +1,6 @@
 -- Two triangles' edges near each other.
 use Rattle.std.specs.Prelude.{ℕ, pos, ◌-ℤ◌, ◌*ℤ◌, ◌≤ℤ◌, ◌⊎◌}
-use Rattle.tri_exact.specs.Space.{Vector, minus, dot_of, Face}
+use Rattle.exact_arith.specs.Space.{Vector, minus, dot_of, Face}
 use Rattle.tri_exact.specs.Within.{EdgesWithin}
 use Rattle.tri_exact.specs.Edges.{Beside, Crosses}
 

@@ -2,8 +2,9 @@
 use Rattle.std.specs.Prelude.{ℕ, ◌≡◌, List, [], ◌∷◌, All, take, drop}
 use Rattle.bim_model.specs.declared.geometry.Triangle.{Triangle}
 use Rattle.bim_model.specs.declared.geometry.Extent.{Extent}
-use Rattle.tri_exact.specs.Space.{Face}
-use Rattle.clearance.specs.Near.{FacesNear, shape_of}
+use Rattle.exact_arith.specs.Space.{Face}
+use Rattle.clearance.specs.Near.{FacesNear}
+use Rattle.bim_model.specs.Points.{shape_of}
 use Rattle.clearance.specs.Boxes.{InExtent, IsExtent}
 
 -- the triangles of a list lie in a box

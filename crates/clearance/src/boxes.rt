@@ -1,18 +1,19 @@
 // Boxes along the axes.
-ghost use Rattle.std.specs.Prelude.{◌≤◌, pos, ◌+ℤ◌, ◌≤ℤ◌, ◌<ℤ◌, ◌↔◌, unsigned_abs, IsTrue, All};
-ghost use Rattle.clearance.specs.Near.{IsInGrid, shape_of};
+ghost use Rattle.std.specs.Prelude.{◌≤◌, ◌<◌, ◌≤ℤ◌, ◌↔◌, unsigned_abs, IsTrue, All};
+ghost use Rattle.bim_model.specs.Points.{grid_limit, IsInGrid, shape_of};
+ghost use Rattle.bim_model.specs.Gaps.{gap};
 ghost use Rattle.clearance.specs.Boxes.{InExtent, IsExtent, Wider, IsOff};
 
-use bim_model::{Extent, Point, Triangle};
+use bim_model::{Extent, GRID_LIMIT, Point, Triangle};
 
 /// The lesser of two coordinates.
 #[inline(always)]
 fn lower(a: i32, b: i32) -> i32
-    requires a_in { unsigned_abs a ≤ 8000000 }
-    requires b_in { unsigned_abs b ≤ 8000000 }
+    requires a_in { unsigned_abs a ≤ grid_limit }
+    requires b_in { unsigned_abs b ≤ grid_limit }
     ensures a { result ≤ℤ a }
     ensures b { result ≤ℤ b }
-    ensures small { unsigned_abs result ≤ 8000000 }
+    ensures small { unsigned_abs result ≤ grid_limit }
 {
     if a <= b { a } else { b }
 }
@@ -20,11 +21,11 @@ fn lower(a: i32, b: i32) -> i32
 /// The greater of two coordinates.
 #[inline(always)]
 fn higher(a: i32, b: i32) -> i32
-    requires a_in { unsigned_abs a ≤ 8000000 }
-    requires b_in { unsigned_abs b ≤ 8000000 }
+    requires a_in { unsigned_abs a ≤ grid_limit }
+    requires b_in { unsigned_abs b ≤ grid_limit }
     ensures a { a ≤ℤ result }
     ensures b { b ≤ℤ result }
-    ensures small { unsigned_abs result ≤ 8000000 }
+    ensures small { unsigned_abs result ≤ grid_limit }
 {
     if a <= b { b } else { a }
 }
@@ -32,13 +33,13 @@ fn higher(a: i32, b: i32) -> i32
 /// The least of three coordinates.
 #[inline(always)]
 fn least(a: i32, b: i32, c: i32) -> i32
-    requires a_in { unsigned_abs a ≤ 8000000 }
-    requires b_in { unsigned_abs b ≤ 8000000 }
-    requires c_in { unsigned_abs c ≤ 8000000 }
+    requires a_in { unsigned_abs a ≤ grid_limit }
+    requires b_in { unsigned_abs b ≤ grid_limit }
+    requires c_in { unsigned_abs c ≤ grid_limit }
     ensures a { result ≤ℤ a }
     ensures b { result ≤ℤ b }
     ensures c { result ≤ℤ c }
-    ensures small { unsigned_abs result ≤ 8000000 }
+    ensures small { unsigned_abs result ≤ grid_limit }
 {
     if a <= b {
         if a <= c { a } else { c }
@@ -52,13 +53,13 @@ fn least(a: i32, b: i32, c: i32) -> i32
 /// The greatest of three coordinates.
 #[inline(always)]
 fn greatest(a: i32, b: i32, c: i32) -> i32
-    requires a_in { unsigned_abs a ≤ 8000000 }
-    requires b_in { unsigned_abs b ≤ 8000000 }
-    requires c_in { unsigned_abs c ≤ 8000000 }
+    requires a_in { unsigned_abs a ≤ grid_limit }
+    requires b_in { unsigned_abs b ≤ grid_limit }
+    requires c_in { unsigned_abs c ≤ grid_limit }
     ensures a { a ≤ℤ result }
     ensures b { b ≤ℤ result }
     ensures c { c ≤ℤ result }
-    ensures small { unsigned_abs result ≤ 8000000 }
+    ensures small { unsigned_abs result ≤ grid_limit }
 {
     if a <= b {
         if b <= c { c } else { b }
@@ -90,15 +91,21 @@ pub fn extent_of(t: &Triangle) -> Extent
     }
 }
 
-/// Whether a coordinate is more than d above another.
+/// Whether the gap of two spans of an axis is more than d.
 #[inline(always)]
-fn is_past(high: i32, low: i32, d: u32) -> bool
-    requires high_in { unsigned_abs high ≤ 8000000 }
-    requires low_in { unsigned_abs low ≤ 8000000 }
+fn is_span_off(low: i32, high: i32, other_low: i32, other_high: i32, d: u32) -> bool
+    requires low_in { unsigned_abs low ≤ grid_limit }
+    requires high_in { unsigned_abs high ≤ grid_limit }
+    requires other_low_in { unsigned_abs other_low ≤ grid_limit }
+    requires other_high_in { unsigned_abs other_high ≤ grid_limit }
     requires d_in { d ≤ 10000 }
-    ensures { IsTrue result ↔ (high +ℤ pos d) <ℤ low }
+    ensures { IsTrue result ↔ d < gap low high other_low other_high }
 {
-    high + (d as i32) < low
+    let d = d as i32;
+    if high + d < other_low {
+        return true;
+    }
+    other_high + d < low
 }
 
 /// Whether two boxes have a gap of more than d on an axis.
@@ -109,22 +116,14 @@ pub fn is_off(first: Extent, second: Extent, d: u32) -> bool
     requires d_in { d ≤ 10000 }
     ensures { IsTrue result ↔ IsOff first second d }
 {
-    if is_past(first.high.x, second.low.x, d) {
+    let (low, high) = (first.low, first.high);
+    if is_span_off(low.x, high.x, second.low.x, second.high.x, d) {
         return true;
     }
-    if is_past(second.high.x, first.low.x, d) {
+    if is_span_off(low.y, high.y, second.low.y, second.high.y, d) {
         return true;
     }
-    if is_past(first.high.y, second.low.y, d) {
-        return true;
-    }
-    if is_past(second.high.y, first.low.y, d) {
-        return true;
-    }
-    if is_past(first.high.z, second.low.z, d) {
-        return true;
-    }
-    is_past(second.high.z, first.low.z, d)
+    is_span_off(low.z, high.z, second.low.z, second.high.z, d)
 }
 
 /// The least box with two boxes in it.
@@ -157,14 +156,14 @@ pub fn no_extent() -> Extent
 {
     Extent {
         low: Point {
-            x: 8000000,
-            y: 8000000,
-            z: 8000000,
+            x: GRID_LIMIT,
+            y: GRID_LIMIT,
+            z: GRID_LIMIT,
         },
         high: Point {
-            x: -8000000,
-            y: -8000000,
-            z: -8000000,
+            x: -GRID_LIMIT,
+            y: -GRID_LIMIT,
+            z: -GRID_LIMIT,
         },
     }
 }

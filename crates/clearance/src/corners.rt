@@ -1,7 +1,7 @@
 // A triangle's corners as vectors.
 ghost use Rattle.std.specs.Prelude.{◌≡◌};
 ghost use Rattle.tri_exact.specs.Places.{at, IsPoint};
-ghost use Rattle.clearance.specs.Near.{IsGridPoint, IsInGrid, vector_of, shape_of};
+ghost use Rattle.bim_model.specs.Points.{IsGridPoint, IsInGrid, vector_of, shape_of};
 ghost use Rattle.clearance.specs.Corners.{face_of, InGrid};
 
 use bim_model::{Point, Triangle};

@@ -1,6 +1,6 @@
 // The edges of two triangles: for each pair of corners the edges that start there.
 ghost use Rattle.std.specs.Prelude.{◌≡◌, ◌≤◌, ◌↔◌, unsigned_abs, IsTrue};
-ghost use Rattle.tri_exact.specs.Space.{dot_of, minus};
+ghost use Rattle.exact_arith.specs.Space.{dot_of, minus};
 ghost use Rattle.tri_exact.specs.Places.{at, IsPoint};
 ghost use Rattle.clearance.specs.Corners.{face_of, InGrid};
 ghost use Rattle.clearance.specs.Rows.{CornerNear, RowNear, EdgesNear};

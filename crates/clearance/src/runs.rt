@@ -1,10 +1,10 @@
 // Lists of triangles in runs of sixteen, each run with its box, so that most runs are passed over at once.
 // The boxes of up to 512 triangles lie on the stack.
 ghost use Rattle.std.specs.Prelude.{◌≡◌, ◌≤◌, ◌↔◌, ◌⊎◌, IsTrue, All, length, take, drop};
-ghost use Rattle.clearance.specs.Near.{IsInGrid, Near, NearAny, ListsNear};
+ghost use Rattle.bim_model.specs.Points.{IsInGrid, shape_of};
+ghost use Rattle.clearance.specs.Near.{Near, NearAny, ListsNear};
 ghost use Rattle.clearance.specs.Boxes.{InExtent, IsExtent, Wider, IsOff};
 ghost use Rattle.clearance.specs.Runs.{AllIn, AllReach, RunsIn};
-ghost use Rattle.clearance.specs.Near.{shape_of};
 
 use crate::boxes::{extent_of, extent_of_all, is_off, join, no_extent};
 use crate::triangles::test_near;

@@ -1,6 +1,6 @@
 // A triangle with an area, and the corners and edges of another.
 ghost use Rattle.std.specs.Prelude.{◌≡◌, ◌≤◌, ◌↔◌, unsigned_abs, IsTrue};
-ghost use Rattle.tri_exact.specs.Space.{dot_of, minus, normal};
+ghost use Rattle.exact_arith.specs.Space.{dot_of, minus, normal};
 ghost use Rattle.tri_exact.specs.Places.{at, IsPoint};
 ghost use Rattle.tri_exact.specs.Within.{HasArea, FootWithin};
 ghost use Rattle.clearance.specs.Corners.{face_of, InGrid};

@@ -1,6 +1,7 @@
 // Two elements.
 ghost use Rattle.std.specs.Prelude.{◌≡◌, ◌+◌, ◌≤◌, ◌↔◌, IsTrue, All};
-ghost use Rattle.clearance.specs.Near.{IsInGrid, ListsNear, ElementsNear, ElementInGrid};
+ghost use Rattle.bim_model.specs.Points.{IsInGrid};
+ghost use Rattle.clearance.specs.Near.{ListsNear, ElementsNear, ElementInGrid};
 
 use crate::boxes::extent_of_all;
 use crate::runs::{BLOCK, RUN, block_near, pairs_near, split_front};

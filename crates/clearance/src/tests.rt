@@ -1,9 +1,9 @@
-ghost use Rattle.std.specs.Prelude.{◌≤◌, unsigned_abs};
-ghost use Rattle.std.specs.Prelude.{◌≡◌, ◌<◌, All, IfOk};
-ghost use Rattle.clearance.specs.Near.{IsGridPoint, IsInGrid, ElementInGrid};
+ghost use Rattle.std.specs.Prelude.{◌≤◌, unsigned_abs, ◌≡◌, ◌<◌, All, IfOk};
+ghost use Rattle.bim_model.specs.Points.{grid_limit, IsGridPoint, IsInGrid};
+ghost use Rattle.clearance.specs.Near.{ElementInGrid};
 
 use super::*;
-use bim_model::{Element, Guid, Items, Point, Steps, Text, Triangle};
+use bim_model::{Element, GRID_LIMIT, Guid, Items, Point, Steps, Text, Triangle};
 use std::alloc::{AllocError, Global};
 use std::marker::Brand;
 use std::process::Abort;
@@ -12,13 +12,13 @@ use std::test::Fail;
 
 /// A coordinate of the grid; each table holds such.
 fn coordinate(x: i32) -> i32
-    ensures { unsigned_abs result ≤ 8000000 }
+    ensures { unsigned_abs result ≤ grid_limit }
 {
-    if x > 8000000 {
-        return 8000000;
+    if x > GRID_LIMIT {
+        return GRID_LIMIT;
     }
-    if x < -8000000 {
-        return -8000000;
+    if x < -GRID_LIMIT {
+        return -GRID_LIMIT;
     }
     x
 }
@@ -103,14 +103,14 @@ fn by_hand(rt: HostRuntime) {
         ),
         (
             [
-                [-8000000, -8000000, 0],
-                [8000000, -8000000, 0],
-                [-8000000, 8000000, 0],
+                [-GRID_LIMIT, -GRID_LIMIT, 0],
+                [GRID_LIMIT, -GRID_LIMIT, 0],
+                [-GRID_LIMIT, GRID_LIMIT, 0],
             ],
             [
-                [-8000000, -8000000, 10000],
-                [8000000, -8000000, 10000],
-                [-8000000, 8000000, 10000],
+                [-GRID_LIMIT, -GRID_LIMIT, 10000],
+                [GRID_LIMIT, -GRID_LIMIT, 10000],
+                [-GRID_LIMIT, GRID_LIMIT, 10000],
             ],
             10000,
         ),

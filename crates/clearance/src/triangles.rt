@@ -1,6 +1,7 @@
 // Two triangles.
 ghost use Rattle.std.specs.Prelude.{◌≤◌, ◌↔◌, IsTrue};
-ghost use Rattle.clearance.specs.Near.{IsInGrid, FacesNear, Near};
+ghost use Rattle.bim_model.specs.Points.{IsInGrid};
+ghost use Rattle.clearance.specs.Near.{FacesNear, Near};
 ghost use Rattle.clearance.specs.Corners.{face_of, InGrid};
 ghost use Rattle.clearance.specs.Planes.{IsPlane};
 

@@ -11,7 +11,9 @@ use Rattle.bim_model.specs.declared.geometry.Point.{Point}
 use Rattle.ear_cut.specs.declared.views.View.{View}
 use Rattle.ear_cut.specs.declared.corners.Corner.{Corner}
 use Rattle.ear_cut.specs.declared.ears.Ear.{Ear}
-use Rattle.ear_cut.specs.Normals.{Vector, nowhere, plus, cross_of, vector_of, along, normal_of}
+use Rattle.exact_arith.specs.Space.{Vector, nowhere, plus, cross_of}
+use Rattle.bim_model.specs.Points.{vector_of}
+use Rattle.bim_model.specs.Polygons.{along, normal_of}
 use Rattle.ear_cut.specs.Views.{view_of}
 use Rattle.ear_cut.specs.Corners.{corners_from, previous, next, nobody, turn_at, angle_of, is_straight}
 use Rattle.ear_cut.specs.Removal.{first_from, is_ear, or_else, choice, ear_of, is_turned_over, cut_by, cut_of}

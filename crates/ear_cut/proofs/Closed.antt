@@ -3,7 +3,7 @@ use Rattle.std.proofs.Common.{ℕ, ◌<◌, List, length, arith}
 use Rattle.std.proofs.lemmas.Bool.Decides.{nat_tests}
 use Rattle.std.specs.Prelude.{slice_index_or}
 use Rattle.ear_cut.specs.declared.corners.Corner.{Corner}
-use Rattle.ear_cut.specs.Normals.{IsGridPoint}
+use Rattle.bim_model.specs.Points.{IsGridPoint}
 use Rattle.ear_cut.specs.Corners.{previous, next, nobody, turn_at, InGrid, AreInGrid}
 
 pub previous_within : (n i : ℕ) → i < n → previous n i < n

@@ -3,7 +3,9 @@ use Rattle.std.proofs.Common.{◌≡◌, ◌∙◌, ap, sym, refl, ℕ, ◌+◌,
 use Rattle.std.proofs.lemmas.Int.{ints}
 use Rattle.std.proofs.lemmas.List.{take_more}
 use Rattle.bim_model.specs.declared.geometry.Point.{Point}
-use Rattle.ear_cut.specs.Normals.{Vector, nowhere, plus, cross_of, vector_of, along, normal_of}
+use Rattle.exact_arith.specs.Space.{Vector, nowhere, plus, cross_of}
+use Rattle.bim_model.specs.Points.{vector_of}
+use Rattle.bim_model.specs.Polygons.{along, normal_of}
 use Rattle.ear_cut.proofs.Parts.{same_vector}
 
 -- ---- sums of vectors

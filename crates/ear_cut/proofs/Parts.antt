@@ -1,6 +1,6 @@
 -- Vectors with equal parts, and tests of several parts.
 use Rattle.std.proofs.Common.{◌≡◌, ◌∙◌, ap, ℤ, Bool, true, false, not, ◌&&◌, refl}
-use Rattle.ear_cut.specs.Normals.{Vector}
+use Rattle.exact_arith.specs.Space.{Vector}
 
 pub same_vector : (a b c d e f : ℤ) → a ≡ d → b ≡ e → c ≡ f → ◌≡◌ {A = Vector} (record { x = a; y = b; z = c }) (record { x = d; y = e; z = f })
 same_vector a b c d e f h k l =

@@ -10,7 +10,8 @@ use Rattle.ear_cut.specs.declared.corners.Corner.{Corner}
 use Rattle.ear_cut.specs.declared.corners.Turn.{Turn}
 use Rattle.ear_cut.specs.Views.{Spot, seen, holds}
 use Rattle.ear_cut.specs.declared.corners.Angle.TheVariants.{Straight, Reflex}
-use Rattle.ear_cut.specs.Normals.{is_nowhere, cross_of, step}
+use Rattle.exact_arith.specs.Space.{is_nowhere, cross_of}
+use Rattle.bim_model.specs.Points.{step}
 use Rattle.ear_cut.specs.Corners.{nobody, angle_of}
 use Rattle.ear_cut.specs.Removal.{first_from, is_free, is_ear, is_ear_at}
 use Rattle.ear_cut.specs.Notes.{IsFirst, IsClearTo}

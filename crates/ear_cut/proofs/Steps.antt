@@ -6,7 +6,8 @@ use Rattle.bim_model.specs.declared.geometry.Point.{Point}
 use Rattle.ear_cut.specs.declared.views.View.{View}
 use Rattle.ear_cut.specs.declared.corners.Corner.{Corner}
 use Rattle.ear_cut.specs.declared.ears.Ear.{Ear}
-use Rattle.ear_cut.specs.Normals.{IsGridPoint, normal_of}
+use Rattle.bim_model.specs.Points.{IsGridPoint}
+use Rattle.bim_model.specs.Polygons.{normal_of}
 use Rattle.ear_cut.specs.Views.{view_of}
 use Rattle.ear_cut.specs.Corners.{corners_from, turn_at, angle_of, AreInGrid}
 use Rattle.ear_cut.proofs.Places.{length-corners}

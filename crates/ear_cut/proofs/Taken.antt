@@ -10,7 +10,7 @@ use Rattle.ear_cut.specs.declared.corners.Corner.{Corner}
 use Rattle.ear_cut.specs.declared.corners.Turn.{Turn}
 use Rattle.ear_cut.specs.declared.notes.Note.{Note}
 use Rattle.ear_cut.specs.Corners.{previous, next, nobody, turn_at, angle_of, AreInGrid}
-use Rattle.ear_cut.specs.Normals.{IsGridPoint}
+use Rattle.bim_model.specs.Points.{IsGridPoint}
 use Rattle.ear_cut.specs.Removal.{is_free}
 use Rattle.ear_cut.specs.Notes.{blank, fresh, shifted, place_behind, IsClearTo, IsTrueOf, IsNoted, IsTaken}
 

@@ -2,7 +2,8 @@
 use Rattle.std.specs.Prelude.{ℕ, List, [], ◌∷◌, slice_index_or}
 use Rattle.bim_model.specs.declared.geometry.Point.{Point}
 use Rattle.ear_cut.specs.declared.ears.Ear.{Ear}
-use Rattle.ear_cut.specs.Normals.{Vector, nowhere, plus, normal_of}
+use Rattle.exact_arith.specs.Space.{Vector, nowhere, plus}
+use Rattle.bim_model.specs.Polygons.{normal_of}
 use Rattle.ear_cut.specs.Corners.{nobody}
 
 -- the point at a place

@@ -6,7 +6,8 @@ use Rattle.ear_cut.specs.declared.corners.Corner.{Corner}
 use Rattle.ear_cut.specs.declared.corners.Turn.{Turn}
 use Rattle.ear_cut.specs.declared.corners.Angle.{Angle}
 use Rattle.ear_cut.specs.declared.corners.Angle.TheVariants.{Straight, Convex, Reflex}
-use Rattle.ear_cut.specs.Normals.{IsGridPoint, is_nowhere, cross_of, step}
+use Rattle.bim_model.specs.Points.{IsGridPoint, step}
+use Rattle.exact_arith.specs.Space.{is_nowhere, cross_of}
 use Rattle.ear_cut.specs.Views.{seen, area}
 
 -- points with their places, counted from n on

@@ -1,4 +1,3 @@
-pub mod Normals
 pub mod Views
 pub mod Corners
 pub mod Removal

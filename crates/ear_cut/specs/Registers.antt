@@ -3,7 +3,7 @@ use Rattle.std.specs.Prelude.{ℕ, ◌≤◌, unsigned_abs}
 use Rattle.ear_cut.specs.declared.normals.Normal.{Normal}
 use Rattle.ear_cut.specs.declared.coordinates.Way.{Way}
 use Rattle.ear_cut.specs.declared.coordinates.Flat.{Flat}
-use Rattle.ear_cut.specs.Normals.{Vector}
+use Rattle.exact_arith.specs.Space.{Vector}
 use Rattle.ear_cut.specs.Views.{Spot}
 
 abbrev pub as_vector : Normal → Vector

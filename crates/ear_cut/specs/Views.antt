@@ -5,7 +5,7 @@ use Rattle.bim_model.specs.declared.geometry.Point.{Point}
 use Rattle.ear_cut.specs.declared.views.Axis.{Axis}
 use Rattle.ear_cut.specs.declared.views.Axis.TheVariants.{X, Y, Z}
 use Rattle.ear_cut.specs.declared.views.View.{View}
-use Rattle.ear_cut.specs.Normals.{Vector, is_nowhere}
+use Rattle.exact_arith.specs.Space.{Vector, is_nowhere}
 
 -- the axis of the greatest component by size, the first on a tie
 abbrev pub axis_of : Vector → Axis

@@ -1,5 +1,6 @@
 // Coordinates in 64 bits, with bounds that keep each sum and product within them.
 ghost use Rattle.std.specs.Prelude.{◌≤◌, unsigned_abs};
+ghost use Rattle.bim_model.specs.Points.{grid_limit, step_limit};
 
 /// A step from a point of the grid to another, or to one from the origin.
 #[derive(Clone, Copy)]
@@ -7,9 +8,9 @@ pub struct Way {
     pub x: i64,
     pub y: i64,
     pub z: i64,
-    ghost x_in: { unsigned_abs x ≤ 16000000 },
-    ghost y_in: { unsigned_abs y ≤ 16000000 },
-    ghost z_in: { unsigned_abs z ≤ 16000000 },
+    ghost x_in: { unsigned_abs x ≤ step_limit },
+    ghost y_in: { unsigned_abs y ≤ step_limit },
+    ghost z_in: { unsigned_abs z ≤ step_limit },
 }
 
 /// A point as a view shows it.
@@ -17,8 +18,8 @@ pub struct Way {
 pub struct Flat {
     pub u: i64,
     pub v: i64,
-    ghost u_in: { unsigned_abs u ≤ 8000000 },
-    ghost v_in: { unsigned_abs v ≤ 8000000 },
+    ghost u_in: { unsigned_abs u ≤ grid_limit },
+    ghost v_in: { unsigned_abs v ≤ grid_limit },
 }
 
 /// A triangle as a view shows it.

@@ -1,6 +1,7 @@
 // The corners of a polygon that remain.
 ghost use Rattle.std.specs.Prelude.{◌≡◌, ◌≤◌, ◌<◌, length, All, IfOk};
-ghost use Rattle.ear_cut.specs.Normals.{IsGridPoint, is_nowhere, cross_of, step};
+ghost use Rattle.bim_model.specs.Points.{IsGridPoint, step};
+ghost use Rattle.exact_arith.specs.Space.{is_nowhere, cross_of};
 ghost use Rattle.ear_cut.specs.Corners.{corners_from, previous, next, turn_at, angle_of, by_sign, InGrid};
 
 use crate::normals::{cross, step};

@@ -1,6 +1,8 @@
 // The normal of a closed polygon.
 ghost use Rattle.std.specs.Prelude.{◌≡◌, ◌≤◌, ◌<◌, ◌+◌, ◌*◌, ℕ, All, length};
-ghost use Rattle.ear_cut.specs.Normals.{plus, cross_of, vector_of, step, IsGridPoint, normal_of};
+ghost use Rattle.exact_arith.specs.Space.{plus, cross_of};
+ghost use Rattle.bim_model.specs.Points.{grid_limit, vector_of, step, IsGridPoint};
+ghost use Rattle.bim_model.specs.Polygons.{normal_of};
 ghost use Rattle.ear_cut.specs.Registers.{as_vector, IsWithin, as_way, IsStep};
 
 use crate::coordinates::Way;
@@ -18,7 +20,7 @@ pub struct Normal {
 fn from_origin(p: Point) -> Way
     requires { IsGridPoint p }
     ensures value { as_way result ≡ vector_of p }
-    ensures small { IsStep result 8000000 }
+    ensures small { IsStep result grid_limit }
 {
     Way {
         x: i64::from(p.x),

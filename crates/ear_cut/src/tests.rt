@@ -1,8 +1,8 @@
 ghost use Rattle.std.specs.Prelude.{◌≤◌, All, IfOk, unsigned_abs};
-ghost use Rattle.ear_cut.specs.Normals.{IsGridPoint};
+ghost use Rattle.bim_model.specs.Points.{grid_limit, IsGridPoint};
 
 use super::*;
-use bim_model::Point;
+use bim_model::{GRID_LIMIT, Point};
 use std::alloc::{AllocError, Global};
 use std::test::Fail;
 
@@ -187,19 +187,19 @@ static CASES: [Case; 32] = [
     // As large as the grid.
     Case {
         corners: &[
-            [-8000000, -8000000, 8000000],
-            [8000000, -8000000, 8000000],
-            [8000000, 8000000, 8000000],
-            [-8000000, 8000000, 8000000],
+            [-GRID_LIMIT, -GRID_LIMIT, GRID_LIMIT],
+            [GRID_LIMIT, -GRID_LIMIT, GRID_LIMIT],
+            [GRID_LIMIT, GRID_LIMIT, GRID_LIMIT],
+            [-GRID_LIMIT, GRID_LIMIT, GRID_LIMIT],
         ],
         ears: &[[3, 0, 1], [1, 2, 3]],
     },
     Case {
         corners: &[
-            [-8000000, -8000000, -8000000],
-            [8000000, 8000000, -8000000],
-            [8000000, 8000000, 8000000],
-            [-8000000, -8000000, 8000000],
+            [-GRID_LIMIT, -GRID_LIMIT, -GRID_LIMIT],
+            [GRID_LIMIT, GRID_LIMIT, -GRID_LIMIT],
+            [GRID_LIMIT, GRID_LIMIT, GRID_LIMIT],
+            [-GRID_LIMIT, -GRID_LIMIT, GRID_LIMIT],
         ],
         ears: &[[3, 0, 1], [1, 2, 3]],
     },
@@ -377,13 +377,13 @@ static CASES: [Case; 32] = [
 
 /// A coordinate of the grid; each table holds such.
 fn coordinate(x: i32) -> i32
-    ensures { unsigned_abs result ≤ 8000000 }
+    ensures { unsigned_abs result ≤ grid_limit }
 {
-    if x > 8000000 {
-        return 8000000;
+    if x > GRID_LIMIT {
+        return GRID_LIMIT;
     }
-    if x < -8000000 {
-        return -8000000;
+    if x < -GRID_LIMIT {
+        return -GRID_LIMIT;
     }
     x
 }

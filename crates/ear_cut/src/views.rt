@@ -1,6 +1,7 @@
 // The view in which a polygon is cut.
 ghost use Rattle.std.specs.Prelude.{◌≡◌, ◌≤◌, pos, int_lt, unsigned_abs};
-ghost use Rattle.ear_cut.specs.Normals.{IsGridPoint, is_nowhere};
+ghost use Rattle.bim_model.specs.Points.{IsGridPoint};
+ghost use Rattle.exact_arith.specs.Space.{is_nowhere};
 ghost use Rattle.ear_cut.specs.Views.{axis_of, component, view_of, seen, bend, area, same_spot, is_corner, holds};
 ghost use Rattle.ear_cut.specs.Registers.{as_vector, as_spot};
 

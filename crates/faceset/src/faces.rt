@@ -1,6 +1,6 @@
 //! Faces cut into triangles.
 ghost use Rattle.std.specs.Prelude.{◌≡◌, ◌≤◌, ◌<◌, ◌+◌, length, map, All, Any, IfOk, IfSome, MatchOption, option_copied};
-ghost use Rattle.ear_cut.specs.Normals.{IsGridPoint};
+ghost use Rattle.bim_model.specs.Points.{IsGridPoint};
 ghost use Rattle.ear_cut.specs.Areas.{point_at};
 ghost use Rattle.ear_cut.specs.Removal.{cut_of};
 ghost use Rattle.faceset.specs.Sets.{AreCorners, triangle_of, outline, IsMisnamed, most_corners};

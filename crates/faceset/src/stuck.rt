@@ -2,7 +2,7 @@
 ghost use Rattle.std.specs.Prelude.{◌<◌, ℕ, All, IfOk, MatchOption, option_copied};
 ghost use Rattle.std.specs.Bool.{MatchBool};
 ghost use Rattle.std.specs.List.Sorted.{IsStrictlyIncreasing};
-ghost use Rattle.ear_cut.specs.Normals.{IsGridPoint};
+ghost use Rattle.bim_model.specs.Points.{IsGridPoint};
 ghost use Rattle.faceset.specs.Sets.{HasStuck};
 ghost use Rattle.faceset.specs.Cuts.{LeastOf};
 ghost use Rattle.faceset.specs.Numbers.{IsStuckFace, IsStuckIn};

@@ -1,6 +1,6 @@
 //! The triangles of face sets.
 ghost use Rattle.std.specs.Prelude.{◌≡◌, ℕ, ◌∷◌, [], length, sum_by, All, Any, IfOk, IfSome, MatchOption, option_copied};
-ghost use Rattle.ear_cut.specs.Normals.{IsGridPoint};
+ghost use Rattle.bim_model.specs.Points.{IsGridPoint};
 ghost use Rattle.faceset.specs.Sets.{named_faces, Joined, IsCut, SetTriangles, IsSound, HasStuck, face_count, triangle_count};
 ghost use Rattle.faceset.specs.Cuts.{IsLoose};
 

@@ -5,7 +5,7 @@ use Rattle.bim_model.specs.declared.geometry.Point.{Point}
 use Rattle.bim_model.specs.declared.upload.Mode.{Mode}
 use Rattle.p21_reader.specs.declared.value.Value21.{Value21}
 use Rattle.p21_reader.specs.declared.value.Instance.{Instance}
-use Rattle.ear_cut.specs.Normals.{IsGridPoint}
+use Rattle.bim_model.specs.Points.{IsGridPoint}
 use Rattle.ifc_units.specs.declared.scale.Scale.{Scale}
 use Rattle.ifc_units.specs.Lengths.{IsPoint, ArePoints}
 use Rattle.model_build.specs.PointTables.{ListsPoints}

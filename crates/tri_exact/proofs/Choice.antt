@@ -1,6 +1,6 @@
 -- Words for answers: one of three tests, and products of equal vectors
 use Rattle.std.proofs.Common.{◌≡◌, ◌↔◌, ◌⊎◌, inl, inr, Bool, IsTrue, true, false, refl, sym, ap, ◌∙◌}
-use Rattle.tri_exact.specs.Space.{Vector, dot_of}
+use Rattle.exact_arith.specs.Space.{Vector, dot_of}
 
 pub any_three : {r a b c : Bool} {A B C : Type 0} → IsTrue r ↔ (IsTrue a ⊎ (IsTrue b ⊎ IsTrue c)) → IsTrue a ↔ A → IsTrue b ↔ B → IsTrue c ↔ C → IsTrue r ↔ (A ⊎ (B ⊎ C))
 any_three q f g h = (

@@ -1,17 +1,16 @@
 -- A segment and a face with a common point: exactly where one of the tests says so
 use Rattle.std.proofs.Common.{ℕ, ◌+◌, ◌*◌, ◌≡◌, ◌⊎◌, inl, inr, arith, ℤ, pos, negsuc, ◌+ℤ◌, ◌-ℤ◌, ◌*ℤ◌, ◌≤ℤ◌, ◌<ℤ◌, refl, sym, ap, ◌∙◌, subst, [], ◌∷◌}
 use Rattle.std.proofs.lemmas.Int.{ints}
-use Rattle.tri_exact.specs.Space.{Vector, minus, times, dot_of, Face}
+use Rattle.exact_arith.specs.Space.{Vector, minus, times, dot_of, Face, nowhere}
 use Rattle.tri_exact.specs.Within.{mix2, mix3, Meets, HasArea, FootWithin, EdgesWithin}
 use Rattle.tri_exact.specs.Foot.{orient_of}
 use Rattle.tri_exact.specs.Pierce.{weight_a, weight_b, weight_c, PiercesFace}
-use Rattle.tri_exact.proofs.Pierce.{slope, depth}
+use Rattle.tri_exact.proofs.Pierce.{slope, depth, slope_is}
 use Rattle.exact_arith.proofs.Ring.{ring, at, lit, ◌⊕◌, ◌⊖◌, ◌⊗◌}
 use Rattle.exact_arith.proofs.Triples.{spot, ◌⊟◌, scalar, crossed}
 use Rattle.exact_arith.proofs.Order.{mul_positive, nonneg_by}
-use Rattle.tri_exact.proofs.Pose.{Pose, gap, nowhere, same_vector, length_nonneg}
+use Rattle.tri_exact.proofs.Pose.{Pose, gap, same_vector, length_nonneg}
 use Rattle.tri_exact.proofs.Weights.{Six, a1, a2, a3, b1, b2, b3, weight}
-use Rattle.tri_exact.proofs.Pierce.{slope_is}
 use Rattle.tri_exact.proofs.FootTest.{foot_yes, foot_no}
 use Rattle.tri_exact.proofs.EdgesTest.{edges_yes, edges_no, pose_in}
 use Rattle.tri_exact.proofs.TwoEdges.{edge_face, edges_pose, EdgesClose, no_length, flat_zero}

@@ -1,7 +1,7 @@
 -- Two edges: their numbers say exactly what their weights say
 use Rattle.std.proofs.Common.{ℕ, ◌+◌, ◌*◌, ◌≡◌, arith, ℤ, pos, negsuc, ◌+ℤ◌, ◌-ℤ◌, ◌*ℤ◌, ◌≤ℤ◌, ◌<ℤ◌, refl, sym, subst, [], ◌∷◌}
 use Rattle.std.proofs.lemmas.Int.{ints}
-use Rattle.tri_exact.specs.Space.{Vector, minus, times, dot_of, cross_of}
+use Rattle.exact_arith.specs.Space.{Vector, minus, times, dot_of, cross_of}
 use Rattle.tri_exact.specs.Within.{mix2, PointEdgeWithin, EdgesWithin}
 use Rattle.tri_exact.specs.Foot.{square_of, along_of, across_of, height_of}
 use Rattle.tri_exact.specs.Edges.{LinesClose}

@@ -1,7 +1,7 @@
 -- The foot of a point in a face: its numbers say exactly what its weights say
 use Rattle.std.proofs.Common.{ℕ, ◌≡◌, arith, ℤ, pos, negsuc, ◌+ℤ◌, ◌-ℤ◌, ◌*ℤ◌, ◌≤ℤ◌, ◌<ℤ◌, refl, sym, ap, ◌∙◌, subst, [], ◌∷◌}
 use Rattle.std.proofs.lemmas.Int.{ints}
-use Rattle.tri_exact.specs.Space.{Vector, plus, minus, times, dot_of, cross_of, Face}
+use Rattle.exact_arith.specs.Space.{Vector, plus, minus, times, dot_of, cross_of, Face}
 use Rattle.tri_exact.specs.Within.{mix3, HasArea, FootWithin}
 use Rattle.tri_exact.specs.Foot.{square_of, along_of, across_of, height_of}
 use Rattle.exact_arith.proofs.Ring.{ring, at, lit, ◌⊕◌, ◌⊖◌, ◌⊗◌}

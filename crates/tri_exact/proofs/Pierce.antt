@@ -1,12 +1,12 @@
 -- Where a line meets a face's plane
 use Rattle.std.proofs.Common.{◌≡◌, arith, ℤ, pos, ◌+ℤ◌, ◌-ℤ◌, ◌*ℤ◌, ◌≤ℤ◌, ◌<ℤ◌, ◌⊎◌, refl, sym, ap, ◌∙◌, subst, [], ◌∷◌}
 use Rattle.std.proofs.lemmas.Int.{ints}
-use Rattle.tri_exact.specs.Space.{Vector, minus, dot_of, cross_of, Face}
+use Rattle.exact_arith.specs.Space.{Vector, minus, dot_of, cross_of, Face, nowhere}
 use Rattle.tri_exact.specs.Foot.{height_of, orient_of}
 use Rattle.tri_exact.specs.Pierce.{weight_a, weight_b, weight_c}
 use Rattle.exact_arith.proofs.Ring.{ring, at, lit, ◌⊕◌, ◌⊖◌, ◌⊗◌}
 use Rattle.exact_arith.proofs.Triples.{Coords, spot, ◌⊟◌, ◌⊡◌, scalar, crossed}
-use Rattle.tri_exact.proofs.Pose.{Pose, gap, nowhere, same_vector, towards}
+use Rattle.tri_exact.proofs.Pose.{Pose, gap, same_vector, towards}
 
 -- the volume of p and the corners, and the sum of the three volumes of pq
 abbrev pub depth : Vector → Face → ℤ

@@ -1,7 +1,7 @@
 -- A point and an edge
 use Rattle.std.proofs.Common.{ℕ, ◌+◌, ◌*◌, ◌≡◌, ◌↔◌, arith, ℤ, pos, negsuc, ◌+ℤ◌, ◌-ℤ◌, ◌*ℤ◌, ◌≤ℤ◌, ◌<ℤ◌, refl, subst, [], ◌∷◌}
 use Rattle.std.proofs.lemmas.Int.{ints}
-use Rattle.tri_exact.specs.Space.{Vector, minus, times, dot_of}
+use Rattle.exact_arith.specs.Space.{Vector, minus, times, dot_of}
 use Rattle.tri_exact.specs.Within.{mix2, PointEdgeWithin}
 use Rattle.exact_arith.proofs.Ring.{ring, at, lit, ◌⊕◌, ◌⊖◌, ◌⊗◌}
 use Rattle.exact_arith.proofs.Triples.{spot, ◌⊞◌, ◌⊟◌, ◌⊡◌, scalar}

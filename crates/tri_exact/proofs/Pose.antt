@@ -1,7 +1,7 @@
 -- A point of each of two faces, by weights of one sum, and how they move
 use Rattle.std.proofs.Common.{zero, suc, ◌≡◌, arith, ℤ, pos, negsuc, ◌+ℤ◌, ◌-ℤ◌, ◌*ℤ◌, ◌≤ℤ◌, ◌<ℤ◌, refl, sym, ap, ◌∙◌, subst, [], ◌∷◌}
 use Rattle.std.proofs.lemmas.Int.{ints}
-use Rattle.tri_exact.specs.Space.{Vector, plus, minus, times, dot_of, Face}
+use Rattle.exact_arith.specs.Space.{Vector, nowhere, plus, minus, times, dot_of, Face}
 use Rattle.tri_exact.specs.Within.{mix3}
 use Rattle.exact_arith.proofs.Ring.{ring, at, lit, ◌⊕◌, ◌⊖◌, ◌⊗◌}
 use Rattle.exact_arith.proofs.Triples.{Coords, spot, ◌⊞◌, ◌⊟◌, ◌⊡◌, scalar}
@@ -15,9 +15,6 @@ same_parts x y z u v w e f g = ap (λ (t : ℤ). vector t y z) e ∙ ap (λ (t :
 
 pub same_vector : (a b : Vector) → a.x ≡ b.x → a.y ≡ b.y → a.z ≡ b.z → a ≡ b
 same_vector a b e f g = same_parts a.x a.y a.z b.x b.y b.z e f g
-
-abbrev pub nowhere : Vector
-nowhere = vector (pos 0) (pos 0) (pos 0)
 
 -- Two points of a face each, times n: the weights of the corners b and c; the corner a has the rest of n
 pub record Pose : Type 0 where

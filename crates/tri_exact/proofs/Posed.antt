@@ -1,16 +1,15 @@
 -- Points of two triangles that are close, from each of the tests
 use Rattle.std.proofs.Common.{ℕ, ◌≡◌, ◌⊎◌, inl, inr, arith, ℤ, pos, negsuc, ◌-ℤ◌, ◌*ℤ◌, ◌≤ℤ◌, ◌<ℤ◌, refl, sym, subst, [], ◌∷◌}
 use Rattle.std.proofs.lemmas.Int.{ints}
-use Rattle.tri_exact.specs.Space.{Vector, minus, dot_of, cross_of, Face}
+use Rattle.exact_arith.specs.Space.{Vector, minus, dot_of, cross_of, Face, nowhere}
 use Rattle.tri_exact.specs.Foot.{square_of, height_of}
 use Rattle.tri_exact.specs.Pierce.{weight_b, weight_c, PiercesFace}
-use Rattle.tri_exact.proofs.Pierce.{slope, depth, Sits, SitsFace}
+use Rattle.tri_exact.proofs.Pierce.{slope, depth, Sits, SitsFace, pierce_pose, pierce_gap}
 use Rattle.exact_arith.proofs.Ring.{ring, at, lit, ◌⊖◌, ◌⊗◌}
 use Rattle.exact_arith.proofs.Order.{mul_nonneg, square_nonneg}
-use Rattle.tri_exact.proofs.Pose.{Pose, IsClose, nowhere}
+use Rattle.tri_exact.proofs.Pose.{Pose, IsClose}
 use Rattle.tri_exact.proofs.Weights.{Six, a1, a2, a3, b1, b2, b3, weight, NoNegative}
 use Rattle.tri_exact.proofs.Reach.{foot_pose, foot_gap}
-use Rattle.tri_exact.proofs.Pierce.{pierce_pose, pierce_gap}
 use Rattle.tri_exact.proofs.Through.{up_or_down, pierces_ways}
 use Rattle.tri_exact.proofs.FootTest.{low_square}
 use Rattle.tri_exact.proofs.TwoEdges.{edges_pose, EdgesClose}

@@ -1,7 +1,7 @@
 -- The gap at the foot of a point on a plane, and at the least distance of two lines
 use Rattle.std.proofs.Common.{◌≡◌, arith, ℤ, pos, ◌+ℤ◌, ◌-ℤ◌, ◌*ℤ◌, refl, sym, ap, ◌∙◌, subst, [], ◌∷◌}
 use Rattle.std.proofs.lemmas.Int.{ints}
-use Rattle.tri_exact.specs.Space.{Vector, plus, minus, times, dot_of, cross_of, Face}
+use Rattle.exact_arith.specs.Space.{Vector, plus, minus, times, dot_of, cross_of, Face}
 use Rattle.tri_exact.specs.Foot.{square_of, along_of, across_of, height_of}
 use Rattle.exact_arith.proofs.Ring.{ring, at, lit, ◌⊕◌, ◌⊖◌, ◌⊗◌}
 use Rattle.exact_arith.proofs.Triples.{spot, ◌⊞◌, ◌⊟◌, ◌⊡◌, scalar, crossed}

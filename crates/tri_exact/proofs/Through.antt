@@ -1,12 +1,11 @@
 -- A segment through a face, by the heights of its ends
 use Rattle.std.proofs.Common.{◌≡◌, inl, inr, arith, ℤ, pos, ◌+ℤ◌, ◌-ℤ◌, refl, ◌∙◌, [], ◌∷◌}
 use Rattle.std.proofs.lemmas.Int.{ints}
-use Rattle.tri_exact.specs.Space.{Vector, minus, dot_of, cross_of, Face, normal}
-use Rattle.tri_exact.proofs.Pierce.{Sits, SitsFace, slope, depth}
+use Rattle.exact_arith.specs.Space.{Vector, minus, dot_of, cross_of, Face, normal}
+use Rattle.tri_exact.proofs.Pierce.{Sits, SitsFace, slope, depth, slope_is}
 use Rattle.tri_exact.specs.Pierce.{weight_a, weight_b, weight_c, height, PiercesFace, Rises}
 use Rattle.exact_arith.proofs.Ring.{ring, lit, ◌⊖◌}
 use Rattle.exact_arith.proofs.Triples.{spot, ◌⊟◌, scalar, crossed}
-use Rattle.tri_exact.proofs.Pierce.{slope_is}
 
 depth_is : (p : Vector) (t : Face) → depth p t ≡ pos 0 -ℤ height p t
 depth_is p t =

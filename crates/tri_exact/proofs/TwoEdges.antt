@@ -1,14 +1,14 @@
 -- Two edges: where points of both are close, two ends are close to the other edge, or the lines are close between the ends
 use Rattle.std.proofs.Common.{zero, suc, ◌≡◌, ◌⊎◌, inl, inr, arith, ℤ, pos, negsuc, ◌+ℤ◌, ◌-ℤ◌, ◌*ℤ◌, ◌≤ℤ◌, ◌<ℤ◌, refl, ap, ◌∙◌, subst, List, [], ◌∷◌}
 use Rattle.std.proofs.lemmas.Int.{ints, by_lt_z}
-use Rattle.tri_exact.specs.Space.{Vector, plus, minus, times, dot_of, cross_of, Face}
+use Rattle.exact_arith.specs.Space.{Vector, plus, minus, times, dot_of, cross_of, Face, nowhere}
 use Rattle.tri_exact.specs.Within.{mix2}
 use Rattle.tri_exact.specs.Foot.{square_of, height_of}
 use Rattle.tri_exact.specs.Edges.{LinesClose}
 use Rattle.exact_arith.proofs.Ring.{ring, at, lit, ◌⊕◌, ◌⊖◌, ◌⊗◌}
 use Rattle.exact_arith.proofs.Triples.{Coords, spot, ◌⊟◌, ◌⊡◌, scalar, crossed}
 use Rattle.exact_arith.proofs.Order.{square_nonneg, certify, rest}
-use Rattle.tri_exact.proofs.Pose.{Pose, Shift, gap, aim, IsClose, nowhere, vector, same_vector, length_nonneg}
+use Rattle.tri_exact.proofs.Pose.{Pose, Shift, gap, aim, IsClose, vector, same_vector, length_nonneg}
 use Rattle.tri_exact.proofs.Weights.{Six, a1, a2, a3, b1, b2, b3, weight, change, NoNegative, In, Next, free_slide, towards_slide}
 use Rattle.tri_exact.proofs.Reach.{lines_pose, lines_aim, lines_gap}
 

@@ -1,18 +1,17 @@
 -- Two faces: from points of both that are close, by slides, to two edges, a corner over a face, or an edge through a face
 use Rattle.std.proofs.Common.{zero, suc, ◌≡◌, ◌⊎◌, inl, inr, arith, ℤ, pos, negsuc, ◌+ℤ◌, ◌-ℤ◌, ◌*ℤ◌, ◌≤ℤ◌, ◌<ℤ◌, refl, sym, ap, ◌∙◌, subst, List, [], ◌∷◌}
 use Rattle.std.proofs.lemmas.Int.{ints, by_lt_z}
-use Rattle.tri_exact.specs.Space.{Vector, plus, minus, times, dot_of, cross_of, Face}
+use Rattle.exact_arith.specs.Space.{Vector, plus, minus, times, dot_of, cross_of, Face, nowhere}
 use Rattle.tri_exact.specs.Within.{mix3, HasArea}
 use Rattle.tri_exact.specs.Foot.{square_of, along_of, across_of, height_of}
 use Rattle.tri_exact.specs.Pierce.{weight_b, weight_c}
-use Rattle.tri_exact.proofs.Pierce.{depth, slope}
+use Rattle.tri_exact.proofs.Pierce.{depth, slope, slope_is, pierce_pose, pierce_aims}
 use Rattle.exact_arith.proofs.Ring.{ring, at, lit, ◌⊕◌, ◌⊖◌, ◌⊗◌}
 use Rattle.exact_arith.proofs.Triples.{Coords, spot, ◌⊟◌, ◌⊡◌, scalar, crossed}
 use Rattle.exact_arith.proofs.Order.{nonneg_by}
-use Rattle.tri_exact.proofs.Pose.{Pose, Shift, gap, drift, aim, IsClose, nowhere, same_vector, length_nonneg}
+use Rattle.tri_exact.proofs.Pose.{Pose, Shift, gap, drift, aim, IsClose, same_vector, length_nonneg}
 use Rattle.tri_exact.proofs.Weights.{Six, a1, a2, a3, b1, b2, b3, weight, change, NoNegative, In, Next, free_slide, towards_slide}
 use Rattle.tri_exact.proofs.Reach.{foot_pose, foot_aims, foot_gap, upright_first, split_x, split_y, split_z}
-use Rattle.tri_exact.proofs.Pierce.{slope_is, pierce_pose, pierce_aims}
 use Rattle.tri_exact.proofs.TwoEdges.{edge_face, edges_pose, EdgesClose, height_low, no_length, parallel, opposite, opposite_square, flat_zero, same_pose, falling}
 
 pub data Corner : Type 0 where

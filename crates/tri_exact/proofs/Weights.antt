@@ -1,10 +1,10 @@
 -- The six weights of a pose by name, and a slide of those that are live
 use Rattle.std.proofs.Common.{◌≡◌, ◌⊎◌, inl, inr, arith, ℤ, pos, ◌+ℤ◌, ◌-ℤ◌, ◌*ℤ◌, ◌≤ℤ◌, ◌<ℤ◌, refl, sym, ◌∙◌, subst, List, [], ◌∷◌}
 use Rattle.std.proofs.lemmas.Int.{ints}
-use Rattle.tri_exact.specs.Space.{dot_of, Face}
+use Rattle.exact_arith.specs.Space.{dot_of, Face, nowhere}
 use Rattle.exact_arith.proofs.Ring.{ring, at, lit, ◌⊕◌, ◌⊖◌, ◌⊗◌}
 use Rattle.exact_arith.proofs.Order.{add_nonneg, mul_nonneg, nonneg_by}
-use Rattle.tri_exact.proofs.Pose.{Pose, Shift, gap, drift, move, aim, IsClose, first_moves, moved_free, moved_towards, reached_weight, reached, towards, nowhere}
+use Rattle.tri_exact.proofs.Pose.{Pose, Shift, gap, drift, move, aim, IsClose, first_moves, moved_free, moved_towards, reached_weight, reached, towards}
 use Rattle.tri_exact.proofs.Slide.{Pace, Hold, OneStops, NoneNegative, NoneFalls, least}
 
 pub data Six : Type 0 where

@@ -1,6 +1,6 @@
 -- A point and the inside of an edge, and the insides of two edges, by products of their directions.
 use Rattle.std.specs.Prelude.{ℤ, pos, ◌+ℤ◌, ◌-ℤ◌, ◌*ℤ◌, ◌≤ℤ◌, ◌<ℤ◌}
-use Rattle.tri_exact.specs.Space.{Vector, minus}
+use Rattle.exact_arith.specs.Space.{Vector, minus}
 use Rattle.tri_exact.specs.Foot.{square_of, along_of, across_of, height_of}
 
 -- a point over the inside of an edge whose square is l, at a square distance of at most m: w is the square of

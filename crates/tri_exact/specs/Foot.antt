@@ -1,7 +1,7 @@
 -- The numbers of the foot of a point on a plane, and of the least distance of two lines, all over the square
 -- of the plane's normal. The plane goes along e and u, and r leads from its origin to the point.
 use Rattle.std.specs.Prelude.{ℤ, pos, ◌-ℤ◌, ◌≤ℤ◌}
-use Rattle.tri_exact.specs.Space.{Vector, minus, dot_of, cross_of}
+use Rattle.exact_arith.specs.Space.{Vector, minus, dot_of, cross_of}
 
 abbrev pub square_of : Vector → Vector → ℤ
 square_of e u = dot_of (cross_of e u) (cross_of e u)

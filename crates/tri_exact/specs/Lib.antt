@@ -1,4 +1,3 @@
-pub mod Space
 pub mod Places
 pub mod Within
 pub mod Foot

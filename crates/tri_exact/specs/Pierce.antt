@@ -1,6 +1,6 @@
 -- A segment that goes through a triangle from one side of its plane to the other, by heights and volumes.
 use Rattle.std.specs.Prelude.{ℤ, pos, ◌≤ℤ◌, ◌<ℤ◌, ◌⊎◌}
-use Rattle.tri_exact.specs.Space.{Vector, minus, dot_of, Face, normal}
+use Rattle.exact_arith.specs.Space.{Vector, minus, dot_of, Face, normal}
 use Rattle.tri_exact.specs.Foot.{orient_of}
 
 -- the height of p over the triangle's plane, times the normal's length

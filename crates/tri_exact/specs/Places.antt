@@ -1,6 +1,7 @@
 -- The program's points as vectors, and the bounds of what is computed from them.
 use Rattle.std.specs.Prelude.{◌≤◌, unsigned_abs}
-use Rattle.tri_exact.specs.Space.{Vector, Face}
+use Rattle.exact_arith.specs.Space.{Vector, Face}
+use Rattle.bim_model.specs.Points.{grid_limit}
 use Rattle.tri_exact.specs.declared.V3.{V3}
 use Rattle.tri_exact.specs.declared.W3.{W3}
 use Rattle.tri_exact.specs.declared.Normal.{Normal}
@@ -17,13 +18,13 @@ straight n = record { x = n.x; y = n.y; z = n.z }
 abbrev pub face_at : V3 → V3 → V3 → Face
 face_at a b c = record { a = at a; b = at b; c = at c }
 
--- a point of the grid: each coordinate within 8,000,000
+-- a point of the grid
 pub record IsPoint (p : V3) : Type 0 where
-  pub x_in : unsigned_abs p.x ≤ 8000000
-  pub y_in : unsigned_abs p.y ≤ 8000000
-  pub z_in : unsigned_abs p.z ≤ 8000000
+  pub x_in : unsigned_abs p.x ≤ grid_limit
+  pub y_in : unsigned_abs p.y ≤ grid_limit
+  pub z_in : unsigned_abs p.z ≤ grid_limit
 
--- the vector product of two vectors within 16,000,000: 2 · 16,000,000² at most
+-- the vector product of two ways between points of the grid
 pub record IsCross (n : W3) : Type 0 where
   pub x_in : unsigned_abs n.x ≤ 512000000000000
   pub y_in : unsigned_abs n.y ≤ 512000000000000

@@ -4,7 +4,7 @@
 -- of the weights, which is above zero. These are all of its points whose shares are fractions, and a least
 -- distance between points of such figures with whole corners is always taken at one of them.
 use Rattle.std.specs.Prelude.{ℕ, ◌+◌, ◌*◌, ◌<◌, ◌≡◌, ℤ, pos, ◌≤ℤ◌, ◌<ℤ◌}
-use Rattle.tri_exact.specs.Space.{Vector, plus, minus, times, dot_of, Face, normal}
+use Rattle.exact_arith.specs.Space.{Vector, plus, minus, times, dot_of, Face, normal}
 
 -- the corners times their weights
 abbrev pub mix2 : Vector → Vector → ℤ → ℤ → Vector

@@ -1,6 +1,6 @@
 // Points and edges, and two edges.
 ghost use Rattle.std.specs.Prelude.{ℕ, ◌≡◌, ◌≤◌, ℤ, pos, ◌*ℤ◌, ◌↔◌, unsigned_abs, IsTrue};
-ghost use Rattle.tri_exact.specs.Space.{dot_of};
+ghost use Rattle.exact_arith.specs.Space.{dot_of};
 ghost use Rattle.tri_exact.specs.Places.{at, IsPoint};
 ghost use Rattle.tri_exact.specs.Within.{PointEdgeWithin, EdgesWithin};
 ghost use Rattle.tri_exact.specs.Edges.{Beside, Crosses, LinesClose};

@@ -2,6 +2,7 @@
 #![tactic(auto)]
 
 ghost use Rattle.std.specs.Prelude.{◌≤◌, unsigned_abs};
+ghost use Rattle.bim_model.specs.Points.{step_limit};
 
 mod crossing;
 mod edges;
@@ -21,9 +22,9 @@ pub struct V3 {
     pub x: i64,
     pub y: i64,
     pub z: i64,
-    ghost x_in: { unsigned_abs x ≤ 16000000 },
-    ghost y_in: { unsigned_abs y ≤ 16000000 },
-    ghost z_in: { unsigned_abs z ≤ 16000000 },
+    ghost x_in: { unsigned_abs x ≤ step_limit },
+    ghost y_in: { unsigned_abs y ≤ step_limit },
+    ghost z_in: { unsigned_abs z ≤ step_limit },
 }
 
 /// A vector of products, in squares of grid numbers.

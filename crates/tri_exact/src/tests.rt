@@ -1,17 +1,21 @@
 ghost use Rattle.std.specs.Prelude.{◌≤◌, unsigned_abs};
+ghost use Rattle.bim_model.specs.Points.{grid_limit};
 ghost use Rattle.tri_exact.specs.Places.{IsPoint};
 
 use super::*;
+use bim_model::GRID_LIMIT;
+
+const LIMIT: i64 = GRID_LIMIT as i64;
 
 /// A coordinate of the grid; each table holds such.
 fn coordinate(x: i64) -> i64
-    ensures { unsigned_abs result ≤ 8000000 }
+    ensures { unsigned_abs result ≤ grid_limit }
 {
-    if x > 8000000 {
-        return 8000000;
+    if x > LIMIT {
+        return LIMIT;
     }
-    if x < -8000000 {
-        return -8000000;
+    if x < -LIMIT {
+        return -LIMIT;
     }
     x
 }
@@ -51,7 +55,7 @@ fn points_and_edges(rt: HostRuntime) {
         ([3, 0, 0], [-5, 0, 0], [5, 0, 0], 0),
         ([3, 3, 8], [3, 3, 3], [3, 3, 3], 5),
         ([1, 1, 0], [0, 0, 0], [3, 3, 3], 1),
-        ([0, 0, 10000], [-8000000, 0, 0], [8000000, 0, 0], 10000),
+        ([0, 0, 10000], [-LIMIT, 0, 0], [LIMIT, 0, 0], 10000),
     ];
     for (p, a, b, least) in rows {
         if least > 10000 {
@@ -83,10 +87,10 @@ fn edges_and_edges(rt: HostRuntime) {
         ([0, 0, 0], [10, 10, 0], [1, 0, 0], [11, 10, 0], 1),
         ([0, 0, 0], [-5, 0, 0], [1, 1, 1], [9, 9, 9], 2),
         (
-            [-8000000, 0, 0],
-            [8000000, 0, 0],
-            [0, -8000000, 10000],
-            [0, 8000000, 10000],
+            [-LIMIT, 0, 0],
+            [LIMIT, 0, 0],
+            [0, -LIMIT, 10000],
+            [0, LIMIT, 10000],
             10000,
         ),
     ];

@@ -1,5 +1,5 @@
 use Rattle.std.proofs.Common.{ap, ◌∙◌}
-use Rattle.box_lanes.specs.Gaps.{is_within}
+use Rattle.bim_model.specs.Gaps.{is_within}
 use Rattle.box_lanes.proofs.Places.{place_taken, place_passed}
 use Rattle.box_lanes.proofs.plain.places_within.Goals as goal
 use Rattle.box_lanes.proofs.plain.places_within.Goals.{then-is_within+in_ok-push, else-is_within}

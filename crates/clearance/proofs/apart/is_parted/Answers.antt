@@ -1,5 +1,5 @@
 use Rattle.std.proofs.Common.{◌≡◌, ◌∙◌, ap, ℕ, ℤ, ◌≤ℤ◌, ◌≤◌, unsigned_abs, subst}
-use Rattle.tri_exact.specs.Space.{Vector, minus, dot_of}
+use Rattle.exact_arith.specs.Space.{Vector, minus, dot_of}
 use Rattle.tri_exact.specs.Places.{at, straight}
 use Rattle.clearance.specs.Corners.{face_of}
 use Rattle.clearance.specs.Apart.{Apart}

@@ -1,6 +1,6 @@
 use Rattle.std.proofs.Common.{All, take}
 use Rattle.bim_model.specs.declared.geometry.Triangle.{Triangle}
-use Rattle.clearance.specs.Near.{shape_of}
+use Rattle.bim_model.specs.Points.{shape_of}
 use Rattle.clearance.specs.Boxes.{InExtent, IsExtent}
 use Rattle.clearance.proofs.boxes.extent_of_all.Given as goal
 

@@ -1,5 +1,5 @@
 use Rattle.std.proofs.Common.{◌≡◌, ◌∙◌, ap}
-use Rattle.tri_exact.specs.Space.{Vector, dot_of, cross_of}
+use Rattle.exact_arith.specs.Space.{Vector, dot_of, cross_of}
 use Rattle.exact_arith.proofs.Ranges.{value_kept, kept_128, bounded}
 use Rattle.clearance.proofs.planes.plane_of.Goals as goal
 

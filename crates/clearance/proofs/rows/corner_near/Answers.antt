@@ -1,7 +1,7 @@
 use Rattle.std.proofs.Common.{◌≡◌, ◌↔◌, inl, inr, ℕ, ℤ, pos, ◌-ℤ◌, ◌*ℤ◌, ◌≤ℤ◌, ◌<ℤ◌, ◌*◌, ◌≤◌, ◌+◌, to_z, arith, refl, ap, ◌∙◌, subst}
 use Rattle.std.proofs.lemmas.Int.{ints}
 use mir.Syntax.{w64}
-use Rattle.tri_exact.specs.Space.{Vector, minus, dot_of}
+use Rattle.exact_arith.specs.Space.{Vector, minus, dot_of}
 use Rattle.tri_exact.specs.Places.{at}
 use Rattle.tri_exact.specs.Edges.{Beside, Crosses}
 use Rattle.tri_exact.proofs.Choice.{not_both}

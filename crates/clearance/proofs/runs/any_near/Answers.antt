@@ -1,6 +1,6 @@
 use Rattle.std.proofs.Common.{subst}
 use Rattle.bim_model.specs.declared.geometry.Triangle.{Triangle}
-use Rattle.clearance.specs.Near.{shape_of}
+use Rattle.bim_model.specs.Points.{shape_of}
 use Rattle.clearance.specs.Boxes.{InExtent}
 use Rattle.clearance.proofs.Gaps.{near_swaps}
 use Rattle.clearance.proofs.OffBoxes.{off_far}

@@ -1,6 +1,6 @@
 use Rattle.std.proofs.Common.{All, List, ◌≡◌, ◌+◌, ◌*◌, ◌≤◌, ◌++◌, length, take}
 use Rattle.bim_model.specs.declared.geometry.Extent.{Extent}
-use Rattle.clearance.specs.Near.{IsInGrid}
+use Rattle.bim_model.specs.Points.{IsInGrid}
 use Rattle.clearance.specs.Runs.{RunsIn}
 use Rattle.clearance.proofs.runs.run_extents.Given as goal
 

@@ -2,7 +2,8 @@ use Rattle.std.proofs.Common.{pos, ◌+◌, List, All, drop, subst, sym, refl}
 use Rattle.std.proofs.lemmas.List.Elements.{All-drop}
 use Rattle.bim_model.specs.declared.geometry.Triangle.{Triangle}
 use Rattle.bim_model.specs.declared.geometry.Extent.{Extent}
-use Rattle.clearance.specs.Near.{IsInGrid, NearAny, shape_of}
+use Rattle.bim_model.specs.Points.{IsInGrid, shape_of}
+use Rattle.clearance.specs.Near.{NearAny}
 use Rattle.clearance.specs.Runs.{RunsIn, AllReach, Reaches}
 use Rattle.tri_exact.proofs.Choice.{not_both}
 use Rattle.clearance.proofs.Gaps.{near_swaps}

@@ -1,6 +1,7 @@
 use Rattle.std.proofs.Common.{All, List, drop}
 use Rattle.bim_model.specs.declared.geometry.Triangle.{Triangle}
-use Rattle.clearance.specs.Near.{IsInGrid, NearAny}
+use Rattle.bim_model.specs.Points.{IsInGrid}
+use Rattle.clearance.specs.Near.{NearAny}
 use Rattle.clearance.specs.Runs.{RunsIn}
 use Rattle.clearance.proofs.Parts.{IsLeft}
 use Rattle.clearance.proofs.runs.runs_near.Given as goal

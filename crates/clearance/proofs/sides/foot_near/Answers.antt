@@ -1,5 +1,5 @@
 use Rattle.std.proofs.Common.{◌≡◌, ◌↔◌, pos, ◌*ℤ◌, subst}
-use Rattle.tri_exact.specs.Space.{Vector}
+use Rattle.exact_arith.specs.Space.{Vector}
 use Rattle.tri_exact.specs.Places.{at}
 use Rattle.tri_exact.specs.Foot.{Inside}
 use Rattle.clearance.specs.Corners.{face_of}

@@ -2,7 +2,8 @@ use Rattle.std.proofs.Common.{List, length, All, ap, ◌∙◌, subst, sym, refl
 use Rattle.std.proofs.lemmas.List.{length-take, length-drop}
 use Rattle.std.proofs.lemmas.List.Elements.{All-drop}
 use Rattle.bim_model.specs.declared.geometry.Triangle.{Triangle}
-use Rattle.clearance.specs.Near.{IsInGrid, ListsNear}
+use Rattle.bim_model.specs.Points.{IsInGrid}
+use Rattle.clearance.specs.Near.{ListsNear}
 use Rattle.tri_exact.proofs.Choice.{not_both}
 use Rattle.clearance.proofs.Parts.{left_found, left_more, second_parts, at_most_front, fewer_left}
 use Rattle.clearance.proofs.solids.lists_near.Goals as goal

@@ -1,6 +1,7 @@
 use Rattle.std.proofs.Common.{All, List, length}
 use Rattle.bim_model.specs.declared.geometry.Triangle.{Triangle}
-use Rattle.clearance.specs.Near.{IsInGrid, ListsNear}
+use Rattle.bim_model.specs.Points.{IsInGrid}
+use Rattle.clearance.specs.Near.{ListsNear}
 use Rattle.clearance.proofs.Parts.{IsLeft}
 use Rattle.clearance.proofs.solids.lists_near.Given as goal
 

@@ -1,6 +1,7 @@
 use Rattle.std.proofs.Common.{◌≡◌, ◌↔◌, List, All, ℕ, sym, subst}
 use Rattle.bim_model.specs.declared.geometry.Triangle.{Triangle}
-use Rattle.clearance.specs.Near.{IsInGrid, ListsNear, ElementsNear, ElementInGrid}
+use Rattle.bim_model.specs.Points.{IsInGrid}
+use Rattle.clearance.specs.Near.{ListsNear, ElementsNear, ElementInGrid}
 use Rattle.clearance.proofs.solids.solids_near.Goals as goal
 
 pub lists_near-requires-clause-ps_in : goal.lists_near-requires-clause-ps_in

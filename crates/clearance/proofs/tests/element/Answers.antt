@@ -1,5 +1,6 @@
 use Rattle.std.proofs.Common.{All, sym, subst}
-use Rattle.clearance.specs.Near.{IsInGrid, ElementInGrid}
+use Rattle.bim_model.specs.Points.{IsInGrid}
+use Rattle.clearance.specs.Near.{ElementInGrid}
 use Rattle.clearance.proofs.tests.element.Goals as goal
 
 pub returns : goal.returns

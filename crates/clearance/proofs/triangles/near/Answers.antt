@@ -1,4 +1,4 @@
-use Rattle.clearance.specs.Near.{shape_of}
+use Rattle.bim_model.specs.Points.{shape_of}
 use Rattle.clearance.proofs.OffBoxes.{off_far}
 use Rattle.clearance.proofs.triangles.near.Goals as goal
 

@@ -1,5 +1,5 @@
 use Rattle.std.proofs.Common.{◌≡◌, ℕ, ℤ, inl, inr, refl, subst}
-use Rattle.tri_exact.specs.Space.{Face}
+use Rattle.exact_arith.specs.Space.{Face}
 use Rattle.clearance.specs.Near.{FacesNear}
 use Rattle.clearance.specs.Planes.{IsClear, IsPlane, IsOver}
 use Rattle.clearance.specs.Corners.{face_of}

@@ -1,5 +1,5 @@
 use Rattle.std.proofs.Common.{All}
-use Rattle.ear_cut.specs.Normals.{IsGridPoint}
+use Rattle.bim_model.specs.Points.{IsGridPoint}
 use Rattle.ear_cut.proofs.tests.polygon.Given as goal
 
 abbrev pub invariant-loop-corner : goal.invariant-loop-corner

@@ -1,5 +1,5 @@
 use Rattle.std.proofs.Common.{rules, option_copied}
-use Rattle.ear_cut.specs.Normals.{IsGridPoint}
+use Rattle.bim_model.specs.Points.{IsGridPoint}
 use Rattle.faceset.proofs.Corners.{corners_more}
 use Rattle.faceset.proofs.faces.corners_of.Goals as goal
 

@@ -1,5 +1,5 @@
 use Rattle.std.proofs.Common.{All, take, option_copied}
-use Rattle.ear_cut.specs.Normals.{IsGridPoint}
+use Rattle.bim_model.specs.Points.{IsGridPoint}
 use Rattle.faceset.specs.Sets.{AreCorners}
 use Rattle.faceset.proofs.faces.corners_of.Given as goal
 

@@ -1,5 +1,5 @@
 use Rattle.std.proofs.Common.{◌≡◌, pos, ◌*ℤ◌, ◌↔◌, Bool, IsTrue, true, false, refl, sym, ◌∙◌, ℕ}
-use Rattle.tri_exact.specs.Space.{Vector}
+use Rattle.exact_arith.specs.Space.{Vector}
 use Rattle.tri_exact.specs.Places.{at}
 use Rattle.tri_exact.specs.Within.{PointEdgeWithin, EdgesWithin}
 use Rattle.tri_exact.specs.Edges.{LinesClose}

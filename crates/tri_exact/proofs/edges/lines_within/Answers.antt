@@ -1,5 +1,5 @@
 use Rattle.std.proofs.Common.{◌≡◌, ◌↔◌, ℤ, subst}
-use Rattle.tri_exact.specs.Space.{Vector}
+use Rattle.exact_arith.specs.Space.{Vector}
 use Rattle.tri_exact.specs.Edges.{Crosses}
 use Rattle.tri_exact.proofs.edges.lines_within.Goals as goal
 

@@ -1,5 +1,5 @@
 use Rattle.std.proofs.Common.{◌≡◌, ◌∙◌, ap, [], ◌∷◌, refl}
-use Rattle.tri_exact.specs.Space.{Vector, dot_of, cross_of, minus}
+use Rattle.exact_arith.specs.Space.{Vector, dot_of, cross_of, minus}
 use Rattle.tri_exact.specs.Places.{at, straight}
 use Rattle.exact_arith.proofs.Ring.{ring}
 use Rattle.exact_arith.proofs.Triples.{scalar, spot}

@@ -1,6 +1,6 @@
 use Rattle.std.proofs.Common.{◌≡◌, ◌+◌, ◌≤◌, map, take}
 use lib.Lanes.{mask_l}
-use Rattle.box_lanes.specs.Gaps.{places_from}
+use Rattle.box_lanes.specs.Places.{places_from}
 use Rattle.box_lanes.specs.Lanes.{meets}
 use Rattle.box_lanes.proofs.Places.{rest_of}
 use Rattle.box_lanes.proofs.table.BoxTable.add_block.Given as goal

@@ -1,7 +1,7 @@
 use Rattle.std.proofs.Common.{◌≡◌, subst, ◌∙◌}
 use Rattle.std.specs.List.{All}
 use Rattle.std.proofs.lemmas.List.Elements.{All-weaker}
-use Rattle.box_lanes.specs.Gaps.{is_within}
+use Rattle.bim_model.specs.Gaps.{is_within}
 use Rattle.box_lanes.specs.Lanes.{meets, Fits32}
 use Rattle.box_lanes.proofs.Places.{places_agree}
 use Rattle.box_lanes.proofs.table.BoxTable.within.Goals as goal

@@ -1,5 +1,5 @@
 use Rattle.std.proofs.Common.{◌≡◌, ◌*◌, take}
-use Rattle.box_lanes.specs.Gaps.{places_from}
+use Rattle.box_lanes.specs.Places.{places_from}
 use Rattle.box_lanes.specs.Lanes.{meets}
 use Rattle.box_lanes.proofs.table.BoxTable.within.Given as goal
 

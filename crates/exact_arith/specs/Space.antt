@@ -1,17 +1,29 @@
 -- Whole points and vectors of space, with no bound on their numbers.
-use Rattle.std.specs.Prelude.{ℤ, ◌+ℤ◌, ◌-ℤ◌, ◌*ℤ◌}
+use Rattle.std.specs.Prelude.{ℤ, pos, ◌+ℤ◌, ◌-ℤ◌, ◌*ℤ◌, Bool, ◌&&◌}
+use Rattle.std.specs.Ordering.{int_eq}
 
+-- a point, or a way from one to another
 pub record Vector : Type 0 where
   pub x : ℤ
   pub y : ℤ
   pub z : ℤ
 
+-- the vector without a length
+abbrev pub nowhere : Vector
+nowhere = record { x = pos 0; y = pos 0; z = pos 0 }
+
+abbrev pub is_nowhere : Vector → Bool
+is_nowhere a = int_eq a.x (pos 0) && int_eq a.y (pos 0) && int_eq a.z (pos 0)
+
+-- the sum
 abbrev pub plus : Vector → Vector → Vector
 plus a b = record { x = a.x +ℤ b.x; y = a.y +ℤ b.y; z = a.z +ℤ b.z }
 
+-- the difference: the way from b to a
 abbrev pub minus : Vector → Vector → Vector
 minus a b = record { x = a.x -ℤ b.x; y = a.y -ℤ b.y; z = a.z -ℤ b.z }
 
+-- the vector k times as long
 abbrev pub times : ℤ → Vector → Vector
 times k a = record { x = k *ℤ a.x; y = k *ℤ a.y; z = k *ℤ a.z }
 

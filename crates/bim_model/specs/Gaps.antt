@@ -1,6 +1,5 @@
--- Boxes along the axes with a small gap to a box, and their places in a list.
-use Rattle.std.specs.Prelude.{ℕ, max, nat_le, Bool, ◌&&◌, ℤ, ◌-ℤ◌, List, map}
-use Rattle.std.specs.List.{filter, enumerate_from}
+-- How far boxes along the axes lie apart.
+use Rattle.std.specs.Prelude.{ℕ, max, nat_le, Bool, ◌&&◌, ℤ, ◌-ℤ◌}
 use borrow.Author.Differences.{up}
 use Rattle.bim_model.specs.declared.geometry.Extent.{Extent}
 
@@ -15,11 +14,3 @@ is_within probe grow box =
     nat_le (gap box.low.x box.high.x probe.low.x probe.high.x) grow
     && nat_le (gap box.low.y box.high.y probe.low.y probe.high.y) grow
     && nat_le (gap box.low.z box.high.z probe.low.z probe.high.z) grow
-
--- the places of the items that pass, rising, where the first item has the place n
-abbrev pub places_from : {A : Type 0} → ℕ → (A → Bool) → List A → List ℕ
-places_from n passes items = map (λ e. e.0) (filter (λ e. passes e.1) (enumerate_from n items))
-
--- the plain filter: the places, from 0 and rising, of the boxes within grow of the probe
-abbrev pub places_within : Extent → ℕ → List Extent → List ℕ
-places_within probe grow boxes = places_from 0 (is_within probe grow) boxes
