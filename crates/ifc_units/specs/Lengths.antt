@@ -1,8 +1,8 @@
 -- The lengths and points that values of a file are on the grid (IFC4 ADD2 TC1, IfcCartesianPoint, IfcCartesianPointList3D).
-use Rattle.std.specs.Prelude.{◌≡◌, ℕ, ◌*◌, ◌<◌, ◌≤◌, ◌⊎◌, true, ℤ, unsigned_abs, List, [], ◌∷◌, Some, MatchOption}
+use Rattle.std.specs.Prelude.{◌≡◌, ℕ, ◌<◌, ◌≤◌, ◌⊎◌, true, ℤ, unsigned_abs, List, [], ◌∷◌, Some, MatchOption}
 use Rattle.std.specs.List.{slice_get, AllZip}
 use Rattle.bim_model.specs.declared.geometry.Point.{Point}
-use Rattle.bim_model.specs.declared.geometry.TheConstants.{PER_MM}
+use Rattle.bim_model.specs.declared.geometry.TheConstants.{PER_MM, FARTHEST}
 use Rattle.bim_model.specs.declared.upload.Mode.{Mode}
 use Rattle.bim_text.specs.declared.decimal.Decimal.{Decimal}
 use Rattle.bim_text.specs.Values.{Scaled}
@@ -25,7 +25,7 @@ units = unsigned_abs PER_MM
 
 -- 800 metres, in grid numbers
 abbrev pub reach : ℕ
-reach = 800000 * units
+reach = unsigned_abs FARTHEST
 
 -- Of a number.
 

@@ -1,6 +1,7 @@
 -- Frames: where the points of an object lie in what it is placed in (IFC4 ADD2 TC1, IfcAxis2Placement3D).
-use Rattle.std.specs.Prelude.{◌≢◌, ℕ, ◌<◌, ◌==◌, if◌then◌else◌, ℤ, pos, negsuc, ◌+ℤ◌, ◌-ℤ◌, ◌*ℤ◌, ◌≤ℤ◌}
+use Rattle.std.specs.Prelude.{◌≢◌, ℕ, ◌<◌, ◌==◌, if◌then◌else◌, ℤ, pos, negsuc, ◌+ℤ◌, ◌-ℤ◌, ◌*ℤ◌, ◌≤ℤ◌, unsigned_abs}
 use Rattle.bim_model.specs.declared.geometry.Point.{Point}
+use Rattle.bim_model.specs.declared.geometry.TheConstants.{FARTHEST}
 use Rattle.bim_model.specs.Models.{farthest}
 use Rattle.placement.specs.declared.axis.Axis.{Axis}
 use Rattle.placement.specs.declared.axes.Axes.{Axes}
@@ -68,4 +69,4 @@ most = 1000000000000000
 
 -- 800 metres, the farthest that one placement moves its object
 abbrev pub step : ℕ
-step = 800000
+step = unsigned_abs FARTHEST

@@ -1,14 +1,11 @@
 //! Frames along the grid.
-ghost use Rattle.std.specs.Prelude.{◌≡◌, ℕ, ◌+◌, ◌<◌, ◌≤◌, ◌+ℤ◌, ◌*ℤ◌, MatchOption, IsTrue, ◌↔◌};
+ghost use Rattle.std.specs.Prelude.{◌≡◌, ℕ, ◌+◌, ◌<◌, ◌+ℤ◌, ◌*ℤ◌, MatchOption, IsTrue, ◌↔◌};
 ghost use Rattle.bim_model.specs.declared.geometry.Point.{Point};
 ghost use Rattle.bim_model.specs.Models.{IsInReach};
 ghost use Rattle.placement.specs.Frames.{along, component, carried, IsFrame, IsWithin, AreWithin, IsNear, lengths_of, point_at, most, step};
 
 use crate::axis::Axis;
-use bim_model::{PER_MM, Point};
-
-/// How far a point may lie from zero on each axis: 800 metres.
-const FARTHEST: i64 = 800_000 * PER_MM as i64;
+use bim_model::{FARTHEST, Point};
 
 /// Three lengths in grid numbers.
 #[derive(Clone, Copy, Debug, PartialEq, Eq)]
@@ -184,5 +181,5 @@ fn short_point(at: Offset) -> Point
 fn is_near(length: i64) -> bool
     ensures { IsTrue result ↔ IsNear length }
 {
-    -FARTHEST <= length && length <= FARTHEST
+    -(FARTHEST as i64) <= length && length <= FARTHEST as i64
 }
