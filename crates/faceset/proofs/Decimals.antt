@@ -3,14 +3,13 @@ use Rattle.std.proofs.Common.{◌≡◌, ◌≢◌, ℕ, zero, suc, ◌-◌, ◌
 use Rattle.std.proofs.lemmas.Int.{ints}
 use Rattle.bim_text.specs.declared.decimal.Decimal.{Decimal}
 use Rattle.bim_text.specs.Values.{signed, SameValue}
-use Rattle.std.specs.Option.{IfSome, IfNone}
+use Rattle.std.specs.Option.{IfSome, IfNone, unwrap_or}
 use Rattle.bim_text.specs.Numbers.{Spelling, IsRead, written}
 use Rattle.bim_text.specs.Decimals.{value_of, Reads}
 use Rattle.bim_text.proofs.Parts.{parts_only}
 use Rattle.p21_reader.specs.declared.value.Value21.{Value21}
-use Rattle.std.specs.Option.{unwrap_or}
 use Rattle.std.specs.Prelude.{unsigned_abs}
-use Rattle.ifc_schema.specs.Values.{number_of}
+use Rattle.ifc_instances.specs.Values.{number_of}
 use Rattle.faceset.specs.Indexes.{whole, Writes, PointsAt, PointsNowhere}
 use Rattle.faceset.proofs.Values.{none_negative, none_fraction, many_digits, high_power, whole_product, same_trans}
 

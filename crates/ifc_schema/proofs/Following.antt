@@ -9,8 +9,8 @@ use Rattle.std.proofs.lemmas.List.{get_or_default, get_or_past, get_or-replicate
 use Rattle.std.proofs.lemmas.List.Elements.{Contains-append_left, Contains-push_cases}
 use Rattle.p21_reader.specs.declared.value.Instance.{Instance}
 use Rattle.p21_reader.specs.Uploads.{Rises}
-use Rattle.ifc_schema.specs.declared.entity.Entity.{Entity}
-use Rattle.ifc_schema.specs.declared.entity.Entity.TheVariants.{RepresentationMap, Representation}
+use Rattle.ifc_instances.specs.declared.entity.Entity.{Entity}
+use Rattle.ifc_instances.specs.declared.entity.Entity.TheVariants.{RepresentationMap, Representation}
 use Rattle.ifc_schema.specs.declared.form.Attribute.{Attribute}
 use Rattle.ifc_schema.specs.declared.form.Targets.TheVariants as targets
 use Rattle.ifc_schema.specs.declared.form.Leaf.TheVariants as leaf
@@ -21,14 +21,13 @@ use Rattle.ifc_schema.specs.declared.form.When.TheVariants.{Always, WithBody, Wi
 use Rattle.ifc_schema.specs.declared.work.Mark.{Mark}
 use Rattle.ifc_schema.specs.declared.work.Mark.TheVariants.{Unseen, Used as Met, Mapped}
 use Rattle.ifc_schema.specs.declared.work.Work.{Work}
-use Rattle.ifc_schema.specs.Entities.{is_root}
-use Rattle.ifc_schema.specs.Table.{row_of, attribute}
-use Rattle.ifc_schema.specs.Looking.{look, entity_at, row_at, row_or_none}
-use Rattle.ifc_schema.specs.Places.{IsPlaceOf}
+use Rattle.ifc_schema.specs.Used.{is_root, Used, root, named, mapped, IsMapped, Names, NamesBy, Maps}
+use Rattle.ifc_schema.specs.Table.{row_of, attribute, row_at, row_or_none}
+use Rattle.ifc_instances.specs.Looking.{look, entity_at}
+use Rattle.ifc_instances.specs.Places.{IsPlaceOf}
 use Rattle.ifc_schema.specs.Bodies.{applies}
-use Rattle.ifc_schema.specs.Used.{Used, root, named, mapped, IsMapped, Names, NamesBy, Maps}
 use Rattle.ifc_schema.specs.Marks.{rank, rank_at, mark_at, is_mapped, SoundAt, Grows, IsMarked, IsFollowed, FollowedAt, IsRootAt, Going}
-use Rattle.ifc_schema.proofs.PlaceLemmas.{rising, place_found, found_at, some_instance}
+use Rattle.ifc_instances.proofs.PlaceLemmas.{rising, place_found, found_at, some_instance}
 use Rattle.ifc_schema.proofs.Growing.{marked_on}
 
 -- The instance at a place.

@@ -6,7 +6,7 @@ use Rattle.std.specs.List.{slice_get, All}
 use Rattle.std.proofs.lemmas.List.Elements.{All-contains}
 use Rattle.p21_reader.specs.declared.value.Value21.{Value21}
 use Rattle.p21_reader.specs.declared.value.Instance.{Instance}
-use Rattle.ifc_schema.specs.declared.entity.Entity.{Entity}
+use Rattle.ifc_instances.specs.declared.entity.Entity.{Entity}
 use Rattle.ifc_schema.specs.declared.flaw.Flaw.{Flaw}
 use Rattle.ifc_schema.specs.declared.flaw.Flaw.TheVariants.{Dangling, BadShape}
 use Rattle.ifc_schema.specs.declared.form.Attribute.{Attribute}
@@ -20,9 +20,9 @@ use Rattle.ifc_schema.specs.declared.form.Need.TheVariants.{Must, OrAbsent}
 use Rattle.ifc_schema.specs.declared.form.When.{When}
 use Rattle.ifc_schema.specs.Words.{IsNumber, IsWhole}
 use Rattle.ifc_schema.specs.Forms.{fits, holds, followed}
-use Rattle.ifc_schema.specs.Table.{row_of, attribute}
-use Rattle.ifc_schema.specs.Values.{number_of, words_of, reference_of, items_of, is_absent}
-use Rattle.ifc_schema.specs.Looking.{look, entity_at, is_a, row_at, row_or_none}
+use Rattle.ifc_schema.specs.Table.{row_of, attribute, row_at, row_or_none}
+use Rattle.ifc_instances.specs.Values.{number_of, words_of, reference_of, items_of, is_absent}
+use Rattle.ifc_instances.specs.Looking.{look, entity_at, is_a}
 use Rattle.ifc_schema.specs.Bodies.{applies}
 use Rattle.ifc_schema.specs.Flaws.{LeafFlaw, NumberFlaw, WholeFlaw, ItemsFlaw, ListFlaw, ShapeFlaw, PlaceFlaw, AttributeFlaw, InstanceFlaw, bad_unless, target_flaw, wanted_flaw, any_flaw, reference_flaw}
 use Rattle.ifc_schema.specs.Used.{Used, named, LeadsTo, StandsIn}

@@ -3,12 +3,12 @@ use Rattle.std.proofs.Common.{◌≡◌, ℕ, Bool, true, false, ◌||◌, List,
 use Rattle.std.specs.Str.{bytes_eq}
 use Rattle.std.proofs.lemmas.Slice.Eq.{bytes_eq-Decides}
 use Rattle.p21_reader.specs.declared.value.Instance.{Instance}
-use Rattle.ifc_schema.specs.declared.entity.Entity.{Entity}
-use Rattle.ifc_schema.specs.declared.entity.Entity.TheVariants as entity
+use Rattle.ifc_instances.specs.declared.entity.Entity.{Entity}
+use Rattle.ifc_instances.specs.declared.entity.Entity.TheVariants as entity
 use Rattle.ifc_schema.specs.declared.form.Targets.TheVariants as targets
-use Rattle.ifc_schema.specs.Entities.{is_of, entity_of, keywords_of}
+use Rattle.ifc_instances.specs.Entities.{is_of, entity_of, keywords_of}
 use Rattle.ifc_schema.specs.Forms.{holds}
-use Rattle.ifc_schema.specs.Looking.{entity_at, is_a, is_keyword_of}
+use Rattle.ifc_instances.specs.Looking.{entity_at, is_a, is_keyword_of}
 use Rattle.ifc_schema.specs.StageFive.{is_subject}
 
 first_true : (b : Bool) → (b || false) ≡ true → b ≡ true

@@ -7,20 +7,20 @@ use Rattle.std.proofs.lemmas.Bool.{eqb-true}
 use Rattle.bim_model.specs.declared.upload.Mode.{Mode}
 use Rattle.p21_reader.specs.declared.value.Value21.{Value21}
 use Rattle.p21_reader.specs.declared.value.Instance.{Instance}
-use Rattle.ifc_schema.specs.Values.{number_of}
-use Rattle.ifc_schema.specs.Looking.{look}
+use Rattle.ifc_instances.specs.Values.{number_of}
+use Rattle.ifc_instances.specs.Looking.{look}
 use Rattle.ifc_units.specs.declared.scale.Scale.{Scale}
 use Rattle.placement.specs.declared.axis.Axis.{Axis}
 use Rattle.placement.specs.declared.axes.Axes.{Axes}
 use Rattle.placement.specs.Directions.{HasAxes, HasDirections, Oblique}
-use Rattle.placement.specs.Placed.{referred_at}
+use Rattle.ifc_instances.specs.Attributes.{referred_at}
 use Rattle.placement.proofs.Square.{square}
 use Rattle.faceset.specs.Indexes.{Writes, PointsAt, PointsNowhere}
 use Rattle.model_build.specs.Items.{is_mapped_item}
-use Rattle.model_build.specs.Least.{LeastOf}
+use Rattle.ifc_instances.specs.Least.{LeastOf}
 use Rattle.model_build.specs.Unsupported.{IsNotOne, IsTurned, IsAway, IsOtherOrigin, plain_axes}
 use Rattle.model_build.specs.Showing.{lesser, ItemShows, NamesNoTarget}
-use Rattle.model_build.proofs.OneAxes.{one_axes, same_axes}
+use Rattle.placement.proofs.OneFrame.{one_axes, same_axes}
 use Rattle.model_build.proofs.Lesser.{same_least, lesser_least}
 use Rattle.model_build.proofs.Others.{no_finding, finding}
 

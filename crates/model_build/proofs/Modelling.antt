@@ -12,7 +12,7 @@ use Rattle.bim_model.specs.declared.element.Element.{Element}
 use Rattle.bim_model.specs.Boxes.{corners_of}
 use Rattle.bim_model.specs.Models.{IsInReach, IsModelled, IsModel, triangle_count}
 use Rattle.p21_reader.specs.declared.value.Instance.{Instance}
-use Rattle.ifc_schema.specs.Looking.{look}
+use Rattle.ifc_instances.specs.Looking.{look}
 use Rattle.ifc_schema.specs.declared.outcome.Survey.{Survey}
 use Rattle.ifc_schema.specs.StageFive.{IsModelElement, Lists, used_ids, element_ids}
 use Rattle.ifc_units.specs.declared.scale.Scale.{Scale}

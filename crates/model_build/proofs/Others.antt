@@ -4,12 +4,12 @@ use Rattle.std.specs.List.{cons_option}
 use Rattle.std.proofs.lemmas.List.Elements.{Contains-append_left, Contains-append_right, Contains-append_cases, filter_map-append}
 use Rattle.p21_reader.specs.declared.value.Value21.{Value21}
 use Rattle.p21_reader.specs.declared.value.Instance.{Instance}
-use Rattle.ifc_schema.specs.Looking.{look}
-use Rattle.ifc_schema.specs.Values.{reference_of}
+use Rattle.ifc_instances.specs.Looking.{look}
+use Rattle.ifc_instances.specs.Values.{reference_of}
 use Rattle.ifc_schema.specs.Bodies.{is_body_representation}
 use Rattle.model_build.specs.Finding.{Finds}
 use Rattle.model_build.specs.Items.{spelled_items}
-use Rattle.model_build.specs.Least.{LeastOf}
+use Rattle.ifc_instances.specs.Least.{LeastOf}
 use Rattle.model_build.specs.Showing.{lesser, HasOther, HasInner, BodyShows, MapShows}
 use Rattle.model_build.proofs.Lesser.{InParts, least_none, least_more, least_all, only_one, same_least, lesser_least}
 

@@ -9,10 +9,10 @@ use Rattle.bim_model.specs.declared.upload.Mode.{Mode}
 use Rattle.bim_model.specs.declared.geometry.Point.{Point}
 use Rattle.p21_reader.specs.declared.value.Value21.{Value21}
 use Rattle.p21_reader.specs.declared.value.Instance.{Instance}
-use Rattle.ifc_schema.specs.Values.{items_of}
-use Rattle.ifc_schema.specs.Looking.{look}
-use Rattle.ifc_schema.specs.Places.{IsPlaceOf}
-use Rattle.ifc_schema.proofs.PlaceLemmas.{found_at, some_instance}
+use Rattle.ifc_instances.specs.Values.{items_of}
+use Rattle.ifc_instances.specs.Looking.{look}
+use Rattle.ifc_instances.specs.Places.{IsPlaceOf}
+use Rattle.ifc_instances.proofs.PlaceLemmas.{found_at, some_instance}
 use Rattle.ifc_units.specs.declared.scale.Scale.{Scale}
 use Rattle.ifc_units.specs.declared.fault.GridFault.{GridFault}
 use Rattle.ifc_units.specs.Lengths.{ArePoints, PointsRefused, ListRefused, InstanceRefused, Fails}
@@ -20,7 +20,7 @@ use Rattle.ifc_units.specs.declared.fault.LengthError.{LengthError}
 use Rattle.ifc_units.specs.declared.fault.LengthError.TheVariants as error
 use Rattle.ifc_units.proofs.PointFacts.{points_apart}
 use Rattle.ifc_units.proofs.InstanceFacts.{not_both}
-use Rattle.faceset.specs.Sets.{listed}
+use Rattle.ifc_instances.specs.Attributes.{listed}
 use Rattle.model_build.specs.PointTables.{IsListOf, Tabled, IsTable, kept_at, ListsPoints, Refuses}
 
 -- what stands at one place of both

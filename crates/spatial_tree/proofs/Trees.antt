@@ -1,5 +1,6 @@
 -- From places back to the objects of a file.
 use Rattle.std.proofs.Common.{◌≡◌, ℕ, ◌+◌, ◌-◌, ◌<◌, ◌≤◌, ◌==◌, ◌⊎◌, inl, inr, nat_lt, Bool, true, false, List, [], ◌∷◌, ◌++◌, length, get_or, Contains, Option, Some, None, refl, sym, ap, ◌∙◌, subst, arith}
+use Rattle.std.proofs.lemmas.Bool.{cases_Bool}
 use Rattle.std.specs.Ordering.{nat_cmp, is_lt}
 use Rattle.std.specs.List.Sorted.{IsStrictlyIncreasing, IsNonDecreasingBy, IsSortedByKey}
 use Rattle.std.proofs.lemmas.Bool.Decides.{nat_tests}
@@ -19,14 +20,10 @@ use Rattle.spatial_tree.specs.Faults.{IsFaulty}
 use Rattle.spatial_tree.proofs.Rounds.{first_step, one_up}
 use Rattle.spatial_tree.proofs.Stepping.{IsAt, stands, at_within, round_place, above_objects, finds_storey, storey_finds, first_up, from_within}
 
-tells : (b : Bool) → (b ≡ true) ⊎ (b ≡ false)
-tells true = inl refl
-tells false = inr refl
-
 not_less : (a b : ℕ) → b ≤ a → is_lt (nat_cmp a b) ≡ false
 not_less a b l =
     let f : nat_lt a b ≡ false = grind (arith, nat_tests) in
-    rw f (elim (tells (a == b)) [ inl t ↦ rw t refl | inr g ↦ rw g refl ])
+    rw f (elim (cases_Bool (a == b)) [ inl t ↦ rw t refl | inr g ↦ rw g refl ])
 
 pub sorted_by_key : {X : Type 0} (key : X → ℕ) (xs : List X) → IsNonDecreasingBy key xs → IsSortedByKey key nat_cmp xs
 sorted_by_key key xs up k d l m = not_less (key (get_or xs (k + 1) d)) (key (get_or xs k d)) (up k (k + 1) d (omega arith) m)

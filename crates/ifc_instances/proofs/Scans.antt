@@ -1,4 +1,4 @@
--- Scans for the first item that has a fault.
+-- Scans for the first item of which something holds.
 use Rattle.std.proofs.Common.{◌≡◌, ℕ, ◌+◌, ◌<◌, ◌≤◌, List, length, take, get_or, take_all, sym, subst}
 use Rattle.std.specs.List.{All, Any}
 use Rattle.std.proofs.lemmas.List.Elements.{All-push}

@@ -1,7 +1,7 @@
 ghost use Rattle.std.specs.Prelude.{◌≡◌};
 ghost use Rattle.std.specs.List.{list_any};
 ghost use Rattle.std.specs.Str.{bytes_eq};
-ghost use Rattle.ifc_schema.specs.Entities.{is_of, entity_of, is_root, subjects};
+ghost use Rattle.ifc_instances.specs.Entities.{is_of, entity_of, subjects};
 
 /// The entities whose attributes are followed (IFC4 ADD2 TC1).
 #[derive(Clone, Copy)]
@@ -182,19 +182,5 @@ impl Entity {
         ensures { result ≡ entity_of keyword.now }
     {
         ALL.iter().copied().find(|entity| entity.is(keyword))
-    }
-}
-
-/// Whether its instances are used wherever they stand.
-pub fn is_root(entity: Option<Entity>) -> bool
-    ensures { result ≡ is_root entity }
-{
-    match entity {
-        Some(Entity::Project) => true,
-        Some(Entity::Storey) => true,
-        Some(Entity::Aggregates) => true,
-        Some(Entity::Containment) => true,
-        Some(Entity::Subject) => true,
-        _ => false,
     }
 }

@@ -1,7 +1,7 @@
 use Rattle.std.proofs.Common.{Some, ap, ◌∙◌, sym}
-use Rattle.ifc_schema.specs.Places.{IsPlaceOf}
-use Rattle.ifc_schema.proofs.PlaceLemmas.{found_at}
-use Rattle.ifc_schema.proofs.look.look.Goals as goal
+use Rattle.ifc_instances.specs.Places.{IsPlaceOf}
+use Rattle.ifc_instances.proofs.PlaceLemmas.{found_at}
+use Rattle.ifc_instances.proofs.looking.look.Goals as goal
 
 pub returns : goal.returns
 returns c =

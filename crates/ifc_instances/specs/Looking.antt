@@ -2,10 +2,8 @@
 use Rattle.std.specs.Prelude.{ℕ, ◌==◌, Bool, false, List, [], Option, Some, None, option_and_then}
 use Rattle.std.specs.List.{find}
 use Rattle.p21_reader.specs.declared.value.Instance.{Instance}
-use Rattle.ifc_schema.specs.declared.entity.Entity.{Entity}
-use Rattle.ifc_schema.specs.declared.form.Attribute.{Attribute}
-use Rattle.ifc_schema.specs.Entities.{entity_of, is_of}
-use Rattle.ifc_schema.specs.Table.{row_of}
+use Rattle.ifc_instances.specs.declared.entity.Entity.{Entity}
+use Rattle.ifc_instances.specs.Entities.{entity_of, is_of}
 
 -- the instance of that number
 unfoldable pub look : List Instance → ℕ → Option Instance
@@ -23,10 +21,7 @@ is_keyword_of entity (Some keyword) = is_of entity keyword
 abbrev pub is_a : Entity → Instance → Bool
 is_a entity i = is_keyword_of entity i.keyword
 
-abbrev pub row_or_none : Option Entity → List Attribute
-row_or_none None = []
-row_or_none (Some entity) = row_of entity
-
--- the attributes of an instance that are followed
-abbrev pub row_at : Instance → List Attribute
-row_at i = row_or_none (entity_at i)
+-- a test of what is there
+abbrev pub some_passes : {X : Type 0} → (X → Bool) → Option X → Bool
+some_passes test None = false
+some_passes test (Some x) = test x

@@ -1,13 +1,10 @@
-//! What references lead to.
-ghost use Rattle.std.specs.Prelude.{◌≡◌, ◌≤◌, ◌<◌, MatchOption, option_copied, option_and_then, None, length, slice_index_or};
-ghost use Rattle.std.specs.Bool.{MatchBool, OnTrue};
+//! Where instances stand in the list of a file, by their numbers.
+ghost use Rattle.std.specs.Prelude.{◌≡◌, ◌≤◌, MatchOption, None, length};
+ghost use Rattle.std.specs.Bool.{OnTrue};
 ghost use Rattle.p21_reader.specs.Uploads.{Rises};
-ghost use Rattle.ifc_schema.specs.Looking.{look, entity_at, is_a, row_at};
-ghost use Rattle.ifc_schema.specs.Places.{IsPlaceOf};
+ghost use Rattle.ifc_instances.specs.Looking.{look};
+ghost use Rattle.ifc_instances.specs.Places.{IsPlaceOf};
 
-use crate::entity::Entity;
-use crate::form::Attribute;
-use crate::table::row_of;
 use p21_reader::{Exchange, Instance};
 
 /// Where an instance of that number would stand if the numbers rose evenly.
@@ -79,42 +76,4 @@ pub fn place_of(exchange: &Exchange, id: u64) -> Option<usize>
         return Some(far);
     }
     halved_place(exchange, id)
-}
-
-/// The instance of that number.
-pub fn look(exchange: &Exchange, id: u64) -> Option<&Instance>
-    ensures { option_copied result ≡ look exchange.now id }
-{
-    let at = place_of(exchange, id)?;
-    Some(&exchange.instances()[at])
-}
-
-/// The entity of an instance.
-pub fn entity_at(instance: &Instance) -> Option<Entity>
-    ensures { result ≡ entity_at instance.now }
-{
-    match &instance.keyword {
-        Some(keyword) => Entity::of(keyword.as_str()),
-        None => None,
-    }
-}
-
-/// Whether an instance is of that entity.
-pub fn is_a(entity: Entity, instance: &Instance) -> bool
-    ensures { result ≡ is_a entity instance.now }
-{
-    match &instance.keyword {
-        Some(keyword) => entity.is(keyword.as_str()),
-        None => false,
-    }
-}
-
-/// The attributes of an instance that are followed.
-pub fn row_at(instance: &Instance) -> &'static [Attribute]
-    ensures { result.now ≡ row_at instance.now }
-{
-    match entity_at(instance) {
-        Some(entity) => row_of(entity),
-        None => &[],
-    }
 }

@@ -1,6 +1,6 @@
 use Rattle.std.proofs.Common.{◌≡◌, get_or, length, refl}
 use Rattle.std.proofs.lemmas.Option.{slice_get_read}
-use Rattle.ifc_schema.proofs.views.attribute.Goals as goal
+use Rattle.ifc_schema.proofs.views.present.Goals as goal
 
 pub returns : goal.returns
 returns c =

@@ -1,6 +1,6 @@
 -- How the place of an instance and what a number leads to belong together.
 use Rattle.std.proofs.Common.{◌≡◌, ◌≢◌, ℕ, zero, suc, ◌<◌, ◌≤◌, ◌+◌, ◌==◌, nat_lt, ◌⊎◌, inl, inr, Bool, true, false, List, [], ◌∷◌, length, get_or, Some, None, refl, ap, map, ◌∙◌, arith}
-use Rattle.std.proofs.lemmas.Bool.{eqb-true, eqb-false, ne_eqb}
+use Rattle.std.proofs.lemmas.Bool.{cases_Bool, eqb-true, eqb-false, ne_eqb}
 use Rattle.std.proofs.lemmas.Bool.Decides.{nat_tests}
 use Rattle.std.proofs.lemmas.List.{get_or_default, get_or-map, length-map}
 use Rattle.std.specs.List.{HoldsAt}
@@ -8,18 +8,14 @@ use Rattle.std.specs.List.Sorted.{IsNonDecreasingBy}
 use Rattle.std.proofs.lemmas.Map.Keys.{non_decreasing_from_sorted, IsStrictlyIncreasing-from_sorted}
 use Rattle.p21_reader.specs.declared.value.Instance.{Instance}
 use Rattle.p21_reader.specs.Uploads.{Rises}
-use Rattle.ifc_schema.specs.Looking.{look}
-use Rattle.ifc_schema.specs.Places.{IsPlaceOf}
+use Rattle.ifc_instances.specs.Looking.{look}
+use Rattle.ifc_instances.specs.Places.{IsPlaceOf}
 
 pub some_instance : Instance
 some_instance = record { id = 0; keyword = None; values = [] }
 
-tells : (b : Bool) → (b ≡ true) ⊎ (b ≡ false)
-tells true = inl refl
-tells false = inr refl
-
 eq_is : (a b : ℕ) → a ≡ b → (a == b) ≡ true
-eq_is a b e = elim (tells (a == b)) [ inl t ↦ t | inr f ↦ absurd (eqb-false a b f e) ]
+eq_is a b e = elim (cases_Bool (a == b)) [ inl t ↦ t | inr f ↦ absurd (eqb-false a b f e) ]
 
 ne_is : (a b : ℕ) → (a ≡ b → ⊥) → (a == b) ≡ false
 ne_is = ne_eqb
@@ -50,7 +46,7 @@ pub record PlaceFound (world : List Instance) (id : ℕ) (i : Instance) : Type 0
 pub place_found : (world : List Instance) (id : ℕ) (i : Instance) → look world id ≡ Some i → PlaceFound world id i
 unfolding look
 place_found [] id i h = cc
-place_found (j ∷ js) id i h = elim (tells (j.id == id)) [
+place_found (j ∷ js) id i h = elim (cases_Bool (j.id == id)) [
   | inl t ↦ (
       let e : j ≡ i = (let k = rw t at h in cc) in
       record { at = 0; place = record { within = omega arith; number = λ d. eqb-true j.id id t; first = λ k l. absurd (omega arith) }; there = λ d. e })

@@ -2,8 +2,8 @@
 use Rattle.std.specs.Prelude.{ℕ, Bool, true, false, List, [], ◌∷◌, Option, Some, codes}
 use Rattle.std.specs.List.{list_any, find}
 use Rattle.std.specs.Str.{bytes_eq}
-use Rattle.ifc_schema.specs.declared.entity.Entity.{Entity}
-use Rattle.ifc_schema.specs.declared.entity.Entity.TheVariants.{Project, UnitAssignment, SiUnit, Storey, Aggregates, Containment, ProductShape, Representation, Placement, AxisPlacement, Point, Direction, PointList, TriangulatedFaceSet, PolygonalFaceSet, Face, FaceWithVoids, MappedItem, RepresentationMap, Operator, Subject}
+use Rattle.ifc_instances.specs.declared.entity.Entity.{Entity}
+use Rattle.ifc_instances.specs.declared.entity.Entity.TheVariants.{Project, UnitAssignment, SiUnit, Storey, Aggregates, Containment, ProductShape, Representation, Placement, AxisPlacement, Point, Direction, PointList, TriangulatedFaceSet, PolygonalFaceSet, Face, FaceWithVoids, MappedItem, RepresentationMap, Operator, Subject}
 
 -- building elements and distribution elements
 unfoldable pub subjects : List (List ℕ)
@@ -99,12 +99,3 @@ entities =
 -- the entity of a keyword
 unfoldable pub entity_of : List ℕ → Option Entity
 entity_of keyword = find (λ entity. is_of entity keyword) entities
-
--- the entities whose instances are used wherever they stand
-abbrev pub is_root : Option Entity → Bool
-is_root (Some Project) = true
-is_root (Some Storey) = true
-is_root (Some Aggregates) = true
-is_root (Some Containment) = true
-is_root (Some Subject) = true
-is_root _ = false
