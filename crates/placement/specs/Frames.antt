@@ -1,7 +1,6 @@
 -- Frames: where the points of an object lie in what it is placed in (IFC4 ADD2 TC1, IfcAxis2Placement3D).
-use Rattle.std.specs.Prelude.{◌≢◌, ℕ, ◌<◌, ◌==◌, if◌then◌else◌, ℤ, pos, negsuc, ◌+ℤ◌, ◌-ℤ◌, ◌*ℤ◌, ◌≤ℤ◌, unsigned_abs}
+use Rattle.std.specs.Prelude.{◌≢◌, ℕ, ◌<◌, ◌==◌, if◌then◌else◌, ℤ, pos, negsuc, ◌+ℤ◌, ◌-ℤ◌, ◌*ℤ◌, ◌≤ℤ◌}
 use Rattle.bim_model.specs.declared.geometry.Point.{Point}
-use Rattle.bim_model.specs.declared.geometry.TheConstants.{FARTHEST}
 use Rattle.bim_model.specs.Models.{farthest}
 use Rattle.placement.specs.declared.axis.Axis.{Axis}
 use Rattle.placement.specs.declared.axes.Axes.{Axes}
@@ -66,7 +65,3 @@ pub record IsNear (n : ℤ) : Type 0 where
 -- 10^15
 abbrev pub most : ℕ
 most = 1000000000000000
-
--- 800 metres, the farthest that one placement moves its object
-abbrev pub step : ℕ
-step = unsigned_abs FARTHEST

@@ -5,7 +5,7 @@ ghost use Rattle.p21_reader.specs.declared.limits.TheConstants.{MOST_INSTANCES};
 ghost use Rattle.placement.specs.Chains.{parent_in, parent_of, named_by};
 ghost use Rattle.placement.specs.Walks.{Ranked, Outcome, Rest, Settling, Settled, Visited, StandsAt, IsFrom};
 
-use ifc_schema::{is_absent, place_of, reference_of};
+use ifc_instances::{attribute, is_absent, place_of, reference_of};
 use p21_reader::{Exchange, Instance, Value21};
 use std::alloc::{AllocError, Global};
 
@@ -40,7 +40,7 @@ pub fn standing_of(exchange: &Exchange, id: u64) -> Option<Standing>
 fn parent_in(placement: &Instance) -> Option<Option<u64>>
     ensures { result ≡ parent_in placement.now }
 {
-    named_by(placement.values.as_slice().get(0)?)
+    named_by(attribute(placement, 0)?)
 }
 
 fn named_by(value: &Value21) -> Option<Option<u64>>
