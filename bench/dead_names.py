@@ -1,106 +1,163 @@
 #!/usr/bin/env python3
-"""Lists the names that nothing cites: bench/dead_names.py [CRATE ..]. Reads specs/*.antt and proofs/*.antt of each crate, and prints each definition
-there that no contract and no answer reaches, by way of what cites what; exit status 1 if there is one. Answers, invariants and measures, which the
-checker takes by their names, are reached. It reads text only: a name that it can't tell the place of is taken to cite every definition of that name,
-so some dead ones may be missed."""
-import collections
+"""Lists, crate by crate, the names of specs/ and proofs/ that nothing in the repository cites.
+
+    bench/dead_names.py [CRATE ..]
+
+It reads text only. A name is cited where it stands outside its own definition: in its file, or in a file that imports it from its module, or
+behind its module's path. What only dead names cite is dead too. Answers to goals, invariants and measures are cited by the check, and fields and
+constructors belong to their types, and examples that compute by refl stand for themselves, so they don't count. It ends with 0 whatever it finds."""
 import os
 import re
 import sys
 
-TOP = os.path.join(os.path.dirname(os.path.abspath(__file__)), "..", "crates")
-NAME = re.compile(r"[^\s(){}\[\],;.:|]+")
-HEAD = re.compile(r"^(?:(?:abbrev|unfoldable|opaque|pub)\s+)*(?:(?:record|data|ruleset)\s+)?([^\s(:{=]+)")
-MARKED = re.compile(r"^(?:abbrev|unfoldable|opaque|pub|record|data|ruleset)\s")
-NONE = re.compile(r"^(?:(?:pub |ghost )*use |open |(?:pub )?mod |mutual\b|module\b)")
-IMPORT = re.compile(r"^\s*(?:pub |ghost )*use ([\w.'-]+?)(?:\.\{(.*)\})?(?: as (\w+))?;?\s*$")
-PATH = re.compile(r"\b(\w+)((?:::\w+)+)")
-ANSWER = re.compile(r"^[^\n]*:\s*goal\.")
+TOP = os.path.dirname(os.path.dirname(os.path.abspath(__file__)))
+CRATES = os.path.join(TOP, "crates")
+WORD = re.compile(r"[^\s(){}\[\],;.\"|]+")
+HEAD = re.compile(r"^( *)((?:(?:pub|abbrev|unfoldable) )*)(record |data |ruleset )?([^\s(){}\[\],;.]+)(?= .*?[:=]| :)")
+IMPORT = re.compile(r"^(?:\s*)((?:pub |ghost )?use) (Rattle\.[\w.+-]+?)(?:\.\{([^}]*)\})?(?: as ([\w'-]+))?;?\s*$", re.M)
+NOT_NAMES = {"use", "mod", "module", "open", "mutual", "where", "let", "in", "elim", "unfolding", "axiom", "|", "--", "λ", "infix", "infixl", "infixr"}
+CITED_BY_CHECK = re.compile(r"(^|[\s(])goal\.|^(invariant|decreases)-")
 
 
-class File:
-    """A file by its module: what it defines, and what it imports."""
-
-    def __init__(self, crate, folder, path):
-        inner = os.path.relpath(path, os.path.join(TOP, crate, folder))
-        self.module = ".".join(["Rattle", crate, folder] + os.path.splitext(inner)[0].split(os.sep))
-        self.crate, self.path, self.is_code = crate, os.path.relpath(path, TOP), folder == "src"
-        self.taken = os.path.basename(path) in ("Answers.antt", "Invariants.antt", "Proof.antt")
-        self.lines = [line.split("//" if self.is_code else "--")[0].rstrip() for line in open(path, encoding="utf-8")]
-        self.imported, self.has_modules = {}, False
-        for line in self.lines:
-            found = IMPORT.match(line)
-            if found and found[2] is not None:
-                for item in found[2].split(","):
-                    old, _, new = item.strip().partition(" as ")
-                    self.imported[new or old] = (found[1], old)
-            elif found and ("Rattle." in found[1]):
-                self.has_modules = True
-        self.parts = [(None, self.lines)] if self.is_code else list(self.cut())
-
-    def cut(self):
-        """The definitions, each with its name and its lines; what belongs to none has the name None."""
-        name, lines = None, []
-        for line in self.lines:
-            own = not line or line[0] in " )]}" or line.startswith("unfolding ")
-            if not own:
-                found = None if NONE.match(line) else HEAD.match(line)[1]
-                if found is None or found != name or MARKED.match(line):
-                    yield name, lines
-                    name, lines = found, []
-            lines.append(line)
-        yield name, lines
+class Name:
+    def __init__(self, text, word, public, first, last, indent):
+        self.text, self.word, self.public = text, word, public
+        self.first, self.last, self.indent = first, last, indent
+        self.dead = False
 
 
-def files():
-    for crate in sorted(os.listdir(TOP)):
-        for folder, end in (("src", ".rt"), ("specs", ".antt"), ("proofs", ".antt")):
-            for place, _, names in os.walk(os.path.join(TOP, crate, folder)):
-                yield from (File(crate, folder, os.path.join(place, name)) for name in sorted(names) if name.endswith(end))
+class Text:
+    """A file: its lines, what it imports, and the names that it defines."""
+
+    def __init__(self, path):
+        self.path = path
+        with open(path, encoding="utf-8") as file:
+            source = file.read()
+        self.imports = [(m[0].startswith("pub"), m[1], m[2], m[3]) for m in IMPORT.findall(source)]
+        plain = IMPORT.sub(lambda m: "\n" * m.group(0).count("\n"), source)
+        self.lines = [re.sub(r"(^|\s)--\s.*$", "", line) for line in plain.split("\n")]
+        self.words = [WORD.findall(line) for line in self.lines]
+        parts = os.path.relpath(path, CRATES)[: -len(".antt")].split(os.sep)
+        self.module = "Rattle." + ".".join(parts) if path.endswith(".antt") else None
+        self.is_answer = len(parts) > 3  # of one function: what stands farther in are fields of answers
+        self.names = self.find_names() if self.module else []
+
+    def find_names(self):
+        found, inner = [], None
+        for at, line in enumerate(self.lines):
+            match = HEAD.match(line)
+            if inner is not None:
+                if not line.strip() or len(line) - len(line.lstrip()) > inner:
+                    continue
+                inner = None
+            if not match or match.group(4) in NOT_NAMES:
+                continue
+            indent, marks, kind, word = len(match.group(1)), match.group(2), match.group(3), match.group(4)
+            rest = line[match.end():]
+            if kind is None and not re.match(r"( \{ℓ[^}]*\})* :(\s|$)", rest):
+                continue
+            if kind in ("record ", "data "):
+                inner = indent
+            if CITED_BY_CHECK.search(rest) or CITED_BY_CHECK.search(word) or (indent > 0 and self.is_answer):
+                continue
+            if kind is None and self.is_worked_row(at, word):
+                continue
+            found.append(Name(self, word, "pub" in marks, at, self.end_of(at, indent, word), indent))
+        return found
+
+    def is_worked_row(self, at, word):
+        """Whether it is an example without variables that computes to what its type says."""
+        stated = [line for line in self.lines[at + 1 : self.end_of(at, 0, word)] if not line.startswith(" ") and line.strip()]
+        return [line for line in stated if not line.startswith("unfolding")] == [f"{word} = refl"]
+
+    def end_of(self, at, indent, word):
+        """The line behind the definition that begins there: its clauses, and what stands farther in."""
+        last = at + 1
+        for k in range(at + 1, len(self.lines)):
+            line = self.lines[k]
+            if not line.strip():
+                continue
+            if len(line) - len(line.lstrip()) <= indent:
+                first = line.split()[0]
+                if first != word and first != "unfolding" and line.strip()[0] not in "])}|,":
+                    break
+            last = k + 1
+        return last
+
+    def live(self, word, skip):
+        """Whether the word stands in a line that belongs neither to that name nor to a dead one."""
+        for at, words in enumerate(self.words):
+            if word in words and not any(n.first <= at < n.last for n in self.names if n is skip or n.dead):
+                return True
+        return False
 
 
-def cited(file, name, lines, defined, by_name):
-    """The definitions that these lines of the file may cite."""
-    text = "\n".join(line for line in lines if not IMPORT.match(line))
-    for first, rest in PATH.findall(text) if file.is_code else ():
-        path = ["Rattle", file.crate if first == "crate" else first] + rest.split("::")[1:]
-        yield from ((".".join(path[:-1]), path[-1]),)
-    for word in set(NAME.findall(text)) - {name}:
-        if (file.module, word) in defined:
-            yield (file.module, word)
-        elif word in file.imported:
-            place = file.imported[word]
-            yield from (place,) if place in defined else by_name[place[1]]
-        elif not file.is_code or file.has_modules:
-            yield from by_name[word]
+def texts():
+    for folder, folders, files in os.walk(CRATES):
+        folders[:] = sorted(f for f in folders if f not in ("out", "data"))
+        for file in sorted(files):
+            if file.endswith((".antt", ".rt")):
+                yield Text(os.path.join(folder, file))
+
+
+def importers(all_texts):
+    """By module and name: the files that import it, and under which word there. A name that is passed on is cited."""
+    table = {}
+    for text in all_texts:
+        for passed_on, module, names, alias in text.imports:
+            for name in names.split(","):
+                name, _, other = name.strip().partition(" as ")
+                if name:
+                    table.setdefault((module, name), []).append((text, other.strip() or name, passed_on))
+            if not names:
+                table.setdefault((module, None), []).append((text, alias or module.split(".")[-1], passed_on))
+    return table
+
+
+def is_cited(name, table, paths):
+    text, word = name.text, name.word
+    if text.live(word, name):
+        return True
+    if not name.public:
+        return False
+    for other, alias, passed_on in table.get((text.module, word), []):
+        if passed_on or other.live(alias, None):
+            return True
+    for other, _, passed_on in table.get((text.module, None), []):
+        if passed_on or other.live(word, None):
+            return True
+    path = "::".join(text.module.split(".")[2:] + [word])
+    return path in paths
 
 
 def main():
-    defined, by_name, roots = {}, collections.defaultdict(list), []
-    every = list(files())
-    for file in every:
-        for name, lines in file.parts:
-            if name is None or (file.taken and any(map(ANSWER.match, lines))) or file.path.endswith("Proof.antt"):
-                roots.append((file, name, lines))
-            else:
-                place = (file.module, name)
-                if place not in defined:
-                    by_name[name].append(place)
-                defined.setdefault(place, (file, name, []))[2].extend(lines)
-    alive, waiting = set(), roots
-    while waiting:
-        for place in cited(*waiting.pop(), defined, by_name):
-            if place in defined and place not in alive:
-                alive.add(place)
-                waiting.append(defined[place])
-    counts = collections.Counter()
-    for place, (file, name, _) in defined.items():
-        if place not in alive and (not sys.argv[1:] or file.crate in sys.argv[1:]):
-            counts[file.crate] += 1
-            print(file.path, name)
-    print(", ".join(f"{crate} {count}" for crate, count in counts.items()) or "none")
-    return 1 if counts else 0
+    wanted = set(sys.argv[1:])
+    all_texts = list(texts())
+    table = importers(all_texts)
+    paths = set()
+    for text in all_texts:
+        if text.module is None:
+            for line in text.lines:
+                for path in re.findall(r"(?:crate|\w+)::((?:specs|proofs)::[\w:'+-]+)", line):
+                    paths.add(path)
+    names = [name for text in all_texts for name in text.names]
+    changed = True
+    while changed:
+        changed = False
+        for name in names:
+            if not name.dead and not is_cited(name, table, paths):
+                name.dead = changed = True
+    dead = {}
+    for name in names:
+        if name.dead and not any(o.dead and o is not name and o.first <= name.first < o.last for o in name.text.names):
+            crate = name.text.module.split(".")[1]
+            dead.setdefault(crate, []).append((os.path.relpath(name.text.path, TOP), name.first + 1, name.word))
+    for crate in sorted(dead):
+        if wanted and crate not in wanted:
+            continue
+        print(f"{crate}: {len(dead[crate])}")
+        for path, line, word in dead[crate]:
+            print(f"    {path}:{line}: {word}")
 
 
-if __name__ == "__main__":
-    sys.exit(main())
+main()

@@ -11,23 +11,6 @@ use Rattle.ifc_instances.proofs.LedTo.{led_more, led_parts}
 use Rattle.faceset.proofs.Named.{summed_more}
 use Rattle.faceset.proofs.Joins.{joined_one, joined_append}
 
--- One value.
-
-pub joined_none : (Gives : Instance → List Triangle → Type 0) (faces : List Instance) (ts : List Triangle) → faces ≡ [] → ts ≡ [] → Joined Gives faces ts
-joined_none Gives faces ts none empty = rw none empty
-
-pub joined_face : (Gives : Instance → List Triangle → Type 0) (faces : List Instance) (face : Instance) (ts : List Triangle) → faces ≡ face ∷ [] → Gives face ts → Joined Gives faces ts
-joined_face Gives faces face ts one gives = rw one (joined_one Gives face ts gives)
-
-pub any_face : (P : Instance → Type 0) (faces : List Instance) (face : Instance) → faces ≡ face ∷ [] → P face → Any P faces
-any_face P faces face one holds = rw one (0, face, omega arith, refl, holds)
-
-pub count_none : (faces : List Instance) (ts : List Triangle) → faces ≡ [] → ts ≡ [] → length ts ≡ sum_by face_count faces
-count_none faces ts none empty = rw (none, empty) refl
-
-pub count_face : (faces : List Instance) (face : Instance) (n : ℕ) → faces ≡ face ∷ [] → n ≡ face_count face → n ≡ sum_by face_count faces
-count_face faces face n one is = rw one (omega (arith, is))
-
 -- One more value.
 
 pub joined_more : (Gives : Instance → List Triangle → Type 0) (world : List Instance) (vs : List Value21) (i : ℕ) (v : Value21) (old part new : List Triangle) → i < length vs → v ≡ get_or vs i v
@@ -49,12 +32,3 @@ any_here P world vs i v lt at any =
     let here : led_to world vs ≡ (led_to world (take i vs) ++ led_to world (v ∷ [])) ++ led_to world (drop (i + 1) vs) =
     led_parts world vs (i + 1) ∙ ap (λ (fs : List Instance). fs ++ led_to world (drop (i + 1) vs)) (led_more world vs i v lt at) in
     rw here (any_left P (led_to world (take i vs) ++ led_to world (v ∷ [])) (led_to world (drop (i + 1) vs)) (any_right P (led_to world (take i vs)) (led_to world (v ∷ [])) any))
-
--- All values.
-
-pub joined_all : (Gives : Instance → List Triangle → Type 0) (world : List Instance) (vs : List Value21) (i : ℕ) (ts : List Triangle) → length vs ≤ i
-    → Joined Gives (led_to world (take i vs)) ts → Joined Gives (led_to world vs) ts
-joined_all Gives world vs i ts le joined = subst (λ (us : List Value21). Joined Gives (led_to world us) ts) (take_all i vs le) joined
-
-pub count_all : (world : List Instance) (vs : List Value21) (i n : ℕ) → length vs ≤ i → n ≡ sum_by face_count (led_to world (take i vs)) → n ≡ sum_by face_count (led_to world vs)
-count_all world vs i n le is = subst (λ (us : List Value21). n ≡ sum_by face_count (led_to world us)) (take_all i vs le) is

@@ -65,9 +65,6 @@ set_least : (world : List Instance) (points : List Point) (set : Instance) (ids 
 set_least world points set ids None polygonal same h = λ id s. h id (set_in world points set ids same id s)
 set_least world points set ids (Some a) polygonal same h = (set_out world points set ids polygonal same a h.here, λ k lt s. h.lower k lt (set_in world points set ids same k s))
 
-pub flat_unstuck : (world : List Instance) (points : List Point) (set : Instance) → is_polygonal set ≡ false → (id : ℕ) → HasStuck world points set id → ⊥
-flat_unstuck world points set flat id h = let e = sym flat ∙ h.polygonal in grind (arith, e)
-
 pub set_least_in : {E : Type 0} (world : List Instance) (points : List Point) (set : Instance) (numbers : Option (List Value21)) (values : List Value21) (ids : List ℕ) (r : Result (Option ℕ) E) → is_polygonal set ≡ true
     → numbers ≡ numbering set → values ≡ listed set 2 → HaveSame ids (filter_map reference_of values)
     → IfOk r (LeastOf (IsStuckIn world numbers points ids))

@@ -1,8 +1,9 @@
 -- How the place of an instance and what a number leads to belong together.
-use Rattle.std.proofs.Common.{◌≡◌, ◌≢◌, ℕ, zero, suc, ◌<◌, ◌≤◌, ◌+◌, ◌==◌, nat_lt, ◌⊎◌, inl, inr, Bool, true, false, List, [], ◌∷◌, length, get_or, Some, None, refl, ap, map, ◌∙◌, arith}
+use Rattle.std.proofs.Common.{◌≡◌, ◌≢◌, ℕ, zero, suc, ◌<◌, ◌≤◌, ◌+◌, ◌==◌, nat_lt, ◌⊎◌, inl, inr, true, false, List, [], ◌∷◌, length, get_or, Some, None, refl, ap, map, sym, ◌∙◌, arith}
 use Rattle.std.proofs.lemmas.Bool.{cases_Bool, eqb-true, eqb-false, ne_eqb}
 use Rattle.std.proofs.lemmas.Bool.Decides.{nat_tests}
 use Rattle.std.proofs.lemmas.List.{get_or_default, get_or-map, length-map}
+use Rattle.std.proofs.lemmas.Option.{same_Some}
 use Rattle.std.specs.List.{HoldsAt}
 use Rattle.std.specs.List.Sorted.{IsNonDecreasingBy}
 use Rattle.std.proofs.lemmas.Map.Keys.{non_decreasing_from_sorted, IsStrictlyIncreasing-from_sorted}
@@ -36,6 +37,10 @@ found (i ∷ is) id (suc k) lt n f d = rw (ne_is i.id id (f 0 (omega arith) d)) 
 -- a number leads to the instance at its place
 pub found_at : (world : List Instance) (id at : ℕ) (d : Instance) → IsPlaceOf world id at → look world id ≡ Some (get_or world at d)
 found_at world id at d p = found world id at p.within p.number p.first d
+
+-- a number leads to one instance
+pub same_instance : (world : List Instance) (id : ℕ) (i j : Instance) → look world id ≡ Some i → look world id ≡ Some j → i ≡ j
+same_instance world id i j e f = same_Some i j (sym e ∙ f)
 
 pub record PlaceFound (world : List Instance) (id : ℕ) (i : Instance) : Type 0 where
   pub at : ℕ

@@ -1,5 +1,5 @@
 -- Numbers that rise.
-use Rattle.std.proofs.Common.{◌≡◌, ℕ, ◌<◌, ◌⊎◌, inl, inr, List, length, get_or, Contains, ap, ◌∙◌, subst, sym, arith}
+use Rattle.std.proofs.Common.{◌≡◌, ℕ, ◌+◌, ◌<◌, ◌⊎◌, inl, inr, List, length, get_or, Contains, ap, ◌∙◌, subst, sym, arith}
 use Rattle.std.specs.List.Sorted.{IsStrictlyIncreasing}
 use Rattle.std.proofs.lemmas.List.{get_or_default}
 use Rattle.std.proofs.lemmas.List.Kept.{AllPairs-from_increasing}
@@ -24,3 +24,7 @@ before ids i k rises lt c low = elim (side c.0 i) [
 pub earlier : (ids : List ℕ) (at id k : ℕ) → IsStrictlyIncreasing ids → at < length ids → get_or ids at 0 ≡ id → k < id → Contains ids k → (place : ℕ) × (place < at) × (get_or ids place 0 ≡ k)
 earlier ids at id k up lt is below c =
     (c.0, before ids at k up lt c (subst (λ n. k < n) (sym is) below), get_or_default ids c.0 0 k c.1 ∙ c.2)
+
+-- a number below the next one is lower or the same
+pub below_next : (k n : ℕ) → k < n + 1 → (k < n) ⊎ (k ≡ n)
+below_next k n l = grind arith

@@ -1,5 +1,5 @@
 -- The keywords of the entities that are followed (IFC4 ADD2 TC1).
-use Rattle.std.specs.Prelude.{ℕ, Bool, true, false, List, [], ◌∷◌, Option, Some, codes}
+use Rattle.std.specs.Prelude.{ℕ, Bool, List, [], ◌∷◌, Option, codes}
 use Rattle.std.specs.List.{list_any, find}
 use Rattle.std.specs.Str.{bytes_eq}
 use Rattle.ifc_instances.specs.declared.entity.Entity.{Entity}

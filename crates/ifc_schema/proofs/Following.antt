@@ -102,12 +102,6 @@ names_more world m i to n = record {
   names = record { applied = applies_more world m i n.attribute.when n.names.applied; value = n.names.value; there = n.names.there; stands = n.names.stands; leads = n.names.leads };
 }
 
-followed_on : (world : List Instance) (a b : Work) (m : Bool) (i : Instance) → Grows world a b → IsFollowed world a m i → IsFollowed world b m i
-followed_on world a b m i g f = record {
-  names = λ to n. marked_on world a b 0 to g (f.names to n);
-  maps = λ to n. marked_on world a b 1 to g (f.maps to n);
-}
-
 -- One turn: a place is taken off the stack, and its row is followed.
 pub going_on : (world : List Instance) (old taken new : Work) (at : ℕ) → Going world old → taken.marks.items ≡ old.marks.items → old.stack.items ≡ taken.stack.items ++ at ∷ []
     → Grows world taken new → FollowedAt world new (is_mapped (mark_at taken at)) at → Going world new
@@ -248,10 +242,6 @@ going_same world old new g em es =
     }
 
 -- One root: it is marked, or the place is none.
-
-pub record Rooted (world : List Instance) (old new : Work) (at : ℕ) : Type 0 where
-  pub grows : Grows world old new
-  pub root : IsRootAt world at → 0 < rank_at new at
 
 pub root_sound : (world : List Instance) (at : ℕ) (i : Instance) → IsPlaceOf world i.id at → i ≡ get_or world at i → is_root (entity_at i) ≡ true → SoundAt world at Met
 root_sound world at i p e r = record {

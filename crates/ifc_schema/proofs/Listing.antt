@@ -65,13 +65,6 @@ earlier world rises a b k at p q lt =
     side : (k n : ℕ) → (k < n) ⊎ (n ≤ k)
     side k n = grind arith
 
-pub lists_none : (world : List Instance) (P : ℕ → Type 0) → Lists (Below world 0 P) []
-lists_none world P = record {
-  rises = λ k l. absurd (omega arith);
-  each = λ id c. let l = c.1 in absurd (omega arith);
-  all = λ id b. let l = b.below in absurd (omega arith);
-}
-
 below_on : (world : List Instance) (at : ℕ) (P : ℕ → Type 0) (id : ℕ) → Below world at P id → Below world (at + 1) P id
 below_on world at P id b = record { place = b.place; below = let l = b.below in omega arith; there = b.there; holds = b.holds }
 

@@ -25,9 +25,7 @@ use crate::body::applies;
 use crate::form::{Attribute, Count, Leaf, Shape, Targets};
 use crate::table::row_at;
 use crate::words::{is_number, is_whole, says_guid};
-use ifc_instances::{
-    is_absent, is_enumeration, items_of, look, number_of, reference_of, words_of,
-};
+use ifc_instances::{is_absent, is_enumeration, items_of, look, number_of, reference_of, words_of};
 use p21_reader::{Exchange, Instance, Value21};
 
 /// What is wrong with an instance that lacks the form of its row.

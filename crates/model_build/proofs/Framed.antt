@@ -2,6 +2,7 @@
 use Rattle.std.proofs.Common.{◌≡◌, ℕ, inl, inr, Bool, true, false, List, Option, Some, None, option_and_then, option_map, Contains, refl, sym, ap, ◌∙◌, subst, if◌then◌else◌}
 use Rattle.std.specs.Option.{MatchOption}
 use Rattle.std.specs.List.{slice_get}
+use Rattle.ifc_instances.proofs.PlaceLemmas.{same_instance}
 use Rattle.bim_model.specs.declared.upload.Mode.{Mode}
 use Rattle.bim_model.specs.declared.geometry.Point.{Point}
 use Rattle.p21_reader.specs.declared.value.Value21.{Value21}
@@ -32,12 +33,6 @@ use Rattle.model_build.proofs.Readable.{readable_point}
 use Rattle.model_build.proofs.Readied.{Measured, Squared}
 
 -- The placements of chains are used.
-
-same_instance : (world : List Instance) (id : ℕ) (i j : Instance) → look world id ≡ Some i → look world id ≡ Some j → i ≡ j
-same_instance world id i j e f = some_same (sym e ∙ f)
-  where
-    some_same : {i j : Instance} → Some i ≡ Some j → i ≡ j
-    some_same h = cc
 
 same_number : {m n : ℕ} → Some m ≡ Some n → m ≡ n
 same_number h = cc

@@ -44,15 +44,6 @@ near_at (t ∷ ts) zero d lt all =
     All-cons IsInReach t.a (t.b ∷ t.c ∷ []) (all 0 t.a (omega arith)) (All-cons IsInReach t.b (t.c ∷ []) (all 1 t.b (omega arith)) (All-cons IsInReach t.c [] (all 2 t.c (omega arith)) (All-nil IsInReach)))
 near_at (t ∷ ts) (suc k) d lt all = near_at ts k d (omega (arith, lt)) (λ j e l. all (suc (suc (suc j))) e (omega (arith, l)))
 
--- Triangles that are carried.
-
-pub carried_more : (frame : Frame) (own : List Triangle) (k : ℕ) (d there : Triangle) (start old new : List Triangle) → k < length own → there ≡ moved frame (get_or own k d) → new ≡ old ++ there ∷ []
-    → old ≡ start ++ map (moved frame) (take k own) → new ≡ start ++ map (moved frame) (take (k + 1) own)
-carried_more frame own k d there start old new lt is grown h =
-    let t = get_or own k d in
-    let all : map (moved frame) (take (k + 1) own) ≡ map (moved frame) (take k own) ++ moved frame t ∷ [] = ap (map (moved frame)) (take_more own k d lt) ∙ map-append (moved frame) (take k own) (t ∷ []) in
-    grown ∙ ap (λ z. z ++ there ∷ []) h ∙ append_assoc start (map (moved frame) (take k own)) (there ∷ []) ∙ ap (λ z. start ++ (map (moved frame) (take k own) ++ z ∷ [])) is ∙ ap (λ z. start ++ z) (sym all)
-
 -- What was added.
 
 pub adds_one : (G : Instance → List Triangle → Type 0) (world : List Instance) (v : Value21) (id : ℕ) (i : Instance) (old new : List Triangle) → reference_of v ≡ Some id → look world id ≡ Some i

@@ -5,6 +5,7 @@ use Rattle.std.specs.Prelude.{IfOk, OnOk, OnErr}
 use Rattle.std.specs.Option.{MatchOption, IfSome, option_and_then}
 use Rattle.std.specs.List.{All}
 use Rattle.std.proofs.lemmas.List.Elements.{Contains-append_cases}
+use Rattle.std.proofs.lemmas.Option.{same_Some}
 use Rattle.bim_model.specs.Boxes.{corners_of}
 use Rattle.bim_model.specs.Models.{IsInReach}
 use Rattle.bim_model.specs.declared.upload.Mode.{Mode}
@@ -72,13 +73,10 @@ made_there world scale mode set list points (Ok (Some made)) refers l triangles 
 
 -- Of sets, one after another.
 
-some_same : (f g : List Triangle) → Some f ≡ Some g → f ≡ g
-some_same f g e = cc
-
 -- triangles of those, or the new ones
 put_cases : (old new : ℕ → Option (List Triangle)) (id : ℕ) (f : List Triangle) → Puts old new id f → (other : ℕ) (g : List Triangle) → new other ≡ Some g → ((other ≡ id) × (f ≡ g)) ⊎ (old other ≡ Some g)
 put_cases old new id f p other g e = elim (same_or other id) [
-  | inl s ↦ inl (s, some_same f g (sym p.here ∙ ap new (sym s) ∙ e))
+  | inl s ↦ inl (s, same_Some f g (sym p.here ∙ ap new (sym s) ∙ e))
   | inr n ↦ inr (sym (p.others other n) ∙ e)
 ]
 

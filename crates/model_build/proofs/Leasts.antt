@@ -4,7 +4,7 @@ use Rattle.std.specs.List.Sorted.{IsStrictlyIncreasing}
 use Rattle.std.proofs.lemmas.List.{get_or_default}
 use Rattle.std.proofs.lemmas.List.Elements.{Contains-get_or}
 use Rattle.bim_model.specs.declared.upload.UploadFault.{UploadFault}
-use Rattle.ifc_instances.proofs.Rising.{earlier}
+use Rattle.ifc_instances.proofs.Rising.{earlier, below_next}
 use Rattle.model_build.specs.Stages.{LeastFault}
 
 -- the first ones have no fault
@@ -24,11 +24,8 @@ least_here FaultOf ids at fault up lt none h =
           none e.0 e.1 other (subst (λ n. FaultOf n other) (sym e.2) f));
     }
 
-split : (k n : ℕ) → k < n + 1 → (k < n) ⊎ (k ≡ n)
-split k n l = grind arith
-
 pub none_more : (FaultOf : ℕ → UploadFault → Type 0) (ids : List ℕ) (at : ℕ) → NoneBefore FaultOf ids at → ((fault : UploadFault) → FaultOf (get_or ids at 0) fault → ⊥) → NoneBefore FaultOf ids (at + 1)
-none_more FaultOf ids at none never = λ k l fault f. elim (split k at l) [
+none_more FaultOf ids at none never = λ k l fault f. elim (below_next k at l) [
   | inl b ↦ none k b fault f
   | inr e ↦ never fault (subst (λ n. FaultOf n fault) (ap (λ n. get_or ids n 0) e) f)
 ]

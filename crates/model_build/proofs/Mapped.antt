@@ -35,20 +35,6 @@ target_least world item (Some id) h = record {
       omega arith);
 }
 
--- the instance of that number isn't there
-pub no_item : (world : List Instance) (scale : Scale) (mode : Mode) (from : ℕ) → look world from ≡ None → LeastOf (ItemShows world scale mode from) None
-no_item world scale mode from e = λ id s. elim s [
-  | inl h ↦ no_finding world from _ e h.0
-  | inr h ↦ no_finding world from _ e h.1.0
-]
-
--- it is no mapped item
-pub not_mapped : (world : List Instance) (scale : Scale) (mode : Mode) (from : ℕ) (i : Instance) → Some i ≡ look world from → is_mapped_item i ≡ false → LeastOf (ItemShows world scale mode from) None
-not_mapped world scale mode from i e none = λ id s. elim s [
-  | inl h ↦ (let t = (finding world from i _ (sym e) h.0).0 in cc)
-  | inr h ↦ (let t = finding world from i _ (sym e) h.1.0 in cc)
-]
-
 -- a mapped item shows its target, or itself
 pub mapping_least : (world : List Instance) (scale : Scale) (mode : Mode) (from : ℕ) (i : Instance) (own target found : Option ℕ) → Some i ≡ look world from → is_mapped_item i ≡ true → found ≡ lesser own target
     → LeastOf (λ id. (from ≡ id) × IsOtherOrigin world scale mode from) own → MatchOption target ((id : ℕ) → NamesNoTarget world i id → ⊥) (NamesNoTarget world i) → LeastOf (ItemShows world scale mode from) found

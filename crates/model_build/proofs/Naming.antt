@@ -15,12 +15,6 @@ names_once world id p q f g =
 named_wider : (world : List Instance) (ids : List ℕ) (id p : ℕ) → IsNamed world (Contains ids) p → IsNamed world (Contains (ids ++ id ∷ [])) p
 named_wider world ids id p n = record { element = n.element; of = Contains-append_left ids (id ∷ []) n.element n.of; names = n.names }
 
-pub led_none : (world : List Instance) (named : List ℕ) → named ≡ [] → ListsNamed world [] named
-led_none world named e = record {
-  sound = λ p c. absurd (let m = subst (λ l. Contains l p) e c in let l = m.1 in omega arith);
-  all = λ p n. absurd (let l = n.of.1 in omega arith);
-}
-
 pub named_pushed : (world : List Instance) (ids named : List ℕ) (id p : ℕ) → NamesPlacement world id p → ListsNamed world ids named → ListsNamed world (ids ++ id ∷ []) (named ++ p ∷ [])
 named_pushed world ids named id p f l = record {
   sound = λ q c. elim (Contains-push_cases named p q c) [

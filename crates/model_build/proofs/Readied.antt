@@ -302,13 +302,6 @@ elements_ready world scale mode survey chains h id c none =
     element_ready world scale mode (used_ids survey) (element_ids survey) chains (clean world scale mode survey chains h) (solid_there world scale mode survey chains h) (few_there world scale mode survey chains h) h.checked.has_chains id c e
     (λ r. none (record { instance = e.instance; found = e.found; holds = r }))
 
--- each element has a triangle
-pub elements_some : (world : List Instance) (scale : Scale) (mode : Mode) (survey : Survey) (chains : List ℕ) → IsSettled world scale mode survey chains → (id : ℕ) → Contains (element_ids survey) id → 0 < count_of world id
-elements_some world scale mode survey chains h id c =
-    let e = h.checked.surveyed.elements.each id c in
-    let k = clean world scale mode survey chains h in
-    subst (λ o. 0 < counted world o) (sym e.found) (element_some world scale mode id k.shaped k.none (solid_there world scale mode survey chains h) (few_there world scale mode survey chains h) e)
-
 pub count_some : (world : List Instance) (scale : Scale) (mode : Mode) (placements listed ids : List ℕ) → AreReady world scale mode placements listed ids → (id : ℕ) → Contains ids id → 0 < count_of world id
 count_some world scale mode placements listed ids ready id c =
     never_less (count_of world id) (λ none. ready id c (λ r. none (subst (λ o. 0 < counted world o) (sym r.found) r.holds.some)))

@@ -11,8 +11,9 @@ use Rattle.std.proofs.lemmas.List.{get_or_default}
 use Rattle.std.proofs.lemmas.List.Kept.{AllPairs-from_increasing}
 use Rattle.std.proofs.lemmas.List.Elements.{Contains-get_or}
 use Rattle.std.proofs.lemmas.Map.Lookups.{exact_bytes}
+use Rattle.ifc_instances.proofs.ValueLemmas.{unlike}
 use Rattle.p21_reader.specs.declared.value.Instance.{Instance}
-use Rattle.ifc_instances.proofs.Rising.{earlier}
+use Rattle.ifc_instances.proofs.Rising.{earlier, below_next}
 use Rattle.model_build.specs.Texts.{guid_of, HasGuid, RepeatsGuid, IsIdentified, HasNoGuid, NoneRepeats, IsFirstRepeated}
 
 abbrev pub by_bytes : List ℕ → List ℕ → Ordering
@@ -30,16 +31,10 @@ pub record Searched (world : List Instance) (ids : List ℕ) (at : ℕ) (seen : 
   pub all : (guid : List ℕ) → IsAmong world ids at guid → contains by_bytes seen guid ≡ true
   pub none : (k : ℕ) → k < at → RepeatsGuid world (Contains ids) (get_or ids k 0) → ⊥
 
-unlike : (b : Bool) → b ≡ true → b ≡ false → ⊥
-unlike b e f = cc
-
 is_equal : (o : Ordering) → is_eq o ≡ true → o ≡ Equal
 is_equal Less e = cc
 is_equal Equal e = refl
 is_equal Greater e = cc
-
-split : (k n : ℕ) → k < n + 1 → (k < n) ⊎ (k ≡ n)
-split k n l = grind arith
 
 -- an instance has one identifier
 guid_once : (world : List Instance) (id : ℕ) (g h : List ℕ) → HasGuid world id g → HasGuid world id h → g ≡ h
@@ -57,13 +52,6 @@ repeats_earlier world ids at guid up lt here r =
       below = e.1;
       there = subst (λ n. HasGuid world n guid) (sym e.2) (subst (λ g. HasGuid world r.lower g) (guid_once world (get_or ids at 0) r.guid guid r.here here) r.there);
     }
-
-pub searched_none : (world : List Instance) (ids : List ℕ) (seen : BTreeSet (List ℕ)) → ((guid : List ℕ) → contains by_bytes seen guid ≡ false) → Searched world ids 0 seen
-searched_none world ids seen e = record {
-  sound = λ g c. absurd (unlike (contains by_bytes seen g) c (e g));
-  all = λ g a. absurd (let l = a.below in omega arith);
-  none = λ k l. absurd (omega arith);
-}
 
 pub first_found : (world : List Instance) (ids : List ℕ) (at id : ℕ) (guid : List ℕ) (seen : BTreeSet (List ℕ)) → IsStrictlyIncreasing ids → at < length ids → id ≡ get_or ids at 0 → HasGuid world id guid
     → contains by_bytes seen guid ≡ true → Searched world ids at seen → IsFirstRepeated world ids id
@@ -97,14 +85,14 @@ searched_more world ids at id guid old new up lt is given c u s =
       ];
       all = λ g a. elim (cases_Bool (is_eq (by_bytes guid g))) [
         | inl t ↦ u.0 g ∙ ap (λ b. cond b true (contains by_bytes old g)) t
-        | inr f ↦ elim (split a.place at a.below) [
+        | inr f ↦ elim (below_next a.place at a.below) [
           | inl l ↦ u.2 g f ∙ s.all g (record { place = a.place; below = l; there = a.there })
           | inr e ↦ (
               let same : guid ≡ g = guid_once world (get_or ids at 0) guid g here (subst (λ n. HasGuid world (get_or ids n 0) g) e a.there) in
               subst (λ x. contains by_bytes new x ≡ true) same u.1)
         ]
       ];
-      none = λ k l r. elim (split k at l) [
+      none = λ k l r. elim (below_next k at l) [
         | inl m ↦ s.none k m r
         | inr e ↦ unlike (contains by_bytes old guid) (s.all guid (repeats_earlier world ids at guid up lt here (subst (λ n. RepeatsGuid world (Contains ids) (get_or ids n 0)) e r))) c
       ];

@@ -115,9 +115,6 @@ pub record Opened (world : List Instance) (r : Instance) : Type 0 where
   pub kind : is_a entity.Representation r ≡ true
   pub has : (is_body_representation r ≡ true) ⊎ IsMapped world id
 
-opened_has : (world : List Instance) (r : Instance) → (o : Opened world r) → HasItems world o.id r
-opened_has world r o = elim o.has [ inl b ↦ inl (both (is_a entity.Representation r) (is_body r) b).1 | inr m ↦ inr m ]
-
 item_is : (world : List Instance) (scale : Scale) (mode : Mode) (r : Instance) (o : Opened world r) (to : ℕ) (target : Instance) → NoneShown world scale mode → Contains (filter_map reference_of (spelled_items r)) to → look world to ≡ Some target → IsItem target
 item_is world scale mode r o to target none c found = elim (cases_Bool (is_item target)) [
   | inl t ↦ t

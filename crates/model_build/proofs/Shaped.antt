@@ -255,21 +255,6 @@ three_values world id i shaped u e is =
 
 -- Texts.
 
-text_or_absent : (world : List Instance) (i : Instance) → Formed world i → Contains (row_at i) (attribute 2 Always OrAbsent shape.One leaf.Text) → At i 2 (OrAway SpellsText)
-text_or_absent world i f c =
-    at_more i 2 (OrAway (λ v. ShapeFlaw world leaf.Text shape.One v None)) (OrAway SpellsText) (away_more (λ v. ShapeFlaw world leaf.Text shape.One v None) SpellsText (text_spelled world))
-    (absent_at world f.mapped i 2 Always shape.One leaf.Text refl (attribute_flaw world f.mapped i (attribute 2 Always OrAbsent shape.One leaf.Text) f.formed c))
-
--- the name of a storey
-pub storey_name : (world : List Instance) (id : ℕ) (i : Instance) → Shaped world → Used world id → look world id ≡ Some i → is_a entity.Storey i ≡ true → At i 2 (OrAway SpellsText)
-unfolding row_of
-storey_name world id i shaped u e is = text_or_absent world i (formed_there world id i (shaped id u) e) (in_row entity.Storey i (attribute 2 Always OrAbsent shape.One leaf.Text) (is_storey i is) (0, omega arith, refl))
-
--- that of an element
-pub element_name : (world : List Instance) (id : ℕ) (i : Instance) → Shaped world → Used world id → look world id ≡ Some i → is_subject (entity_at i) ≡ true → At i 2 (OrAway SpellsText)
-unfolding row_of
-element_name world id i shaped u e is = text_or_absent world i (formed_there world id i (shaped id u) e) (in_row entity.Subject i (attribute 2 Always OrAbsent shape.One leaf.Text) (is_element i is) (1, omega arith, refl))
-
 -- a value is a text that says a global identifier
 pub record SpellsGuid (v : Value21) : Type 0 where
   pub words : List ℕ

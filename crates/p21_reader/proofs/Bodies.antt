@@ -34,9 +34,6 @@ plain_is l w vs old new found h e f g =
 
 -- Complex instances.
 
-abbrev many : List Sign
-many = T Open ∷ Inside (Some (MOST_DEPTH - 2)) ∷ []
-
 -- so many keywords are passed over
 pub record Round (bytes : List ℕ) (from at : ℕ) : Type 0 where
   pub said : List Lexeme

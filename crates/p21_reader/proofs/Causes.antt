@@ -9,14 +9,11 @@ use Rattle.bim_model.specs.declared.upload.BuildError.TheVariants as errors
 use Rattle.p21_reader.specs.declared.fault.ReadFault.TheVariants as faults
 use Rattle.p21_reader.specs.declared.value.Instance.{Instance}
 use Rattle.p21_reader.specs.Counting.{size, values_of, times}
-use Rattle.p21_reader.specs.Uploads.{BeginsPart21, BeginsAt, IsIfc4Upload, IsLeastDouble, IsTooMany, Rises, SpellsExchange, HasFault, IsCause}
+use Rattle.p21_reader.specs.Uploads.{IsIfc4Upload, IsLeastDouble, IsTooMany, Rises, SpellsExchange, HasFault, IsCause}
 use Rattle.p21_reader.specs.declared.limits.TheConstants.{MOST_VALUES, MOST_INSTANCES}
 use Rattle.p21_reader.proofs.OneAnswer.{refused}
 
 -- What is answered for an upload.
-
-begun : (bytes : List ℕ) (at : ℕ) → BeginsAt bytes at → BeginsPart21 bytes
-begun bytes at b = (b.0, at, b.2.cuts, b.1)
 
 pub many_cause : (bytes : List ℕ) (found : List Instance) (f : UploadFault) → IsIfc4Upload bytes found → IsTooMany found f → HasFault bytes f
 many_cause bytes found (uploads.TooMany many.Instances) h k = (found, h, k)

@@ -63,11 +63,7 @@ pub data Derives : List Sign → List Class → Type 0 where
   word : {α : List Sign} {ts : List Class} (m : Mark) → Derives α ts → Derives (AnyWord ∷ α) (Word m ∷ ts)
   rule : {α : List Sign} {ts : List Class} (s : Sign) (r : List Sign) → Rule s r → Derives (r ++ α) ts → Derives (s ∷ α) ts
 
--- up to and with the semicolon behind DATA
-abbrev pub header : List Sign
-header = T (Word Iso) ∷ T Semi ∷ T (Word Header) ∷ T Semi ∷ Statements ∷ []
-
--- the header, and then the instances up to and with the last semicolon
+-- the header, up to and with the semicolon behind DATA, and then the instances, up to and with the last semicolon
 abbrev pub file : List Sign
 file = T (Word Iso) ∷ T Semi ∷ T (Word Header) ∷ T Semi ∷ Statements ∷ Instances ∷ []
 

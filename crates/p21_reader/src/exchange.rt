@@ -26,6 +26,7 @@ impl Model for Exchange {
     ghost use Rattle.std.specs.Prelude.{List, ◌≤◌, length};
     ghost use Rattle.p21_reader.specs.Counting.{values_of};
     ghost use Rattle.p21_reader.specs.Uploads.{Rises};
+    ghost use Rattle.p21_reader.specs.declared.limits.TheConstants.{MOST_INSTANCES, MOST_VALUES};
     ghost use Rattle.p21_reader.specs.declared.value.Instance.{Instance};
     ghost use Rattle.p21_reader.specs.contracts.value.Value21 as value;
     ghost use Rattle.std.specs.Coded.{codes};
@@ -100,6 +101,7 @@ impl Exchange {
     ghost use Rattle.std.specs.Prelude.{◌≡◌, ◌≢◌, ◌≤◌, IfSome, IfNone, All, Contains, length};
     ghost use Rattle.p21_reader.specs.Counting.{values_of};
     ghost use Rattle.p21_reader.specs.Uploads.{Rises};
+    ghost use Rattle.p21_reader.specs.declared.limits.TheConstants.{MOST_INSTANCES, MOST_VALUES};
 
     /// All instances, strictly rising by their numbers.
     pub fn instances(&self) -> &[Instance]

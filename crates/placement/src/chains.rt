@@ -26,6 +26,7 @@ impl Model for Chains {
 }
 
 impl Chains {
+    ghost use Rattle.p21_reader.specs.declared.limits.TheConstants.{MOST_INSTANCES};
     ghost use Rattle.std.specs.Prelude.{◌≡◌, ◌≤◌, length};
 
     /// The placements that are named and all in which they stand (IFC4 ADD2 TC1, IfcLocalPlacement). A fault is `PlacementLoop`, with the
