@@ -27,11 +27,3 @@ any_unmap f P xs any = from f P xs any.0 any.1 any.2 any.3 any.4
     from f P [] k y lt e h = absurd (omega (arith, lt))
     from f P (x ∷ xs) zero y lt e h = (0, x, omega arith, refl, subst P (sym e) h)
     from f P (x ∷ xs) (suc k) y lt e h = let r = from f P xs k y (omega (arith, lt)) e h in (suc r.0, r.1, (let l = r.2 in omega (arith, l)), r.3, r.4)
-
-pub any_map : {X Y : Type 0} (f : X → Y) (P : Y → Type 0) (xs : List X) → Any (λ x. P (f x)) xs → Any P (map f xs)
-any_map f P xs any = from f P xs any.0 any.1 any.2 any.3 any.4
-  where
-    from : {X Y : Type 0} (f : X → Y) (P : Y → Type 0) (xs : List X) (k : ℕ) (x : X) → k < length xs → get_or xs k x ≡ x → P (f x) → Any P (map f xs)
-    from f P [] k x lt e h = absurd (omega (arith, lt))
-    from f P (z ∷ xs) zero x lt e h = (0, f z, omega arith, refl, subst (λ w. P (f w)) (sym e) h)
-    from f P (z ∷ xs) (suc k) x lt e h = let r = from f P xs k x (omega (arith, lt)) e h in (suc r.0, r.1, (let l = r.2 in omega (arith, l)), r.3, r.4)

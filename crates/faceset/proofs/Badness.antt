@@ -7,10 +7,6 @@ use Rattle.p21_reader.specs.declared.value.Instance.{Instance}
 use Rattle.faceset.specs.Indexes.{PointsAt, PointsNowhere}
 use Rattle.faceset.specs.Sets.{numbering, spelled_points, counted_by, rows_of, HasBadNumber, HasBadIndex, IsMisnamed, NamesPoint}
 
-pub bad_number : (world : List Instance) (set : Instance) (numbers : Option (List Value21)) (count : ℕ) → numbers ≡ numbering set → count ≡ length (spelled_points world set)
-    → HasBadNumber numbers count → HasBadIndex world set
-bad_number world set numbers count e f h = inl (subst (HasBadNumber (numbering set)) f (subst (λ n. HasBadNumber n count) e h))
-
 same_count : (world : List Instance) (set : Instance) (numbers : Option (List Value21)) (count within : ℕ) → numbers ≡ numbering set → count ≡ length (spelled_points world set)
     → within ≡ counted_by numbers count → within ≡ counted_by (numbering set) (length (spelled_points world set))
 same_count world set numbers count within e f g = subst (λ n. within ≡ counted_by n (length (spelled_points world set))) e (subst (λ k. within ≡ counted_by numbers k) f g)

@@ -3,14 +3,13 @@ use Rattle.std.proofs.Common.{◌≡◌, ◌≢◌, ℕ, zero, suc, ◌-◌, ◌
 use Rattle.std.proofs.lemmas.Int.{ints}
 use Rattle.bim_text.specs.declared.decimal.Decimal.{Decimal}
 use Rattle.bim_text.specs.Values.{signed, SameValue}
-use Rattle.std.specs.Option.{IfSome, IfNone}
+use Rattle.std.specs.Option.{IfSome, IfNone, unwrap_or}
 use Rattle.bim_text.specs.Numbers.{Spelling, IsRead, written}
 use Rattle.bim_text.specs.Decimals.{value_of, Reads}
 use Rattle.bim_text.proofs.Parts.{parts_only}
 use Rattle.p21_reader.specs.declared.value.Value21.{Value21}
-use Rattle.std.specs.Option.{unwrap_or}
 use Rattle.std.specs.Prelude.{unsigned_abs}
-use Rattle.ifc_schema.specs.Values.{number_of}
+use Rattle.ifc_instances.specs.Values.{number_of}
 use Rattle.faceset.specs.Indexes.{whole, Writes, PointsAt, PointsNowhere}
 use Rattle.faceset.proofs.Values.{none_negative, none_fraction, many_digits, high_power, whole_product, same_trans}
 
@@ -54,9 +53,6 @@ pub none_writes : (bytes : List ℕ) (d : Decimal) (r : Option ℕ) → Reads by
 none_writes bytes d None reads h = λ n low w. h n low (writes_value bytes d (pos n) reads w)
 none_writes bytes d (Some n) reads h = h
 
-pub never_reads : (bytes : List ℕ) → ((s : Spelling) → IsRead s bytes → ⊥) → (n : ℕ) → Writes bytes (pos n) → ⊥
-never_reads bytes none n w = none w.read.spelling w.read.read
-
 -- bytes write one number
 pub one_number : (bytes : List ℕ) (m n : ℕ) → Writes bytes (pos m) → Writes bytes (pos n) → m ≡ n
 one_number bytes m n w v =
@@ -86,14 +82,3 @@ none_in_value v bytes count None is h = λ k p. h k p.within (subst (λ (bs : Li
   where
     same : {a b : List ℕ} → Some a ≡ Some b → a ≡ b
     same e = ap (λ o. unwrap_or o []) e
-
-pub some_in_value : (v : Value21) (bytes : List ℕ) (count : ℕ) (r : Option ℕ) → number_of v ≡ Some bytes
-    → IfSome r (λ k. (k < count) × Writes bytes (pos (suc k))) → IfSome r (PointsAt count v)
-some_in_value v bytes count None is h = h
-some_in_value v bytes count (Some k) is h = record { bytes = bytes; number = is; within = h.0; written = h.1 }
-
-pub by_product : (b : Bool) (m n : ℕ) (e : ℤ) (p : ℕ) → b ≡ false → pos 0 ≤ℤ e → p ≡ m * 10 ^ unsigned_abs e → 10 ^ 19 ≤ p → n < 10 ^ 19
-    → SameValue (record { number = signed b m; power = e }) (whole (pos n)) → ⊥
-by_product true m n e p is some product many low h = absurd (grind (arith, is))
-by_product false m n (negsuc k) p is some product many low h = absurd (omega (arith, ints, some))
-by_product false m n (pos k) p is some product many low h = let q = whole_product m n k h in omega (arith, q, product)

@@ -4,55 +4,31 @@ use Rattle.std.proofs.lemmas.List.{length-append}
 use Rattle.p21_reader.specs.declared.value.Value21.{Value21}
 use Rattle.p21_reader.specs.declared.value.Instance.{Instance}
 use Rattle.bim_model.specs.declared.geometry.Triangle.{Triangle}
-use Rattle.faceset.specs.Sets.{named_faces, face_count, Joined}
+use Rattle.ifc_instances.specs.Attributes.{led_to}
+use Rattle.faceset.specs.Sets.{face_count, Joined}
 use Rattle.faceset.proofs.Anys.{any_left, any_right}
-use Rattle.faceset.proofs.Named.{named_more, named_parts, summed_more}
+use Rattle.ifc_instances.proofs.LedTo.{led_more, led_parts}
+use Rattle.faceset.proofs.Named.{summed_more}
 use Rattle.faceset.proofs.Joins.{joined_one, joined_append}
-
--- One value.
-
-pub joined_none : (Gives : Instance → List Triangle → Type 0) (faces : List Instance) (ts : List Triangle) → faces ≡ [] → ts ≡ [] → Joined Gives faces ts
-joined_none Gives faces ts none empty = rw none empty
-
-pub joined_face : (Gives : Instance → List Triangle → Type 0) (faces : List Instance) (face : Instance) (ts : List Triangle) → faces ≡ face ∷ [] → Gives face ts → Joined Gives faces ts
-joined_face Gives faces face ts one gives = rw one (joined_one Gives face ts gives)
-
-pub any_face : (P : Instance → Type 0) (faces : List Instance) (face : Instance) → faces ≡ face ∷ [] → P face → Any P faces
-any_face P faces face one holds = rw one (0, face, omega arith, refl, holds)
-
-pub count_none : (faces : List Instance) (ts : List Triangle) → faces ≡ [] → ts ≡ [] → length ts ≡ sum_by face_count faces
-count_none faces ts none empty = rw (none, empty) refl
-
-pub count_face : (faces : List Instance) (face : Instance) (n : ℕ) → faces ≡ face ∷ [] → n ≡ face_count face → n ≡ sum_by face_count faces
-count_face faces face n one is = rw one (omega (arith, is))
 
 -- One more value.
 
 pub joined_more : (Gives : Instance → List Triangle → Type 0) (world : List Instance) (vs : List Value21) (i : ℕ) (v : Value21) (old part new : List Triangle) → i < length vs → v ≡ get_or vs i v
-    → new ≡ old ++ part → Joined Gives (named_faces world (take i vs)) old → Joined Gives (named_faces world (v ∷ [])) part → Joined Gives (named_faces world (take (i + 1) vs)) new
+    → new ≡ old ++ part → Joined Gives (led_to world (take i vs)) old → Joined Gives (led_to world (v ∷ [])) part → Joined Gives (led_to world (take (i + 1) vs)) new
 joined_more Gives world vs i v old part new lt at grown before more =
-    rw (named_more world vs i v lt at, grown) (joined_append Gives (named_faces world (take i vs)) (named_faces world (v ∷ [])) old part before more)
+    rw (led_more world vs i v lt at, grown) (joined_append Gives (led_to world (take i vs)) (led_to world (v ∷ [])) old part before more)
 
 pub count_more : (world : List Instance) (vs : List Value21) (i : ℕ) (v : Value21) (old part new : List Triangle) → i < length vs → v ≡ get_or vs i v
-    → new ≡ old ++ part → length old ≡ sum_by face_count (named_faces world (take i vs)) → length part ≡ sum_by face_count (named_faces world (v ∷ []))
-    → length new ≡ sum_by face_count (named_faces world (take (i + 1) vs))
+    → new ≡ old ++ part → length old ≡ sum_by face_count (led_to world (take i vs)) → length part ≡ sum_by face_count (led_to world (v ∷ []))
+    → length new ≡ sum_by face_count (led_to world (take (i + 1) vs))
 count_more world vs i v old part new lt at grown before more =
     let sum = summed_more face_count world vs i v lt at in
     let long = ap length grown ∙ length-append old part in
     omega (arith, sum, long, before, more)
 
 pub any_here : (P : Instance → Type 0) (world : List Instance) (vs : List Value21) (i : ℕ) (v : Value21) → i < length vs → v ≡ get_or vs i v
-    → Any P (named_faces world (v ∷ [])) → Any P (named_faces world vs)
+    → Any P (led_to world (v ∷ [])) → Any P (led_to world vs)
 any_here P world vs i v lt at any =
-    let here : named_faces world vs ≡ (named_faces world (take i vs) ++ named_faces world (v ∷ [])) ++ named_faces world (drop (i + 1) vs) =
-    named_parts world vs (i + 1) ∙ ap (λ (fs : List Instance). fs ++ named_faces world (drop (i + 1) vs)) (named_more world vs i v lt at) in
-    rw here (any_left P (named_faces world (take i vs) ++ named_faces world (v ∷ [])) (named_faces world (drop (i + 1) vs)) (any_right P (named_faces world (take i vs)) (named_faces world (v ∷ [])) any))
-
--- All values.
-
-pub joined_all : (Gives : Instance → List Triangle → Type 0) (world : List Instance) (vs : List Value21) (i : ℕ) (ts : List Triangle) → length vs ≤ i
-    → Joined Gives (named_faces world (take i vs)) ts → Joined Gives (named_faces world vs) ts
-joined_all Gives world vs i ts le joined = subst (λ (us : List Value21). Joined Gives (named_faces world us) ts) (take_all i vs le) joined
-
-pub count_all : (world : List Instance) (vs : List Value21) (i n : ℕ) → length vs ≤ i → n ≡ sum_by face_count (named_faces world (take i vs)) → n ≡ sum_by face_count (named_faces world vs)
-count_all world vs i n le is = subst (λ (us : List Value21). n ≡ sum_by face_count (named_faces world us)) (take_all i vs le) is
+    let here : led_to world vs ≡ (led_to world (take i vs) ++ led_to world (v ∷ [])) ++ led_to world (drop (i + 1) vs) =
+    led_parts world vs (i + 1) ∙ ap (λ (fs : List Instance). fs ++ led_to world (drop (i + 1) vs)) (led_more world vs i v lt at) in
+    rw here (any_left P (led_to world (take i vs) ++ led_to world (v ∷ [])) (led_to world (drop (i + 1) vs)) (any_right P (led_to world (take i vs)) (led_to world (v ∷ [])) any))

@@ -8,7 +8,6 @@ pub mod Held
 pub mod FaceLists
 pub mod StuckFaces
 pub mod SetParts
-pub mod Scans
 pub mod Anys
 pub mod Named
 pub mod Numbered

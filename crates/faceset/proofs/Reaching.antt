@@ -7,12 +7,13 @@ use Rattle.std.proofs.lemmas.List.Elements.{All-push}
 use Rattle.std.proofs.lemmas.Option.{same_Some}
 use Rattle.p21_reader.specs.declared.value.Value21.{Value21}
 use Rattle.p21_reader.specs.declared.value.Instance.{Instance}
-use Rattle.ifc_schema.specs.Looking.{look}
-use Rattle.ifc_schema.specs.Values.{reference_of}
+use Rattle.ifc_instances.specs.Looking.{look}
+use Rattle.ifc_instances.specs.Values.{reference_of}
 use Rattle.faceset.specs.Indexes.{PointsAt, PointsNowhere}
-use Rattle.faceset.specs.Sets.{outline, named_faces, faces_of, items_in, spelled_triangles, listed, is_polygonal, rows_of}
+use Rattle.faceset.specs.Sets.{outline, faces_of, spelled_triangles, is_polygonal, rows_of}
+use Rattle.ifc_instances.specs.Attributes.{led_to, items_in, listed}
 use Rattle.faceset.specs.Reaches.{CountsFrom, AreReaches, IsWithin, PutsReach, reach_in}
-use Rattle.faceset.proofs.Named.{named_one}
+use Rattle.ifc_instances.proofs.LedTo.{led_one}
 
 -- one value more
 pub reach_more : (vs : List Value21) (i : ℕ) (v : Value21) (count place old new : ℕ) → i < length vs → v ≡ get_or vs i v → PointsAt count v place → old ≤ new → place + 1 ≤ new
@@ -31,11 +32,11 @@ reach_all vs i reach le all = subst (All (CountsFrom reach)) (take_all i vs le) 
 
 -- One face.
 
-face_rows : (world : List Instance) (v : Value21) (id : ℕ) (face : Instance) → reference_of v ≡ Some id → look world id ≡ Some face → map outline (named_faces world (v ∷ [])) ≡ outline face ∷ []
-face_rows world v id face refers found = ap (map outline) (named_one world v id face refers found)
+face_rows : (world : List Instance) (v : Value21) (id : ℕ) (face : Instance) → reference_of v ≡ Some id → look world id ≡ Some face → map outline (led_to world (v ∷ [])) ≡ outline face ∷ []
+face_rows world v id face refers found = ap (map outline) (led_one world v id face refers found)
 
 pub face_bad : (world : List Instance) (v : Value21) (id : ℕ) (face : Instance) (count : ℕ) → reference_of v ≡ Some id → look world id ≡ Some face → Any (PointsNowhere count) (outline face)
-    → Any (Any (PointsNowhere count)) (map outline (named_faces world (v ∷ [])))
+    → Any (Any (PointsNowhere count)) (map outline (led_to world (v ∷ [])))
 face_bad world v id face count refers found bad = subst (Any (Any (PointsNowhere count))) (sym (face_rows world v id face refers found)) (0, outline face, omega arith, refl, bad)
 
 only : (P : List Value21 → Type 0) (x : List Value21) → Any P (x ∷ []) → P x
@@ -46,18 +47,18 @@ only P x any = first any.0 any.1 any.2 any.3 any.4
     first (suc k) y lt at h = absurd (omega (arith, lt))
 
 face_well : (world : List Instance) (v : Value21) (id : ℕ) (face : Instance) (count : ℕ) → reference_of v ≡ Some id → look world id ≡ Some face → (Any (PointsNowhere count) (outline face) → ⊥)
-    → Any (Any (PointsNowhere count)) (map outline (named_faces world (v ∷ []))) → ⊥
+    → Any (Any (PointsNowhere count)) (map outline (led_to world (v ∷ []))) → ⊥
 face_well world v id face count refers found well any = well (only (Any (PointsNowhere count)) (outline face) (subst (Any (Any (PointsNowhere count))) (face_rows world v id face refers found) any))
 
 never_bad : (vs : List Value21) (reach count : ℕ) → reach ≤ count → All (CountsFrom reach) vs → Any (PointsNowhere count) vs → ⊥
 never_bad vs reach count le all any = all any.0 any.1 any.2 count le (subst (PointsNowhere count) (sym any.3) any.4)
 
 pub face_reached : (world : List Instance) (v : Value21) (id : ℕ) (face : Instance) (count reach : ℕ) → reference_of v ≡ Some id → look world id ≡ Some face → reach ≤ count → All (CountsFrom reach) (outline face)
-    → Any (Any (PointsNowhere count)) (map outline (named_faces world (v ∷ []))) → ⊥
+    → Any (Any (PointsNowhere count)) (map outline (led_to world (v ∷ []))) → ⊥
 face_reached world v id face count reach refers found le all = face_well world v id face count refers found (never_bad (outline face) reach count le all)
 
 pub face_within : (world : List Instance) (entries : List (ℕ × ℕ)) (v : Value21) (id : ℕ) (face : Instance) (count : ℕ) → reference_of v ≡ Some id → look world id ≡ Some face → AreReaches world entries → IsWithin entries id count
-    → Any (Any (PointsNowhere count)) (map outline (named_faces world (v ∷ []))) → ⊥
+    → Any (Any (PointsNowhere count)) (map outline (led_to world (v ∷ []))) → ⊥
 face_within world entries v id face count refers found are w =
     let f = are id w.reach w.kept in
     let same : f.face ≡ face = same_Some f.face face (sym f.found ∙ found) in
@@ -80,14 +81,14 @@ reaches_more world old new id face reach found all p are other kept there = elim
 
 -- The rows of a polygonal set.
 
-polygonal_rows : (world : List Instance) (set : Instance) (b : Bool) → b ≡ true → (if b then map outline (faces_of world set) else map items_in (spelled_triangles set)) ≡ map outline (named_faces world (listed set 2))
+polygonal_rows : (world : List Instance) (set : Instance) (b : Bool) → b ≡ true → (if b then map outline (faces_of world set) else map items_in (spelled_triangles set)) ≡ map outline (led_to world (listed set 2))
 unfolding faces_of
 polygonal_rows world set b is = rw is refl
 
 pub rows_told : {E : Type 0} (world : List Instance) (set : Instance) (vs : List Value21) (count : ℕ) (r : Result Bool E) → is_polygonal set ≡ true → vs ≡ listed set 2
-    → IfOk r (λ b. MatchBool b (Any (Any (PointsNowhere count)) (map outline (named_faces world vs))) (Any (Any (PointsNowhere count)) (map outline (named_faces world vs)) → ⊥))
+    → IfOk r (λ b. MatchBool b (Any (Any (PointsNowhere count)) (map outline (led_to world vs))) (Any (Any (PointsNowhere count)) (map outline (led_to world vs)) → ⊥))
     → IfOk r (λ b. MatchBool b (Any (Any (PointsNowhere count)) (rows_of world set)) (Any (Any (PointsNowhere count)) (rows_of world set) → ⊥))
 rows_told world set vs count r polygonal all h =
-    let e : rows_of world set ≡ map outline (named_faces world (listed set 2)) = polygonal_rows world set (is_polygonal set) polygonal in
-    let same : map outline (named_faces world vs) ≡ rows_of world set = ap (λ (us : List Value21). map outline (named_faces world us)) all ∙ sym e in
+    let e : rows_of world set ≡ map outline (led_to world (listed set 2)) = polygonal_rows world set (is_polygonal set) polygonal in
+    let same : map outline (led_to world vs) ≡ rows_of world set = ap (λ (us : List Value21). map outline (led_to world us)) all ∙ sym e in
     subst (λ (rows : List (List Value21)). IfOk r (λ b. MatchBool b (Any (Any (PointsNowhere count)) rows) (Any (Any (PointsNowhere count)) rows → ⊥))) same h

@@ -1,5 +1,6 @@
 -- The triangles of a whole set, and why there are none.
 use Rattle.std.proofs.Common.{◌≡◌, ℕ, ◌<◌, Bool, true, false, List, length, map, sum_by, Option, Some, None, Result, Ok, Err, Vec, Global, IfOk, MatchOption, All, Any, Contains, ◌⊎◌, inl, inr, refl, sym, ◌∙◌, ap, subst, arith}
+use Rattle.std.proofs.lemmas.Bool.{MatchBool-at_true, MatchBool-at_false}
 use Rattle.std.specs.Prelude.{if◌then◌else◌}
 use Rattle.std.specs.Bool.{MatchBool}
 use Rattle.std.specs.Option.{IfSome}
@@ -10,9 +11,10 @@ use Rattle.p21_reader.specs.declared.value.Value21.{Value21}
 use Rattle.p21_reader.specs.declared.value.Instance.{Instance}
 use Rattle.bim_model.specs.declared.geometry.Point.{Point}
 use Rattle.bim_model.specs.declared.geometry.Triangle.{Triangle}
-use Rattle.ifc_schema.specs.Looking.{look}
+use Rattle.ifc_instances.specs.Looking.{look}
 use Rattle.faceset.specs.Indexes.{PointsNowhere}
-use Rattle.faceset.specs.Sets.{listed, items_in, outline, numbering, spelled_points, spelled_triangles, is_polygonal, named_faces, faces_of, face_ids, rows_of, counted_by, HasBadNumber, HasBadIndex, IsMisnamed, IsOutlined, HasThree, IsSound, IsCut, IsStuck, HasStuck, IsTriangle, AreTriangles, Joined, SetTriangles, face_count, triangle_count}
+use Rattle.ifc_instances.specs.Attributes.{listed, items_in, led_to}
+use Rattle.faceset.specs.Sets.{outline, numbering, spelled_points, spelled_triangles, is_polygonal, faces_of, face_ids, rows_of, counted_by, HasBadNumber, HasBadIndex, IsMisnamed, IsOutlined, HasThree, IsSound, IsCut, IsStuck, HasStuck, IsTriangle, AreTriangles, Joined, SetTriangles, face_count, triangle_count}
 use Rattle.faceset.specs.Cuts.{IsLoose}
 use Rattle.faceset.proofs.Zips.{zip_length}
 use Rattle.faceset.proofs.Joins.{gives_one, contains_mapped}
@@ -48,14 +50,6 @@ in_second : {X : Type 0} (b : Bool) (xs ys : List X) (x : X) → b ≡ false →
 in_second true xs ys x is h = absurd (grind (arith, is))
 in_second false xs ys x is h = h
 
-first_of_two : (P Q : Type 0) (b : Bool) → b ≡ true → MatchBool b P Q → P
-first_of_two P Q true is h = h
-first_of_two P Q false is h = absurd (grind (arith, is))
-
-second_of_two : (P Q : Type 0) (b : Bool) → b ≡ false → MatchBool b P Q → Q
-second_of_two P Q true is h = absurd (grind (arith, is))
-second_of_two P Q false is h = h
-
 be_first : (P Q : Type 0) (b : Bool) → b ≡ true → P → MatchBool b P Q
 be_first P Q true is h = h
 be_first P Q false is h = absurd (grind (arith, is))
@@ -71,7 +65,7 @@ stuck_by : (world : List Instance) (points : List Point) (set : Instance) → is
     → IsLoose (numbering set) points face → IsStuck (numbering set) points face
 stuck_by world points set polygonal sound face has (inl stuck) = stuck
 stuck_by world points set polygonal sound face has (inr unready) =
-    let outlined = All-contains IsOutlined (faces_of world set) face (first_of_two (All IsOutlined (faces_of world set)) (All HasThree (spelled_triangles set)) (is_polygonal set) polygonal sound.rows) has in
+    let outlined = All-contains IsOutlined (faces_of world set) face (MatchBool-at_true (All IsOutlined (faces_of world set)) (All HasThree (spelled_triangles set)) polygonal sound.rows) has in
     let row = in_first (is_polygonal set) (map outline (faces_of world set)) (map items_in (spelled_triangles set)) (outline face) polygonal (contains_map outline (faces_of world set) face has) in
     absurd (sound.indexed (set_bad world points set (outline face) sound.count row (row_bad (numbering set) (length points) (outline face) (unready outlined))))
 
@@ -83,13 +77,13 @@ loose_stuck world points set polygonal sound any =
     let has = contains_mapped (look world) (face_ids set) one.item one.given one.listed one.gives in
     (one.item, record { polygonal = polygonal; listed = one.listed; face = one.given; found = one.gives; stuck = stuck_by world points set polygonal sound one.given has one.holds })
 
-faces_are : (world : List Instance) (set : Instance) → faces_of world set ≡ named_faces world (listed set 2)
+faces_are : (world : List Instance) (set : Instance) → faces_of world set ≡ led_to world (listed set 2)
 unfolding faces_of
 faces_are world set = refl
 
 pub polygonal_made : {E : Type 0} (world : List Instance) (points : List Point) (set : Instance) (numbers : Option (List Value21)) (values : List Value21) (r : Result (Option (Vec Triangle Global)) E)
     → is_polygonal set ≡ true → numbers ≡ numbering set → values ≡ listed set 2
-    → IfOk r (λ made. MatchOption made (Any (IsLoose numbers points) (named_faces world values)) (λ ts. Joined (IsCut numbers points) (named_faces world values) ts.items))
+    → IfOk r (λ made. MatchOption made (Any (IsLoose numbers points) (led_to world values)) (λ ts. Joined (IsCut numbers points) (led_to world values) ts.items))
     → IfOk r (λ made. MatchOption made (IsSound world points set → (id : ℕ) × HasStuck world points set id) (λ ts. SetTriangles world points set ts.items))
 polygonal_made world points set numbers values (Err e) polygonal same all h = h
 polygonal_made world points set numbers values (Ok None) polygonal same all h = λ sound. loose_stuck world points set polygonal sound
@@ -107,7 +101,7 @@ counted_second true m n k is h = absurd (grind (arith, is))
 counted_second false m n k is h = h
 
 pub polygonal_count : {E : Type 0} (world : List Instance) (set : Instance) (values : List Value21) (r : Result (Option (Vec Triangle Global)) E) → is_polygonal set ≡ true → values ≡ listed set 2
-    → IfOk r (λ made. IfSome made (λ ts. length ts.items ≡ sum_by face_count (named_faces world values)))
+    → IfOk r (λ made. IfSome made (λ ts. length ts.items ≡ sum_by face_count (led_to world values)))
     → IfOk r (λ made. IfSome made (λ ts. length ts.items ≡ triangle_count world set))
 polygonal_count world set values (Err e) polygonal all h = h
 polygonal_count world set values (Ok None) polygonal all h = h
@@ -119,7 +113,7 @@ polygonal_count world set values (Ok (Some ts)) polygonal all h =
 flat_sound : (world : List Instance) (points : List Point) (set : Instance) → is_polygonal set ≡ false → IsSound world points set
     → Any (λ row. HasThree row → Any (IsMisnamed (numbering set) (length points)) (items_in row)) (spelled_triangles set) → ⊥
 flat_sound world points set flat sound any =
-    let threes = second_of_two (All IsOutlined (faces_of world set)) (All HasThree (spelled_triangles set)) (is_polygonal set) flat sound.rows in
+    let threes = MatchBool-at_false (All IsOutlined (faces_of world set)) (All HasThree (spelled_triangles set)) flat sound.rows in
     let three = subst HasThree any.3 (threes any.0 any.1 any.2) in
     let row = in_second (is_polygonal set) (map outline (faces_of world set)) (map items_in (spelled_triangles set)) (items_in any.1) flat (contains_map items_in (spelled_triangles set) any.1 (any.0, any.2, any.3)) in
     sound.indexed (set_bad world points set (items_in any.1) sound.count row (row_bad (numbering set) (length points) (items_in any.1) (any.4 three)))

@@ -5,34 +5,20 @@ use Rattle.std.specs.List.{All}
 use Rattle.std.specs.List.Sorted.{IsStrictlyIncreasing}
 use Rattle.std.proofs.lemmas.List.{get_or-take, length-take, get_or_default}
 use Rattle.std.proofs.lemmas.List.Elements.{All-contains, Contains-get_or}
-use Rattle.std.proofs.lemmas.List.Kept.{AllPairs-from_increasing}
 use Rattle.std.proofs.lemmas.Option.{same_Some}
 use Rattle.p21_reader.specs.declared.value.Value21.{Value21}
 use Rattle.p21_reader.specs.declared.value.Instance.{Instance}
 use Rattle.bim_model.specs.declared.geometry.Point.{Point}
-use Rattle.ifc_schema.specs.Looking.{look}
-use Rattle.ifc_schema.specs.Values.{reference_of}
-use Rattle.faceset.specs.Sets.{IsStuck, IsOutlined, IsCorner, outline, listed, face_ids, is_polygonal, numbering, HasStuck}
-use Rattle.faceset.specs.Cuts.{IsLeast, LeastOf, HasMisnamed}
+use Rattle.ifc_instances.specs.Looking.{look}
+use Rattle.ifc_instances.specs.Values.{reference_of}
+use Rattle.faceset.specs.Sets.{IsStuck, IsOutlined, IsCorner, outline, face_ids, is_polygonal, numbering, HasStuck}
+use Rattle.ifc_instances.specs.Attributes.{listed}
+use Rattle.ifc_instances.specs.Least.{IsLeast, LeastOf}
+use Rattle.ifc_instances.proofs.Rising.{before}
+use Rattle.faceset.specs.Cuts.{HasMisnamed}
 use Rattle.faceset.specs.Numbers.{HaveSame, IsStuckFace, IsStuckIn}
 use Rattle.faceset.proofs.Zips.{zip_at}
 use Rattle.faceset.proofs.Unique.{named_well}
-
--- what stands in the list and is lower stands before
-before : (ids : List ℕ) (i k : ℕ) → IsStrictlyIncreasing ids → i < length ids → (c : Contains ids k) → k < get_or ids i 0 → c.0 < i
-before ids i k rises lt c low = elim (side c.0 i) [
-  | inl l ↦ l
-  | inr r ↦ elim r [
-    | inl e ↦ absurd (let f = ap (λ n. get_or ids n 0) e in let g = there in omega arith)
-    | inr g ↦ absurd (let h = AllPairs-from_increasing ids rises i c.0 0 g c.1 in let m = there in omega arith)
-  ]
-]
-  where
-    side : (j i : ℕ) → (j < i) ⊎ ((j ≡ i) ⊎ (i < j))
-    side j i = grind arith
-
-    there : get_or ids c.0 0 ≡ k
-    there = get_or_default ids c.0 0 k c.1 ∙ c.2
 
 pub first_least : (P : ℕ → Type 0) (ids : List ℕ) (i : ℕ) → IsStrictlyIncreasing ids → i < length ids → All (λ k. P k → ⊥) (take i ids) → P (get_or ids i 0) → IsLeast (λ id. Contains ids id × P id) (get_or ids i 0)
 first_least P ids i rises lt none h = record {
@@ -49,14 +35,6 @@ first_least P ids i rises lt none h = record {
 
 pub none_at_all : (P : ℕ → Type 0) (ids : List ℕ) (i : ℕ) → length ids ≤ i → All (λ k. P k → ⊥) (take i ids) → LeastOf (λ id. Contains ids id × P id) None
 none_at_all P ids i le none = λ id p. All-contains (λ k. P k → ⊥) ids id (subst (All (λ k. P k → ⊥)) (take_all i ids le) none) p.0 p.1
-
-pub only_then : (P Q : Type 0) (b : Bool) → b ≡ true → MatchBool b P Q → P
-only_then P Q true is h = h
-only_then P Q false is h = absurd (grind (arith, is))
-
-pub only_else : (P Q : Type 0) (b : Bool) → b ≡ false → MatchBool b P Q → Q
-only_else P Q true is h = absurd (grind (arith, is))
-only_else P Q false is h = h
 
 -- One face.
 
@@ -86,9 +64,6 @@ set_least : (world : List Instance) (points : List Point) (set : Instance) (ids 
     → MatchOption found ((id : ℕ) → HasStuck world points set id → ⊥) (λ id. HasStuck world points set id × ((k : ℕ) → k < id → HasStuck world points set k → ⊥))
 set_least world points set ids None polygonal same h = λ id s. h id (set_in world points set ids same id s)
 set_least world points set ids (Some a) polygonal same h = (set_out world points set ids polygonal same a h.here, λ k lt s. h.lower k lt (set_in world points set ids same k s))
-
-pub flat_unstuck : (world : List Instance) (points : List Point) (set : Instance) → is_polygonal set ≡ false → (id : ℕ) → HasStuck world points set id → ⊥
-flat_unstuck world points set flat id h = let e = sym flat ∙ h.polygonal in grind (arith, e)
 
 pub set_least_in : {E : Type 0} (world : List Instance) (points : List Point) (set : Instance) (numbers : Option (List Value21)) (values : List Value21) (ids : List ℕ) (r : Result (Option ℕ) E) → is_polygonal set ≡ true
     → numbers ≡ numbering set → values ≡ listed set 2 → HaveSame ids (filter_map reference_of values)

@@ -2,12 +2,13 @@
 use Rattle.std.proofs.Common.{◌≡◌, ℕ, suc, pos, Bool, true, false, List, [], ◌∷◌, length, map, get_or, Option, Some, None, Contains, inl, inr, sym, ◌∙◌, ap, subst, arith}
 use Rattle.std.specs.Bool.{MatchBool}
 use Rattle.std.specs.List.{slice_get}
+use Rattle.std.proofs.lemmas.Bool.{MatchBool-at_true}
 use Rattle.std.proofs.lemmas.Option.{same_Some, none-some}
 use Rattle.p21_reader.specs.declared.value.Value21.{Value21}
 use Rattle.p21_reader.specs.declared.value.Instance.{Instance}
 use Rattle.bim_model.specs.declared.geometry.Point.{Point}
 use Rattle.bim_model.specs.declared.geometry.Triangle.{Triangle}
-use Rattle.ifc_schema.specs.Looking.{look}
+use Rattle.ifc_instances.specs.Looking.{look}
 use Rattle.ear_cut.specs.Removal.{cut_of}
 use Rattle.faceset.specs.Indexes.{Writes, PointsAt}
 use Rattle.faceset.specs.Sets.{NamesPoint, IsMisnamed, IsCorner, AreCorners, IsTriangle, AreTriangles, triangle_of, outline, IsCut, IsStuck, Joined, SetTriangles, HasStuck, numbering, is_polygonal, faces_of, face_ids, spelled_triangles}
@@ -85,10 +86,6 @@ either_same numbers points faces rows ts us false p q = zip_same (IsTriangle num
 pub set_triangles_same : (world : List Instance) (points : List Point) (set : Instance) (ts us : List Triangle) → SetTriangles world points set ts → SetTriangles world points set us → ts ≡ us
 set_triangles_same world points set ts us p q = either_same (numbering set) points (faces_of world set) (spelled_triangles set) ts us (is_polygonal set) p q
 
-only_joined : (P Q : Type 0) (b : Bool) → b ≡ true → MatchBool b P Q → P
-only_joined P Q true is h = h
-only_joined P Q false is h = absurd (grind (arith, is))
-
 has_face : (world : List Instance) (set : Instance) (id : ℕ) (face : Instance) → Contains (face_ids set) id → look world id ≡ Some face → Contains (faces_of world set) face
 unfolding faces_of face_ids
 has_face world set id face listed found = contains_mapped (look world) (face_ids set) id face listed found
@@ -96,7 +93,7 @@ has_face world set id face listed found = contains_mapped (look world) (face_ids
 -- a set with triangles has no face that can't be cut
 pub never_stuck : (world : List Instance) (points : List Point) (set : Instance) (ts : List Triangle) → SetTriangles world points set ts → (id : ℕ) → HasStuck world points set id → ⊥
 never_stuck world points set ts made id h =
-    let joined = only_joined (Joined (IsCut (numbering set) points) (faces_of world set) ts) (AreTriangles (numbering set) points (spelled_triangles set) ts) (is_polygonal set) h.polygonal made in
+    let joined = MatchBool-at_true (Joined (IsCut (numbering set) points) (faces_of world set) ts) (AreTriangles (numbering set) points (spelled_triangles set) ts) h.polygonal made in
     let named = has_face world set id h.face h.listed h.found in
     let part = joined_at (IsCut (numbering set) points) (faces_of world set) ts named.0 h.face named.1 named.2 joined in
     cut_unstuck (numbering set) points h.face part.0 part.1 h.stuck

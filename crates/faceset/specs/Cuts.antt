@@ -1,5 +1,5 @@
 -- What the cutting of faces answers. No public contract cites it.
-use Rattle.std.specs.Prelude.{◌≡◌, ℕ, ◌<◌, ◌⊎◌, List, length, map, Option, Some, Any, MatchOption}
+use Rattle.std.specs.Prelude.{◌≡◌, ◌⊎◌, List, length, map, Option, Some, Any}
 use Rattle.std.specs.Bool.{⊤}
 use Rattle.p21_reader.specs.declared.value.Value21.{Value21}
 use Rattle.p21_reader.specs.declared.value.Instance.{Instance}
@@ -36,12 +36,3 @@ IsCounted face Unready = ⊤
 -- a face is stuck, or isn't ready to be cut
 abbrev pub IsLoose : Option (List Value21) → List Point → Instance → Type 0
 IsLoose numbers points face = IsStuck numbers points face ⊎ (IsOutlined face → HasMisnamed numbers points face)
-
--- the least number of which it holds
-pub record IsLeast (P : ℕ → Type 0) (id : ℕ) : Type 0 where
-  pub here : P id
-  pub lower : (k : ℕ) → k < id → P k → ⊥
-
--- none, or the least number of which it holds
-abbrev pub LeastOf : (ℕ → Type 0) → Option ℕ → Type 0
-LeastOf P found = MatchOption found ((id : ℕ) → P id → ⊥) (IsLeast P)

@@ -4,7 +4,7 @@ use Rattle.p21_reader.specs.declared.value.Value21.{Value21}
 use Rattle.bim_text.specs.declared.decimal.Decimal.{Decimal}
 use Rattle.bim_text.specs.Values.{Scaled, SameValue}
 use Rattle.bim_text.specs.Decimals.{Reads, value_of}
-use Rattle.ifc_schema.specs.Values.{number_of}
+use Rattle.ifc_instances.specs.Values.{number_of}
 
 abbrev pub whole : ℤ → Scaled
 whole n = record { number = n; power = pos 0 }

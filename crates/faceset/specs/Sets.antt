@@ -1,15 +1,15 @@
 -- Face sets by their values (IFC4 ADD2 TC1, IfcTriangulatedFaceSet, IfcPolygonalFaceSet, IfcIndexedPolygonalFace).
 use Rattle.std.specs.Prelude.{◌≡◌, ℕ, ◌<◌, ◌≤◌, ◌-◌, ◌⊎◌, Bool, true, ◌||◌, if◌then◌else◌, List, [], ◌∷◌, ◌++◌, length, map, filter_map, sum_by, Option, Some, None, Any, All, Contains, option_and_then, MatchOption}
 use Rattle.std.specs.Bool.{MatchBool}
-use Rattle.std.specs.Option.{unwrap_or}
 use Rattle.std.specs.List.{slice_get, AllZip}
 use Rattle.p21_reader.specs.declared.value.Value21.{Value21}
 use Rattle.p21_reader.specs.declared.value.Instance.{Instance}
 use Rattle.bim_model.specs.declared.geometry.Point.{Point}
 use Rattle.bim_model.specs.declared.geometry.Triangle.{Triangle}
-use Rattle.ifc_schema.specs.declared.entity.Entity.TheVariants.{TriangulatedFaceSet, PolygonalFaceSet}
-use Rattle.ifc_schema.specs.Looking.{look, is_a}
-use Rattle.ifc_schema.specs.Values.{reference_of, items_of}
+use Rattle.ifc_instances.specs.declared.entity.Entity.TheVariants.{TriangulatedFaceSet, PolygonalFaceSet}
+use Rattle.ifc_instances.specs.Looking.{look, is_a}
+use Rattle.ifc_instances.specs.Values.{reference_of, items_of}
+use Rattle.ifc_instances.specs.Attributes.{items_in, listed, target_at, led_to}
 use Rattle.ear_cut.specs.declared.ears.Ear.{Ear}
 use Rattle.ear_cut.specs.Areas.{point_at}
 use Rattle.ear_cut.specs.Removal.{cut_of}
@@ -17,13 +17,9 @@ use Rattle.faceset.specs.Indexes.{PointsAt, PointsNowhere}
 
 -- What a set says.
 
--- the items of the list that is the attribute of that number, or none
-unfoldable pub listed : Instance → ℕ → List Value21
-listed i at = unwrap_or (option_and_then items_of (slice_get i.values at)) []
-
 -- the list of points that a set refers to, by its first attribute
 unfoldable pub points_of : List Instance → Instance → Option Instance
-points_of world set = option_and_then (look world) (option_and_then reference_of (slice_get set.values 0))
+points_of world set = target_at world set 0
 
 abbrev pub listed_in : Option Instance → List Value21
 listed_in None = []
@@ -48,10 +44,6 @@ numbering_place polygonal = if polygonal then 3 else 4
 unfoldable pub numbering : Instance → Option (List Value21)
 numbering set = option_and_then items_of (slice_get set.values (numbering_place (is_polygonal set)))
 
--- the items of a value, or none
-abbrev pub items_in : Value21 → List Value21
-items_in v = unwrap_or (items_of v) []
-
 -- the triangles of a triangulated set, as they are spelled: three indexes each
 abbrev pub spelled_triangles : Instance → List Value21
 spelled_triangles set = listed set 3
@@ -60,13 +52,9 @@ spelled_triangles set = listed set 3
 unfoldable pub face_ids : Instance → List ℕ
 face_ids set = filter_map reference_of (listed set 2)
 
--- the instances that references lead to, in their order
-abbrev pub named_faces : List Instance → List Value21 → List Instance
-named_faces world values = filter_map (look world) (filter_map reference_of values)
-
 -- its faces; one that is listed twice stands twice
 unfoldable pub faces_of : List Instance → Instance → List Instance
-faces_of world set = named_faces world (listed set 2)
+faces_of world set = led_to world (listed set 2)
 
 -- the indexes of the corners of a face, in their order
 abbrev pub outline : Instance → List Value21

@@ -2,13 +2,14 @@
 ghost use Rattle.std.specs.Prelude.{◌≡◌, ◌<◌, ◌^◌, ◌∷◌, [], map, Any, IfOk, OnOk, option_copied};
 ghost use Rattle.std.specs.Bool.{MatchBool};
 ghost use Rattle.faceset.specs.Indexes.{PointsNowhere};
-ghost use Rattle.faceset.specs.Sets.{items_in, outline, rows_of, HasBadNumber, HasBadIndex, counted_by, named_faces};
+ghost use Rattle.ifc_instances.specs.Attributes.{items_in, led_to};
+ghost use Rattle.faceset.specs.Sets.{outline, rows_of, HasBadNumber, HasBadIndex, counted_by};
 ghost use Rattle.faceset.specs.Reaches.{AreReaches};
 
 use crate::indexes::place_of;
 use crate::reaches::{FaceReaches, reach_of};
-use crate::sets::{fetch, is_polygonal, items_in, listed, numbering, outline, spelled_points};
-use ifc_schema::reference_of;
+use crate::sets::{is_polygonal, numbering, outline, spelled_points};
+use ifc_instances::{items_in, listed, look, reference_of};
 use p21_reader::{Exchange, Instance, Value21};
 use std::alloc::AllocError;
 
@@ -40,7 +41,7 @@ fn has_bad_row(rows: &[Value21], count: usize) -> bool
 
 /// Whether the value refers to a face of which an index counts none of so many things. A face that is known not to have one isn't looked at
 /// again.
-#[tactic(auto, using(crate::proofs::Named::named_none, crate::proofs::Named::named_nowhere, crate::proofs::Named::named_one))]
+#[tactic(auto, using(ifc_instances::proofs::LedTo::led_none, ifc_instances::proofs::LedTo::led_nowhere, ifc_instances::proofs::LedTo::led_one))]
 fn is_bad_face(
     exchange: &Exchange,
     reaches: &mut FaceReaches,
@@ -49,13 +50,13 @@ fn is_bad_face(
 ) -> Result<bool, AllocError>
     requires few { count < 2 ^ 63 }
     requires known { AreReaches exchange.now reaches.old }
-    ensures bad { IfOk result (λ bad. MatchBool bad (Any (Any (PointsNowhere count)) (map outline (named_faces exchange.now (value.now ∷ [])))) (Any (Any (PointsNowhere count)) (map outline (named_faces exchange.now (value.now ∷ []))) → ⊥)) }
+    ensures bad { IfOk result (λ bad. MatchBool bad (Any (Any (PointsNowhere count)) (map outline (led_to exchange.now (value.now ∷ [])))) (Any (Any (PointsNowhere count)) (map outline (led_to exchange.now (value.now ∷ []))) → ⊥)) }
     ensures kept { OnOk result (AreReaches exchange.now reaches.new) }
 {
     let Some(id) = reference_of(value) else {
         return Ok(false);
     };
-    let Some(face) = fetch(exchange, id) else {
+    let Some(face) = look(exchange, id) else {
         return Ok(false);
     };
     if reaches.is_within(id, count) {
@@ -77,7 +78,7 @@ fn has_bad_face(
 ) -> Result<bool, AllocError>
     requires few { count < 2 ^ 63 }
     requires known { AreReaches exchange.now reaches.old }
-    ensures bad { IfOk result (λ bad. MatchBool bad (Any (Any (PointsNowhere count)) (map outline (named_faces exchange.now values.now))) (Any (Any (PointsNowhere count)) (map outline (named_faces exchange.now values.now)) → ⊥)) }
+    ensures bad { IfOk result (λ bad. MatchBool bad (Any (Any (PointsNowhere count)) (map outline (led_to exchange.now values.now))) (Any (Any (PointsNowhere count)) (map outline (led_to exchange.now values.now)) → ⊥)) }
     ensures kept { OnOk result (AreReaches exchange.now reaches.new) }
 {
     for value in values {

@@ -1,20 +1,21 @@
 //! How many triangles sets have.
 ghost use Rattle.std.specs.Prelude.{◌≡◌, ◌<◌, ◌≤◌, ◌+◌, ◌∷◌, [], sum_by, IfSome, IfNone};
-ghost use Rattle.faceset.specs.Sets.{named_faces, face_count, triangle_count};
+ghost use Rattle.ifc_instances.specs.Attributes.{led_to};
+ghost use Rattle.faceset.specs.Sets.{face_count, triangle_count};
 
-use crate::sets::{fetch, is_polygonal, listed, outline};
-use ifc_schema::reference_of;
+use crate::sets::{is_polygonal, outline};
+use ifc_instances::{listed, look, reference_of};
 use p21_reader::{Exchange, Instance, Value21};
 
 /// How many triangles the face has that a value refers to.
-#[tactic(auto, using(crate::proofs::Named::named_none, crate::proofs::Named::named_nowhere, crate::proofs::Named::named_one))]
+#[tactic(auto, using(ifc_instances::proofs::LedTo::led_none, ifc_instances::proofs::LedTo::led_nowhere, ifc_instances::proofs::LedTo::led_one))]
 fn count_face(exchange: &Exchange, value: &Value21) -> u64
-    ensures { result ≡ sum_by face_count (named_faces exchange.now (value.now ∷ [])) }
+    ensures { result ≡ sum_by face_count (led_to exchange.now (value.now ∷ [])) }
 {
     let Some(id) = reference_of(value) else {
         return 0;
     };
-    match fetch(exchange, id) {
+    match look(exchange, id) {
         Some(face) => (outline(face).len() as u64).saturating_sub(2),
         None => 0,
     }
@@ -22,8 +23,8 @@ fn count_face(exchange: &Exchange, value: &Value21) -> u64
 
 /// How many triangles the faces have that values refer to. None where they are more than `most`.
 fn count_faces(exchange: &Exchange, values: &[Value21], most: u64) -> Option<u64>
-    ensures some { IfSome result (λ n. (n ≡ sum_by face_count (named_faces exchange.now values.now)) × (n ≤ most)) }
-    ensures none { IfNone result (most < sum_by face_count (named_faces exchange.now values.now)) }
+    ensures some { IfSome result (λ n. (n ≡ sum_by face_count (led_to exchange.now values.now)) × (n ≤ most)) }
+    ensures none { IfNone result (most < sum_by face_count (led_to exchange.now values.now)) }
 {
     let mut count = 0;
     for value in values {

@@ -5,7 +5,7 @@ ghost use Rattle.bim_text.specs.Decimals.{value_of};
 ghost use Rattle.faceset.specs.Indexes.{whole, Writes, PointsAt, PointsNowhere};
 
 use bim_text::Decimal;
-use ifc_schema::number_of;
+use ifc_instances::number_of;
 use p21_reader::Value21;
 
 const LIMIT: u128 = 10_000_000_000_000_000_000;

@@ -19,6 +19,6 @@ pub use bad::has_bad_index;
 pub use counts::triangle_count;
 pub use indexes::place_of;
 pub use reaches::FaceReaches;
-pub use sets::{is_polygonal, is_set, items_in, listed, outline};
+pub use sets::{is_polygonal, is_set, outline};
 pub use stuck::least_stuck;
 pub use surface::set_triangles;

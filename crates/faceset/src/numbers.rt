@@ -1,10 +1,10 @@
 //! The numbers that values refer to.
 ghost use Rattle.std.specs.Prelude.{◌≡◌, ◌++◌, ◌∷◌, [], filter_map, IfOk, OnOk};
 ghost use Rattle.std.specs.List.Sorted.{IsStrictlyIncreasing};
-ghost use Rattle.ifc_schema.specs.Values.{reference_of};
+ghost use Rattle.ifc_instances.specs.Values.{reference_of};
 ghost use Rattle.faceset.specs.Numbers.{HaveSame};
 
-use ifc_schema::reference_of;
+use ifc_instances::reference_of;
 use p21_reader::Value21;
 use std::alloc::{AllocError, Global};
 

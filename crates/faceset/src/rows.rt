@@ -1,10 +1,11 @@
 //! The triangles of triangulated sets.
 ghost use Rattle.std.specs.Prelude.{◌∷◌, [], length, All, Any, IfOk, MatchOption, option_copied};
-ghost use Rattle.faceset.specs.Sets.{IsTriangle, AreTriangles, HasThree, IsMisnamed, items_in, IsCorner};
+ghost use Rattle.faceset.specs.Sets.{IsTriangle, AreTriangles, HasThree, IsMisnamed, IsCorner};
+ghost use Rattle.ifc_instances.specs.Attributes.{items_in};
 
 use crate::naming::corner;
-use crate::sets::items_in;
 use bim_model::{Point, Triangle};
+use ifc_instances::items_in;
 use p21_reader::Value21;
 use std::alloc::{AllocError, Global};
 

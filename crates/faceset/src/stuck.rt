@@ -4,13 +4,14 @@ ghost use Rattle.std.specs.Bool.{MatchBool};
 ghost use Rattle.std.specs.List.Sorted.{IsStrictlyIncreasing};
 ghost use Rattle.bim_model.specs.Points.{IsGridPoint};
 ghost use Rattle.faceset.specs.Sets.{HasStuck};
-ghost use Rattle.faceset.specs.Cuts.{LeastOf};
+ghost use Rattle.ifc_instances.specs.Least.{LeastOf};
 ghost use Rattle.faceset.specs.Numbers.{IsStuckFace, IsStuckIn};
 
 use crate::faces::{Outcome, cut_face};
 use crate::numbers::distinct_numbers;
-use crate::sets::{fetch, is_polygonal, listed, numbering};
+use crate::sets::{is_polygonal, numbering};
 use bim_model::Point;
+use ifc_instances::{listed, look};
 use p21_reader::{Exchange, Instance, Value21};
 use std::alloc::{AllocError, Global};
 
@@ -25,7 +26,7 @@ fn is_stuck(
     requires { All IsGridPoint points.now }
     ensures { IfOk result (λ stuck. MatchBool stuck (IsStuckFace exchange.now (option_copied numbers.entry) points.now id) (IsStuckFace exchange.now (option_copied numbers.entry) points.now id → ⊥)) }
 {
-    let Some(face) = fetch(exchange, id) else {
+    let Some(face) = look(exchange, id) else {
         return Ok(false);
     };
     match cut_face(alloc, numbers, points, face)? {

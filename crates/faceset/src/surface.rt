@@ -1,14 +1,15 @@
 //! The triangles of face sets.
 ghost use Rattle.std.specs.Prelude.{◌≡◌, ℕ, ◌∷◌, [], length, sum_by, All, Any, IfOk, IfSome, MatchOption, option_copied};
 ghost use Rattle.bim_model.specs.Points.{IsGridPoint};
-ghost use Rattle.faceset.specs.Sets.{named_faces, Joined, IsCut, SetTriangles, IsSound, HasStuck, face_count, triangle_count};
+ghost use Rattle.ifc_instances.specs.Attributes.{led_to};
+ghost use Rattle.faceset.specs.Sets.{Joined, IsCut, SetTriangles, IsSound, HasStuck, face_count, triangle_count};
 ghost use Rattle.faceset.specs.Cuts.{IsLoose};
 
 use crate::faces::{Outcome, cut_face};
 use crate::rows::triangles;
-use crate::sets::{fetch, is_polygonal, listed, numbering};
+use crate::sets::{is_polygonal, numbering};
 use bim_model::{Point, Triangle};
-use ifc_schema::reference_of;
+use ifc_instances::{listed, look, reference_of};
 use p21_reader::{Exchange, Instance, Value21};
 use std::alloc::{AllocError, Global};
 
@@ -21,13 +22,13 @@ fn face_triangles(
     value: &Value21,
 ) -> Result<Option<Vec<Triangle>>, AllocError>
     requires { All IsGridPoint points.now }
-    ensures triangles { IfOk result (λ made. MatchOption made (Any (IsLoose (option_copied numbers.entry) points.now) (named_faces exchange.now (value.now ∷ []))) (λ triangles. Joined (IsCut (option_copied numbers.entry) points.now) (named_faces exchange.now (value.now ∷ [])) triangles.items)) }
-    ensures count { IfOk result (λ made. IfSome made (λ triangles. length triangles.items ≡ sum_by face_count (named_faces exchange.now (value.now ∷ [])))) }
+    ensures triangles { IfOk result (λ made. MatchOption made (Any (IsLoose (option_copied numbers.entry) points.now) (led_to exchange.now (value.now ∷ []))) (λ triangles. Joined (IsCut (option_copied numbers.entry) points.now) (led_to exchange.now (value.now ∷ [])) triangles.items)) }
+    ensures count { IfOk result (λ made. IfSome made (λ triangles. length triangles.items ≡ sum_by face_count (led_to exchange.now (value.now ∷ [])))) }
 {
     let Some(id) = reference_of(value) else {
         return Ok(Some(Vec::new(alloc)));
     };
-    let Some(face) = fetch(exchange, id) else {
+    let Some(face) = look(exchange, id) else {
         return Ok(Some(Vec::new(alloc)));
     };
     match cut_face(alloc, numbers, points, face)? {
@@ -46,8 +47,8 @@ fn faces_triangles(
     values: &[Value21],
 ) -> Result<Option<Vec<Triangle>>, AllocError>
     requires { All IsGridPoint points.now }
-    ensures triangles { IfOk result (λ made. MatchOption made (Any (IsLoose (option_copied numbers.entry) points.now) (named_faces exchange.now values.now)) (λ triangles. Joined (IsCut (option_copied numbers.entry) points.now) (named_faces exchange.now values.now) triangles.items)) }
-    ensures count { IfOk result (λ made. IfSome made (λ triangles. length triangles.items ≡ sum_by face_count (named_faces exchange.now values.now))) }
+    ensures triangles { IfOk result (λ made. MatchOption made (Any (IsLoose (option_copied numbers.entry) points.now) (led_to exchange.now values.now)) (λ triangles. Joined (IsCut (option_copied numbers.entry) points.now) (led_to exchange.now values.now) triangles.items)) }
+    ensures count { IfOk result (λ made. IfSome made (λ triangles. length triangles.items ≡ sum_by face_count (led_to exchange.now values.now))) }
 {
     let mut made = Vec::new(alloc);
     for value in values {

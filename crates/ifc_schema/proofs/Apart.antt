@@ -1,5 +1,5 @@
 -- An instance that has a flaw lacks the form of its row.
-use Rattle.std.proofs.Common.{◌≡◌, inl, inr, Bool, true, false, List, [], ◌∷◌, length, get_or, Option, Some, None, arith, ℕ}
+use Rattle.std.proofs.Common.{◌≡◌, inl, inr, Bool, true, false, List, [], ◌∷◌, length, get_or, Option, Some, None, arith, ℕ, ◌↔◌, IsTrue, refl, sym, subst}
 use Rattle.std.specs.Bool.{MatchBool}
 use Rattle.std.specs.Option.{MatchOption}
 use Rattle.std.specs.List.{slice_get}
@@ -16,9 +16,11 @@ use Rattle.ifc_schema.specs.declared.form.Count.{Count}
 use Rattle.ifc_schema.specs.declared.form.Shape.{Shape}
 use Rattle.ifc_schema.specs.declared.form.Shape.TheVariants as shape
 use Rattle.ifc_schema.specs.Forms.{fits}
-use Rattle.ifc_schema.specs.Values.{number_of, items_of}
-use Rattle.ifc_schema.specs.Looking.{row_at}
+use Rattle.ifc_instances.specs.Values.{number_of, items_of}
+use Rattle.ifc_schema.specs.Table.{row_at}
 use Rattle.ifc_schema.specs.Bodies.{applies}
+use Rattle.ifc_schema.specs.Used.{IsMapped}
+use Rattle.ifc_schema.specs.StageFive.{UsedFlaw}
 use Rattle.ifc_schema.specs.Flaws.{NumberFlaw, WholeFlaw, LeafFlaw, FirstFlaw, ItemsFlaw, ListFlaw, ShapeFlaw, ValueFlaw, PlaceFlaw, AttributeFlaw, InstanceFlaw, absent_stands}
 
 -- A thing that has no flaw has no flaw that is one.
@@ -92,8 +94,22 @@ place_apart world a (Some v) = value_apart world a v
 attribute_apart : (world : List Instance) (m : Bool) (i : Instance) (a : Attribute) → Apart (AttributeFlaw world m i a)
 attribute_apart world m i a = by_bool (applies world m i a.when) (PlaceFlaw world a (slice_get i.values a.at)) (λ f. f ≡ None) (place_apart world a (slice_get i.values a.at)) (told None)
 
-pub instance_apart : (world : List Instance) (m : Bool) (i : Instance) → Apart (InstanceFlaw world m i)
+instance_apart : (world : List Instance) (m : Bool) (i : Instance) → Apart (InstanceFlaw world m i)
 instance_apart world m i = first_apart (AttributeFlaw world m i) (attribute_apart world m i) (row_at i)
 
 pub some_flaw : (world : List Instance) (m : Bool) (i : Instance) (flaw : Flaw) → InstanceFlaw world m i (Some flaw) → InstanceFlaw world m i None → ⊥
 some_flaw world m i flaw k h = instance_apart world m i flaw h k
+
+-- two tests of one thing give one answer
+one_test : (a b : Bool) (P : Type 0) → IsTrue a ↔ P → IsTrue b ↔ P → a ≡ b
+one_test true true P f g = refl
+one_test true false P f g = sym (g.1 (f.0 refl))
+one_test false true P f g = f.1 (g.0 refl)
+one_test false false P f g = refl
+
+-- an instance that is used and has a flaw lacks the form of its row
+pub used_apart : (world : List Instance) (id : ℕ) → Apart (UsedFlaw world id)
+used_apart world id flaw h k =
+    let i : h.instance ≡ k.instance = (let f = h.found in let g = k.found in cc) in
+    let m : h.mapped ≡ k.mapped = one_test h.mapped k.mapped (IsMapped world id) h.is_mapped k.is_mapped in
+    instance_apart world k.mapped k.instance flaw (subst (λ (b : Bool). InstanceFlaw world b k.instance None) m (subst (λ (j : Instance). InstanceFlaw world h.mapped j None) i h.flawed)) k.flawed

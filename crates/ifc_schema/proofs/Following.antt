@@ -9,8 +9,8 @@ use Rattle.std.proofs.lemmas.List.{get_or_default, get_or_past, get_or-replicate
 use Rattle.std.proofs.lemmas.List.Elements.{Contains-append_left, Contains-push_cases}
 use Rattle.p21_reader.specs.declared.value.Instance.{Instance}
 use Rattle.p21_reader.specs.Uploads.{Rises}
-use Rattle.ifc_schema.specs.declared.entity.Entity.{Entity}
-use Rattle.ifc_schema.specs.declared.entity.Entity.TheVariants.{RepresentationMap, Representation}
+use Rattle.ifc_instances.specs.declared.entity.Entity.{Entity}
+use Rattle.ifc_instances.specs.declared.entity.Entity.TheVariants.{RepresentationMap, Representation}
 use Rattle.ifc_schema.specs.declared.form.Attribute.{Attribute}
 use Rattle.ifc_schema.specs.declared.form.Targets.TheVariants as targets
 use Rattle.ifc_schema.specs.declared.form.Leaf.TheVariants as leaf
@@ -21,14 +21,13 @@ use Rattle.ifc_schema.specs.declared.form.When.TheVariants.{Always, WithBody, Wi
 use Rattle.ifc_schema.specs.declared.work.Mark.{Mark}
 use Rattle.ifc_schema.specs.declared.work.Mark.TheVariants.{Unseen, Used as Met, Mapped}
 use Rattle.ifc_schema.specs.declared.work.Work.{Work}
-use Rattle.ifc_schema.specs.Entities.{is_root}
-use Rattle.ifc_schema.specs.Table.{row_of, attribute}
-use Rattle.ifc_schema.specs.Looking.{look, entity_at, row_at, row_or_none}
-use Rattle.ifc_schema.specs.Places.{IsPlaceOf}
+use Rattle.ifc_schema.specs.Used.{is_root, Used, root, named, mapped, IsMapped, Names, NamesBy, Maps}
+use Rattle.ifc_schema.specs.Table.{row_of, attribute, row_at, row_or_none}
+use Rattle.ifc_instances.specs.Looking.{look, entity_at}
+use Rattle.ifc_instances.specs.Places.{IsPlaceOf}
 use Rattle.ifc_schema.specs.Bodies.{applies}
-use Rattle.ifc_schema.specs.Used.{Used, root, named, mapped, IsMapped, Names, NamesBy, Maps}
 use Rattle.ifc_schema.specs.Marks.{rank, rank_at, mark_at, is_mapped, SoundAt, Grows, IsMarked, IsFollowed, FollowedAt, IsRootAt, Going}
-use Rattle.ifc_schema.proofs.PlaceLemmas.{rising, place_found, found_at, some_instance}
+use Rattle.ifc_instances.proofs.PlaceLemmas.{rising, place_found, found_at, some_instance}
 use Rattle.ifc_schema.proofs.Growing.{marked_on}
 
 -- The instance at a place.
@@ -101,12 +100,6 @@ names_more world m i to n = record {
   attribute = n.attribute;
   listed = n.listed;
   names = record { applied = applies_more world m i n.attribute.when n.names.applied; value = n.names.value; there = n.names.there; stands = n.names.stands; leads = n.names.leads };
-}
-
-followed_on : (world : List Instance) (a b : Work) (m : Bool) (i : Instance) → Grows world a b → IsFollowed world a m i → IsFollowed world b m i
-followed_on world a b m i g f = record {
-  names = λ to n. marked_on world a b 0 to g (f.names to n);
-  maps = λ to n. marked_on world a b 1 to g (f.maps to n);
 }
 
 -- One turn: a place is taken off the stack, and its row is followed.
@@ -249,10 +242,6 @@ going_same world old new g em es =
     }
 
 -- One root: it is marked, or the place is none.
-
-pub record Rooted (world : List Instance) (old new : Work) (at : ℕ) : Type 0 where
-  pub grows : Grows world old new
-  pub root : IsRootAt world at → 0 < rank_at new at
 
 pub root_sound : (world : List Instance) (at : ℕ) (i : Instance) → IsPlaceOf world i.id at → i ≡ get_or world at i → is_root (entity_at i) ≡ true → SoundAt world at Met
 root_sound world at i p e r = record {

@@ -10,22 +10,11 @@ use Rattle.ifc_schema.specs.declared.work.Mark.{Mark}
 use Rattle.ifc_schema.specs.declared.work.Mark.TheVariants.{Unseen, Used as Met, Mapped}
 use Rattle.ifc_schema.specs.declared.work.Work.{Work}
 use Rattle.ifc_schema.specs.Forms.{holds}
-use Rattle.ifc_schema.specs.Looking.{look}
-use Rattle.ifc_schema.specs.Places.{IsPlaceOf}
+use Rattle.ifc_instances.specs.Looking.{look}
+use Rattle.ifc_instances.specs.Places.{IsPlaceOf}
 use Rattle.ifc_schema.specs.Used.{LeadsTo}
 use Rattle.ifc_schema.specs.Marks.{rank, rank_at, mark_at, SoundAt, Grows, IsMarked}
-use Rattle.ifc_schema.proofs.PlaceLemmas.{found_at, place_once}
-
-pub grows_refl : (world : List Instance) (w : Work) → Grows world w w
-grows_refl world w = record {
-  size = refl;
-  sound = λ h. h;
-  stacked = λ h. h;
-  rises = λ at. omega arith;
-  pending = λ at. inl refl;
-  keeps = λ at h. h;
-  weight = omega arith;
-}
+use Rattle.ifc_instances.proofs.PlaceLemmas.{found_at, place_once}
 
 pub grows_trans : (world : List Instance) (a b c : Work) → Grows world a b → Grows world b c → Grows world a c
 grows_trans world a b c p q = record {
@@ -137,9 +126,6 @@ not_meant world targets to at i p e h l =
 -- a mark that is raised at the place of a number
 pub reached_there : (world : List Instance) (new : Work) (to at low : ℕ) → IsPlaceOf world to at → low ≤ rank_at new at → (p : ℕ) → IsPlaceOf world to p → low ≤ rank_at new p
 reached_there world new to at low here r p q = let e = place_once world to p at q here in rw e r
-
-pub not_there : (world : List Instance) (targets : Targets) (to : ℕ) → look world to ≡ None → LeadsTo world targets to → ⊥
-not_there world targets to h l = let f = l.found in cc
 
 -- one more element of a list is dealt with
 pub one_more : {X : Type 0} (D : Work → X → Type 0) (xs : List X) (old new : Work) (i : ℕ) (x : X) → i < length xs → x ≡ get_or xs i x → ((y : X) → D old y → D new y)

@@ -1,4 +1,3 @@
-pub mod PlaceLemmas
 pub mod Firsts
 pub mod Results
 pub mod Growing

@@ -9,21 +9,19 @@ use Rattle.ifc_schema.specs.declared.flaw.Flaw.{Flaw}
 use Rattle.ifc_schema.specs.declared.work.Mark.{Mark}
 use Rattle.ifc_schema.specs.declared.work.Mark.TheVariants.{Unseen, Used as Met, Mapped}
 use Rattle.ifc_schema.specs.declared.work.Work.{Work}
-use Rattle.ifc_schema.specs.Looking.{look}
-use Rattle.ifc_schema.specs.Places.{IsPlaceOf}
-use Rattle.ifc_schema.specs.Used.{Used, root, named, mapped, IsMapped}
+use Rattle.ifc_instances.specs.Looking.{look, entity_at}
+use Rattle.ifc_instances.specs.Places.{IsPlaceOf}
+use Rattle.ifc_schema.specs.Used.{Used, root, named, mapped, IsMapped, is_root}
 use Rattle.ifc_schema.specs.Marks.{rank, rank_at, mark_at, is_seen, is_mapped, Known}
 use Rattle.ifc_schema.specs.Flaws.{InstanceFlaw}
 use Rattle.ifc_schema.specs.StageFive.{UsedFlaw, StageFive, IsModelElement, is_model_element, is_subject, Lists, fault_of}
 use Rattle.ifc_schema.specs.Steps.{FaultAt, CheckedAt, Checked, Below}
-use Rattle.ifc_schema.specs.Entities.{is_root}
 use Rattle.ifc_schema.specs.Bodies.{has_body}
-use Rattle.ifc_schema.proofs.PlaceLemmas.{rising, place_found, some_instance}
+use Rattle.ifc_instances.proofs.PlaceLemmas.{rising, place_found, some_instance}
 use Rattle.ifc_schema.proofs.Following.{look_there, number_once, mapped_rank, rank_mapped}
 use Rattle.bim_model.specs.declared.upload.UploadFault.{UploadFault}
-use Rattle.ifc_schema.specs.declared.entity.Entity.{Entity}
-use Rattle.ifc_schema.specs.declared.entity.Entity.TheVariants.{Subject}
-use Rattle.ifc_schema.specs.Looking.{entity_at}
+use Rattle.ifc_instances.specs.declared.entity.Entity.{Entity}
+use Rattle.ifc_instances.specs.declared.entity.Entity.TheVariants.{Subject}
 
 pub record Found (world : List Instance) (id : ℕ) : Type 0 where
   pub instance : Instance
@@ -66,13 +64,6 @@ earlier world rises a b k at p q lt =
   where
     side : (k n : ℕ) → (k < n) ⊎ (n ≤ k)
     side k n = grind arith
-
-pub lists_none : (world : List Instance) (P : ℕ → Type 0) → Lists (Below world 0 P) []
-lists_none world P = record {
-  rises = λ k l. absurd (omega arith);
-  each = λ id c. let l = c.1 in absurd (omega arith);
-  all = λ id b. let l = b.below in absurd (omega arith);
-}
 
 below_on : (world : List Instance) (at : ℕ) (P : ℕ → Type 0) (id : ℕ) → Below world at P id → Below world (at + 1) P id
 below_on world at P id b = record { place = b.place; below = let l = b.below in omega arith; there = b.there; holds = b.holds }

@@ -4,17 +4,12 @@ use Rattle.std.specs.Prelude.{◌&&◌, ◌||◌, Bool, true, false, List, map, 
 use Rattle.std.specs.List.{list_any, slice_get}
 use Rattle.p21_reader.specs.declared.value.Value21.{Value21}
 use Rattle.p21_reader.specs.declared.value.Instance.{Instance}
-use Rattle.ifc_schema.specs.declared.entity.Entity.TheVariants.{ProductShape, Representation}
+use Rattle.ifc_instances.specs.declared.entity.Entity.TheVariants.{ProductShape, Representation}
 use Rattle.ifc_schema.specs.declared.form.When.{When}
 use Rattle.ifc_schema.specs.declared.form.When.TheVariants.{Always, WithBody, WithItems}
 use Rattle.ifc_schema.specs.Words.{says_body}
-use Rattle.ifc_schema.specs.Values.{words_of, reference_of, items_of}
-use Rattle.ifc_schema.specs.Looking.{look, is_a}
-
--- a test of what is there
-abbrev pub some_passes : {X : Type 0} → (X → Bool) → Option X → Bool
-some_passes test None = false
-some_passes test (Some x) = test x
+use Rattle.ifc_instances.specs.Values.{words_of, reference_of, items_of}
+use Rattle.ifc_instances.specs.Looking.{look, is_a, some_passes}
 
 -- the identifier of a representation is `Body`
 unfoldable pub is_body : Instance → Bool

@@ -1,8 +1,8 @@
 -- The forms that attributes have.
 use Rattle.std.specs.Prelude.{ℕ, ◌==◌, nat_le, Bool, true, false, List, [], ◌∷◌, Option, Some, None}
 use Rattle.std.specs.List.{list_any}
-use Rattle.ifc_schema.specs.declared.entity.Entity.{Entity}
-use Rattle.ifc_schema.specs.declared.entity.Entity.TheVariants as entity
+use Rattle.ifc_instances.specs.declared.entity.Entity.{Entity}
+use Rattle.ifc_instances.specs.declared.entity.Entity.TheVariants as entity
 use Rattle.ifc_schema.specs.declared.form.Targets.{Targets}
 use Rattle.ifc_schema.specs.declared.form.Targets.TheVariants as targets
 use Rattle.ifc_schema.specs.declared.form.Leaf.{Leaf}
@@ -11,7 +11,7 @@ use Rattle.ifc_schema.specs.declared.form.Count.{Count}
 use Rattle.ifc_schema.specs.declared.form.Count.TheVariants.{Exactly, AtLeast}
 use Rattle.ifc_schema.specs.declared.form.Need.{Need}
 use Rattle.ifc_schema.specs.declared.form.Need.TheVariants.{Must, OrAbsent, OrMissing}
-use Rattle.ifc_schema.specs.Entities.{is_of}
+use Rattle.ifc_instances.specs.Entities.{is_of}
 
 -- a list may have that many items
 abbrev pub fits : Count → ℕ → Bool

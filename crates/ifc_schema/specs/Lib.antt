@@ -1,10 +1,6 @@
 pub mod Words
-pub mod Entities
 pub mod Forms
-pub mod Values
 pub mod Table
-pub mod Looking
-pub mod Places
 pub mod Bodies
 pub mod Flaws
 pub mod Used

@@ -5,10 +5,9 @@ use Rattle.p21_reader.specs.declared.value.Instance.{Instance}
 use Rattle.ifc_schema.specs.declared.work.Mark.{Mark}
 use Rattle.ifc_schema.specs.declared.work.Mark.TheVariants.{Unseen, Used as Met, Mapped}
 use Rattle.ifc_schema.specs.declared.work.Work.{Work}
-use Rattle.ifc_schema.specs.Entities.{is_root}
-use Rattle.ifc_schema.specs.Looking.{look, entity_at}
-use Rattle.ifc_schema.specs.Places.{IsPlaceOf}
-use Rattle.ifc_schema.specs.Used.{Used, IsMapped, Names, Maps}
+use Rattle.ifc_schema.specs.Used.{is_root, Used, IsMapped, Names, Maps}
+use Rattle.ifc_instances.specs.Looking.{look, entity_at}
+use Rattle.ifc_instances.specs.Places.{IsPlaceOf}
 
 abbrev pub rank : Mark → ℕ
 rank Unseen = 0

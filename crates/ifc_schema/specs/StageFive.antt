@@ -6,12 +6,12 @@ use Rattle.bim_model.specs.declared.upload.UploadFault.TheVariants as fault
 use Rattle.p21_reader.specs.declared.value.Instance.{Instance}
 use Rattle.bim_model.specs.declared.upload.BuildError.{BuildError}
 use Rattle.bim_model.specs.declared.upload.BuildError.TheVariants.{Fault, Memory}
-use Rattle.ifc_schema.specs.declared.entity.Entity.{Entity}
-use Rattle.ifc_schema.specs.declared.entity.Entity.TheVariants.{Subject}
+use Rattle.ifc_instances.specs.declared.entity.Entity.{Entity}
+use Rattle.ifc_instances.specs.declared.entity.Entity.TheVariants.{Subject}
 use Rattle.ifc_schema.specs.declared.flaw.Flaw.{Flaw}
 use Rattle.ifc_schema.specs.declared.flaw.Flaw.TheVariants.{Dangling, BadShape}
 use Rattle.ifc_schema.specs.declared.outcome.Survey.{Survey}
-use Rattle.ifc_schema.specs.Looking.{look, entity_at}
+use Rattle.ifc_instances.specs.Looking.{look, entity_at}
 use Rattle.ifc_schema.specs.Bodies.{has_body}
 use Rattle.ifc_schema.specs.Flaws.{InstanceFlaw}
 use Rattle.ifc_schema.specs.Used.{Used, IsMapped}

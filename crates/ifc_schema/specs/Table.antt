@@ -1,8 +1,10 @@
 -- The attributes that are followed, by rising number, and their forms (IFC4 ADD2 TC1, after the definitions of the entities). An instance may
 -- have more attributes than its row names.
-use Rattle.std.specs.Prelude.{ℕ, List, [], ◌∷◌}
-use Rattle.ifc_schema.specs.declared.entity.Entity.{Entity}
-use Rattle.ifc_schema.specs.declared.entity.Entity.TheVariants as entity
+use Rattle.std.specs.Prelude.{ℕ, List, [], ◌∷◌, Option, Some, None}
+use Rattle.p21_reader.specs.declared.value.Instance.{Instance}
+use Rattle.ifc_instances.specs.declared.entity.Entity.{Entity}
+use Rattle.ifc_instances.specs.declared.entity.Entity.TheVariants as entity
+use Rattle.ifc_instances.specs.Looking.{entity_at}
 use Rattle.ifc_schema.specs.declared.form.Attribute.{Attribute}
 use Rattle.ifc_schema.specs.declared.form.Targets.TheVariants as targets
 use Rattle.ifc_schema.specs.declared.form.Leaf.{Leaf}
@@ -85,3 +87,11 @@ row_of entity.Operator =
     attribute 2 Always Must shape.One (leaf.Reference (targets.One entity.Point)) ∷
     attribute 3 Always OrMissing shape.One leaf.Number ∷
     attribute 4 Always OrMissing shape.One (leaf.Reference (targets.One entity.Direction)) ∷ []
+
+abbrev pub row_or_none : Option Entity → List Attribute
+row_or_none None = []
+row_or_none (Some entity) = row_of entity
+
+-- the attributes of an instance that are followed
+abbrev pub row_at : Instance → List Attribute
+row_at i = row_or_none (entity_at i)

@@ -1,19 +1,29 @@
 -- The instances that a model is read from.
-use Rattle.std.specs.Prelude.{◌≡◌, ℕ, Bool, true, false, List, Some, MatchOption, Contains, Any}
+use Rattle.std.specs.Prelude.{◌≡◌, ℕ, Bool, true, false, List, Option, Some, MatchOption, Contains, Any}
 use Rattle.std.specs.List.{slice_get}
 use Rattle.p21_reader.specs.declared.value.Value21.{Value21}
 use Rattle.p21_reader.specs.declared.value.Instance.{Instance}
-use Rattle.ifc_schema.specs.declared.entity.Entity.TheVariants.{RepresentationMap, Representation}
+use Rattle.ifc_instances.specs.declared.entity.Entity.{Entity}
+use Rattle.ifc_instances.specs.declared.entity.Entity.TheVariants.{Project, Storey, Aggregates, Containment, Subject, RepresentationMap, Representation}
 use Rattle.ifc_schema.specs.declared.form.Attribute.{Attribute}
 use Rattle.ifc_schema.specs.declared.form.Targets.{Targets}
 use Rattle.ifc_schema.specs.declared.form.Targets.TheVariants as targets
 use Rattle.ifc_schema.specs.declared.form.Shape.{Shape}
 use Rattle.ifc_schema.specs.declared.form.Shape.TheVariants as shape
-use Rattle.ifc_schema.specs.Entities.{is_root}
 use Rattle.ifc_schema.specs.Forms.{holds, followed}
-use Rattle.ifc_schema.specs.Values.{reference_of, items_of}
-use Rattle.ifc_schema.specs.Looking.{look, entity_at, row_at}
+use Rattle.ifc_instances.specs.Values.{reference_of, items_of}
+use Rattle.ifc_instances.specs.Looking.{look, entity_at}
+use Rattle.ifc_schema.specs.Table.{row_at}
 use Rattle.ifc_schema.specs.Bodies.{applies}
+
+-- the entities whose instances are used wherever they stand
+abbrev pub is_root : Option Entity → Bool
+is_root (Some Project) = true
+is_root (Some Storey) = true
+is_root (Some Aggregates) = true
+is_root (Some Containment) = true
+is_root (Some Subject) = true
+is_root _ = false
 
 -- a value is a reference to that instance
 abbrev pub RefersTo : ℕ → Value21 → Type 0

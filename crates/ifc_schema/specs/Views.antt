@@ -2,7 +2,7 @@
 use Rattle.std.specs.Prelude.{◌≡◌, ℕ, Bool, true, false, List, Some, None, option_copied}
 use Rattle.std.specs.List.{slice_get}
 use Rattle.p21_reader.specs.declared.value.Instance.{Instance}
-use Rattle.ifc_schema.specs.declared.entity.Entity.{Entity}
+use Rattle.ifc_instances.specs.declared.entity.Entity.{Entity}
 use Rattle.ifc_schema.specs.declared.views.ElementView.{ElementView}
 use Rattle.ifc_schema.specs.declared.views.PlacementView.{PlacementView}
 use Rattle.ifc_schema.specs.declared.views.AxisView.{AxisView}
@@ -11,7 +11,7 @@ use Rattle.ifc_schema.specs.declared.views.RepresentationView.{RepresentationVie
 use Rattle.ifc_schema.specs.declared.views.FacesetView.{FacesetView}
 use Rattle.ifc_schema.specs.declared.views.FaceView.{FaceView}
 use Rattle.ifc_schema.specs.declared.views.MappedView.{MappedView}
-use Rattle.ifc_schema.specs.Looking.{look, entity_at}
+use Rattle.ifc_instances.specs.Looking.{look, entity_at}
 use Rattle.ifc_schema.specs.Flaws.{InstanceFlaw}
 
 -- It is the instance of that number, and has the form of its row. Whether it is mapped is given.

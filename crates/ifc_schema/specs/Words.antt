@@ -1,12 +1,11 @@
 -- The words on spelled numbers and texts that forms are made of.
-use Rattle.std.specs.Prelude.{◌==◌, ◌&&◌, ◌⊎◌, Bool, ℕ, List, length, codes, pos, ◌≤ℤ◌, ◌<ℤ◌}
-use Rattle.std.specs.List.{list_all}
+use Rattle.std.specs.Prelude.{◌⊎◌, Bool, ℕ, List, codes, pos, ◌≤ℤ◌, ◌<ℤ◌}
 use Rattle.std.specs.Str.{bytes_eq}
-use Rattle.bim_model.specs.Guids.{is_guid_char}
 use Rattle.bim_text.specs.declared.decimal.Decimal.{Decimal}
 use Rattle.bim_text.specs.Numbers.{Spelling, IsRead}
 use Rattle.bim_text.specs.Decimals.{Reads}
 use Rattle.bim_text.specs.Texts.{text_of_spelling}
+use Rattle.bim_text.specs.Says.{is_guid}
 
 -- the bytes are a number that is read
 abbrev pub IsNumber : List ℕ → Type 0
@@ -26,10 +25,6 @@ IsNotWhole bs = IsNoNumber bs ⊎ ((d : Decimal) × Reads bs d × (d.exp <ℤ po
 -- a spelled text says `Body`
 unfoldable pub says_body : List ℕ → Bool
 says_body bs = bytes_eq (text_of_spelling bs) (codes "Body")
-
--- a text is a globally unique identifier
-abbrev pub is_guid : List ℕ → Bool
-is_guid text = (length text == 22) && list_all is_guid_char text
 
 -- a spelled text says a globally unique identifier
 unfoldable pub says_guid : List ℕ → Bool

@@ -3,11 +3,9 @@ ghost use Rattle.std.specs.Prelude.{◌≡◌, Bool, List, IfOk, length, map};
 ghost use Rattle.p21_reader.specs.declared.value.Instance.{Instance};
 ghost use Rattle.ifc_schema.specs.Bodies.{is_body, is_body_representation, target_passes, lists_body, is_body_shape, body_shapes, has_body, applies};
 
-use crate::entity::Entity;
 use crate::form::When;
-use crate::look::{is_a, place_of};
-use crate::value::{items_of, reference_of, words_of};
 use crate::words::says_body;
+use ifc_instances::{Entity, is_a, items_of, place_of, reference_of, words_of};
 use p21_reader::{Exchange, Instance, Value21};
 use std::alloc::{AllocError, Global};
 

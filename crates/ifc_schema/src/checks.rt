@@ -1,6 +1,6 @@
 //! The survey of a file: whether all that is used has the form of its row.
 ghost use Rattle.std.specs.Prelude.{◌≡◌, ◌+◌, ◌<◌, ℕ, length, IfOk, IfErr, OnOk};
-ghost use Rattle.ifc_schema.specs.Places.{IsPlaceOf};
+ghost use Rattle.ifc_instances.specs.Places.{IsPlaceOf};
 ghost use Rattle.ifc_schema.specs.Used.{Used, IsMapped};
 ghost use Rattle.ifc_schema.specs.Bodies.{body_shapes};
 ghost use Rattle.ifc_schema.specs.Marks.{Known, rank_at};
@@ -8,13 +8,12 @@ ghost use Rattle.ifc_schema.specs.Steps.{CheckedAt, Checked, Below};
 ghost use Rattle.ifc_schema.specs.StageFive.{UsedFlaw, IsModelElement, Lists, Surveyed, IsSurveyError, is_model_element, fault_of};
 
 use crate::body::{body_shapes, has_body};
-use crate::entity::Entity;
 use crate::flaw::{Flaw, instance_flaw};
-use crate::look::entity_at;
 use crate::outcome::Survey;
 use crate::visit::mark_used;
 use crate::work::Work;
 use bim_model::{BuildError, UploadFault};
+use ifc_instances::{Entity, entity_at};
 use p21_reader::{Exchange, Instance};
 use std::alloc::{AllocError, Global};
 

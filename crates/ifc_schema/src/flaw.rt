@@ -17,14 +17,15 @@ ghost use Rattle.ifc_schema.specs.Flaws.{
   InstanceFlaw,
 };
 ghost use Rattle.ifc_schema.specs.Words.{says_guid};
-ghost use Rattle.ifc_schema.specs.Bodies.{some_passes, has_body};
-ghost use Rattle.ifc_schema.specs.Values.{words_of, reference_of};
+ghost use Rattle.ifc_instances.specs.Looking.{some_passes};
+ghost use Rattle.ifc_schema.specs.Bodies.{has_body};
+ghost use Rattle.ifc_instances.specs.Values.{words_of, reference_of};
 
 use crate::body::applies;
 use crate::form::{Attribute, Count, Leaf, Shape, Targets};
-use crate::look::{look, row_at};
-use crate::value::{is_absent, is_enumeration, items_of, number_of, reference_of, words_of};
+use crate::table::row_at;
 use crate::words::{is_number, is_whole, says_guid};
+use ifc_instances::{is_absent, is_enumeration, items_of, look, number_of, reference_of, words_of};
 use p21_reader::{Exchange, Instance, Value21};
 
 /// What is wrong with an instance that lacks the form of its row.

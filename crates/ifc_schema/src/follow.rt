@@ -1,16 +1,14 @@
 //! Rows are followed: what they name is marked.
 ghost use Rattle.std.specs.Prelude.{◌≡◌, ◌≤◌, ℕ, length, OnOk, Any};
-ghost use Rattle.ifc_schema.specs.Places.{IsPlaceOf};
+ghost use Rattle.ifc_instances.specs.Places.{IsPlaceOf};
 ghost use Rattle.ifc_schema.specs.Used.{Used, IsMapped, RefersTo, SomeItem, StandsIn, LeadsTo, NamesBy, Maps};
 ghost use Rattle.ifc_schema.specs.Bodies.{has_body};
 ghost use Rattle.ifc_schema.specs.Marks.{Grows, IsMarked, SoundAt, rank, rank_at};
 
 use crate::body::applies;
-use crate::entity::Entity;
 use crate::form::{Attribute, Shape, Targets};
-use crate::look::{entity_at, place_of};
-use crate::value::{items_of, reference_of};
 use crate::work::{Mark, Work};
+use ifc_instances::{Entity, entity_at, items_of, place_of, reference_of};
 use p21_reader::{Exchange, Instance, Value21};
 use std::alloc::AllocError;
 

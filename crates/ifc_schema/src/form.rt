@@ -2,8 +2,8 @@
 ghost use Rattle.std.specs.Prelude.{◌≡◌};
 ghost use Rattle.ifc_schema.specs.Forms.{is_nothing, holds, fits, followed, allows_absent, allows_missing};
 
-use crate::entity::Entity;
 use bim_model::Text;
+use ifc_instances::Entity;
 
 /// The instances that a reference may lead to, by their entities.
 #[derive(Clone, Copy)]

@@ -4,16 +4,13 @@
 
 mod body;
 mod checks;
-mod entity;
 mod flaw;
 mod follow;
 mod form;
-mod look;
 mod outcome;
 mod table;
 #[cfg(test)]
 mod tests;
-mod value;
 #[cfg(test)]
 mod view_tests;
 mod views;
@@ -23,10 +20,7 @@ mod work;
 
 pub use body::is_body;
 pub use checks::survey;
-pub use entity::Entity;
-pub use look::{is_a, place_of};
 pub use outcome::Survey;
-pub use value::{is_absent, items_of, number_of, reference_of, words_of};
 pub use views::{
     AxisView, ElementView, FaceView, FacesetView, MappedView, OperatorView, PlacementView,
     RepresentationView, axis_placement, element, faceset, mapped_item, operator, placement,

@@ -1,8 +1,9 @@
 ghost use Rattle.std.specs.Prelude.{◌≡◌};
-ghost use Rattle.ifc_schema.specs.Table.{row_of};
+ghost use Rattle.ifc_schema.specs.Table.{row_of, row_at};
 
-use crate::entity::Entity;
 use crate::form::{Attribute, Count, Leaf, Need, Shape, Targets, When};
+use ifc_instances::{Entity, entity_at};
+use p21_reader::Instance;
 
 const PROJECT: [Attribute; 1] = [Attribute {
     at: 8,
@@ -386,5 +387,15 @@ pub fn row_of(entity: Entity) -> &'static [Attribute]
         Entity::MappedItem => &MAPPED_ITEM,
         Entity::RepresentationMap => &REPRESENTATION_MAP,
         Entity::Operator => &OPERATOR,
+    }
+}
+
+/// The attributes of an instance that are followed.
+pub fn row_at(instance: &Instance) -> &'static [Attribute]
+    ensures { result.now ≡ row_at instance.now }
+{
+    match entity_at(instance) {
+        Some(entity) => row_of(entity),
+        None => &[],
     }
 }

@@ -4,7 +4,7 @@ ghost use Rattle.std.specs.Prelude.{◌≡◌, ◌<◌, ◌⊎◌, false, Some, 
 ghost use Rattle.std.specs.List.{slice_get};
 ghost use Rattle.std.specs.Bool.{MatchBool};
 ghost use Rattle.p21_reader.specs.declared.value.Instance.{Instance};
-ghost use Rattle.ifc_schema.specs.declared.entity.Entity.TheVariants.{Subject, Placement, AxisPlacement, Operator, Representation, TriangulatedFaceSet, PolygonalFaceSet, Face, FaceWithVoids, MappedItem};
+ghost use Rattle.ifc_instances.specs.declared.entity.Entity.TheVariants.{Subject, Placement, AxisPlacement, Operator, Representation, TriangulatedFaceSet, PolygonalFaceSet, Face, FaceWithVoids, MappedItem};
 ghost use Rattle.ifc_schema.specs.Bodies.{is_body_representation, target_passes, lists_body, is_body_shape, has_body};
 ghost use Rattle.ifc_schema.specs.Flaws.{InstanceFlaw};
 ghost use Rattle.ifc_schema.specs.Views.{
@@ -24,10 +24,8 @@ ghost use Rattle.ifc_schema.specs.Views.{
 };
 
 use crate::body::is_body_representation;
-use crate::entity::Entity;
 use crate::flaw::instance_flaw;
-use crate::look::{entity_at, is_a, look};
-use crate::value::{items_of, reference_of};
+use ifc_instances::{Entity, attribute, entity_at, is_a, items_of, look, reference_of};
 use p21_reader::{Exchange, Instance, Value21};
 
 /// An element.
@@ -204,19 +202,12 @@ fn formed(exchange: &Exchange, mapped: bool, id: u64) -> Option<&Instance>
 }
 
 /// An attribute that an instance has.
-fn attribute(instance: &Instance, at: usize) -> &Value21
+fn present(instance: &Instance, at: usize) -> &Value21
     requires { at < length instance.now.values }
     ensures { slice_get instance.now.values at ≡ Some result.now }
 {
     let values = instance.values.as_slice();
     &values[at]
-}
-
-/// An attribute, where the instance has it.
-fn attribute_if_any(instance: &Instance, at: usize) -> Option<&Value21>
-    ensures { option_copied result ≡ slice_get instance.now.values at }
-{
-    instance.values.as_slice().get(at)
 }
 
 /// An element, by its number.
@@ -227,10 +218,10 @@ pub fn element(exchange: &Exchange, id: u64) -> Option<ElementView<'_>>
     let Some(Entity::Subject) = entity_at(instance) else {
         return None;
     };
-    let guid = attribute(instance, 0);
-    let name = attribute(instance, 2);
-    let placement = attribute(instance, 5);
-    let shape = attribute(instance, 6);
+    let guid = present(instance, 0);
+    let name = present(instance, 2);
+    let placement = present(instance, 5);
+    let shape = present(instance, 6);
     Some(ElementView {
         guid,
         name,
@@ -247,8 +238,8 @@ pub fn placement(exchange: &Exchange, id: u64) -> Option<PlacementView<'_>>
     let Some(Entity::Placement) = entity_at(instance) else {
         return None;
     };
-    let parent = attribute(instance, 0);
-    let relative = attribute(instance, 1);
+    let parent = present(instance, 0);
+    let relative = present(instance, 1);
     Some(PlacementView { parent, relative })
 }
 
@@ -260,9 +251,9 @@ pub fn axis_placement(exchange: &Exchange, id: u64) -> Option<AxisView<'_>>
     let Some(Entity::AxisPlacement) = entity_at(instance) else {
         return None;
     };
-    let location = attribute(instance, 0);
-    let axis = attribute(instance, 1);
-    let ref_direction = attribute(instance, 2);
+    let location = present(instance, 0);
+    let axis = present(instance, 1);
+    let ref_direction = present(instance, 2);
     Some(AxisView {
         location,
         axis,
@@ -278,11 +269,11 @@ pub fn operator(exchange: &Exchange, id: u64) -> Option<OperatorView<'_>>
     let Some(Entity::Operator) = entity_at(instance) else {
         return None;
     };
-    let axis1 = attribute_if_any(instance, 0);
-    let axis2 = attribute_if_any(instance, 1);
-    let origin = attribute(instance, 2);
-    let scale = attribute_if_any(instance, 3);
-    let axis3 = attribute_if_any(instance, 4);
+    let axis1 = attribute(instance, 0);
+    let axis2 = attribute(instance, 1);
+    let origin = present(instance, 2);
+    let scale = attribute(instance, 3);
+    let axis3 = attribute(instance, 4);
     Some(OperatorView {
         axis1,
         axis2,
@@ -300,8 +291,8 @@ pub fn representation(exchange: &Exchange, mapped: bool, id: u64) -> Option<Repr
     let Some(Entity::Representation) = entity_at(instance) else {
         return None;
     };
-    let identifier = attribute(instance, 1);
-    let items = attribute_if_any(instance, 3);
+    let identifier = present(instance, 1);
+    let items = attribute(instance, 3);
     Some(RepresentationView { identifier, items })
 }
 
@@ -313,9 +304,9 @@ fn triangulated(exchange: &Exchange, id: u64) -> Option<FacesetView<'_>>
     let Some(Entity::TriangulatedFaceSet) = entity_at(instance) else {
         return None;
     };
-    let points = attribute(instance, 0);
-    let faces = attribute(instance, 3);
-    let pn_index = attribute_if_any(instance, 4);
+    let points = present(instance, 0);
+    let faces = present(instance, 3);
+    let pn_index = attribute(instance, 4);
     Some(FacesetView {
         polygonal: false,
         points,
@@ -332,9 +323,9 @@ fn polygonal(exchange: &Exchange, id: u64) -> Option<FacesetView<'_>>
     let Some(Entity::PolygonalFaceSet) = entity_at(instance) else {
         return None;
     };
-    let points = attribute(instance, 0);
-    let faces = attribute(instance, 2);
-    let pn_index = attribute_if_any(instance, 3);
+    let points = present(instance, 0);
+    let faces = present(instance, 2);
+    let pn_index = attribute(instance, 3);
     Some(FacesetView {
         polygonal: true,
         points,
@@ -361,7 +352,7 @@ fn face(exchange: &Exchange, id: u64) -> Option<FaceView<'_>>
     let Some(Entity::Face) = entity_at(instance) else {
         return None;
     };
-    let corners = attribute(instance, 0);
+    let corners = present(instance, 0);
     Some(FaceView {
         corners,
         voids: None,
@@ -376,8 +367,8 @@ fn voided_face(exchange: &Exchange, id: u64) -> Option<FaceView<'_>>
     let Some(Entity::FaceWithVoids) = entity_at(instance) else {
         return None;
     };
-    let corners = attribute(instance, 0);
-    let voids = attribute_if_any(instance, 1);
+    let corners = present(instance, 0);
+    let voids = attribute(instance, 1);
     Some(FaceView { corners, voids })
 }
 
@@ -399,7 +390,7 @@ pub fn mapped_item(exchange: &Exchange, id: u64) -> Option<MappedView<'_>>
     let Some(Entity::MappedItem) = entity_at(instance) else {
         return None;
     };
-    let source = attribute(instance, 0);
-    let target = attribute(instance, 1);
+    let source = present(instance, 0);
+    let target = present(instance, 1);
     Some(MappedView { source, target })
 }

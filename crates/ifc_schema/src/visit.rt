@@ -3,17 +3,17 @@ ghost use Rattle.std.specs.Prelude.{◌≡◌, ◌<◌, ◌≤◌, ℕ, [], leng
 ghost use Rattle.std.specs.Bool.{OnTrue, OnFalse};
 ghost use Rattle.p21_reader.specs.Uploads.{Rises};
 ghost use Rattle.p21_reader.specs.declared.value.Instance.{Instance};
-ghost use Rattle.ifc_schema.specs.Places.{IsPlaceOf};
-ghost use Rattle.ifc_schema.specs.Used.{Used, IsMapped, Maps, NamesBy};
+ghost use Rattle.ifc_instances.specs.Places.{IsPlaceOf};
+ghost use Rattle.ifc_schema.specs.Used.{Used, IsMapped, Maps, NamesBy, is_root};
 ghost use Rattle.ifc_schema.specs.Bodies.{body_shapes};
 ghost use Rattle.ifc_schema.specs.Marks.{Grows, SoundAt, mark_at, rank_at, is_mapped, IsFollowed, FollowedAt, IsRootAt, Going, Known};
-ghost use Rattle.ifc_schema.specs.Looking.{row_at};
+ghost use Rattle.ifc_schema.specs.Table.{row_at};
 
 use crate::body::has_body;
-use crate::entity::is_root;
 use crate::follow::{follow_attributes, follow_map};
-use crate::look::{entity_at, row_at};
+use crate::table::row_at;
 use crate::work::{Mark, Work};
+use ifc_instances::{Entity, entity_at};
 use p21_reader::{Exchange, Instance};
 use std::alloc::{AllocError, Global};
 
@@ -49,6 +49,20 @@ fn visit(exchange: &Exchange, bodied: &[bool], at: usize, work: &mut Work) -> Re
 {
     let mapped = work.marks[at].is_mapped();
     follow(exchange, bodied, mapped, &exchange.instances()[at], work)
+}
+
+/// Whether the instances of an entity are used wherever they stand.
+fn is_root(entity: Option<Entity>) -> bool
+    ensures { result ≡ is_root entity }
+{
+    match entity {
+        Some(Entity::Project) => true,
+        Some(Entity::Storey) => true,
+        Some(Entity::Aggregates) => true,
+        Some(Entity::Containment) => true,
+        Some(Entity::Subject) => true,
+        _ => false,
+    }
 }
 
 /// Marks the instance at a place, where it is used wherever it stands.

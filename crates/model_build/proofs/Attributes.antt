@@ -6,7 +6,7 @@ use Rattle.std.specs.List.{slice_get, All}
 use Rattle.std.proofs.lemmas.List.Elements.{All-contains}
 use Rattle.p21_reader.specs.declared.value.Value21.{Value21}
 use Rattle.p21_reader.specs.declared.value.Instance.{Instance}
-use Rattle.ifc_schema.specs.declared.entity.Entity.{Entity}
+use Rattle.ifc_instances.specs.declared.entity.Entity.{Entity}
 use Rattle.ifc_schema.specs.declared.flaw.Flaw.{Flaw}
 use Rattle.ifc_schema.specs.declared.flaw.Flaw.TheVariants.{Dangling, BadShape}
 use Rattle.ifc_schema.specs.declared.form.Attribute.{Attribute}
@@ -20,9 +20,9 @@ use Rattle.ifc_schema.specs.declared.form.Need.TheVariants.{Must, OrAbsent}
 use Rattle.ifc_schema.specs.declared.form.When.{When}
 use Rattle.ifc_schema.specs.Words.{IsNumber, IsWhole}
 use Rattle.ifc_schema.specs.Forms.{fits, holds, followed}
-use Rattle.ifc_schema.specs.Table.{row_of, attribute}
-use Rattle.ifc_schema.specs.Values.{number_of, words_of, reference_of, items_of, is_absent}
-use Rattle.ifc_schema.specs.Looking.{look, entity_at, is_a, row_at, row_or_none}
+use Rattle.ifc_schema.specs.Table.{row_of, attribute, row_at, row_or_none}
+use Rattle.ifc_instances.specs.Values.{number_of, words_of, reference_of, items_of, is_absent}
+use Rattle.ifc_instances.specs.Looking.{look, entity_at, is_a}
 use Rattle.ifc_schema.specs.Bodies.{applies}
 use Rattle.ifc_schema.specs.Flaws.{LeafFlaw, NumberFlaw, WholeFlaw, ItemsFlaw, ListFlaw, ShapeFlaw, PlaceFlaw, AttributeFlaw, InstanceFlaw, bad_unless, target_flaw, wanted_flaw, any_flaw, reference_flaw}
 use Rattle.ifc_schema.specs.Used.{Used, named, LeadsTo, StandsIn}
@@ -92,9 +92,6 @@ absent_at world m i at w s l e h =
 pub at_more : (i : Instance) (at : ℕ) (P Q : Value21 → Type 0) → ((v : Value21) → P v → Q v) → At i at P → At i at Q
 at_more i at P Q f h = record { value = h.value; there = h.there; holds = f h.value h.holds }
 
-pub away_more : (P Q : Value21 → Type 0) → ((v : Value21) → P v → Q v) → (v : Value21) → OrAway P v → OrAway Q v
-away_more P Q f v h = elim h [ inl a ↦ inl a | inr p ↦ inr (f v p) ]
-
 -- Leaves.
 
 -- a value is a number that is read
@@ -108,10 +105,6 @@ pub record SpellsWhole (v : Value21) : Type 0 where
   pub bytes : List ℕ
   pub number : number_of v ≡ Some bytes
   pub reads : IsWhole bytes
-
--- it is a text
-abbrev pub SpellsText : Value21 → Type 0
-SpellsText v = (words : List ℕ) × (words_of v ≡ Some words)
 
 -- it refers to an instance
 pub record Refers (world : List Instance) (v : Value21) : Type 0 where
@@ -141,13 +134,6 @@ whole_spelled world v h = from v (number_of v) refl h
     from : (v : Value21) (o : Option (List ℕ)) → number_of v ≡ o → MatchOption o (None ≡ Some BadShape) (λ bs. WholeFlaw bs None) → SpellsWhole v
     from v None e h = cc
     from v (Some bs) e h = record { bytes = bs; number = e; reads = h }
-
-pub text_spelled : (world : List Instance) (v : Value21) → LeafFlaw world leaf.Text v None → SpellsText v
-text_spelled world v h = from v (words_of v) refl h
-  where
-    from : (v : Value21) (o : Option (List ℕ)) → words_of v ≡ o → None ≡ bad_unless (is_some o) → SpellsText v
-    from v None e h = cc
-    from v (Some bs) e h = (bs, e)
 
 good : (b : Bool) → None ≡ bad_unless b → b ≡ true
 good true h = refl

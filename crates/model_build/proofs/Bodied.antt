@@ -1,23 +1,24 @@
 -- The bodies of elements, where all that is used has the form of its row.
 use Rattle.std.proofs.Common.{◌≡◌, ℕ, ◌<◌, ◌⊎◌, inl, inr, Bool, true, false, ◌&&◌, List, [], ◌∷◌, length, filter, filter_map, Option, Some, None, option_and_then, Contains, refl, sym, ap, ◌∙◌, subst, arith}
+use Rattle.std.proofs.lemmas.Bool.{cases_Bool}
 use Rattle.std.specs.List.{slice_get, list_any, All, cons_option}
 use Rattle.std.proofs.lemmas.List.Elements.{All-nil, All-cons, All-head, All-tail}
 use Rattle.p21_reader.specs.declared.value.Value21.{Value21}
 use Rattle.p21_reader.specs.declared.value.Instance.{Instance}
-use Rattle.ifc_schema.specs.declared.entity.Entity.TheVariants as entity
+use Rattle.ifc_instances.specs.declared.entity.Entity.TheVariants as entity
 use Rattle.ifc_schema.specs.declared.form.Targets.TheVariants as targets
 use Rattle.ifc_schema.specs.declared.form.Leaf.TheVariants as leaf
 use Rattle.ifc_schema.specs.declared.form.Count.TheVariants.{AtLeast}
 use Rattle.ifc_schema.specs.declared.form.Shape.TheVariants as shape
 use Rattle.ifc_schema.specs.declared.form.Need.TheVariants.{Must, OrAbsent}
 use Rattle.ifc_schema.specs.declared.form.When.TheVariants.{Always}
-use Rattle.ifc_schema.specs.Table.{row_of, attribute}
-use Rattle.ifc_schema.specs.Values.{reference_of, items_of}
-use Rattle.ifc_schema.specs.Looking.{look, entity_at, is_a, row_at}
-use Rattle.ifc_schema.specs.Bodies.{some_passes, target_passes, has_body, is_body, is_body_shape, is_body_representation, lists_body}
+use Rattle.ifc_schema.specs.Table.{row_of, attribute, row_at}
+use Rattle.ifc_instances.specs.Values.{reference_of, items_of}
+use Rattle.ifc_instances.specs.Looking.{look, entity_at, is_a, some_passes}
+use Rattle.ifc_schema.specs.Bodies.{target_passes, has_body, is_body, is_body_shape, is_body_representation, lists_body}
 use Rattle.ifc_schema.specs.Used.{Used}
 use Rattle.ifc_schema.specs.StageFive.{is_subject}
-use Rattle.model_build.specs.Finding.{target_at, led_to}
+use Rattle.ifc_instances.specs.Attributes.{target_at, led_to}
 use Rattle.model_build.specs.Items.{bodies, listed_by}
 use Rattle.model_build.proofs.Keywords.{is_shape, is_element, is_a_held}
 use Rattle.model_build.proofs.Attributes.{in_row}
@@ -27,10 +28,6 @@ use Rattle.model_build.proofs.Listed.{list_used}
 pub both : (a b : Bool) → (a && b) ≡ true → (a ≡ true) × (b ≡ true)
 both true b h = (refl, h)
 both false b h = cc
-
-pub tells : (b : Bool) → (b ≡ true) ⊎ (b ≡ false)
-tells true = inl refl
-tells false = inr refl
 
 -- a value refers to an instance that passes the test
 pub record Passed (world : List Instance) (test : Instance → Bool) (v : Value21) : Type 0 where
@@ -102,7 +99,7 @@ Leads world test P v = (to : ℕ) (r : Instance) → reference_of v ≡ Some to 
 led_look : (world : List Instance) (test : Instance → Bool) (P : Instance → Type 0) (rest : List Instance) (o : Option Instance) → ((r : Instance) → o ≡ Some r → test r ≡ true → P r)
     → All P (filter test rest) → All P (filter test (cons_option o rest))
 led_look world test P rest None f h = h
-led_look world test P rest (Some r) f h = elim (tells (test r)) [
+led_look world test P rest (Some r) f h = elim (cases_Bool (test r)) [
   | inl t ↦ rw t (All-cons P r (filter test rest) (f r refl t) h)
   | inr n ↦ rw n h
 ]
@@ -134,7 +131,7 @@ filter_some test r rest t = rw t (omega arith)
 
 filter_on : (test : Instance → Bool) (o : Option Instance) (rest : List Instance) → 0 < length (filter test rest) → 0 < length (filter test (cons_option o rest))
 filter_on test None rest h = h
-filter_on test (Some r) rest h = elim (tells (test r)) [ inl t ↦ rw t (omega arith) | inr n ↦ rw n h ]
+filter_on test (Some r) rest h = elim (cases_Bool (test r)) [ inl t ↦ rw t (omega arith) | inr n ↦ rw n h ]
 
 led_on : (world : List Instance) (test : Instance → Bool) (o : Option ℕ) (ids : List ℕ) → 0 < length (filter test (filter_map (look world) ids)) → 0 < length (filter test (filter_map (look world) (cons_option o ids)))
 led_on world test None ids h = h
@@ -142,7 +139,7 @@ led_on world test (Some to) ids h = filter_on test (look world to) (filter_map (
 
 pub led_some : (world : List Instance) (test : Instance → Bool) (vs : List Value21) → list_any (target_passes world test) vs ≡ true → 0 < length (filter test (led_to world vs))
 led_some world test [] h = cc
-led_some world test (v ∷ vs) h = elim (tells (target_passes world test v)) [
+led_some world test (v ∷ vs) h = elim (cases_Bool (target_passes world test v)) [
   | inl t ↦ (
       let p = passed world test v t in
       let e = p.refers in

@@ -6,17 +6,18 @@ use Rattle.std.proofs.lemmas.List.Sums.{sum_by-cons, sum_by-append}
 use Rattle.std.proofs.lemmas.List.Concat.{flat_map-cons}
 use Rattle.p21_reader.specs.declared.value.Value21.{Value21}
 use Rattle.p21_reader.specs.declared.value.Instance.{Instance}
-use Rattle.ifc_schema.specs.Looking.{look}
+use Rattle.ifc_instances.specs.Looking.{look}
 use Rattle.ifc_schema.specs.Bodies.{is_body_representation}
-use Rattle.faceset.proofs.Named.{named_append, summed_more, summed_part}
-use Rattle.model_build.specs.Finding.{led_to}
+use Rattle.ifc_instances.proofs.LedTo.{led_append}
+use Rattle.faceset.proofs.Named.{summed_more, summed_part}
+use Rattle.ifc_instances.specs.Attributes.{led_to}
 use Rattle.model_build.specs.Items.{items_of, bodies_among, bodies, item_count, counted, count_of, most_triangles}
 use Rattle.model_build.specs.Counting.{Number, body_count, items_count}
 
 -- Bodies.
 
 among_append : (world : List Instance) (xs ys : List Value21) → bodies_among world (xs ++ ys) ≡ bodies_among world xs ++ bodies_among world ys
-among_append world xs ys = ap (filter is_body_representation) (named_append world xs ys) ∙ filter-append is_body_representation (led_to world xs) (led_to world ys)
+among_append world xs ys = ap (filter is_body_representation) (led_append world xs ys) ∙ filter-append is_body_representation (led_to world xs) (led_to world ys)
 
 pub bodies_more : (world : List Instance) (vs : List Value21) (k : ℕ) (v : Value21) (old new : List (Option Instance)) → k < length vs → v ≡ get_or vs k v
     → old ≡ map Some (bodies_among world (take k vs)) → new ≡ old ++ map Some (bodies_among world (v ∷ [])) → new ≡ map Some (bodies_among world (take (k + 1) vs))

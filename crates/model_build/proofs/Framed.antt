@@ -2,14 +2,15 @@
 use Rattle.std.proofs.Common.{◌≡◌, ℕ, inl, inr, Bool, true, false, List, Option, Some, None, option_and_then, option_map, Contains, refl, sym, ap, ◌∙◌, subst, if◌then◌else◌}
 use Rattle.std.specs.Option.{MatchOption}
 use Rattle.std.specs.List.{slice_get}
+use Rattle.ifc_instances.proofs.PlaceLemmas.{same_instance}
 use Rattle.bim_model.specs.declared.upload.Mode.{Mode}
 use Rattle.bim_model.specs.declared.geometry.Point.{Point}
 use Rattle.p21_reader.specs.declared.value.Value21.{Value21}
 use Rattle.p21_reader.specs.declared.value.Instance.{Instance}
-use Rattle.ifc_schema.specs.declared.entity.Entity.TheVariants as entity
+use Rattle.ifc_instances.specs.declared.entity.Entity.TheVariants as entity
 use Rattle.ifc_schema.specs.declared.outcome.Survey.{Survey}
-use Rattle.ifc_schema.specs.Values.{reference_of, is_absent}
-use Rattle.ifc_schema.specs.Looking.{look}
+use Rattle.ifc_instances.specs.Values.{reference_of, is_absent}
+use Rattle.ifc_instances.specs.Looking.{look}
 use Rattle.ifc_schema.specs.StageFive.{IsModelElement, used_ids, element_ids}
 use Rattle.ifc_schema.proofs.Listing.{element_used}
 use Rattle.ifc_units.specs.declared.scale.Scale.{Scale}
@@ -18,25 +19,20 @@ use Rattle.placement.specs.declared.frame.Frame.{Frame}
 use Rattle.placement.specs.Frames.{lengths_of, frame_at}
 use Rattle.placement.specs.Chains.{named_by, parent_in, parent_of, Reached}
 use Rattle.placement.specs.Chains.Reached.{directly, further}
-use Rattle.placement.specs.Placed.{referred_at, IsLocation, OwnFrame, LacksFrame}
-use Rattle.model_build.specs.Finding.{IsUsed, reference_at}
+use Rattle.ifc_instances.specs.Attributes.{referred_at, reference_at}
+use Rattle.placement.specs.Placed.{IsLocation, OwnFrame, LacksFrame}
+use Rattle.model_build.specs.Finding.{IsUsed}
 use Rattle.model_build.specs.PointTables.{told_of}
 use Rattle.model_build.specs.Named.{IsNamed}
 use Rattle.model_build.specs.Outcomes.{IsChecked, AreMeasured}
 use Rattle.model_build.proofs.Attributes.{Shaped}
 use Rattle.model_build.proofs.Shaped.{point_numbers, location_used, parent_used, axes_used, placement_used}
-use Rattle.model_build.proofs.OneAxes.{refers_absent}
+use Rattle.ifc_instances.proofs.ValueLemmas.{refers_absent}
 use Rattle.model_build.proofs.Served.{element_is}
 use Rattle.model_build.proofs.Readable.{readable_point}
 use Rattle.model_build.proofs.Readied.{Measured, Squared}
 
 -- The placements of chains are used.
-
-same_instance : (world : List Instance) (id : ℕ) (i j : Instance) → look world id ≡ Some i → look world id ≡ Some j → i ≡ j
-same_instance world id i j e f = some_same (sym e ∙ f)
-  where
-    some_same : {i j : Instance} → Some i ≡ Some j → i ≡ j
-    some_same h = cc
 
 same_number : {m n : ℕ} → Some m ≡ Some n → m ≡ n
 same_number h = cc

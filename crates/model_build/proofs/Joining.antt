@@ -1,5 +1,6 @@
 -- Triangles that are added, value by value.
 use Rattle.std.proofs.Common.{◌≡◌, ℕ, zero, suc, ◌+◌, ◌<◌, ◌≤◌, Bool, true, false, Result, Ok, Err, Vec, Global, List, [], ◌∷◌, ◌++◌, length, get_or, take, take_all, map, flat_map, sum_by, if◌then◌else◌, Option, Some, None, refl, sym, ap, ap₂, ◌∙◌, subst, append_assoc, append-nil, arith}
+use Rattle.std.proofs.lemmas.Bool.{MatchBool-at_true, MatchBool-at_false}
 use Rattle.std.specs.declared.alloc.AllocError.{AllocError}
 use Rattle.std.specs.Prelude.{IfOk}
 use Rattle.std.specs.Bool.{MatchBool}
@@ -15,16 +16,16 @@ use Rattle.bim_model.specs.declared.upload.Mode.{Mode}
 use Rattle.bim_model.specs.declared.geometry.Triangle.{Triangle}
 use Rattle.p21_reader.specs.declared.value.Value21.{Value21}
 use Rattle.p21_reader.specs.declared.value.Instance.{Instance}
-use Rattle.ifc_schema.specs.Looking.{look}
-use Rattle.ifc_schema.specs.Values.{reference_of}
-use Rattle.ifc_schema.proofs.PlaceLemmas.{some_instance}
+use Rattle.ifc_instances.specs.Looking.{look}
+use Rattle.ifc_instances.specs.Values.{reference_of}
+use Rattle.ifc_instances.proofs.PlaceLemmas.{some_instance}
 use Rattle.ifc_units.specs.declared.scale.Scale.{Scale}
 use Rattle.placement.specs.declared.frame.Frame.{Frame}
 use Rattle.placement.specs.Operators.{OperatorFrame}
 use Rattle.faceset.specs.Sets.{Joined, triangle_count}
-use Rattle.faceset.proofs.Named.{named_more, named_one}
+use Rattle.ifc_instances.proofs.LedTo.{led_more, led_one}
 use Rattle.faceset.proofs.Joins.{joined_one, joined_append}
-use Rattle.model_build.specs.Finding.{reference_at, led_to}
+use Rattle.ifc_instances.specs.Attributes.{reference_at, led_to}
 use Rattle.model_build.specs.Items.{is_mapped_item, item_count, items_of, mapped_sets, spelled_items, spelled_sets, bodies, body_items}
 use Rattle.model_build.specs.Counting.{Number}
 use Rattle.model_build.specs.Surfaces.{SetSurface, MappedSurface, ItemSurface, moved}
@@ -43,42 +44,25 @@ near_at (t ∷ ts) zero d lt all =
     All-cons IsInReach t.a (t.b ∷ t.c ∷ []) (all 0 t.a (omega arith)) (All-cons IsInReach t.b (t.c ∷ []) (all 1 t.b (omega arith)) (All-cons IsInReach t.c [] (all 2 t.c (omega arith)) (All-nil IsInReach)))
 near_at (t ∷ ts) (suc k) d lt all = near_at ts k d (omega (arith, lt)) (λ j e l. all (suc (suc (suc j))) e (omega (arith, l)))
 
--- Triangles that are carried.
-
-pub carried_more : (frame : Frame) (own : List Triangle) (k : ℕ) (d there : Triangle) (start old new : List Triangle) → k < length own → there ≡ moved frame (get_or own k d) → new ≡ old ++ there ∷ []
-    → old ≡ start ++ map (moved frame) (take k own) → new ≡ start ++ map (moved frame) (take (k + 1) own)
-carried_more frame own k d there start old new lt is grown h =
-    let t = get_or own k d in
-    let all : map (moved frame) (take (k + 1) own) ≡ map (moved frame) (take k own) ++ moved frame t ∷ [] = ap (map (moved frame)) (take_more own k d lt) ∙ map-append (moved frame) (take k own) (t ∷ []) in
-    grown ∙ ap (λ z. z ++ there ∷ []) h ∙ append_assoc start (map (moved frame) (take k own)) (there ∷ []) ∙ ap (λ z. start ++ (map (moved frame) (take k own) ++ z ∷ [])) is ∙ ap (λ z. start ++ z) (sym all)
-
 -- What was added.
 
 pub adds_one : (G : Instance → List Triangle → Type 0) (world : List Instance) (v : Value21) (id : ℕ) (i : Instance) (old new : List Triangle) → reference_of v ≡ Some id → look world id ≡ Some i
     → Adds (G i) old new → Adds (Joined G (led_to world (v ∷ []))) old new
 adds_one G world v id i old new refers found h =
-    (h.0, subst (λ is. Joined G is h.0) (sym (named_one world v id i refers found)) (joined_one G i h.0 h.1), h.2)
+    (h.0, subst (λ is. Joined G is h.0) (sym (led_one world v id i refers found)) (joined_one G i h.0 h.1), h.2)
 
 -- .. by all values up to one
 pub adds_more : (G : Instance → List Triangle → Type 0) (world : List Instance) (vs : List Value21) (k : ℕ) (v : Value21) (start old new : List Triangle) → k < length vs → v ≡ get_or vs k v
     → Adds (Joined G (led_to world (take k vs))) start old → Adds (Joined G (led_to world (v ∷ []))) old new → Adds (Joined G (led_to world (take (k + 1) vs))) start new
 adds_more G world vs k v start old new lt at h one = (
   h.0 ++ one.0,
-  subst (λ is. Joined G is (h.0 ++ one.0)) (sym (named_more world vs k v lt at)) (joined_append G (led_to world (take k vs)) (led_to world (v ∷ [])) h.0 one.0 h.1 one.1),
+  subst (λ is. Joined G is (h.0 ++ one.0)) (sym (led_more world vs k v lt at)) (joined_append G (led_to world (take k vs)) (led_to world (v ∷ [])) h.0 one.0 h.1 one.1),
   one.2 ∙ ap (λ z. z ++ one.0) h.2 ∙ append_assoc start h.0 one.0,
 )
 
 -- one value isn't ready, so not all are
 pub unready_there : (Ready : Value21 → Type 0) (vs : List Value21) (k : ℕ) (v : Value21) → k < length vs → v ≡ get_or vs k v → (Ready v → ⊥) → All Ready vs → ⊥
 unready_there Ready vs k v lt at never all = never (subst Ready (sym at) (all k v lt))
-
-pub only_then : (P Q : Type 0) (b : Bool) → b ≡ true → MatchBool b P Q → P
-only_then P Q true is h = h
-only_then P Q false is h = absurd (grind (arith, is))
-
-pub only_else : (P Q : Type 0) (b : Bool) → b ≡ false → MatchBool b P Q → Q
-only_else P Q true is h = absurd (grind (arith, is))
-only_else P Q false is h = h
 
 -- Sets.
 
@@ -166,7 +150,7 @@ pub item_mapped : (world : List Instance) (scale : Scale) (mode : Mode) (listed 
 item_mapped world scale mode listed v id i old new (Err e) refers found is h = h
 item_mapped world scale mode listed v id i old new (Ok true) refers found is h = adds_one (KeptItem world scale mode) world v id i old new refers found (h.0, mapped_kept world scale mode i h.0 is h.1, h.2)
 item_mapped world scale mode listed v id i old new (Ok false) refers found is h =
-    λ ready. h (only_then _ _ (is_mapped_item i) is (ready id refers i found))
+    λ ready. h (MatchBool-at_true _ _ is (ready id refers i found))
 
 set_item : (world : List Instance) (scale : Scale) (mode : Mode) (i : Instance) (more : List Triangle) → is_mapped_item i ≡ false → Joined (KeptSet world scale mode) (i ∷ []) more → Joined (KeptItem world scale mode) (i ∷ []) more
 set_item world scale mode i more is j = (j.0, j.1, set_kept world scale mode i j.0 is j.2, j.3, j.4)
@@ -176,14 +160,14 @@ pub item_set : (world : List Instance) (scale : Scale) (mode : Mode) (listed : L
     → IfOk r (λ done. MatchBool done (Adds (Joined (KeptItem world scale mode) (led_to world (v ∷ []))) old new) (ReadyItem world scale mode listed v → ⊥))
 item_set world scale mode listed v id i old new (Err e) refers found is h = h
 item_set world scale mode listed v id i old new (Ok true) refers found is h =
-    let one = named_one world v id i refers found in
+    let one = led_one world v id i refers found in
     (h.0, subst (λ is. Joined (KeptItem world scale mode) is h.0) (sym one) (set_item world scale mode i h.0 is (subst (λ is. Joined (KeptSet world scale mode) is h.0) one h.1)), h.2)
 item_set world scale mode listed v id i old new (Ok false) refers found is h =
     λ ready. h (λ k refers_k s found_s. (
     let same_k : k ≡ id = cc in
     let same_s : s ≡ i = (let at : look world id ≡ Some s = subst (λ n. look world n ≡ Some s) same_k found_s in cc) in
     let set : is_mapped_item s ≡ false = ap is_mapped_item same_s ∙ is in
-    only_else _ _ (is_mapped_item s) set (ready k refers_k s found_s)))
+    MatchBool-at_false _ _ set (ready k refers_k s found_s)))
 
 -- Bodies.
 

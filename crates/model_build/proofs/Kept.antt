@@ -5,6 +5,7 @@ use Rattle.std.specs.Prelude.{IfOk, OnOk, OnErr}
 use Rattle.std.specs.Option.{MatchOption, IfSome, option_and_then}
 use Rattle.std.specs.List.{All}
 use Rattle.std.proofs.lemmas.List.Elements.{Contains-append_cases}
+use Rattle.std.proofs.lemmas.Option.{same_Some}
 use Rattle.bim_model.specs.Boxes.{corners_of}
 use Rattle.bim_model.specs.Models.{IsInReach}
 use Rattle.bim_model.specs.declared.upload.Mode.{Mode}
@@ -12,15 +13,16 @@ use Rattle.bim_model.specs.declared.geometry.Point.{Point}
 use Rattle.bim_model.specs.declared.geometry.Triangle.{Triangle}
 use Rattle.p21_reader.specs.declared.value.Value21.{Value21}
 use Rattle.p21_reader.specs.declared.value.Instance.{Instance}
-use Rattle.ifc_schema.specs.Looking.{look}
+use Rattle.ifc_instances.specs.Looking.{look}
 use Rattle.ifc_units.specs.declared.scale.Scale.{Scale}
 use Rattle.ifc_units.specs.Lengths.{IsPoint, ArePoints}
 use Rattle.ifc_units.proofs.PointFacts.{point_near, one_points}
-use Rattle.faceset.specs.Sets.{listed, points_of, listed_in, spelled_points, SetTriangles, IsSound, HasStuck, triangle_count}
+use Rattle.ifc_instances.specs.Attributes.{listed, reference_at}
+use Rattle.faceset.specs.Sets.{points_of, listed_in, spelled_points, SetTriangles, IsSound, HasStuck, triangle_count}
 use Rattle.faceset.proofs.Held.{set_holds}
 use Rattle.faceset.proofs.Zips.{zip_all}
 use Rattle.placement.proofs.Walking.{same_or}
-use Rattle.model_build.specs.Finding.{Finds, reference_at}
+use Rattle.model_build.specs.Finding.{Finds}
 use Rattle.model_build.specs.PointTables.{ListsPoints}
 use Rattle.model_build.specs.Faces.{SetPoints}
 use Rattle.model_build.specs.Sound.{IsSoundSet, IsKept, IsUncutSet, AreSets, AllNear, Puts, set_in}
@@ -71,13 +73,10 @@ made_there world scale mode set list points (Ok (Some made)) refers l triangles 
 
 -- Of sets, one after another.
 
-some_same : (f g : List Triangle) → Some f ≡ Some g → f ≡ g
-some_same f g e = cc
-
 -- triangles of those, or the new ones
 put_cases : (old new : ℕ → Option (List Triangle)) (id : ℕ) (f : List Triangle) → Puts old new id f → (other : ℕ) (g : List Triangle) → new other ≡ Some g → ((other ≡ id) × (f ≡ g)) ⊎ (old other ≡ Some g)
 put_cases old new id f p other g e = elim (same_or other id) [
-  | inl s ↦ inl (s, some_same f g (sym p.here ∙ ap new (sym s) ∙ e))
+  | inl s ↦ inl (s, same_Some f g (sym p.here ∙ ap new (sym s) ∙ e))
   | inr n ↦ inr (sym (p.others other n) ∙ e)
 ]
 

@@ -3,12 +3,12 @@ use Rattle.std.proofs.Common.{◌≡◌, ℕ, Bool, true, false, ◌||◌, List,
 use Rattle.std.specs.Str.{bytes_eq}
 use Rattle.std.proofs.lemmas.Slice.Eq.{bytes_eq-Decides}
 use Rattle.p21_reader.specs.declared.value.Instance.{Instance}
-use Rattle.ifc_schema.specs.declared.entity.Entity.{Entity}
-use Rattle.ifc_schema.specs.declared.entity.Entity.TheVariants as entity
+use Rattle.ifc_instances.specs.declared.entity.Entity.{Entity}
+use Rattle.ifc_instances.specs.declared.entity.Entity.TheVariants as entity
 use Rattle.ifc_schema.specs.declared.form.Targets.TheVariants as targets
-use Rattle.ifc_schema.specs.Entities.{is_of, entity_of, keywords_of}
+use Rattle.ifc_instances.specs.Entities.{is_of, entity_of, keywords_of}
 use Rattle.ifc_schema.specs.Forms.{holds}
-use Rattle.ifc_schema.specs.Looking.{entity_at, is_a, is_keyword_of}
+use Rattle.ifc_instances.specs.Looking.{entity_at, is_a, is_keyword_of}
 use Rattle.ifc_schema.specs.StageFive.{is_subject}
 
 first_true : (b : Bool) → (b || false) ≡ true → b ≡ true
@@ -26,10 +26,6 @@ entity_from X word (Some keyword) i e one own h = rw e (ap entity_of (keyword_is
 
 pub entity_there : (X : Entity) (word : List ℕ) (i : Instance) → keywords_of X ≡ word ∷ [] → entity_of word ≡ Some X → is_a X i ≡ true → entity_at i ≡ Some X
 entity_there X word i one own h = entity_from X word i.keyword i refl one own h
-
-pub is_storey : (i : Instance) → is_a entity.Storey i ≡ true → entity_at i ≡ Some entity.Storey
-unfolding entity_of is_of
-is_storey i h = entity_there entity.Storey (codes "IFCBUILDINGSTOREY") i refl refl h
 
 pub is_shape : (i : Instance) → is_a entity.ProductShape i ≡ true → entity_at i ≡ Some entity.ProductShape
 unfolding entity_of is_of
@@ -85,11 +81,3 @@ is_a_held X i h = from X i.keyword h
     from : (X : Entity) (keyword : Option (List ℕ)) → is_keyword_of X keyword ≡ true → holds (targets.One X) keyword ≡ true
     from X None h = h
     from X (Some keyword) h = rw h refl
-
--- an element has a keyword
-pub keyword_there : (i : Instance) (X : Entity) → entity_at i ≡ Some X → (keyword : List ℕ) × (i.keyword ≡ Some keyword)
-keyword_there i X h = from i.keyword X h
-  where
-    from : (keyword : Option (List ℕ)) (X : Entity) → option_and_then entity_of keyword ≡ Some X → (k : List ℕ) × (keyword ≡ Some k)
-    from None X h = cc
-    from (Some k) X h = (k, refl)

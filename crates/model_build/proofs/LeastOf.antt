@@ -4,31 +4,15 @@ use Rattle.std.specs.List.{All}
 use Rattle.std.specs.List.Sorted.{IsStrictlyIncreasing}
 use Rattle.std.proofs.lemmas.List.{get_or-take, length-take, get_or_default}
 use Rattle.std.proofs.lemmas.List.Elements.{All-contains, Contains-get_or}
-use Rattle.std.proofs.lemmas.List.Kept.{AllPairs-from_increasing}
 use Rattle.p21_reader.specs.declared.value.Instance.{Instance}
 use Rattle.bim_model.specs.declared.upload.UploadFault.{UploadFault}
 use Rattle.bim_model.specs.declared.upload.UploadFault.TheVariants as faults
+use Rattle.ifc_instances.proofs.Rising.{before}
 use Rattle.ifc_schema.specs.Used.{Used}
 use Rattle.ifc_schema.specs.StageFive.{Lists}
 use Rattle.model_build.specs.Stages.{LeastFault}
 use Rattle.model_build.specs.Least.{IsLeastOf, NoneOf, IsVoided, IsBadSet, IsOblique}
 use Rattle.model_build.specs.Profile.{ObliqueStage, VoidStage, IndexStage}
-
--- what stands in the list and is lower stands before
-before : (ids : List ℕ) (i k : ℕ) → IsStrictlyIncreasing ids → i < length ids → (c : Contains ids k) → k < get_or ids i 0 → c.0 < i
-before ids i k rises lt c low = elim (side c.0 i) [
-  | inl l ↦ l
-  | inr r ↦ elim r [
-    | inl e ↦ absurd (let f = ap (λ n. get_or ids n 0) e in let g = there in omega arith)
-    | inr g ↦ absurd (let h = AllPairs-from_increasing ids rises i c.0 0 g c.1 in let m = there in omega arith)
-  ]
-]
-  where
-    side : (j i : ℕ) → (j < i) ⊎ ((j ≡ i) ⊎ (i < j))
-    side j i = grind arith
-
-    there : get_or ids c.0 0 ≡ k
-    there = get_or_default ids c.0 0 k c.1 ∙ c.2
 
 pub least_here : (P : ℕ → Type 0) (ids : List ℕ) (i : ℕ) → IsStrictlyIncreasing ids → i < length ids → All (λ k. P k → ⊥) (take i ids) → P (get_or ids i 0) → IsLeastOf ids P (get_or ids i 0)
 least_here P ids i rises lt none h = record {

@@ -3,28 +3,13 @@ use Rattle.std.proofs.Common.{◌≡◌, ℕ, ◌+◌, ◌<◌, ◌≤◌, ◌�
 use Rattle.std.specs.List.Sorted.{IsStrictlyIncreasing}
 use Rattle.std.proofs.lemmas.List.{get_or_default}
 use Rattle.std.proofs.lemmas.List.Elements.{Contains-get_or}
-use Rattle.std.proofs.lemmas.List.Kept.{AllPairs-from_increasing}
 use Rattle.bim_model.specs.declared.upload.UploadFault.{UploadFault}
+use Rattle.ifc_instances.proofs.Rising.{earlier, below_next}
 use Rattle.model_build.specs.Stages.{LeastFault}
 
 -- the first ones have no fault
 abbrev pub NoneBefore : (ℕ → UploadFault → Type 0) → List ℕ → ℕ → Type 0
 NoneBefore FaultOf ids at = (k : ℕ) → k < at → (fault : UploadFault) → FaultOf (get_or ids k 0) fault → ⊥
-
-order : (a b : ℕ) → (a < b) ⊎ ((a ≡ b) ⊎ (b < a))
-order a b = grind arith
-
--- what is listed below a number of the list stands before it
-pub earlier : (ids : List ℕ) (at id k : ℕ) → IsStrictlyIncreasing ids → at < length ids → get_or ids at 0 ≡ id → k < id → Contains ids k → (place : ℕ) × (place < at) × (get_or ids place 0 ≡ k)
-earlier ids at id k up lt is below c =
-    let there : get_or ids c.0 0 ≡ k = get_or_default ids c.0 0 k c.1 ∙ c.2 in
-    elim (order c.0 at) [
-      | inl l ↦ (c.0, l, there)
-      | inr r ↦ elim r [
-        | inl e ↦ absurd (let f : get_or ids c.0 0 ≡ get_or ids at 0 = ap (λ n. get_or ids n 0) e in omega arith)
-        | inr g ↦ absurd (let h = AllPairs-from_increasing ids up at c.0 0 g c.1 in omega arith)
-      ]
-    ]
 
 pub least_here : (FaultOf : ℕ → UploadFault → Type 0) (ids : List ℕ) (at : ℕ) (fault : UploadFault) → IsStrictlyIncreasing ids → at < length ids → NoneBefore FaultOf ids at → FaultOf (get_or ids at 0) fault
     → LeastFault (Contains ids) FaultOf fault
@@ -39,11 +24,8 @@ least_here FaultOf ids at fault up lt none h =
           none e.0 e.1 other (subst (λ n. FaultOf n other) (sym e.2) f));
     }
 
-split : (k n : ℕ) → k < n + 1 → (k < n) ⊎ (k ≡ n)
-split k n l = grind arith
-
 pub none_more : (FaultOf : ℕ → UploadFault → Type 0) (ids : List ℕ) (at : ℕ) → NoneBefore FaultOf ids at → ((fault : UploadFault) → FaultOf (get_or ids at 0) fault → ⊥) → NoneBefore FaultOf ids (at + 1)
-none_more FaultOf ids at none never = λ k l fault f. elim (split k at l) [
+none_more FaultOf ids at none never = λ k l fault f. elim (below_next k at l) [
   | inl b ↦ none k b fault f
   | inr e ↦ never fault (subst (λ n. FaultOf n fault) (ap (λ n. get_or ids n 0) e) f)
 ]

@@ -13,8 +13,6 @@ pub mod Listed
 pub mod Bodied
 pub mod Flawless
 pub mod Served
-pub mod OneAxes
-pub mod OneFrame
 pub mod OneSet
 pub mod OneSurface
 pub mod Cutting

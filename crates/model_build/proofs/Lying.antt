@@ -6,7 +6,7 @@ use Rattle.std.specs.List.{Any}
 use Rattle.std.proofs.lemmas.Int.{ints, to_z-of_z}
 use Rattle.bim_model.specs.declared.upload.Mode.{Mode}
 use Rattle.p21_reader.specs.declared.value.Value21.{Value21}
-use Rattle.ifc_schema.specs.Values.{items_of}
+use Rattle.ifc_instances.specs.Values.{items_of}
 use Rattle.ifc_units.specs.declared.scale.Scale.{Scale}
 use Rattle.ifc_units.specs.declared.fault.GridFault.TheVariants.{OffGrid, TooFar}
 use Rattle.ifc_units.specs.declared.fault.LengthError.{LengthError}
@@ -137,13 +137,6 @@ pub away_told : (scale : Scale) (mode : Mode) (value a b c : Value21) (x y z : L
     → MatchBool (are_away x y z) (IsAwayValue scale mode value) (IsAwayValue scale mode value → ⊥)
 away_told scale mode value a b c x y z e p q r =
     same_test (are_away x y z) (AreOff scale mode a b c) (IsAwayValue scale mode value) (given scale mode value a b c e) (taken scale mode value a b c e) (told_off scale mode a b c x y z p q r)
-
--- a value that is no list of three isn't away
-pub never_three : (scale : Scale) (mode : Mode) (value : Value21) (vs : List Value21) → items_of value ≡ Some vs → ((a b c : Value21) → vs ≡ a ∷ b ∷ c ∷ [] → ⊥) → IsAwayValue scale mode value → ⊥
-never_three scale mode value vs e none h = none h.a h.b h.c (let f = h.three in cc)
-
-pub never_list : (scale : Scale) (mode : Mode) (value : Value21) → items_of value ≡ None → IsAwayValue scale mode value → ⊥
-never_list scale mode value e h = let f = h.three in cc
 
 -- a list of three values
 pub three_items : (xs : List Value21) (a b c : Value21) → 3 ≤ length xs → length xs < 4 → a ≡ get_or xs 0 a → b ≡ get_or xs 1 b → c ≡ get_or xs 2 c → xs ≡ a ∷ b ∷ c ∷ []

@@ -1,5 +1,6 @@
 -- The elements that instances make.
 use Rattle.std.proofs.Common.{◌≡◌, ℕ, ◌+◌, ◌==◌, ◌<◌, inl, inr, true, false, List, [], ◌∷◌, ◌++◌, length, get_or, take, map, sum_by, Option, Some, None, option_and_then, Result, Ok, Err, Contains, refl, sym, ap, ◌∙◌, subst, arith}
+use Rattle.std.proofs.lemmas.Bool.{cases_Bool}
 use Rattle.std.specs.Option.{MatchOption}
 use Rattle.std.specs.declared.alloc.AllocError.{AllocError}
 use Rattle.std.specs.Prelude.{IfOk}
@@ -18,8 +19,8 @@ use Rattle.bim_model.specs.declared.geometry.Triangle.{Triangle}
 use Rattle.bim_model.specs.declared.upload.Mode.{Mode}
 use Rattle.p21_reader.specs.declared.value.Value21.{Value21}
 use Rattle.p21_reader.specs.declared.value.Instance.{Instance}
-use Rattle.ifc_schema.specs.Values.{reference_of, is_absent}
-use Rattle.ifc_schema.specs.Looking.{look}
+use Rattle.ifc_instances.specs.Values.{reference_of, is_absent}
+use Rattle.ifc_instances.specs.Looking.{look}
 use Rattle.ifc_units.specs.declared.scale.Scale.{Scale}
 use Rattle.placement.specs.declared.frame.Frame.{Frame}
 use Rattle.placement.specs.Placed.{AreFrames}
@@ -31,12 +32,11 @@ use Rattle.model_build.specs.Framed.{AllFramed}
 use Rattle.model_build.specs.Outcomes.{IsStanding, IsReady, IsFrameOf, IsNearSurface, IsNearElement, Lacks, LacksAt, IsFirstLacking}
 use Rattle.model_build.specs.declared.lack.Lack.{Lack}
 use Rattle.model_build.specs.declared.lack.Lack.TheVariants.{Beyond, Unready}
-use Rattle.model_build.proofs.OneAxes.{one}
+use Rattle.ifc_instances.proofs.ValueLemmas.{one}
 use Rattle.model_build.proofs.OneSet.{same_triangle}
 use Rattle.model_build.proofs.OneSurface.{same_map}
 use Rattle.model_build.proofs.Leasts.{earlier}
 use Rattle.model_build.proofs.Tables.{zipped_at}
-use Rattle.model_build.proofs.Bodied.{tells}
 
 -- what is said of a result
 
@@ -121,7 +121,7 @@ equal a b e = grind (arith, nat_tests)
 id_of : (world : List Instance) (id : ℕ) (i : Instance) → look world id ≡ Some i → i.id ≡ id
 unfolding look
 id_of [] id i found = absurd (cc)
-id_of (j ∷ js) id i found = elim (tells (j.id == id)) [
+id_of (j ∷ js) id i found = elim (cases_Bool (j.id == id)) [
   | inl t ↦ (let m = rw t at found in let same : j ≡ i = cc in ap (λ (k : Instance). k.id) (sym same) ∙ equal j.id id t)
   | inr f ↦ (let m = rw f at found in id_of js id i m)
 ]

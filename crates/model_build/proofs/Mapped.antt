@@ -7,20 +7,20 @@ use Rattle.std.proofs.lemmas.Bool.{eqb-true}
 use Rattle.bim_model.specs.declared.upload.Mode.{Mode}
 use Rattle.p21_reader.specs.declared.value.Value21.{Value21}
 use Rattle.p21_reader.specs.declared.value.Instance.{Instance}
-use Rattle.ifc_schema.specs.Values.{number_of}
-use Rattle.ifc_schema.specs.Looking.{look}
+use Rattle.ifc_instances.specs.Values.{number_of}
+use Rattle.ifc_instances.specs.Looking.{look}
 use Rattle.ifc_units.specs.declared.scale.Scale.{Scale}
 use Rattle.placement.specs.declared.axis.Axis.{Axis}
 use Rattle.placement.specs.declared.axes.Axes.{Axes}
 use Rattle.placement.specs.Directions.{HasAxes, HasDirections, Oblique}
-use Rattle.placement.specs.Placed.{referred_at}
+use Rattle.ifc_instances.specs.Attributes.{referred_at}
 use Rattle.placement.proofs.Square.{square}
 use Rattle.faceset.specs.Indexes.{Writes, PointsAt, PointsNowhere}
 use Rattle.model_build.specs.Items.{is_mapped_item}
-use Rattle.model_build.specs.Least.{LeastOf}
+use Rattle.ifc_instances.specs.Least.{LeastOf}
 use Rattle.model_build.specs.Unsupported.{IsNotOne, IsTurned, IsAway, IsOtherOrigin, plain_axes}
 use Rattle.model_build.specs.Showing.{lesser, ItemShows, NamesNoTarget}
-use Rattle.model_build.proofs.OneAxes.{one_axes, same_axes}
+use Rattle.placement.proofs.OneFrame.{one_axes, same_axes}
 use Rattle.model_build.proofs.Lesser.{same_least, lesser_least}
 use Rattle.model_build.proofs.Others.{no_finding, finding}
 
@@ -34,20 +34,6 @@ target_least world item (Some id) h = record {
       let same : k ≡ id = cc in
       omega arith);
 }
-
--- the instance of that number isn't there
-pub no_item : (world : List Instance) (scale : Scale) (mode : Mode) (from : ℕ) → look world from ≡ None → LeastOf (ItemShows world scale mode from) None
-no_item world scale mode from e = λ id s. elim s [
-  | inl h ↦ no_finding world from _ e h.0
-  | inr h ↦ no_finding world from _ e h.1.0
-]
-
--- it is no mapped item
-pub not_mapped : (world : List Instance) (scale : Scale) (mode : Mode) (from : ℕ) (i : Instance) → Some i ≡ look world from → is_mapped_item i ≡ false → LeastOf (ItemShows world scale mode from) None
-not_mapped world scale mode from i e none = λ id s. elim s [
-  | inl h ↦ (let t = (finding world from i _ (sym e) h.0).0 in cc)
-  | inr h ↦ (let t = finding world from i _ (sym e) h.1.0 in cc)
-]
 
 -- a mapped item shows its target, or itself
 pub mapping_least : (world : List Instance) (scale : Scale) (mode : Mode) (from : ℕ) (i : Instance) (own target found : Option ℕ) → Some i ≡ look world from → is_mapped_item i ≡ true → found ≡ lesser own target

@@ -4,6 +4,7 @@ use Rattle.std.specs.List.{All, Any, AllZip}
 use Rattle.std.proofs.lemmas.List.Elements.{Contains-get_or}
 use Rattle.std.proofs.lemmas.List.Sums.{sum_by-cons}
 use Rattle.std.proofs.lemmas.Slice.Zip.{AllZip-long}
+use Rattle.ifc_instances.proofs.PlaceLemmas.{same_instance}
 use Rattle.bim_model.specs.declared.upload.Mode.{Mode}
 use Rattle.bim_model.specs.declared.upload.UploadFault.TheVariants as faults
 use Rattle.bim_model.specs.declared.geometry.Point.{Point}
@@ -12,7 +13,7 @@ use Rattle.bim_model.specs.declared.element.Element.{Element}
 use Rattle.bim_model.specs.Boxes.{corners_of}
 use Rattle.bim_model.specs.Models.{IsInReach, IsModelled, IsModel, triangle_count}
 use Rattle.p21_reader.specs.declared.value.Instance.{Instance}
-use Rattle.ifc_schema.specs.Looking.{look}
+use Rattle.ifc_instances.specs.Looking.{look}
 use Rattle.ifc_schema.specs.declared.outcome.Survey.{Survey}
 use Rattle.ifc_schema.specs.StageFive.{IsModelElement, Lists, used_ids, element_ids}
 use Rattle.ifc_units.specs.declared.scale.Scale.{Scale}
@@ -30,12 +31,6 @@ use Rattle.model_build.specs.declared.lack.Lack.TheVariants.{Beyond, Unready}
 use Rattle.model_build.proofs.OneSurface.{one_surface}
 use Rattle.model_build.proofs.Readied.{count_some}
 use Rattle.model_build.proofs.Told.{zip_by, made_differ, is_model}
-
-same_instance : (world : List Instance) (id : ℕ) (i j : Instance) → look world id ≡ Some i → look world id ≡ Some j → i ≡ j
-same_instance world id i j e f = some_same (sym e ∙ f)
-  where
-    some_same : {i j : Instance} → Some i ≡ Some j → i ≡ j
-    some_same h = cc
 
 -- an element in reach isn't beyond it
 never_beyond : (world : List Instance) (scale : Scale) (mode : Mode) (id : ℕ) (e : Element) → IsNearElement world scale mode id e → Finds world id (IsBeyond world scale mode) → ⊥

@@ -2,7 +2,7 @@
 use Rattle.std.proofs.Common.{◌≡◌, ℕ, inl, inr, List, [], ◌∷◌, ◌++◌, Some, Contains, ap, sym, ◌∙◌, subst, arith}
 use Rattle.std.proofs.lemmas.List.Elements.{Contains-append_left, Contains-push, Contains-push_cases}
 use Rattle.p21_reader.specs.declared.value.Instance.{Instance}
-use Rattle.model_build.specs.Finding.{reference_at}
+use Rattle.ifc_instances.specs.Attributes.{reference_at}
 use Rattle.model_build.specs.Named.{IsNamed, NamesPlacement, NamesNone, ListsNamed}
 
 -- an element names one placement
@@ -14,12 +14,6 @@ names_once world id p q f g =
 
 named_wider : (world : List Instance) (ids : List ℕ) (id p : ℕ) → IsNamed world (Contains ids) p → IsNamed world (Contains (ids ++ id ∷ [])) p
 named_wider world ids id p n = record { element = n.element; of = Contains-append_left ids (id ∷ []) n.element n.of; names = n.names }
-
-pub named_none : (world : List Instance) (named : List ℕ) → named ≡ [] → ListsNamed world [] named
-named_none world named e = record {
-  sound = λ p c. absurd (let m = subst (λ l. Contains l p) e c in let l = m.1 in omega arith);
-  all = λ p n. absurd (let l = n.of.1 in omega arith);
-}
 
 pub named_pushed : (world : List Instance) (ids named : List ℕ) (id p : ℕ) → NamesPlacement world id p → ListsNamed world ids named → ListsNamed world (ids ++ id ∷ []) (named ++ p ∷ [])
 named_pushed world ids named id p f l = record {

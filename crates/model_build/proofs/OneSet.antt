@@ -5,7 +5,7 @@ use Rattle.bim_model.specs.declared.geometry.Point.{Point}
 use Rattle.bim_model.specs.declared.geometry.Triangle.{Triangle}
 use Rattle.bim_model.specs.declared.upload.Mode.{Mode}
 use Rattle.p21_reader.specs.declared.value.Instance.{Instance}
-use Rattle.ifc_schema.specs.Looking.{look}
+use Rattle.ifc_instances.specs.Looking.{look}
 use Rattle.ifc_units.specs.declared.scale.Scale.{Scale}
 use Rattle.ifc_units.specs.Lengths.{ArePoints}
 use Rattle.ifc_units.proofs.PointFacts.{one_points}
@@ -15,12 +15,12 @@ use Rattle.placement.proofs.Operating.{one_frame}
 use Rattle.faceset.specs.Sets.{points_of, listed_in, spelled_points, SetTriangles, HasStuck}
 use Rattle.faceset.proofs.Joins.{joined_same}
 use Rattle.faceset.proofs.Unique.{set_triangles_same, never_stuck}
-use Rattle.model_build.specs.Finding.{reference_at}
+use Rattle.ifc_instances.specs.Attributes.{reference_at}
 use Rattle.model_build.specs.PointTables.{ListsPoints}
 use Rattle.model_build.specs.Items.{is_mapped_item, mapped_sets}
 use Rattle.model_build.specs.Faces.{SetPoints}
 use Rattle.model_build.specs.Surfaces.{SetSurface, moved, MappedSurface, ItemSurface}
-use Rattle.model_build.proofs.OneAxes.{one}
+use Rattle.ifc_instances.proofs.ValueLemmas.{one}
 
 -- triangles are equal by their corners
 pub same_triangle : (t u : Triangle) → t.a ≡ u.a → t.b ≡ u.b → t.c ≡ u.c → t ≡ u

@@ -6,17 +6,17 @@ use Rattle.bim_model.specs.declared.geometry.Triangle.{Triangle}
 use Rattle.bim_model.specs.declared.upload.Mode.{Mode}
 use Rattle.p21_reader.specs.declared.value.Value21.{Value21}
 use Rattle.p21_reader.specs.declared.value.Instance.{Instance}
-use Rattle.ifc_schema.specs.Values.{reference_of, is_absent}
-use Rattle.ifc_schema.specs.Bodies.{some_passes}
+use Rattle.ifc_instances.specs.Values.{reference_of, is_absent}
+use Rattle.ifc_instances.specs.Looking.{some_passes}
 use Rattle.ifc_units.specs.declared.scale.Scale.{Scale}
 use Rattle.placement.specs.declared.frame.Frame.{Frame}
 use Rattle.placement.specs.Placed.{FrameOf}
 use Rattle.faceset.proofs.Joins.{joined_same}
-use Rattle.model_build.specs.Finding.{reference_at}
+use Rattle.ifc_instances.specs.Attributes.{reference_at}
 use Rattle.model_build.specs.Items.{body_items}
 use Rattle.model_build.specs.Surfaces.{ItemSurface, IsPlacedBy, carried_by, placed_by, IsSurface}
-use Rattle.model_build.proofs.OneAxes.{one, refers_absent}
-use Rattle.model_build.proofs.OneFrame.{frames_agree}
+use Rattle.ifc_instances.proofs.ValueLemmas.{one, refers_absent}
+use Rattle.placement.proofs.OneFrame.{one_carried}
 use Rattle.model_build.proofs.OneSet.{same_triangle, one_item}
 
 -- an attribute that is absent is no reference
@@ -31,7 +31,7 @@ carried_once world scale mode i None (Some g) h k p = none_refers (slice_get i.v
 carried_once world scale mode i (Some f) None h k p = none_refers (slice_get i.values 5) h.0 k h.1
 carried_once world scale mode i (Some f) (Some g) h k p =
     let to = one (reference_at i 5) h.0 k.0 h.1 k.1 in
-    frames_agree world scale mode k.0 f (subst (λ (t : ℕ). FrameOf world scale mode t f) to h.2) g k.2 p
+    one_carried world scale mode k.0 f g (subst (λ (t : ℕ). FrameOf world scale mode t f) to h.2) k.2 p
 
 placed_once : (f g : Option Frame) → ((p : Point) → carried_by f p ≡ carried_by g p) → (t : Triangle) → placed_by f t ≡ placed_by g t
 placed_once f g h t = same_triangle (placed_by f t) (placed_by g t) (h t.a) (h t.b) (h t.c)

@@ -3,7 +3,7 @@ use Rattle.std.proofs.Common.{◌≡◌, ℕ, ◌⊎◌, inl, inr, List, filter_
 use Rattle.bim_model.specs.declared.upload.Mode.{Mode}
 use Rattle.bim_model.specs.declared.upload.UploadFault.TheVariants as faults
 use Rattle.p21_reader.specs.declared.value.Instance.{Instance}
-use Rattle.ifc_schema.specs.declared.entity.Entity.TheVariants as entity
+use Rattle.ifc_instances.specs.declared.entity.Entity.TheVariants as entity
 use Rattle.ifc_schema.specs.declared.form.Attribute.{Attribute}
 use Rattle.ifc_schema.specs.declared.form.Targets.TheVariants as targets
 use Rattle.ifc_schema.specs.declared.form.Leaf.TheVariants as leaf
@@ -11,13 +11,14 @@ use Rattle.ifc_schema.specs.declared.form.Shape.TheVariants as shape
 use Rattle.ifc_schema.specs.declared.form.Need.TheVariants.{Must}
 use Rattle.ifc_schema.specs.declared.form.When.TheVariants.{Always}
 use Rattle.ifc_schema.specs.Table.{row_of, attribute}
-use Rattle.ifc_schema.specs.Values.{reference_of}
-use Rattle.ifc_schema.specs.Looking.{look}
+use Rattle.ifc_instances.specs.Values.{reference_of}
+use Rattle.ifc_instances.specs.Looking.{look}
 use Rattle.ifc_schema.specs.Used.{Used, IsMapped, named}
 use Rattle.ifc_schema.specs.StageFive.{Lists}
 use Rattle.ifc_units.specs.declared.scale.Scale.{Scale}
 use Rattle.model_build.specs.Items.{spelled_items}
-use Rattle.model_build.specs.Least.{IsLeast, LeastOf, ShownBy}
+use Rattle.ifc_instances.specs.Least.{IsLeast, LeastOf}
+use Rattle.model_build.specs.Least.{ShownBy}
 use Rattle.model_build.specs.Unsupported.{ListsItem, ListsOther, ListsNested, Shows, IsUnsupported}
 use Rattle.model_build.specs.Showing.{lesser, BodyShows, MapShows, ItemShows}
 use Rattle.model_build.specs.Profile.{ItemStage}

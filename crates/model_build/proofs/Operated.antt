@@ -4,7 +4,7 @@ use Rattle.std.specs.Bool.{⊤, MatchBool}
 use Rattle.std.specs.List.{slice_get}
 use Rattle.p21_reader.specs.declared.value.Value21.{Value21}
 use Rattle.p21_reader.specs.declared.value.Instance.{Instance}
-use Rattle.ifc_schema.specs.declared.entity.Entity.TheVariants as entity
+use Rattle.ifc_instances.specs.declared.entity.Entity.TheVariants as entity
 use Rattle.ifc_schema.specs.declared.form.Attribute.{Attribute}
 use Rattle.ifc_schema.specs.declared.form.Targets.TheVariants as targets
 use Rattle.ifc_schema.specs.declared.form.Leaf.{Leaf}
@@ -14,9 +14,9 @@ use Rattle.ifc_schema.specs.declared.form.Shape.TheVariants as shape
 use Rattle.ifc_schema.specs.declared.form.Need.TheVariants.{OrMissing}
 use Rattle.ifc_schema.specs.declared.form.When.{When}
 use Rattle.ifc_schema.specs.declared.form.When.TheVariants.{Always}
-use Rattle.ifc_schema.specs.Table.{row_of, attribute}
-use Rattle.ifc_schema.specs.Values.{is_absent}
-use Rattle.ifc_schema.specs.Looking.{look, row_at}
+use Rattle.ifc_schema.specs.Table.{row_of, attribute, row_at}
+use Rattle.ifc_instances.specs.Values.{is_absent}
+use Rattle.ifc_instances.specs.Looking.{look}
 use Rattle.ifc_schema.specs.Flaws.{LeafFlaw, ShapeFlaw, PlaceFlaw}
 use Rattle.ifc_schema.specs.Used.{Used}
 use Rattle.placement.specs.declared.direction.Direction.{Direction}

@@ -1,5 +1,6 @@
 -- The order of elements by their identifiers.
 use Rattle.std.proofs.Common.{◌≡◌, ◌≢◌, ℕ, ◌<◌, ◌⊎◌, inl, inr, Bool, true, false, List, [], ◌∷◌, length, map, rules, get_or, refl, sym, ◌∙◌, subst, arith}
+use Rattle.std.proofs.lemmas.Bool.{cases_Bool}
 use Rattle.std.specs.Bool.{IsTrue}
 use Rattle.std.specs.List.{AllPairs}
 use Rattle.std.specs.List.Sorted.{IsSortedByKey, IsPermutation}
@@ -16,17 +17,13 @@ use Rattle.std.proofs.lemmas.Map.Made.{AllPairs-from_IsDistinct, IsDistinct-from
 use Rattle.std.proofs.lemmas.Cmp.{nat_list_cmp_total}
 use Rattle.std.proofs.lemmas.Map.Lookups.{exact_bytes}
 
-tells : (b : Bool) → (b ≡ true) ⊎ (b ≡ false)
-tells true = inl refl
-tells false = inr refl
-
 alike : (xs ys : List ℕ) → bytes_eq xs ys ≡ true → bytes_eq ys xs ≡ true
 alike xs ys t = (bytes_eq-Decides ys xs).1 (sym ((bytes_eq-Decides xs ys).0 t))
 
 flips : (xs ys : List ℕ) → bytes_eq xs ys ≡ bytes_eq ys xs
-flips xs ys = elim (tells (bytes_eq xs ys)) [
+flips xs ys = elim (cases_Bool (bytes_eq xs ys)) [
   | inl t ↦ t ∙ sym (alike xs ys t)
-  | inr f ↦ elim (tells (bytes_eq ys xs)) [
+  | inr f ↦ elim (cases_Bool (bytes_eq ys xs)) [
     | inl t ↦ absurd (let u = alike ys xs t in cc)
     | inr g ↦ f ∙ sym g
   ]

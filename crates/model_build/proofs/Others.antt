@@ -4,12 +4,12 @@ use Rattle.std.specs.List.{cons_option}
 use Rattle.std.proofs.lemmas.List.Elements.{Contains-append_left, Contains-append_right, Contains-append_cases, filter_map-append}
 use Rattle.p21_reader.specs.declared.value.Value21.{Value21}
 use Rattle.p21_reader.specs.declared.value.Instance.{Instance}
-use Rattle.ifc_schema.specs.Looking.{look}
-use Rattle.ifc_schema.specs.Values.{reference_of}
+use Rattle.ifc_instances.specs.Looking.{look}
+use Rattle.ifc_instances.specs.Values.{reference_of}
 use Rattle.ifc_schema.specs.Bodies.{is_body_representation}
 use Rattle.model_build.specs.Finding.{Finds}
 use Rattle.model_build.specs.Items.{spelled_items}
-use Rattle.model_build.specs.Least.{LeastOf}
+use Rattle.ifc_instances.specs.Least.{LeastOf}
 use Rattle.model_build.specs.Showing.{lesser, HasOther, HasInner, BodyShows, MapShows}
 use Rattle.model_build.proofs.Lesser.{InParts, least_none, least_more, least_all, only_one, same_least, lesser_least}
 
@@ -47,48 +47,13 @@ leads_all world P vs i found le h = least_all (Leads world P) vs i found le h
 
 -- Of one value.
 
-only : (o : Option ℕ) (id : ℕ) → Contains (cons_option o []) id → o ≡ Some id
-only None id c = let lt = c.1 in absurd (omega arith)
-only (Some k) id c = ap Some (only_one k id c)
-
 here : (o : Option ℕ) (id : ℕ) → o ≡ Some id → Contains (cons_option o []) id
 here o id e = subst (λ p. Contains (cons_option p []) id) (sym e) (0, omega arith, refl)
 
--- it refers to that instance
-pub leads_to : (world : List Instance) (P : Instance → Type 0) (v : Value21) (id : ℕ) → Leads world P (v ∷ []) id → reference_of v ≡ Some id
-leads_to world P v id h = only (reference_of v) id h.0
-
--- it refers to nothing
-pub unreferring : (world : List Instance) (P : Instance → Type 0) (v : Value21) → reference_of v ≡ None → LeastOf (Leads world P (v ∷ [])) None
-unreferring world P v e = λ id h. (let f = leads_to world P v id h in cc)
-
--- it refers to no instance of which it holds
-pub unled : (world : List Instance) (P : Instance → Type 0) (v : Value21) (id : ℕ) → reference_of v ≡ Some id → (Finds world id P → ⊥) → LeastOf (Leads world P (v ∷ [])) None
-unled world P v id e none = λ k h. (
-    let f = leads_to world P v k h in
-    let same : k ≡ id = cc in
-    none (subst (λ n. Finds world n P) same h.1))
-
--- it refers to one
-pub led : (world : List Instance) (P : Instance → Type 0) (v : Value21) (id : ℕ) → reference_of v ≡ Some id → Finds world id P → LeastOf (Leads world P (v ∷ [])) (Some id)
-led world P v id e found = record {
-  here = (here (reference_of v) id e, found);
-  lower = λ k low h. (
-      let f = leads_to world P v k h in
-      let same : k ≡ id = cc in
-      omega arith);
-}
-
 -- Of the instance of a number.
-
-pub no_finding : (world : List Instance) (id : ℕ) (P : Instance → Type 0) → look world id ≡ None → Finds world id P → ⊥
-no_finding world id P e f = let g = f.found in cc
 
 pub finding : (world : List Instance) (id : ℕ) (i : Instance) (P : Instance → Type 0) → look world id ≡ Some i → Finds world id P → P i
 finding world id i P e f = let same : f.instance ≡ i = (let g = f.found in cc) in subst P same f.holds
-
-pub none_found : (world : List Instance) (from : ℕ) (P : Instance → ℕ → Type 0) → look world from ≡ None → LeastOf (λ id. Finds world from (λ i. P i id)) None
-none_found world from P e = λ id f. no_finding world from (λ i. P i id) e f
 
 pub found_least : (world : List Instance) (from : ℕ) (i : Instance) (P : Instance → ℕ → Type 0) (found : Option ℕ) → look world from ≡ Some i → LeastOf (P i) found → LeastOf (λ id. Finds world from (λ j. P j id)) found
 found_least world from i P found e h =
@@ -102,10 +67,6 @@ body_least world from r items found e body same h =
     found_least world from r (λ i id. (is_body_representation i ≡ true) × HasOther world (spelled_items i) id) found (sym e)
     (same_least (HasOther world (spelled_items r)) (λ id. (is_body_representation r ≡ true) × HasOther world (spelled_items r) id) found (λ id o. (body, o)) (λ id o. o.1)
     (subst (λ vs. LeastOf (HasOther world vs) found) same h))
-
-pub no_body : (world : List Instance) (from : ℕ) (r : Instance) → Some r ≡ look world from → is_body_representation r ≡ false → LeastOf (BodyShows world from) None
-no_body world from r e none =
-    found_least world from r (λ i id. (is_body_representation i ≡ true) × HasOther world (spelled_items i) id) None (sym e) (λ id o. (let body = o.0 in cc))
 
 pub map_least : (world : List Instance) (from : ℕ) (r : Instance) (items : List Value21) (a b found : Option ℕ) → Some r ≡ look world from → items ≡ spelled_items r → found ≡ lesser a b
     → LeastOf (HasOther world items) a → LeastOf (HasInner world items) b → LeastOf (MapShows world from) found

@@ -1,8 +1,9 @@
 -- The storeys that elements stand in.
 use Rattle.std.proofs.Common.{◌≡◌, ℕ, zero, suc, ◌<◌, ◌⊎◌, inl, inr, Contains, ◌==◌, Bool, true, false, List, [], ◌∷◌, length, get_or, None, refl, ap, ◌∙◌, arith}
+use Rattle.std.proofs.lemmas.Bool.{cases_Bool}
 use Rattle.std.proofs.lemmas.Bool.Decides.{nat_tests}
 use Rattle.p21_reader.specs.declared.value.Instance.{Instance}
-use Rattle.ifc_schema.specs.Looking.{look}
+use Rattle.ifc_instances.specs.Looking.{look}
 use Rattle.spatial_tree.specs.Climbing.{IsFirstStorey}
 use Rattle.spatial_tree.specs.Climbing as climbing
 use Rattle.spatial_tree.specs.Relations.{IsStorey}
@@ -18,16 +19,12 @@ first_is_storey N S _ _ (climbing.beyond object above storey n o f) = first_is_s
 same_id : (a b : ℕ) → a ≡ b → (a == b) ≡ true
 same_id a b e = grind (arith, nat_tests)
 
-tells : (b : Bool) → (b ≡ true) ⊎ (b ≡ false)
-tells true = inl refl
-tells false = inr refl
-
 -- where an instance has the number, the number leads to one
 looked_up : (world : List Instance) (id at : ℕ) (i : Instance) → at < length world → get_or world at i ≡ i → i.id ≡ id → look world id ≡ None → ⊥
 unfolding look
 looked_up [] id at i lt is e none = absurd (omega arith)
 looked_up (j ∷ js) id zero i lt is e none = (let t = same_id j.id id (ap (λ (k : Instance). k.id) is ∙ e) in let m = rw t at none in cc)
-looked_up (j ∷ js) id (suc at) i lt is e none = elim (tells (j.id == id)) [
+looked_up (j ∷ js) id (suc at) i lt is e none = elim (cases_Bool (j.id == id)) [
   | inl t ↦ (let m = rw t at none in cc)
   | inr f ↦ (let m = rw f at none in looked_up js id at i (omega arith) is e m)
 ]

@@ -1,5 +1,6 @@
 -- What sets and elements have once the stages before their surfaces have found no fault.
 use Rattle.std.proofs.Common.{◌≡◌, ℕ, zero, suc, ◌<◌, inl, inr, true, false, List, [], ◌∷◌, length, get_or, Option, Some, None, option_and_then, Contains, refl, sym, ap, ◌∙◌, subst, arith}
+use Rattle.std.proofs.lemmas.Bool.{cases_Bool}
 use Rattle.std.specs.Bool.{MatchBool}
 use Rattle.std.specs.Option.{MatchOption}
 use Rattle.std.specs.List.{All, slice_get}
@@ -10,23 +11,24 @@ use Rattle.bim_model.specs.declared.upload.UploadFault.{UploadFault}
 use Rattle.bim_model.specs.declared.geometry.Point.{Point}
 use Rattle.p21_reader.specs.declared.value.Value21.{Value21}
 use Rattle.p21_reader.specs.declared.value.Instance.{Instance}
-use Rattle.ifc_schema.specs.declared.entity.Entity.TheVariants as entity
+use Rattle.ifc_instances.specs.declared.entity.Entity.TheVariants as entity
 use Rattle.ifc_schema.specs.declared.form.Count.TheVariants.{AtLeast}
 use Rattle.ifc_schema.specs.declared.outcome.Survey.{Survey}
-use Rattle.ifc_schema.specs.Values.{reference_of, items_of}
-use Rattle.ifc_schema.specs.Looking.{look, entity_at, is_a}
+use Rattle.ifc_instances.specs.Values.{reference_of, items_of}
+use Rattle.ifc_instances.specs.Looking.{look, entity_at, is_a}
 use Rattle.ifc_schema.specs.Used.{Used}
 use Rattle.ifc_schema.specs.StageFive.{IsModelElement, used_ids, element_ids, is_subject}
 use Rattle.ifc_schema.proofs.Listing.{element_used}
-use Rattle.ifc_schema.proofs.PlaceLemmas.{place_found}
+use Rattle.ifc_instances.proofs.PlaceLemmas.{place_found}
 use Rattle.ifc_units.specs.declared.scale.Scale.{Scale}
 use Rattle.ifc_units.specs.declared.fault.GridFault.{GridFault}
 use Rattle.ifc_units.specs.Lengths.{IsPoint, ArePoints, PointRefused, PointsRefused, ListRefused}
 use Rattle.placement.specs.declared.frame.Frame.{Frame}
 use Rattle.placement.specs.Frames.{lengths_of, frame_at}
 use Rattle.placement.specs.Operators.{IsOrigin, OperatorFrame}
-use Rattle.faceset.specs.Sets.{is_set, is_polygonal, points_of, spelled_points, spelled_triangles, faces_of, listed, listed_in, HasThree, IsOutlined}
-use Rattle.model_build.specs.Finding.{IsUsed, reference_at}
+use Rattle.faceset.specs.Sets.{is_set, is_polygonal, points_of, spelled_points, spelled_triangles, faces_of, listed_in, HasThree, IsOutlined}
+use Rattle.ifc_instances.specs.Attributes.{listed, reference_at}
+use Rattle.model_build.specs.Finding.{IsUsed}
 use Rattle.model_build.specs.PointTables.{IsTable, ListsPoints, LengthFault, told_of, kept_at}
 use Rattle.model_build.specs.Items.{bodies, spelled_items, is_mapped_item, spelled_sets, counted, count_of}
 use Rattle.model_build.specs.Least.{IsBadSet, IsOblique}
@@ -34,7 +36,7 @@ use Rattle.model_build.specs.Sound.{IsSoundSet, ReadySet, ReadyMapped, ReadyItem
 use Rattle.model_build.specs.Outcomes.{HasChains, IsStanding, IsReady, IsSettled, AreReady, AreSound}
 use Rattle.model_build.proofs.Attributes.{Shaped, At, OrAway, SpellsNumber, ListOf}
 use Rattle.model_build.proofs.Shaped.{ThreeOf, NamesUsed, named_at, point_numbers, list_numbers, listed_there, element_guid, guid_there, placement_used}
-use Rattle.model_build.proofs.Bodied.{tells, UsedAs, IsBody}
+use Rattle.model_build.proofs.Bodied.{UsedAs, IsBody}
 use Rattle.model_build.proofs.Listed.{either, set_points, origin_used}
 use Rattle.model_build.proofs.Served.{NoneShown, Solid, Few, IsItem, IsSet, IsMappedItem, Names, body_names, sets_named, operator_there, faces_outlined, rows_three, element_is, element_bodies, element_some}
 use Rattle.model_build.proofs.Tables.{points_told}
@@ -89,7 +91,7 @@ abbrev pub Indexed : List Instance → Type 0
 Indexed world = (id : ℕ) → Used world id → IsBadSet world id → ⊥
 
 set_rows : (world : List Instance) (s : Instance) → Shaped world → Solid world → Few world → UsedAs world IsSet s → MatchBool (is_polygonal s) (All IsOutlined (faces_of world s)) (All HasThree (spelled_triangles s))
-set_rows world s shaped solid few u = elim (tells (is_polygonal s)) [
+set_rows world s shaped solid few u = elim (cases_Bool (is_polygonal s)) [
   | inl t ↦ rw t (faces_outlined world s shaped solid few u t)
   | inr n ↦ rw n (rows_three world s shaped u n)
 ]
@@ -201,7 +203,7 @@ abbrev ReadyTarget : List Instance → Scale → Mode → List ℕ → ℕ → I
 ReadyTarget world scale mode listed id i = MatchBool (is_mapped_item i) (ReadyMapped world scale mode listed i) ((is_set i ≡ true) × Contains listed id)
 
 target_ready : (world : List Instance) (scale : Scale) (mode : Mode) (listed : List ℕ) → Clean world scale mode listed → (id : ℕ) (i : Instance) → Used world id → look world id ≡ Some i → IsItem i → Never (Never (ReadyTarget world scale mode listed id i))
-target_ready world scale mode listed c id i u found is none = elim (tells (is_mapped_item i)) [
+target_ready world scale mode listed c id i u found is none = elim (cases_Bool (is_mapped_item i)) [
   | inl t ↦ mapped_ready world scale mode listed c i (record { id = id; used = u; found = found; holds = t }) (λ r. none (rw t r))
   | inr n ↦ none (rw n (left n, c.all id u))
 ]
@@ -299,13 +301,6 @@ elements_ready world scale mode survey chains h id c none =
     let e = h.checked.surveyed.elements.each id c in
     element_ready world scale mode (used_ids survey) (element_ids survey) chains (clean world scale mode survey chains h) (solid_there world scale mode survey chains h) (few_there world scale mode survey chains h) h.checked.has_chains id c e
     (λ r. none (record { instance = e.instance; found = e.found; holds = r }))
-
--- each element has a triangle
-pub elements_some : (world : List Instance) (scale : Scale) (mode : Mode) (survey : Survey) (chains : List ℕ) → IsSettled world scale mode survey chains → (id : ℕ) → Contains (element_ids survey) id → 0 < count_of world id
-elements_some world scale mode survey chains h id c =
-    let e = h.checked.surveyed.elements.each id c in
-    let k = clean world scale mode survey chains h in
-    subst (λ o. 0 < counted world o) (sym e.found) (element_some world scale mode id k.shaped k.none (solid_there world scale mode survey chains h) (few_there world scale mode survey chains h) e)
 
 pub count_some : (world : List Instance) (scale : Scale) (mode : Mode) (placements listed ids : List ℕ) → AreReady world scale mode placements listed ids → (id : ℕ) → Contains ids id → 0 < count_of world id
 count_some world scale mode placements listed ids ready id c =

@@ -1,5 +1,6 @@
 -- How the first global identifier that stands twice is found.
 use Rattle.std.proofs.Common.{◌≡◌, ℕ, ◌+◌, ◌<◌, ◌≤◌, ◌⊎◌, inl, inr, Bool, true, false, cond, List, length, get_or, Some, Contains, refl, sym, ap, ◌∙◌, subst, arith}
+use Rattle.std.proofs.lemmas.Bool.{cases_Bool}
 use Rattle.std.specs.Ordering.{nat_cmp, is_eq}
 use Rattle.std.specs.Cmp.Lexicographic.{slice_cmp}
 use Rattle.std.specs.declared.cmp.Ordering.{Ordering}
@@ -10,7 +11,9 @@ use Rattle.std.proofs.lemmas.List.{get_or_default}
 use Rattle.std.proofs.lemmas.List.Kept.{AllPairs-from_increasing}
 use Rattle.std.proofs.lemmas.List.Elements.{Contains-get_or}
 use Rattle.std.proofs.lemmas.Map.Lookups.{exact_bytes}
+use Rattle.ifc_instances.proofs.ValueLemmas.{unlike}
 use Rattle.p21_reader.specs.declared.value.Instance.{Instance}
+use Rattle.ifc_instances.proofs.Rising.{earlier, below_next}
 use Rattle.model_build.specs.Texts.{guid_of, HasGuid, RepeatsGuid, IsIdentified, HasNoGuid, NoneRepeats, IsFirstRepeated}
 
 abbrev pub by_bytes : List ℕ → List ℕ → Ordering
@@ -28,20 +31,10 @@ pub record Searched (world : List Instance) (ids : List ℕ) (at : ℕ) (seen : 
   pub all : (guid : List ℕ) → IsAmong world ids at guid → contains by_bytes seen guid ≡ true
   pub none : (k : ℕ) → k < at → RepeatsGuid world (Contains ids) (get_or ids k 0) → ⊥
 
-tells : (b : Bool) → (b ≡ true) ⊎ (b ≡ false)
-tells true = inl refl
-tells false = inr refl
-
-unlike : (b : Bool) → b ≡ true → b ≡ false → ⊥
-unlike b e f = cc
-
 is_equal : (o : Ordering) → is_eq o ≡ true → o ≡ Equal
 is_equal Less e = cc
 is_equal Equal e = refl
 is_equal Greater e = cc
-
-split : (k n : ℕ) → k < n + 1 → (k < n) ⊎ (k ≡ n)
-split k n l = grind arith
 
 -- an instance has one identifier
 guid_once : (world : List Instance) (id : ℕ) (g h : List ℕ) → HasGuid world id g → HasGuid world id h → g ≡ h
@@ -49,21 +42,6 @@ guid_once world id g h f k =
     let same : f.instance ≡ k.instance = (let a = f.found in let b = k.found in cc) in
     let there : Some g ≡ Some h = sym f.holds ∙ ap guid_of same ∙ k.holds in
     cc
-
--- what is listed below a number of the list stands before it
-earlier : (ids : List ℕ) (at id k : ℕ) → IsStrictlyIncreasing ids → at < length ids → get_or ids at 0 ≡ id → k < id → Contains ids k → (place : ℕ) × (place < at) × (get_or ids place 0 ≡ k)
-earlier ids at id k up lt is below c =
-    let there : get_or ids c.0 0 ≡ k = get_or_default ids c.0 0 k c.1 ∙ c.2 in
-    elim (order c.0 at) [
-      | inl l ↦ (c.0, l, there)
-      | inr r ↦ elim r [
-        | inl e ↦ absurd (let f : get_or ids c.0 0 ≡ get_or ids at 0 = ap (λ n. get_or ids n 0) e in omega arith)
-        | inr g ↦ absurd (let h = AllPairs-from_increasing ids up at c.0 0 g c.1 in omega arith)
-      ]
-    ]
-  where
-    order : (a b : ℕ) → (a < b) ⊎ ((a ≡ b) ⊎ (b < a))
-    order a b = grind arith
 
 -- one that repeats an identifier has one that stands before it
 repeats_earlier : (world : List Instance) (ids : List ℕ) (at : ℕ) (guid : List ℕ) → IsStrictlyIncreasing ids → at < length ids → HasGuid world (get_or ids at 0) guid → RepeatsGuid world (Contains ids) (get_or ids at 0) → IsAmong world ids at guid
@@ -74,13 +52,6 @@ repeats_earlier world ids at guid up lt here r =
       below = e.1;
       there = subst (λ n. HasGuid world n guid) (sym e.2) (subst (λ g. HasGuid world r.lower g) (guid_once world (get_or ids at 0) r.guid guid r.here here) r.there);
     }
-
-pub searched_none : (world : List Instance) (ids : List ℕ) (seen : BTreeSet (List ℕ)) → ((guid : List ℕ) → contains by_bytes seen guid ≡ false) → Searched world ids 0 seen
-searched_none world ids seen e = record {
-  sound = λ g c. absurd (unlike (contains by_bytes seen g) c (e g));
-  all = λ g a. absurd (let l = a.below in omega arith);
-  none = λ k l. absurd (omega arith);
-}
 
 pub first_found : (world : List Instance) (ids : List ℕ) (at id : ℕ) (guid : List ℕ) (seen : BTreeSet (List ℕ)) → IsStrictlyIncreasing ids → at < length ids → id ≡ get_or ids at 0 → HasGuid world id guid
     → contains by_bytes seen guid ≡ true → Searched world ids at seen → IsFirstRepeated world ids id
@@ -106,22 +77,22 @@ pub searched_more : (world : List Instance) (ids : List ℕ) (at id : ℕ) (guid
 searched_more world ids at id guid old new up lt is given c u s =
     let here : HasGuid world (get_or ids at 0) guid = subst (λ n. HasGuid world n guid) is given in
     record {
-      sound = λ g h. elim (tells (is_eq (by_bytes guid g))) [
+      sound = λ g h. elim (cases_Bool (is_eq (by_bytes guid g))) [
         | inl t ↦ record { place = at; below = omega arith; there = subst (λ x. HasGuid world (get_or ids at 0) x) (exact_bytes guid g (is_equal (by_bytes guid g) t)) here }
         | inr f ↦ (
             let a = s.sound g (sym (u.2 g f) ∙ h) in
             record { place = a.place; below = (let l = a.below in omega arith); there = a.there })
       ];
-      all = λ g a. elim (tells (is_eq (by_bytes guid g))) [
+      all = λ g a. elim (cases_Bool (is_eq (by_bytes guid g))) [
         | inl t ↦ u.0 g ∙ ap (λ b. cond b true (contains by_bytes old g)) t
-        | inr f ↦ elim (split a.place at a.below) [
+        | inr f ↦ elim (below_next a.place at a.below) [
           | inl l ↦ u.2 g f ∙ s.all g (record { place = a.place; below = l; there = a.there })
           | inr e ↦ (
               let same : guid ≡ g = guid_once world (get_or ids at 0) guid g here (subst (λ n. HasGuid world (get_or ids n 0) g) e a.there) in
               subst (λ x. contains by_bytes new x ≡ true) same u.1)
         ]
       ];
-      none = λ k l r. elim (split k at l) [
+      none = λ k l r. elim (below_next k at l) [
         | inl m ↦ s.none k m r
         | inr e ↦ unlike (contains by_bytes old guid) (s.all guid (repeats_earlier world ids at guid up lt here (subst (λ n. RepeatsGuid world (Contains ids) (get_or ids n 0)) e r))) c
       ];

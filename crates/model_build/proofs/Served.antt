@@ -1,23 +1,25 @@
 -- The items of elements and the sets of mapped items, where all that is used has the form of its row, and nothing is unsupported.
 use Rattle.std.proofs.Common.{◌≡◌, ℕ, zero, suc, ◌<◌, ◌≤◌, ◌⊎◌, inl, inr, true, false, List, [], ◌∷◌, length, get_or, flat_map, filter_map, sum_by, Option, Some, None, option_and_then, Contains, refl, sym, ap, ◌∙◌, subst, arith, length-append}
+use Rattle.std.proofs.lemmas.Bool.{cases_Bool}
 use Rattle.std.specs.List.{All, cons_option}
 use Rattle.std.proofs.lemmas.List.Elements.{All-nil, All-head, All-tail, All-append}
 use Rattle.std.proofs.lemmas.List.Sums.{sum_by-cons}
 use Rattle.bim_model.specs.declared.upload.Mode.{Mode}
 use Rattle.p21_reader.specs.declared.value.Value21.{Value21}
 use Rattle.p21_reader.specs.declared.value.Instance.{Instance}
-use Rattle.ifc_schema.specs.declared.entity.Entity.TheVariants as entity
+use Rattle.ifc_instances.specs.declared.entity.Entity.TheVariants as entity
 use Rattle.ifc_schema.specs.declared.form.Targets.TheVariants as targets
 use Rattle.ifc_schema.specs.declared.form.Count.TheVariants.{AtLeast}
-use Rattle.ifc_schema.specs.Values.{reference_of}
-use Rattle.ifc_schema.specs.Looking.{look, entity_at, is_a}
+use Rattle.ifc_instances.specs.Values.{reference_of}
+use Rattle.ifc_instances.specs.Looking.{look, entity_at, is_a}
 use Rattle.ifc_schema.specs.Bodies.{has_body, is_body, is_body_representation}
 use Rattle.ifc_schema.specs.Used.{Used, mapped, IsMapped}
 use Rattle.ifc_schema.specs.StageFive.{IsModelElement, is_subject}
 use Rattle.ifc_schema.proofs.Listing.{element_used}
 use Rattle.ifc_units.specs.declared.scale.Scale.{Scale}
-use Rattle.faceset.specs.Sets.{listed, is_set, is_polygonal, faces_of, outline, spelled_triangles, face_count, triangle_count, HasThree, IsOutlined}
-use Rattle.model_build.specs.Finding.{Finds, IsUsed, reference_at, target_at, led_to}
+use Rattle.ifc_instances.specs.Attributes.{listed, reference_at, target_at, led_to}
+use Rattle.faceset.specs.Sets.{is_set, is_polygonal, faces_of, outline, spelled_triangles, face_count, triangle_count, HasThree, IsOutlined}
+use Rattle.model_build.specs.Finding.{Finds, IsUsed}
 use Rattle.model_build.specs.Items.{bodies, spelled_items, items_of, body_items, is_mapped_item, is_item, map_of, listed_by, spelled_sets, mapped_sets, item_count}
 use Rattle.model_build.specs.Unsupported.{IsUnsupported}
 use Rattle.model_build.specs.Faces.{HasManyCorners, is_face}
@@ -25,7 +27,7 @@ use Rattle.model_build.specs.Least.{IsVoided}
 use Rattle.model_build.proofs.Keywords.{is_a_held}
 use Rattle.model_build.proofs.Attributes.{Shaped, Refers, SpellsWhole}
 use Rattle.model_build.proofs.Shaped.{ThreeOf, listed_there, listed_some, triangles_whole, three_values}
-use Rattle.model_build.proofs.Bodied.{both, tells, UsedAs, IsBody, led_each, bodies_used, bodies_some}
+use Rattle.model_build.proofs.Bodied.{both, UsedAs, IsBody, led_each, bodies_used, bodies_some}
 use Rattle.model_build.proofs.Listed.{either, is_map, item_meant, face_meant, stands_in, list_used, NamesUsedOne, faces_used, faces_some, corners_some, map_used, target_there, target_used, representation_used, items_attribute, items_row, HasItems, items_there}
 
 -- nothing is unsupported
@@ -113,11 +115,8 @@ pub record Opened (world : List Instance) (r : Instance) : Type 0 where
   pub kind : is_a entity.Representation r ≡ true
   pub has : (is_body_representation r ≡ true) ⊎ IsMapped world id
 
-opened_has : (world : List Instance) (r : Instance) → (o : Opened world r) → HasItems world o.id r
-opened_has world r o = elim o.has [ inl b ↦ inl (both (is_a entity.Representation r) (is_body r) b).1 | inr m ↦ inr m ]
-
 item_is : (world : List Instance) (scale : Scale) (mode : Mode) (r : Instance) (o : Opened world r) (to : ℕ) (target : Instance) → NoneShown world scale mode → Contains (filter_map reference_of (spelled_items r)) to → look world to ≡ Some target → IsItem target
-item_is world scale mode r o to target none c found = elim (tells (is_item target)) [
+item_is world scale mode r o to target none c found = elim (cases_Bool (is_item target)) [
   | inl t ↦ t
   | inr f ↦ absurd (none to (
     o.id,
@@ -257,7 +256,7 @@ operator_there world scale mode item shaped none u =
     let a = target_there world u.id item shaped u.used u.found u.holds in
     let n = a.holds in
     let refers : reference_at item 1 ≡ Some n.to = ap (option_and_then reference_of) a.there ∙ n.refers in
-    elim (tells (is_a entity.Operator n.target)) [
+    elim (cases_Bool (is_a entity.Operator n.target)) [
       | inl t ↦ (
         n.to,
         refers,
@@ -323,14 +322,14 @@ rows_three world s shaped u n = three_values world u.id s shaped u.used u.found 
 
 -- a set has a triangle
 pub set_some : (world : List Instance) (s : Instance) → Shaped world → Solid world → Few world → UsedAs world IsSet s → 0 < triangle_count world s
-set_some world s shaped solid few u = elim (tells (is_polygonal s)) [
+set_some world s shaped solid few u = elim (cases_Bool (is_polygonal s)) [
   | inl t ↦ rw t (sum_some face_count IsOutlined (λ f o. (let l = o.0 in omega (arith, l))) (faces_of world s) (faces_outlined world s shaped solid few u t) (faces_many world s shaped u t))
   | inr n ↦ rw n (listed_some s 3 (ThreeOf SpellsWhole) (triangles_whole world u.id s shaped u.used u.found (triangulated world s u n)))
 ]
 
 -- so has an item
 pub item_some : (world : List Instance) (scale : Scale) (mode : Mode) (i : Instance) → Shaped world → NoneShown world scale mode → Solid world → Few world → UsedAs world IsItem i → 0 < item_count world i
-item_some world scale mode i shaped none solid few u = elim (tells (is_mapped_item i)) [
+item_some world scale mode i shaped none solid few u = elim (cases_Bool (is_mapped_item i)) [
   | inl t ↦ (
       let v : UsedAs world IsMappedItem i = record { id = u.id; used = u.used; found = u.found; holds = t } in
       let names = sets_named world scale mode i shaped none v in

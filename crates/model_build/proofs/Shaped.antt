@@ -8,8 +8,8 @@ use Rattle.p21_reader.specs.declared.value.Value21.{Value21}
 use Rattle.p21_reader.specs.declared.value.Instance.{Instance}
 use Rattle.bim_model.specs.Guids.{IsGuid, is_guid_char}
 use Rattle.bim_text.specs.Texts.{text_of_spelling}
-use Rattle.ifc_schema.specs.declared.entity.Entity.{Entity}
-use Rattle.ifc_schema.specs.declared.entity.Entity.TheVariants as entity
+use Rattle.ifc_instances.specs.declared.entity.Entity.{Entity}
+use Rattle.ifc_instances.specs.declared.entity.Entity.TheVariants as entity
 use Rattle.ifc_schema.specs.declared.form.Targets.TheVariants as targets
 use Rattle.ifc_schema.specs.declared.form.Leaf.TheVariants as leaf
 use Rattle.ifc_schema.specs.declared.form.Count.{Count}
@@ -19,18 +19,20 @@ use Rattle.ifc_schema.specs.declared.form.Need.{Need}
 use Rattle.ifc_schema.specs.declared.form.Need.TheVariants.{Must, OrAbsent}
 use Rattle.ifc_schema.specs.declared.form.When.{When}
 use Rattle.ifc_schema.specs.declared.form.When.TheVariants.{Always, WithBody}
-use Rattle.ifc_schema.specs.Words.{IsNumber, says_guid, is_guid}
-use Rattle.ifc_schema.specs.Table.{row_of, attribute}
-use Rattle.ifc_schema.specs.Values.{words_of, reference_of, items_of}
-use Rattle.ifc_schema.specs.Looking.{look, entity_at, is_a, row_at}
-use Rattle.ifc_schema.specs.Bodies.{applies, some_passes, has_body}
+use Rattle.ifc_schema.specs.Words.{IsNumber, says_guid}
+use Rattle.bim_text.specs.Says.{is_guid}
+use Rattle.ifc_schema.specs.Table.{row_of, attribute, row_at}
+use Rattle.ifc_instances.specs.Values.{words_of, reference_of, items_of}
+use Rattle.ifc_instances.specs.Looking.{look, entity_at, is_a, some_passes}
+use Rattle.ifc_schema.specs.Bodies.{applies, has_body}
 use Rattle.ifc_schema.specs.Flaws.{LeafFlaw, ListFlaw, ShapeFlaw, bad_unless}
 use Rattle.ifc_schema.specs.Used.{Used}
 use Rattle.ifc_schema.specs.StageFive.{is_subject}
 use Rattle.placement.specs.declared.direction.Direction.{Direction}
 use Rattle.placement.specs.Directions.{Spelled, coordinates, three_numbers, IsDirection, Directs, HasDirections}
-use Rattle.faceset.specs.Sets.{listed, spelled_triangles, HasThree}
-use Rattle.model_build.specs.Finding.{IsUsed, reference_at}
+use Rattle.ifc_instances.specs.Attributes.{listed, reference_at}
+use Rattle.faceset.specs.Sets.{spelled_triangles, HasThree}
+use Rattle.model_build.specs.Finding.{IsUsed}
 use Rattle.model_build.specs.Texts.{guid_of}
 use Rattle.model_build.proofs.Keywords.{is_storey, is_placement, is_axis_placement, is_point, is_direction, is_point_list, is_face_set, is_element, is_a_held}
 use Rattle.model_build.proofs.Attributes.{Shaped, Formed, formed_there, At, OrAway, in_row, attribute_flaw, must_at, absent_at, at_more, away_more, SpellsNumber, SpellsWhole, SpellsText, RefersToA, number_spelled, whole_spelled, text_spelled, referred, ListOf, list_there, list_more, follows}
@@ -252,21 +254,6 @@ three_values world id i shaped u e is =
     λ k d lt. (let t = h k d lt in (t.a, t.b, t.c, t.three))
 
 -- Texts.
-
-text_or_absent : (world : List Instance) (i : Instance) → Formed world i → Contains (row_at i) (attribute 2 Always OrAbsent shape.One leaf.Text) → At i 2 (OrAway SpellsText)
-text_or_absent world i f c =
-    at_more i 2 (OrAway (λ v. ShapeFlaw world leaf.Text shape.One v None)) (OrAway SpellsText) (away_more (λ v. ShapeFlaw world leaf.Text shape.One v None) SpellsText (text_spelled world))
-    (absent_at world f.mapped i 2 Always shape.One leaf.Text refl (attribute_flaw world f.mapped i (attribute 2 Always OrAbsent shape.One leaf.Text) f.formed c))
-
--- the name of a storey
-pub storey_name : (world : List Instance) (id : ℕ) (i : Instance) → Shaped world → Used world id → look world id ≡ Some i → is_a entity.Storey i ≡ true → At i 2 (OrAway SpellsText)
-unfolding row_of
-storey_name world id i shaped u e is = text_or_absent world i (formed_there world id i (shaped id u) e) (in_row entity.Storey i (attribute 2 Always OrAbsent shape.One leaf.Text) (is_storey i is) (0, omega arith, refl))
-
--- that of an element
-pub element_name : (world : List Instance) (id : ℕ) (i : Instance) → Shaped world → Used world id → look world id ≡ Some i → is_subject (entity_at i) ≡ true → At i 2 (OrAway SpellsText)
-unfolding row_of
-element_name world id i shaped u e is = text_or_absent world i (formed_there world id i (shaped id u) e) (in_row entity.Subject i (attribute 2 Always OrAbsent shape.One leaf.Text) (is_element i is) (1, omega arith, refl))
 
 -- a value is a text that says a global identifier
 pub record SpellsGuid (v : Value21) : Type 0 where

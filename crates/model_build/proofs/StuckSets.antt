@@ -6,18 +6,19 @@ use Rattle.bim_model.specs.declared.geometry.Point.{Point}
 use Rattle.bim_model.specs.declared.upload.Mode.{Mode}
 use Rattle.bim_model.specs.declared.upload.UploadFault.TheVariants as faults
 use Rattle.p21_reader.specs.declared.value.Instance.{Instance}
-use Rattle.ifc_schema.specs.declared.entity.Entity.TheVariants as entity
-use Rattle.ifc_schema.specs.Looking.{look, is_a}
+use Rattle.ifc_instances.specs.declared.entity.Entity.TheVariants as entity
+use Rattle.ifc_instances.specs.Looking.{look, is_a}
 use Rattle.ifc_schema.specs.Used.{Used}
 use Rattle.ifc_schema.specs.StageFive.{Lists}
 use Rattle.ifc_units.specs.declared.scale.Scale.{Scale}
 use Rattle.ifc_units.specs.Lengths.{ArePoints}
 use Rattle.ifc_units.proofs.PointFacts.{one_points}
-use Rattle.faceset.specs.Sets.{is_set, listed, listed_in, points_of, HasStuck}
-use Rattle.model_build.specs.Finding.{reference_at}
+use Rattle.faceset.specs.Sets.{is_set, listed_in, points_of, HasStuck}
+use Rattle.ifc_instances.specs.Attributes.{listed, reference_at}
 use Rattle.model_build.specs.PointTables.{ListsPoints}
 use Rattle.model_build.specs.Faces.{SetPoints, IsStuckFace}
-use Rattle.model_build.specs.Least.{IsLeast, LeastOf, ShownBy}
+use Rattle.ifc_instances.specs.Least.{IsLeast, LeastOf}
+use Rattle.model_build.specs.Least.{ShownBy}
 use Rattle.model_build.specs.Profile.{StuckStage}
 use Rattle.model_build.specs.Outcomes.{ShowsStuckSet}
 use Rattle.model_build.proofs.Attributes.{Shaped}

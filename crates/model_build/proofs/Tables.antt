@@ -9,10 +9,10 @@ use Rattle.bim_model.specs.declared.upload.Mode.{Mode}
 use Rattle.bim_model.specs.declared.geometry.Point.{Point}
 use Rattle.p21_reader.specs.declared.value.Value21.{Value21}
 use Rattle.p21_reader.specs.declared.value.Instance.{Instance}
-use Rattle.ifc_schema.specs.Values.{items_of}
-use Rattle.ifc_schema.specs.Looking.{look}
-use Rattle.ifc_schema.specs.Places.{IsPlaceOf}
-use Rattle.ifc_schema.proofs.PlaceLemmas.{found_at, some_instance}
+use Rattle.ifc_instances.specs.Values.{items_of}
+use Rattle.ifc_instances.specs.Looking.{look}
+use Rattle.ifc_instances.specs.Places.{IsPlaceOf}
+use Rattle.ifc_instances.proofs.PlaceLemmas.{found_at, some_instance, same_instance}
 use Rattle.ifc_units.specs.declared.scale.Scale.{Scale}
 use Rattle.ifc_units.specs.declared.fault.GridFault.{GridFault}
 use Rattle.ifc_units.specs.Lengths.{ArePoints, PointsRefused, ListRefused, InstanceRefused, Fails}
@@ -20,7 +20,7 @@ use Rattle.ifc_units.specs.declared.fault.LengthError.{LengthError}
 use Rattle.ifc_units.specs.declared.fault.LengthError.TheVariants as error
 use Rattle.ifc_units.proofs.PointFacts.{points_apart}
 use Rattle.ifc_units.proofs.InstanceFacts.{not_both}
-use Rattle.faceset.specs.Sets.{listed}
+use Rattle.ifc_instances.specs.Attributes.{listed}
 use Rattle.model_build.specs.PointTables.{IsListOf, Tabled, IsTable, kept_at, ListsPoints, Refuses}
 
 -- what stands at one place of both
@@ -29,12 +29,6 @@ zipped_at R xs ys k x y h e f =
     let m = AllZip-left R xs ys h k in
     let n : MatchOption (Some x) (Unit {0}) (λ z. IsSomeAnd (slice_get ys k) (R z)) = subst (λ o. MatchOption o (Unit {0}) (λ z. IsSomeAnd (slice_get ys k) (R z))) e m in
     subst (λ o. IsSomeAnd o (R x)) f n
-
-same_instance : (world : List Instance) (id : ℕ) (i j : Instance) → look world id ≡ Some i → look world id ≡ Some j → i ≡ j
-same_instance world id i j e f = some_same (sym e ∙ f)
-  where
-    some_same : {i j : Instance} → Some i ≡ Some j → i ≡ j
-    some_same h = cc
 
 -- what a table has at the place of a number
 at_place : (world : List Instance) (table : List (Option (List Point))) (scale : Scale) (mode : Mode) (id at : ℕ) (d : Instance) → IsPlaceOf world id at → IsTable world scale mode table
@@ -57,18 +51,6 @@ pub points_told : (world : List Instance) (table : List (Option (List Point))) (
     → (scale : Scale) (mode : Mode) → IsTable world scale mode table → MatchOption r ((points : List Point) → ListsPoints world scale mode id points → ⊥) (ListsPoints world scale mode id)
 points_told world table id at r p e scale mode h =
     rw e (told world scale mode id (get_or world at some_instance) (kept_at table at) (found_at world id at some_instance p) (at_place world table scale mode id at some_instance p h))
-
-pub never_listed : (world : List Instance) (scale : Scale) (mode : Mode) (id : ℕ) → look world id ≡ None → (points : List Point) → ListsPoints world scale mode id points → ⊥
-never_listed world scale mode id none points l = differ (sym none ∙ l.found)
-  where
-    differ : {i : Instance} → None ≡ Some i → ⊥
-    differ h = cc
-
-pub never_refuses : (world : List Instance) (scale : Scale) (mode : Mode) (id : ℕ) → look world id ≡ None → (refused : GridFault) → Refuses world scale mode id refused → ⊥
-never_refuses world scale mode id none refused l = differ (sym none ∙ l.found)
-  where
-    differ : {i : Instance} → None ≡ Some i → ⊥
-    differ h = cc
 
 -- a list of points on the grid has no fault
 

@@ -1,7 +1,7 @@
 -- Instances by their numbers, and how many triangles there are, counted up to a million. No public contract cites it.
 use Rattle.std.specs.Prelude.{◌≡◌, ℕ, ◌<◌, ◌≤◌, List, map, sum_by, Option, Some, None, MatchOption}
 use Rattle.p21_reader.specs.declared.value.Instance.{Instance}
-use Rattle.ifc_schema.specs.Looking.{look}
+use Rattle.ifc_instances.specs.Looking.{look}
 use Rattle.model_build.specs.Items.{items_of, item_count, most_triangles}
 
 -- these are the numbers of those instances, one after another

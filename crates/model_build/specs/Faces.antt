@@ -6,8 +6,8 @@ use Rattle.bim_model.specs.declared.upload.UploadFault.TheVariants as faults
 use Rattle.bim_model.specs.declared.upload.Many.TheVariants as many
 use Rattle.bim_model.specs.declared.geometry.Point.{Point}
 use Rattle.p21_reader.specs.declared.value.Instance.{Instance}
-use Rattle.ifc_schema.specs.declared.entity.Entity.TheVariants.{Face, FaceWithVoids}
-use Rattle.ifc_schema.specs.Looking.{is_a}
+use Rattle.ifc_instances.specs.declared.entity.Entity.TheVariants.{Face, FaceWithVoids}
+use Rattle.ifc_instances.specs.Looking.{is_a}
 use Rattle.ifc_schema.specs.Used.{Used}
 use Rattle.ifc_units.specs.declared.scale.Scale.{Scale}
 use Rattle.ifc_units.specs.Lengths.{ArePoints}

@@ -4,13 +4,13 @@ use Rattle.bim_model.specs.declared.upload.UploadFault.TheVariants as faults
 use Rattle.bim_model.specs.declared.upload.Many.TheVariants as many
 use Rattle.p21_reader.specs.declared.value.Value21.{Value21}
 use Rattle.p21_reader.specs.declared.value.Instance.{Instance}
-use Rattle.ifc_schema.specs.declared.entity.Entity.TheVariants.{MappedItem}
-use Rattle.ifc_schema.specs.Looking.{look, is_a}
+use Rattle.ifc_instances.specs.declared.entity.Entity.TheVariants.{MappedItem}
+use Rattle.ifc_instances.specs.Looking.{look, is_a}
 use Rattle.ifc_schema.specs.Bodies.{is_body_representation}
 use Rattle.ifc_schema.specs.StageFive.{IsModelElement, Lists}
-use Rattle.faceset.specs.Sets.{listed, is_set, triangle_count}
+use Rattle.ifc_instances.specs.Attributes.{listed, target_at, led_to}
+use Rattle.faceset.specs.Sets.{is_set, triangle_count}
 use Rattle.model_build.specs.Stages.{Stage}
-use Rattle.model_build.specs.Finding.{target_at, led_to}
 
 abbrev pub listed_by : Option Instance → ℕ → List Value21
 listed_by None at = []

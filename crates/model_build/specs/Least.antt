@@ -1,8 +1,8 @@
 -- The least of numbers of which something holds.
-use Rattle.std.specs.Prelude.{◌≡◌, ℕ, ◌<◌, ◌⊎◌, true, List, Contains, Option, MatchOption}
+use Rattle.std.specs.Prelude.{◌≡◌, ℕ, ◌<◌, ◌⊎◌, true, List, Contains}
 use Rattle.p21_reader.specs.declared.value.Instance.{Instance}
-use Rattle.ifc_schema.specs.declared.entity.Entity.TheVariants.{AxisPlacement, Operator, FaceWithVoids}
-use Rattle.ifc_schema.specs.Looking.{is_a}
+use Rattle.ifc_instances.specs.declared.entity.Entity.TheVariants.{AxisPlacement, Operator, FaceWithVoids}
+use Rattle.ifc_instances.specs.Looking.{is_a}
 use Rattle.faceset.specs.Sets.{is_set, HasBadIndex}
 use Rattle.placement.specs.declared.axes.Axes.{Axes}
 use Rattle.placement.specs.Directions.{HasAxes}
@@ -19,15 +19,6 @@ abbrev pub NoneOf : List ℕ → (ℕ → Type 0) → Type 0
 NoneOf ids P = (id : ℕ) → Contains ids id → P id → ⊥
 
 -- Numbers that others show.
-
--- the least one of which it holds
-pub record IsLeast (P : ℕ → Type 0) (id : ℕ) : Type 0 where
-  pub here : P id
-  pub lower : (k : ℕ) → k < id → P k → ⊥
-
--- none, or the least one of which it holds
-abbrev pub LeastOf : (ℕ → Type 0) → Option ℕ → Type 0
-LeastOf P found = MatchOption found ((id : ℕ) → P id → ⊥) (IsLeast P)
 
 -- one of the listed ones shows it
 abbrev pub ShownBy : (ℕ → ℕ → Type 0) → List ℕ → ℕ → Type 0

@@ -1,7 +1,8 @@
 -- The placements that elements name (IFC4 ADD2 TC1, IfcProduct).
 use Rattle.std.specs.Prelude.{◌≡◌, ℕ, List, Some, Contains}
 use Rattle.p21_reader.specs.declared.value.Instance.{Instance}
-use Rattle.model_build.specs.Finding.{Finds, reference_at}
+use Rattle.model_build.specs.Finding.{Finds}
+use Rattle.ifc_instances.specs.Attributes.{reference_at}
 
 -- one of them names that placement
 pub record IsNamed (world : List Instance) (Of : ℕ → Type 0) (placement : ℕ) : Type 0 where

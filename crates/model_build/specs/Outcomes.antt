@@ -12,7 +12,7 @@ use Rattle.bim_model.specs.Boxes.{corners_of}
 use Rattle.bim_model.specs.Models.{IsInReach}
 use Rattle.p21_reader.specs.declared.value.Value21.{Value21}
 use Rattle.p21_reader.specs.declared.value.Instance.{Instance}
-use Rattle.ifc_schema.specs.Values.{reference_of, is_absent}
+use Rattle.ifc_instances.specs.Values.{reference_of, is_absent}
 use Rattle.ifc_schema.specs.declared.outcome.Survey.{Survey}
 use Rattle.ifc_schema.specs.StageFive.{Surveyed, used_ids, element_ids}
 use Rattle.ifc_units.specs.Units.{IsLengthUnit}
@@ -20,7 +20,8 @@ use Rattle.ifc_units.specs.declared.scale.Scale.{Scale}
 use Rattle.placement.specs.declared.frame.Frame.{Frame}
 use Rattle.placement.specs.Chains.{AreChains}
 use Rattle.model_build.specs.Stages.{Stage}
-use Rattle.model_build.specs.Finding.{Finds, reference_at}
+use Rattle.model_build.specs.Finding.{Finds}
+use Rattle.ifc_instances.specs.Attributes.{reference_at}
 use Rattle.model_build.specs.Texts.{guid_of, NoneRepeats}
 use Rattle.model_build.specs.Least.{NoneOf, IsVoided, IsBadSet, IsOblique}
 use Rattle.model_build.specs.PointTables.{ListsPoints, LengthFault}
@@ -29,7 +30,7 @@ use Rattle.model_build.specs.Unsupported.{IsUnsupported}
 use Rattle.model_build.specs.Faces.{HasManyCorners}
 use Rattle.faceset.specs.Sets.{is_set, HasStuck}
 use Rattle.bim_model.specs.declared.geometry.Point.{Point}
-use Rattle.ifc_schema.specs.Looking.{look}
+use Rattle.ifc_instances.specs.Looking.{look}
 use Rattle.model_build.specs.Named.{ListsNamed}
 use Rattle.model_build.specs.Surfaces.{IsPlacedBy, IsSurface, IsBeyond}
 use Rattle.model_build.specs.Elements.{IsElement}

@@ -6,13 +6,13 @@ use Rattle.bim_model.specs.declared.upload.UploadFault.{UploadFault}
 use Rattle.bim_model.specs.declared.upload.UploadFault.TheVariants as faults
 use Rattle.bim_model.specs.declared.geometry.Point.{Point}
 use Rattle.p21_reader.specs.declared.value.Instance.{Instance}
-use Rattle.ifc_schema.specs.declared.entity.Entity.TheVariants.{PointList}
-use Rattle.ifc_schema.specs.Looking.{is_a}
+use Rattle.ifc_instances.specs.declared.entity.Entity.TheVariants.{PointList}
+use Rattle.ifc_instances.specs.Looking.{is_a}
 use Rattle.ifc_units.specs.declared.scale.Scale.{Scale}
 use Rattle.ifc_units.specs.declared.fault.GridFault.{GridFault}
 use Rattle.ifc_units.specs.declared.fault.GridFault.TheVariants.{OffGrid, TooFar}
 use Rattle.ifc_units.specs.Lengths.{ArePoints, InstanceRefused}
-use Rattle.faceset.specs.Sets.{listed}
+use Rattle.ifc_instances.specs.Attributes.{listed}
 use Rattle.model_build.specs.Finding.{Finds}
 
 -- an instance is a list of points, and these are they

@@ -8,7 +8,7 @@ use Rattle.bim_model.specs.declared.upload.BuildError.TheVariants as errors
 use Rattle.bim_model.specs.declared.element.Element.{Element}
 use Rattle.p21_reader.specs.declared.value.Instance.{Instance}
 use Rattle.p21_reader.specs.Uploads.{SpellsExchange, HasFault}
-use Rattle.ifc_schema.specs.declared.entity.Entity.TheVariants.{FaceWithVoids}
+use Rattle.ifc_instances.specs.declared.entity.Entity.TheVariants.{FaceWithVoids}
 use Rattle.ifc_schema.specs.Used.{Used}
 use Rattle.ifc_schema.specs.StageFive.{StageFive, IsModelElement}
 use Rattle.ifc_units.specs.declared.scale.Scale.{Scale}

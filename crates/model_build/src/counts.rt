@@ -1,15 +1,15 @@
 //! How many triangles a model has.
 ghost use Rattle.std.specs.Prelude.{◌≤◌, ◌+◌, ◌∷◌, [], sum_by, IfOk};
 ghost use Rattle.faceset.specs.Sets.{triangle_count};
-ghost use Rattle.model_build.specs.Finding.{led_to};
+ghost use Rattle.ifc_instances.specs.Attributes.{led_to};
 ghost use Rattle.model_build.specs.Items.{item_count, count_of, most_triangles};
 ghost use Rattle.model_build.specs.Counting.{CountsTo, body_count};
 ghost use Rattle.model_build.specs.Shapes.{AreShapes};
 
-use crate::find::{fetch, target};
 use crate::items::{is_mapped_item, spelled_items, spelled_sets};
 use crate::shapes::{Shapes, bodies};
 use faceset::triangle_count;
+use ifc_instances::{look, target};
 use p21_reader::{Exchange, Instance, Value21};
 use std::alloc::{AllocError, Global};
 
@@ -93,7 +93,7 @@ fn count_body(exchange: &Exchange, id: u64, so_far: u64) -> Option<u64>
     requires { so_far ≤ most_triangles }
     ensures { CountsTo (so_far + body_count exchange.now id) result }
 {
-    match fetch(exchange, id) {
+    match look(exchange, id) {
         Some(body) => count_items(exchange, spelled_items(body), so_far),
         None => Some(so_far),
     }
@@ -126,7 +126,7 @@ fn count_element(
     requires shapes { AreShapes exchange.now shapes.now }
     ensures { IfOk result (CountsTo (so_far + count_of exchange.now id)) }
 {
-    match fetch(exchange, id) {
+    match look(exchange, id) {
         Some(element) => {
             let found = bodies(alloc, exchange, shapes, element)?;
             Ok(count_bodies(exchange, &found, so_far))

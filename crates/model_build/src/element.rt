@@ -7,14 +7,13 @@ ghost use Rattle.ifc_units.specs.declared.scale.Scale.{Scale};
 ghost use Rattle.p21_reader.specs.declared.value.Instance.{Instance};
 ghost use Rattle.placement.specs.Placed.{AreFrames, frame_in};
 ghost use Rattle.spatial_tree.specs.Trees.{ListsStoreys};
-ghost use Rattle.ifc_schema.specs.Looking.{look};
+ghost use Rattle.ifc_instances.specs.Looking.{look};
 ghost use Rattle.model_build.specs.Framed.{Framed, AllFramed};
 ghost use Rattle.model_build.specs.Sound.{AreSets};
 ghost use Rattle.model_build.specs.Shapes.{AreShapes};
 ghost use Rattle.model_build.specs.Names.{AreNames};
 ghost use Rattle.model_build.specs.Outcomes.{IsStanding, IsFrameOf, IsNearSurface, IsNearElement, Lacks, LacksAt, IsFirstLacking};
 
-use crate::find::fetch;
 use crate::lack::{Lack, Lacking};
 use crate::names::Names;
 use crate::sets::Sets;
@@ -23,7 +22,7 @@ use crate::storeys::storey_name;
 use crate::surface::{all_moved, own_triangles};
 use crate::texts::{guid_of, name_of};
 use bim_model::{Duplicate, Element, Items, Mode, Triangle};
-use ifc_schema::{is_absent, reference_of};
+use ifc_instances::{is_absent, look, reference_of};
 use ifc_units::Scale;
 use p21_reader::{Exchange, Instance};
 use placement::{Frame, Frames};
@@ -127,7 +126,7 @@ fn element_at(
     requires shapes { AreShapes exchange.now shapes.now }
     ensures { (placements listed : List ℕ) → AreFrames exchange.now scale mode placements (frame_in frames.now) → AreSets exchange.now scale mode listed sets.now → IfOk result (λ made. MatchResult made (IsNearElement exchange.now scale mode id) (LacksAt exchange.now scale mode placements listed id)) }
 {
-    match fetch(exchange, id) {
+    match look(exchange, id) {
         Some(instance) => element_of(
             alloc, exchange, tree, names, frames, shapes, sets, instance, scale, mode,
         ),

@@ -2,15 +2,14 @@
 ghost use Rattle.std.specs.Prelude.{◌≡◌, ℕ, true, Contains, Any, MatchOption};
 ghost use Rattle.std.specs.Bool.{MatchBool};
 ghost use Rattle.std.specs.List.Sorted.{IsStrictlyIncreasing};
-ghost use Rattle.ifc_schema.specs.declared.entity.Entity.TheVariants.{FaceWithVoids};
-ghost use Rattle.ifc_schema.specs.Looking.{is_a};
+ghost use Rattle.ifc_instances.specs.declared.entity.Entity.TheVariants.{FaceWithVoids};
+ghost use Rattle.ifc_instances.specs.Looking.{is_a};
 ghost use Rattle.model_build.specs.Finding.{Finds};
 ghost use Rattle.model_build.specs.Faces.{HasManyCorners};
 ghost use Rattle.model_build.specs.Least.{IsLeastOf, NoneOf, IsVoided};
 
-use crate::find::fetch;
 use faceset::outline;
-use ifc_schema::{Entity, is_a};
+use ifc_instances::{Entity, is_a, look};
 use p21_reader::{Exchange, Instance};
 
 const MOST_CORNERS: usize = 1_000;
@@ -18,7 +17,7 @@ const MOST_CORNERS: usize = 1_000;
 fn is_voided(exchange: &Exchange, id: u64) -> bool
     ensures { MatchBool result (IsVoided exchange.now id) (IsVoided exchange.now id → ⊥) }
 {
-    match fetch(exchange, id) {
+    match look(exchange, id) {
         Some(instance) => is_a(Entity::FaceWithVoids, instance),
         None => false,
     }
@@ -48,7 +47,7 @@ fn has_many(instance: &Instance) -> bool
 fn has_many_corners(exchange: &Exchange, id: u64) -> bool
     ensures { MatchBool result (Finds exchange.now id HasManyCorners) (Finds exchange.now id HasManyCorners → ⊥) }
 {
-    match fetch(exchange, id) {
+    match look(exchange, id) {
         Some(instance) => has_many(instance),
         None => false,
     }

@@ -3,9 +3,9 @@ ghost use Rattle.std.specs.Prelude.{ℕ, Contains, IfOk, MatchOption};
 ghost use Rattle.std.specs.List.Sorted.{IsStrictlyIncreasing};
 ghost use Rattle.model_build.specs.Texts.{HasNoGuid, HasThatGuid, IsIdentified, NoneRepeats, IsFirstRepeated};
 
-use crate::find::fetch;
 use crate::texts::guid_of;
 use bim_model::Guid;
+use ifc_instances::look;
 use p21_reader::Exchange;
 use std::alloc::{AllocError, Global};
 use std::collections::BTreeSet;
@@ -14,7 +14,7 @@ use std::collections::BTreeSet;
 fn identifier(alloc: Global, exchange: &Exchange, id: u64) -> Result<Option<Guid>, AllocError>
     ensures { IfOk result (λ found. MatchOption found (HasNoGuid exchange.now id) (HasThatGuid exchange.now id)) }
 {
-    match fetch(exchange, id) {
+    match look(exchange, id) {
         Some(instance) => guid_of(alloc, instance),
         None => Ok(None),
     }

@@ -1,13 +1,13 @@
 //! The items of bodies.
 ghost use Rattle.std.specs.Prelude.{◌≡◌, ◌++◌, ◌∷◌, [], map, Some, IfOk, OnOk};
-ghost use Rattle.ifc_schema.specs.Looking.{look};
+ghost use Rattle.ifc_instances.specs.Looking.{look};
 ghost use Rattle.ifc_schema.specs.Bodies.{is_body_representation};
 ghost use Rattle.model_build.specs.Items.{spelled_items, is_mapped_item, is_item, spelled_sets, bodies_among, bodies_of};
 ghost use Rattle.model_build.specs.Counting.{Number};
 
-use crate::find::{fetch, target_at};
-use faceset::{is_set, listed};
-use ifc_schema::{Entity, is_a, is_body, reference_of};
+use faceset::is_set;
+use ifc_instances::{Entity, is_a, listed, look, reference_of, target_at};
+use ifc_schema::is_body;
 use p21_reader::{Exchange, Instance, Value21};
 use std::alloc::{AllocError, Global};
 
@@ -59,7 +59,7 @@ fn add_body(exchange: &Exchange, value: &Value21, found: &mut Vec<u64>) -> Resul
     let Some(id) = reference_of(value) else {
         return Ok(());
     };
-    let Some(instance) = fetch(exchange, id) else {
+    let Some(instance) = look(exchange, id) else {
         return Ok(());
     };
     if !is_body_representation(instance) {

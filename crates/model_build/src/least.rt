@@ -7,9 +7,8 @@ ghost use Rattle.placement.specs.Operators.{HasOperatorDirections};
 ghost use Rattle.faceset.specs.Reaches.{AreReaches};
 ghost use Rattle.model_build.specs.Least.{IsLeastOf, NoneOf, IsBadSet, IsAxisPlacement, IsOperator, IsOblique};
 
-use crate::find::fetch;
 use faceset::{FaceReaches, has_bad_index, is_set};
-use ifc_schema::{Entity, is_a};
+use ifc_instances::{Entity, is_a, look};
 use p21_reader::Exchange;
 use placement::{axes_of, operator_axes};
 use std::alloc::{AllocError, Global};
@@ -19,7 +18,7 @@ fn is_bad_set(exchange: &Exchange, reaches: &mut FaceReaches, id: u64) -> Result
     ensures bad { IfOk result (λ bad. MatchBool bad (IsBadSet exchange.now id) (IsBadSet exchange.now id → ⊥)) }
     ensures kept { OnOk result (AreReaches exchange.now reaches.new) }
 {
-    let Some(set) = fetch(exchange, id) else {
+    let Some(set) = look(exchange, id) else {
         return Ok(false);
     };
     if !is_set(set) {
@@ -51,7 +50,7 @@ pub fn first_bad_index(
 fn is_axis_placement(exchange: &Exchange, id: u64) -> bool
     ensures { MatchBool result (IsAxisPlacement exchange.now id) (IsAxisPlacement exchange.now id → ⊥) }
 {
-    match fetch(exchange, id) {
+    match look(exchange, id) {
         Some(instance) => is_a(Entity::AxisPlacement, instance),
         None => false,
     }
@@ -60,7 +59,7 @@ fn is_axis_placement(exchange: &Exchange, id: u64) -> bool
 fn is_operator(exchange: &Exchange, id: u64) -> bool
     ensures { MatchBool result (IsOperator exchange.now id) (IsOperator exchange.now id → ⊥) }
 {
-    match fetch(exchange, id) {
+    match look(exchange, id) {
         Some(instance) => is_a(Entity::Operator, instance),
         None => false,
     }

@@ -5,7 +5,6 @@ mod checks;
 mod counts;
 mod element;
 mod faces;
-mod find;
 mod guids;
 mod items;
 mod lack;

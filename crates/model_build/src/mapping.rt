@@ -1,16 +1,16 @@
 //! Ways of mapping that aren't read (IFC4 ADD2 TC1, IfcMappedItem, IfcRepresentationMap, IfcCartesianTransformationOperator3D).
 ghost use Rattle.std.specs.Prelude.{◌≡◌, ℕ, MatchOption};
 ghost use Rattle.std.specs.Bool.{MatchBool};
-ghost use Rattle.model_build.specs.Least.{LeastOf, ShownBy};
+ghost use Rattle.ifc_instances.specs.Least.{LeastOf};
+ghost use Rattle.model_build.specs.Least.{ShownBy};
 ghost use Rattle.model_build.specs.Unsupported.{IsNotOne, IsNoTarget, IsAway, IsAwayValue, IsTurned, IsOtherOrigin};
 ghost use Rattle.model_build.specs.Showing.{ItemShows, NamesNoTarget, HasPlace, are_away};
 
-use crate::find::{fetch, reference_at, referred_at, value_at};
 use crate::items::is_mapped_item;
 use crate::unsupported::lesser;
 use bim_model::Mode;
 use faceset::place_of;
-use ifc_schema::{Entity, is_a, items_of, number_of};
+use ifc_instances::{Entity, is_a, items_of, look, number_of, reference_at, referred_at, value_at};
 use ifc_units::{GridFault, LengthError, Scale, length};
 use p21_reader::{Exchange, Instance, Value21};
 use placement::{Axes, Axis, axes_of};
@@ -64,7 +64,7 @@ fn other_target(exchange: &Exchange, item: &Instance) -> Option<u64>
     ensures { MatchOption result ((id : ℕ) → NamesNoTarget exchange.now item.now id → ⊥) (NamesNoTarget exchange.now item.now) }
 {
     let id = reference_at(item, 1)?;
-    let target = fetch(exchange, id)?;
+    let target = look(exchange, id)?;
     if is_no_target(target) { Some(id) } else { None }
 }
 
@@ -166,7 +166,7 @@ fn other_origin(exchange: &Exchange, id: u64, scale: Scale, mode: Mode) -> Optio
 fn other_mapping(exchange: &Exchange, id: u64, scale: Scale, mode: Mode) -> Option<u64>
     ensures { LeastOf (ItemShows exchange.now scale mode id) result }
 {
-    let item = fetch(exchange, id)?;
+    let item = look(exchange, id)?;
     if !is_mapped_item(item) {
         return None;
     }

@@ -2,7 +2,7 @@
 ghost use Rattle.std.specs.Prelude.{IfOk, MatchOption};
 ghost use Rattle.model_build.specs.Named.{NamesPlacement, NamesNone, ListsNamed};
 
-use crate::find::{fetch, reference_at};
+use ifc_instances::{look, reference_at};
 use p21_reader::Exchange;
 use std::alloc::{AllocError, Global};
 
@@ -10,7 +10,7 @@ use std::alloc::{AllocError, Global};
 fn named_by(exchange: &Exchange, element: u64) -> Option<u64>
     ensures { MatchOption result (NamesNone exchange.now element) (NamesPlacement exchange.now element) }
 {
-    let instance = fetch(exchange, element)?;
+    let instance = look(exchange, element)?;
     reference_at(instance, 5)
 }
 

@@ -2,10 +2,9 @@
 ghost use Rattle.std.specs.Prelude.{◌≡◌, ℕ, None, IfOk, OnOk, option_copied};
 ghost use Rattle.model_build.specs.Names.{AreNames, PutsName, name_in};
 
-use crate::find::fetch;
 use crate::texts::name_of;
 use bim_model::Text;
-use ifc_schema::{Entity, is_a};
+use ifc_instances::{Entity, is_a, look};
 use p21_reader::Exchange;
 use std::alloc::{AllocError, Global};
 use std::collections::BTreeMap;
@@ -49,7 +48,7 @@ impl Names {
     fn add(&mut self, alloc: Global, exchange: &Exchange, id: u64) -> Result<(), AllocError>
         ensures { AreNames exchange.now self.old → OnOk result (AreNames exchange.now self.new) }
     {
-        let Some(storey) = fetch(exchange, id) else {
+        let Some(storey) = look(exchange, id) else {
             return Ok(());
         };
         if !is_a(Entity::Storey, storey) {

@@ -11,8 +11,7 @@ ghost use Rattle.model_build.specs.Stages.{LeastFault};
 ghost use Rattle.model_build.specs.PointTables.{kept_at, Tabled, IsTable, ListsPoints, Refuses, LengthFault, told_of};
 
 use bim_model::{Items, Mode, Point, UploadFault};
-use faceset::listed;
-use ifc_schema::{Entity, is_a, place_of};
+use ifc_instances::{Entity, is_a, listed, place_of};
 use ifc_units::{GridFault, Scale, fault_of_points, points};
 use p21_reader::{Exchange, Instance};
 use std::alloc::{AllocError, Global};

@@ -6,10 +6,10 @@ ghost use Rattle.bim_model.specs.Models.{IsInReach};
 ghost use Rattle.model_build.specs.PointTables.{IsTable};
 ghost use Rattle.model_build.specs.Sound.{AreSets, IsKept, IsUncut, IsUncutAt, IsUncutSet, Puts, set_in};
 
-use crate::find::{fetch, reference_at};
 use crate::points::points_at;
 use bim_model::{Items, Mode, Point, Triangle};
 use faceset::{is_set, set_triangles};
+use ifc_instances::{look, reference_at};
 use ifc_units::Scale;
 use p21_reader::{Exchange, Instance};
 use std::alloc::{AllocError, Global};
@@ -112,7 +112,7 @@ impl Sets {
         requires { IsTable exchange.now scale mode table.now }
         ensures { IfOk result (λ done. MatchBool done ((listed : List ℕ) → AreSets exchange.now scale mode listed self.old → AreSets exchange.now scale mode (listed ++ id ∷ []) self.new) (IsUncutAt exchange.now scale mode id)) }
     {
-        let Some(set) = fetch(exchange, id) else {
+        let Some(set) = look(exchange, id) else {
             return Ok(true);
         };
         if !is_set(set) {

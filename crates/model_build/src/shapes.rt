@@ -4,10 +4,9 @@ ghost use Rattle.model_build.specs.Items.{bodies};
 ghost use Rattle.model_build.specs.Counting.{Number};
 ghost use Rattle.model_build.specs.Shapes.{AreShapes, PutsBodies, bodies_in};
 
-use crate::find::{fetch, reference_at};
 use crate::items::bodies_of;
 use bim_model::Items;
-use ifc_schema::{Entity, is_a};
+use ifc_instances::{Entity, is_a, look, reference_at};
 use p21_reader::{Exchange, Instance};
 use std::alloc::{AllocError, Global};
 use std::collections::BTreeMap;
@@ -52,7 +51,7 @@ impl Shapes {
     fn add(&mut self, alloc: Global, exchange: &Exchange, id: u64) -> Result<(), AllocError>
         ensures { AreShapes exchange.now self.old → OnOk result (AreShapes exchange.now self.new) }
     {
-        let Some(shape) = fetch(exchange, id) else {
+        let Some(shape) = look(exchange, id) else {
             return Ok(());
         };
         if !is_a(Entity::ProductShape, shape) {
@@ -97,7 +96,7 @@ pub fn bodies(
         let copied = ids.to_vec(alloc)?;
         return Ok(copied);
     }
-    match fetch(exchange, id) {
+    match look(exchange, id) {
         Some(shape) => bodies_of(alloc, exchange, shape),
         None => Ok(Vec::new(alloc)),
     }

@@ -4,10 +4,10 @@ ghost use Rattle.spatial_tree.specs.Trees.{ListsStoreys};
 ghost use Rattle.model_build.specs.Names.{AreNames};
 ghost use Rattle.model_build.specs.Storeys.{IsStoreyName};
 
-use crate::find::fetch;
 use crate::names::Names;
 use crate::texts::name_of;
 use bim_model::{Duplicate, Text};
+use ifc_instances::look;
 use p21_reader::Exchange;
 use spatial_tree::Tree;
 use std::alloc::{AllocError, Global};
@@ -30,7 +30,7 @@ pub fn storey_name(
     if let Some(name) = names.get(storey) {
         return Ok(Some(name.copy(alloc)?));
     }
-    match fetch(exchange, storey) {
+    match look(exchange, storey) {
         Some(instance) => Ok(Some(name_of(alloc, instance)?)),
         None => Ok(None),
     }

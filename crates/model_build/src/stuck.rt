@@ -1,14 +1,15 @@
 //! Faces that can't be cut.
 ghost use Rattle.std.specs.Prelude.{◌≡◌, ℕ, IfOk};
 ghost use Rattle.model_build.specs.PointTables.{IsTable};
-ghost use Rattle.model_build.specs.Least.{LeastOf, ShownBy};
+ghost use Rattle.ifc_instances.specs.Least.{LeastOf};
+ghost use Rattle.model_build.specs.Least.{ShownBy};
 ghost use Rattle.model_build.specs.Outcomes.{ShowsStuckSet};
 
-use crate::find::{fetch, reference_at};
 use crate::points::points_at;
 use crate::unsupported::lesser;
 use bim_model::{Items, Mode, Point};
 use faceset::{is_set, least_stuck};
+use ifc_instances::{look, reference_at};
 use ifc_units::Scale;
 use p21_reader::Exchange;
 use std::alloc::{AllocError, Global};
@@ -25,7 +26,7 @@ fn stuck_in(
     requires { IsTable exchange.now scale mode table.now }
     ensures { IfOk result (LeastOf (ShowsStuckSet exchange.now scale mode id)) }
 {
-    let Some(set) = fetch(exchange, id) else {
+    let Some(set) = look(exchange, id) else {
         return Ok(None);
     };
     if !is_set(set) {

@@ -4,21 +4,21 @@ ghost use Rattle.std.specs.Bool.{MatchBool};
 ghost use Rattle.bim_model.specs.Boxes.{corners_of};
 ghost use Rattle.bim_model.specs.Models.{IsInReach};
 ghost use Rattle.p21_reader.specs.declared.value.Instance.{Instance};
-ghost use Rattle.placement.specs.Frames.{IsFrame, AreWithin, step, most};
+ghost use Rattle.placement.specs.Frames.{IsFrame, AreWithin, most};
+ghost use Rattle.ifc_units.specs.Lengths.{reach};
 ghost use Rattle.faceset.specs.Sets.{Joined};
-ghost use Rattle.model_build.specs.Finding.{led_to};
+ghost use Rattle.ifc_instances.specs.Attributes.{led_to};
 ghost use Rattle.model_build.specs.Items.{items_of, item_count, body_items, bodies};
 ghost use Rattle.model_build.specs.Counting.{Number};
 ghost use Rattle.model_build.specs.Shapes.{AreShapes};
 ghost use Rattle.model_build.specs.Surfaces.{ItemSurface, moved};
 ghost use Rattle.model_build.specs.Sound.{AreSets, ReadySet, ReadyMapped, ReadyItem, ReadyBody, Adds, KeptSet, KeptMapped, KeptItem, IsOut};
 
-use crate::find::{fetch, reference_at};
 use crate::items::{is_mapped_item, spelled_items, spelled_sets};
 use crate::sets::Sets;
 use crate::shapes::{Shapes, bodies};
 use bim_model::{Mode, Triangle};
-use ifc_schema::reference_of;
+use ifc_instances::{look, reference_at, reference_of};
 use ifc_units::Scale;
 use p21_reader::{Exchange, Instance, Value21};
 use placement::{Frame, operator_frame};
@@ -37,7 +37,7 @@ fn add_set(
     let Some(id) = reference_of(value) else {
         return Ok(true);
     };
-    let Some(_set) = fetch(exchange, id) else {
+    let Some(_set) = look(exchange, id) else {
         return Ok(true);
     };
     match sets.get(id) {
@@ -71,7 +71,7 @@ fn add_sets(
 /// The triangle carried by a frame.
 fn carry(frame: &Frame, triangle: &Triangle) -> Triangle
     requires frame { IsFrame frame.now }
-    requires near { AreWithin step frame.now.offset }
+    requires near { AreWithin reach frame.now.offset }
     requires reach { All IsInReach (corners_of (triangle.now ∷ [])) }
     ensures { result ≡ moved frame.now triangle.now }
 {
@@ -85,7 +85,7 @@ fn carry(frame: &Frame, triangle: &Triangle) -> Triangle
 /// Adds triangles that are carried by a frame.
 fn add_carried(frame: &Frame, own: &[Triangle], out: &mut Vec<Triangle>) -> Result<(), AllocError>
     requires frame { IsFrame frame.now }
-    requires near { AreWithin step frame.now.offset }
+    requires near { AreWithin reach frame.now.offset }
     requires reach { All IsInReach (corners_of own.now) }
     ensures { OnOk result (out.new.items ≡ out.old.items ++ map (moved frame.now) own.now) }
 {
@@ -137,7 +137,7 @@ fn add_item(
     let Some(id) = reference_of(value) else {
         return Ok(true);
     };
-    let Some(item) = fetch(exchange, id) else {
+    let Some(item) = look(exchange, id) else {
         return Ok(true);
     };
     if is_mapped_item(item) {
@@ -182,7 +182,7 @@ fn bodies_triangles(
 {
     let mut own = Vec::new(alloc);
     for id in ids {
-        let Some(body) = fetch(exchange, *id) else {
+        let Some(body) = look(exchange, *id) else {
             return Ok(None);
         };
         let added = add_items(

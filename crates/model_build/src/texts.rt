@@ -4,7 +4,7 @@ ghost use Rattle.model_build.specs.Texts.{text_at, name_of, IsRead, IsUnread};
 
 use bim_model::{Guid, Text};
 use bim_text::text_of;
-use ifc_schema::words_of;
+use ifc_instances::words_of;
 use p21_reader::Instance;
 use std::alloc::{AllocError, Global};
 

@@ -2,12 +2,12 @@
 ghost use Rattle.std.specs.Prelude.{◌≡◌, ℕ, ◌<◌, ◌∷◌, [], Contains, MatchOption};
 ghost use Rattle.ifc_schema.specs.Bodies.{is_body_representation};
 ghost use Rattle.model_build.specs.Finding.{Finds};
-ghost use Rattle.model_build.specs.Least.{LeastOf, ShownBy};
+ghost use Rattle.ifc_instances.specs.Least.{LeastOf};
+ghost use Rattle.model_build.specs.Least.{ShownBy};
 ghost use Rattle.model_build.specs.Showing.{lesser, HasOther, HasInner, BodyShows, MapShows};
 
-use crate::find::fetch;
 use crate::items::{is_body_representation, is_item, is_mapped_item, spelled_items};
-use ifc_schema::reference_of;
+use ifc_instances::{look, reference_of};
 use p21_reader::{Exchange, Value21};
 
 /// The lesser of two numbers that may lack.
@@ -26,7 +26,7 @@ fn other_item(exchange: &Exchange, value: &Value21) -> Option<u64>
     ensures { LeastOf (HasOther exchange.now (value.now ∷ [])) result }
 {
     let id = reference_of(value)?;
-    let item = fetch(exchange, id)?;
+    let item = look(exchange, id)?;
     if is_item(item) { None } else { Some(id) }
 }
 
@@ -46,7 +46,7 @@ fn inner_item(exchange: &Exchange, value: &Value21) -> Option<u64>
     ensures { LeastOf (HasInner exchange.now (value.now ∷ [])) result }
 {
     let id = reference_of(value)?;
-    let item = fetch(exchange, id)?;
+    let item = look(exchange, id)?;
     if is_mapped_item(item) { Some(id) } else { None }
 }
 
@@ -65,7 +65,7 @@ fn least_inner(exchange: &Exchange, values: &[Value21]) -> Option<u64>
 fn other_in_body(exchange: &Exchange, id: u64) -> Option<u64>
     ensures { LeastOf (BodyShows exchange.now id) result }
 {
-    let Some(representation) = fetch(exchange, id) else {
+    let Some(representation) = look(exchange, id) else {
         return None;
     };
     if !is_body_representation(representation) {
@@ -90,7 +90,7 @@ pub fn least_in_bodies(exchange: &Exchange, ids: &[u64]) -> Option<u64>
 fn other_in_mapped(exchange: &Exchange, id: u64) -> Option<u64>
     ensures { LeastOf (MapShows exchange.now id) result }
 {
-    let representation = fetch(exchange, id)?;
+    let representation = look(exchange, id)?;
     let items = spelled_items(representation);
     lesser(least_other(exchange, items), least_inner(exchange, items))
 }

@@ -16,9 +16,6 @@ pub record AnyBefore {X : Type 0} (P : X → Type 0) (xs : List X) (i : ℕ) : T
   pub is : get_or xs place element ≡ element
   pub holds : P element
 
-pub before_none : {X : Type 0} (P : X → Type 0) (xs : List X) → AnyBefore P xs 0 → ⊥
-before_none P xs a = (let b = a.before in omega arith)
-
 pub before_more : {X : Type 0} (P : X → Type 0) (xs : List X) (i : ℕ) (y : X) → i < length xs → y ≡ get_or xs i y → AnyBefore P xs (i + 1) → AnyBefore P xs i ⊎ P y
 before_more P xs i y lt e a = elim (side a.place i a.before) [
   | inl l ↦ inl (record { place = a.place; element = a.element; before = l; within = a.within; is = a.is; holds = a.holds })
@@ -68,9 +65,6 @@ then_added At items i y xs ys zs lt e p q = record {
     | inr h ↦ q.all o u h
   ];
 }
-
-pub none_added : {X : Type 0} (At : X → ℕ → ℕ → Type 0) (items : List X) (xs : List Link) → Adds (λ o u. AnyBefore (λ x. At x o u) items 0) xs xs
-none_added At items xs = nothing_added (λ o u. AnyBefore (λ x. At x o u) items 0) xs (λ o u b. before_none (λ x. At x o u) items b)
 
 pub all_added : {X : Type 0} (At : X → ℕ → ℕ → Type 0) (items : List X) (i : ℕ) (xs ys : List Link) → length items ≤ i → Adds (λ o u. AnyBefore (λ x. At x o u) items i) xs ys → Adds (λ o u. Any (λ x. At x o u) items) xs ys
 all_added At items i xs ys l p = record {

@@ -1,6 +1,6 @@
 -- How many different numbers there are.
 use Rattle.std.proofs.Common.{◌≡◌, ℕ, ◌+◌, ◌<◌, ◌≤◌, ◌==◌, ◌⊎◌, inl, inr, Bool, true, false, List, length, get_or, MatchOption, refl, sym, ap, ◌∙◌, arith}
-use Rattle.std.proofs.lemmas.Bool.{eqb-true, eqb-false}
+use Rattle.std.proofs.lemmas.Bool.{eqb-true, eqb-false, cases_Bool}
 use Rattle.std.proofs.lemmas.List.{get_or_default}
 use Rattle.std.specs.List.Sorted.{IsNonDecreasingBy}
 use Rattle.spatial_tree.specs.declared.link.Link.{Link}
@@ -9,10 +9,6 @@ use Rattle.spatial_tree.specs.declared.only.Only.TheVariants.{Nothing, One, Seve
 use Rattle.spatial_tree.specs.Climbing.{HasTwo, IsNext}
 use Rattle.spatial_tree.specs.Onlys.{Has, link, Counts, with_number, is_several, next_in}
 use Rattle.spatial_tree.proofs.Adding.{AnyBefore, before_more, before_kept, before_here}
-
-tells : (b : Bool) → (b ≡ true) ⊎ (b ≡ false)
-tells true = inl refl
-tells false = inr refl
 
 -- the same numbers are counted alike
 pub counts_same : (P Q : ℕ → Type 0) (o : Only) → ((n : ℕ) → P n → Q n) → ((n : ℕ) → Q n → P n) → Counts P o → Counts Q o
@@ -23,7 +19,7 @@ counts_same P Q Several f g c = record { first = c.first; second = c.second; has
 -- with one number more
 pub counts_with : (P Q : ℕ → Type 0) (o : Only) (m : ℕ) → ((n : ℕ) → Q n → P n ⊎ (n ≡ m)) → ((n : ℕ) → P n → Q n) → Q m → Counts P o → Counts Q (with_number o m)
 counts_with P Q Nothing m f g q c = record { has = q; only = λ n h. elim (f n h) [ inl p ↦ absurd (c n p) | inr e ↦ e ] }
-counts_with P Q (One k) m f g q c = elim (tells (k == m)) [
+counts_with P Q (One k) m f g q c = elim (cases_Bool (k == m)) [
   | inl t ↦ (let s = eqb-true k m t in rw t (record { has = g k c.has; only = λ n h. elim (f n h) [ inl p ↦ c.only n p | inr e ↦ e ∙ sym s ] }))
   | inr t ↦ rw t (record { first = k; second = m; has_first = g k c.has; has_second = q; differ = λ e. eqb-false k m t e })
 ]

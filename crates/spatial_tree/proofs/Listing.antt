@@ -4,9 +4,10 @@ use Rattle.std.specs.List.Sorted.{IsPermutation}
 use Rattle.std.proofs.lemmas.Option.{slice_get-get_or, slice_get_within, get_or_from_slice_get}
 use Rattle.std.proofs.lemmas.List.Sorted.{Contains-permutation, IsPermutation-sym}
 use Rattle.std.proofs.lemmas.List.Elements.{Contains-append_left, Contains-push, Contains-push_cases}
+use Rattle.ifc_instances.proofs.ValueLemmas.{unlike}
 use Rattle.p21_reader.specs.declared.value.Instance.{Instance}
-use Rattle.ifc_schema.specs.declared.entity.Entity.TheVariants.{Storey}
-use Rattle.ifc_schema.specs.Looking.{is_a}
+use Rattle.ifc_instances.specs.declared.entity.Entity.TheVariants.{Storey}
+use Rattle.ifc_instances.specs.Looking.{is_a}
 use Rattle.spatial_tree.specs.declared.step.Step.{Step}
 use Rattle.spatial_tree.specs.declared.mark.Mark.{Mark}
 use Rattle.spatial_tree.specs.declared.mark.Mark.TheVariants.{Looped}
@@ -22,12 +23,6 @@ IsStoreyOfId id i = (i.id ≡ id) × (is_a Storey i ≡ true)
 pub record IdsBefore (world : List Instance) (at : ℕ) (ids : List ℕ) : Type 0 where
   pub sound : (id : ℕ) → Contains ids id → AnyBefore (IsStoreyOfId id) world at
   pub all : (id : ℕ) → AnyBefore (IsStoreyOfId id) world at → Contains ids id
-
-pub ids_none : (world : List Instance) (ids : List ℕ) → ids ≡ [] → IdsBefore world 0 ids
-ids_none world ids e = record {
-  sound = λ id c. (let n = subst (λ l. Contains l id) e c in absurd (let l = n.1 in omega arith));
-  all = λ id a. absurd (before_none (IsStoreyOfId id) world a);
-}
 
 pub ids_pushed : (world : List Instance) (at : ℕ) (i : Instance) (xs ys : List ℕ) → at < length world → i ≡ get_or world at i → ys ≡ xs ++ i.id ∷ [] → is_a Storey i ≡ true → IdsBefore world at xs → IdsBefore world (at + 1) ys
 ids_pushed world at i xs ys lt is e k b = record {
@@ -46,13 +41,9 @@ ids_passed world at i xs lt is k b = record {
   sound = λ id c. before_kept (IsStoreyOfId id) world at (b.sound id c);
   all = λ id a. elim (before_more (IsStoreyOfId id) world at i lt is a) [
     | inl h ↦ b.all id h
-    | inr h ↦ absurd (unlike (is_a Storey i) k h.1)
+    | inr h ↦ absurd (unlike (is_a Storey i) h.1 k)
   ];
 }
-  where
-    unlike : (b : Bool) → b ≡ false → b ≡ true → ⊥
-    unlike b e f = cc
-
 pub ids_all : (world : List Instance) (at : ℕ) (xs ys : List ℕ) → length world ≤ at → IsPermutation xs ys → IdsBefore world at xs → ListsStoreyIds world ys
 ids_all world at xs ys l p b = record {
   sound = λ id c. any_from_before (IsStoreyOfId id) world at (b.sound id (Contains-permutation ys xs id (IsPermutation-sym xs ys p) c));
@@ -61,21 +52,11 @@ ids_all world at xs ys l p b = record {
 
 -- Faults.
 
-pub faulty_torn : (steps : List Step) (marks : List Mark) (at : ℕ) (d : Step) → at < length steps → (get_or steps at d).torn ≡ true → IsFaulty steps marks at
-faulty_torn steps marks at d l t = record { step = get_or steps at d; there = slice_get-get_or steps at d l; wrong = inl t }
-
-pub faulty_looped : (steps : List Step) (marks : List Mark) (at : ℕ) (d : Step) → at < length steps → mark_at marks at ≡ Looped → IsFaulty steps marks at
-faulty_looped steps marks at d l m = record { step = get_or steps at d; there = slice_get-get_or steps at d l; wrong = inr m }
-
 pub not_faulty : (steps : List Step) (marks : List Mark) (at : ℕ) (d : Step) → (get_or steps at d).torn ≡ false → (mark_at marks at ≡ Looped → ⊥) → IsFaulty steps marks at → ⊥
 not_faulty steps marks at d t m f = elim f.wrong [
-  | inl i ↦ unlike (get_or steps at d).torn t (ap (λ (s : Step). s.torn) (get_or_from_slice_get steps at f.step d f.there) ∙ i)
+  | inl i ↦ unlike (get_or steps at d).torn (ap (λ (s : Step). s.torn) (get_or_from_slice_get steps at f.step d f.there) ∙ i) t
   | inr e ↦ m e
 ]
-  where
-    unlike : (b : Bool) → b ≡ false → b ≡ true → ⊥
-    unlike b e i = cc
-
 pub none_faulty : (steps : List Step) (marks : List Mark) (count : ℕ) → length steps ≤ count → ((k : ℕ) → k < count → IsFaulty steps marks k → ⊥) → (k : ℕ) → IsFaulty steps marks k → ⊥
 none_faulty steps marks count l n k f = n k (let b = slice_get_within steps k f.step f.there in omega arith) f
 

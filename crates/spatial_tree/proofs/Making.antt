@@ -9,6 +9,7 @@ use Rattle.std.proofs.lemmas.List.Sorted.{Contains-permutation}
 use Rattle.std.proofs.lemmas.List.{get_or_default}
 use Rattle.std.proofs.lemmas.Map.Keys.{IsStrictlyIncreasing-dedup}
 use Rattle.std.proofs.lemmas.List.Elements.{Contains-append_left, Contains-push}
+use Rattle.ifc_instances.proofs.ValueLemmas.{unlike}
 use Rattle.spatial_tree.specs.declared.link.Link.{Link}
 use Rattle.spatial_tree.specs.declared.only.Only.{Only}
 use Rattle.spatial_tree.specs.declared.step.Step.{Step}
@@ -49,9 +50,6 @@ no_some o n e f = cc
 same : (b c : ℕ) → Some b ≡ Some c → b ≡ c
 same b c e = cc
 
-unlike : (r : Bool) → r ≡ false → r ≡ true → ⊥
-unlike r e i = cc
-
 pub made : (containers wholes : List Link) (storeys objects : List ℕ) (object : ℕ) (c w : Only) (next : Option ℕ) (step : Step)
     → Counts (Has containers object) c → Counts (Has wholes object) w → step.torn ≡ (is_several c || is_several w) → next ≡ next_in c w → IsMade storeys objects next step
     → IsStepOf (NextIn containers wholes) (TornIn containers wholes) (Contains storeys) objects object step
@@ -61,16 +59,16 @@ made containers wholes storeys objects object c w next step cc' cw t e m =
     or_true : (a b r : Bool) → r ≡ (a || b) → r ≡ true → (a ≡ true) ⊎ (b ≡ true)
     or_true true b r e i = inl refl
     or_true false true r e i = inr refl
-    or_true false false r e i = absurd (unlike r e i)
+    or_true false false r e i = absurd (unlike r i e)
 
     left : (a b r : Bool) → r ≡ (a || b) → a ≡ true → r ≡ true
     left true b r e i = e
-    left false b r e i = absurd (unlike false refl i)
+    left false b r e i = absurd (unlike false i refl)
 
     right : (a b r : Bool) → r ≡ (a || b) → b ≡ true → r ≡ true
     right true b r e i = e
     right false true r e i = e
-    right false false r e i = absurd (unlike false refl i)
+    right false false r e i = absurd (unlike false i refl)
 
     torn : step.torn ≡ true → TornIn containers wholes object
     torn i = elim (or_true (is_several c) (is_several w) step.torn t i) [ inl a ↦ inl (several_two (Has containers object) c cc' a) | inr b ↦ inr (several_two (Has wholes object) w cw b) ]

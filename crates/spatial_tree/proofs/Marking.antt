@@ -3,6 +3,7 @@ use Rattle.std.proofs.Common.{◌≡◌, ◌≢◌, ℕ, ◌+◌, ◌<◌, ◌�
 use Rattle.std.proofs.lemmas.List.{get_or_append_left, get_or_push}
 use Rattle.std.proofs.lemmas.List.Elements.{Contains-append_left, Contains-push}
 use Rattle.std.proofs.lemmas.List.Sums.{sum_by-set}
+use Rattle.ifc_instances.proofs.Rising.{below_next}
 use Rattle.spatial_tree.specs.declared.step.Step.{Step}
 use Rattle.spatial_tree.specs.declared.mark.Mark.{Mark}
 use Rattle.spatial_tree.specs.declared.mark.Mark.TheVariants.{Unseen, OnWay, Looped, Settled}
@@ -25,9 +26,6 @@ set_cases marks at j m l = elim (decide j at) [
 
 -- Ways that grow and shrink by an end.
 
-last_split : (n k : ℕ) → k < n + 1 → (k < n) ⊎ (k ≡ n)
-last_split n k l = grind arith
-
 pub push_length : (way : List ℕ) (at : ℕ) → length (way ++ at ∷ []) ≡ length way + 1
 push_length way at = length-append way (at ∷ [])
 
@@ -39,11 +37,11 @@ push_end way at k e = get_or_push way at 0 k (sym e)
 
 pub way_push : (steps : List Step) (way : List ℕ) (at : ℕ) → IsWay steps way → at < length steps → ((k : ℕ) → k + 1 ≡ length way → Goes steps (get_or way k 0) at) → IsWay steps (way ++ at ∷ [])
 way_push steps way at w l g = record {
-  within = λ k b. (let n = push_length way at in elim (last_split (length way) k (omega arith)) [
+  within = λ k b. (let n = push_length way at in elim (below_next k (length way) (omega arith)) [
     | inl f ↦ subst (λ x. x < length steps) (sym (push_front way at k f)) (w.within k f)
     | inr e ↦ subst (λ x. x < length steps) (sym (push_end way at k e)) l
   ]);
-  chain = λ k b. (let n = push_length way at in elim (last_split (length way) (k + 1) (omega arith)) [
+  chain = λ k b. (let n = push_length way at in elim (below_next (k + 1) (length way) (omega arith)) [
     | inl f ↦ subst (λ x. Goes steps x (get_or (way ++ at ∷ []) (k + 1) 0)) (sym (push_front way at k (omega arith))) (subst (λ x. Goes steps (get_or way k 0) x) (sym (push_front way at (k + 1) f)) (w.chain k f))
     | inr e ↦ subst (λ x. Goes steps x (get_or (way ++ at ∷ []) (k + 1) 0)) (sym (push_front way at k (omega arith))) (subst (λ x. Goes steps (get_or way k 0) x) (sym (push_end way at (k + 1) e)) (g k e))
   ]);
@@ -55,9 +53,6 @@ way_pop steps way at w = record {
   chain = λ k b. (let n = push_length way at in
       subst (λ x. Goes steps x (get_or way (k + 1) 0)) (push_front way at k (omega arith)) (subst (λ x. Goes steps (get_or (way ++ at ∷ []) k 0) x) (push_front way at (k + 1) b) (w.chain k (omega arith))));
 }
-
-pub way_nil : (steps : List Step) → IsWay steps []
-way_nil steps = record { within = λ k l. absurd (omega arith); chain = λ k l. absurd (omega arith) }
 
 -- the end of what is left leads to what was popped
 pub pop_next : (steps : List Step) (way : List ℕ) (at : ℕ) → IsWay steps (way ++ at ∷ []) → (k up : ℕ) → k + 1 ≡ length way → Goes steps (get_or way k 0) up → up ≡ at
@@ -82,16 +77,6 @@ pub record Climbing (steps : List Step) (old marks : List Mark) (way : List ℕ)
   pub ends : next ≡ None → EndsSeen steps marks way
   pub started : (mark_at marks start ≢ Unseen) ⊎ (next ≡ Some start)
 
-pub climb_starts : (steps : List Step) (marks : List Mark) (start : ℕ) → start < length steps → mark_at marks start ≡ Unseen → Climbing steps marks marks [] (Some start) start
-climb_starts steps marks start l u = record {
-  changed = λ at. inl refl;
-  is_way = way_nil steps;
-  within = λ up e. (let s : start ≡ up = cc in omega arith);
-  ahead = λ up e. (let s : start ≡ up = cc in record { within = omega arith; unseen = subst (λ n. mark_at marks n ≡ Unseen) s u; joins = λ k c. absurd (omega arith) });
-  ends = λ e. cc;
-  started = inr refl;
-}
-
 put_more : (old marks : List Mark) (way : List ℕ) (at j : ℕ) → at < length marks → (mark_at marks j ≡ mark_at old j) ⊎ WasPut old marks way j → mark_at marks at ≡ Unseen
     → (mark_at old at ≡ Unseen) → (mark_at (set marks at OnWay) j ≡ mark_at old j) ⊎ WasPut old (set marks at OnWay) (way ++ at ∷ []) j
 put_more old marks way at j l c u o = elim (set_cases marks at j OnWay l) [
@@ -111,9 +96,6 @@ was_unseen old marks way at c u = elim c [ inl e ↦ sym e ∙ u | inr w ↦ w.b
 
 on_way_seen : (m : Mark) → m ≡ OnWay → m ≢ Unseen
 on_way_seen m e f = cc
-
-looped_seen : (m : Mark) → m ≡ Looped → m ≢ Unseen
-looped_seen m e f = cc
 
 pub climb_goes_on : (steps : List Step) (old marks : List Mark) (way : List ℕ) (start at : ℕ) (next after : Option ℕ) → AreWithin steps → length marks ≡ length steps → Climbing steps old marks way next start → next ≡ Some at
     → MatchOption after ((up : ℕ) → Goes steps at up → mark_at (set marks at OnWay) up ≢ Unseen) (λ up. Goes steps at up × (mark_at (set marks at OnWay) up ≡ Unseen))
@@ -155,15 +137,6 @@ climb_goes_on steps old marks way start at next after w size c is m =
         → MatchOption after ((up : ℕ) → Goes steps at up → mark_at marks up ≢ Unseen) (λ up. Goes steps at up × (mark_at marks up ≡ Unseen)) → EndsSeen steps marks (way ++ at ∷ [])
     ended steps marks way at None e m k up f g = (let n = push_length way at in m up (subst (λ x. Goes steps x up) (push_end way at k (omega arith)) g))
     ended steps marks way at (Some v) e m k up f g = absurd cc
-
-pub climbed : (steps : List Step) (old marks : List Mark) (way : List ℕ) (next : Option ℕ) (start : ℕ) → next ≡ None → Climbing steps old marks way next start → Climbed steps old marks way
-climbed steps old marks way next start e c = record { changed = c.changed; is_way = c.is_way; ends = c.ends e }
-
-pub climb_started : (steps : List Step) (old marks : List Mark) (way : List ℕ) (next : Option ℕ) (start : ℕ) → next ≡ None → Climbing steps old marks way next start → mark_at marks start ≢ Unseen
-climb_started steps old marks way next start e c = elim c.started [ inl h ↦ h | inr f ↦ absurd (none start next e f) ]
-  where
-    none : (start : ℕ) (next : Option ℕ) → next ≡ None → next ≡ Some start → ⊥
-    none start next e f = cc
 
 -- how many places are unseen, or not on a marked loop
 pub unseen_one : Mark → ℕ

@@ -1,9 +1,10 @@
 -- How loops are marked, and how the places of a way are settled.
 use Rattle.std.proofs.Common.{◌≡◌, ◌≢◌, ℕ, zero, suc, ◌+◌, ◌-◌, ◌<◌, ◌≤◌, ◌⊎◌, inl, inr, Option, Some, None, MatchOption, List, [], ◌∷◌, ◌++◌, length, get_or, set, take, drop, replicate, refl, sym, ap, ◌∙◌, subst, arith}
 use Rattle.std.specs.List.{slice_get}
-use Rattle.std.proofs.lemmas.Option.{slice_get_within, slice_get-get_or, get_or_from_slice_get}
+use Rattle.std.proofs.lemmas.Option.{slice_get_within, slice_get-get_or, get_or_from_slice_get, same_Some}
 use Rattle.std.proofs.lemmas.List.{length-set, length-replicate, take-append-le, take_all}
 use Rattle.std.proofs.lemmas.List.Elements.{Contains-push_cases}
+use Rattle.ifc_instances.proofs.Rising.{below_next}
 use Rattle.spatial_tree.specs.declared.step.Step.{Step}
 use Rattle.spatial_tree.specs.declared.mark.Mark.{Mark}
 use Rattle.spatial_tree.specs.declared.mark.Mark.TheVariants.{Unseen, OnWay, Looped, Settled}
@@ -12,9 +13,6 @@ use Rattle.spatial_tree.specs.Steps.{up_of, storey_at, Goes, AreWithin, IsRound,
 use Rattle.spatial_tree.specs.Marks.{mark_at, told_by, Answers, IsSettled, Says, AreRight, AreIdle, KeepsSeen, Climbed, Known, IsDone, Rounded, Settling, IsSurveyed}
 use Rattle.spatial_tree.proofs.Rounds.{one_up, rotated, back_to, kept_above, first_step, comes_round}
 use Rattle.spatial_tree.proofs.Marking.{set_cases, way_pop, pop_next, push_length, push_end, mark_same}
-
-some_same : (b c : ℕ) → Some b ≡ Some c → b ≡ c
-some_same b c e = cc
 
 -- Marking a loop.
 
@@ -25,19 +23,6 @@ pub record Rounding (steps : List Step) (old marks : List Mark) (next : Option �
   pub unlooped : (up : ℕ) → next ≡ Some up → mark_at marks up ≢ Looped
   pub round : (up : ℕ) → next ≡ Some up → IsRound steps up
   pub started : (mark_at marks start ≡ Looped) ⊎ (next ≡ Some start)
-
-pub round_starts : (steps : List Step) (marks : List Mark) (start : ℕ) → AreRight steps marks → start < length steps → mark_at marks start ≡ OnWay → IsRound steps start → Rounding steps marks marks (Some start) start
-round_starts steps marks start r l o h = record {
-  changed = λ at. inl refl;
-  closed = λ at up m g. inl (r.closed at up m g);
-  within = λ up e. (let s = some_same start up e in omega arith);
-  unlooped = λ up e f. unlike (mark_at marks start) o (ap (mark_at marks) (some_same start up e) ∙ f);
-  round = λ up e. subst (λ n. IsRound steps n) (some_same start up e) h;
-  started = inr refl;
-}
-  where
-    unlike : (m : Mark) → m ≡ OnWay → m ≡ Looped → ⊥
-    unlike m e f = cc
 
 pub round_goes_on : (steps : List Step) (old marks : List Mark) (start at : ℕ) (next after : Option ℕ) → AreWithin steps → length marks ≡ length steps → Rounding steps old marks next start → next ≡ Some at
     → MatchOption after ((up : ℕ) → Goes steps at up → mark_at (set marks at Looped) up ≡ Looped) (λ up. Goes steps at up × (mark_at (set marks at Looped) up ≢ Looped))
@@ -53,7 +38,7 @@ round_goes_on steps old marks start at next after w size r is m =
         | inl s ↦ from_here up after m (subst (λ n. Goes steps n up) s.0 g)
         | inr n ↦ elim (r.closed j up (sym n.1 ∙ k) g) [
           | inl h ↦ inl (elim (set_cases marks at up Looped l) [ inl s ↦ s.1 | inr o ↦ o.1 ∙ h ])
-          | inr e ↦ inl (elim (set_cases marks at up Looped l) [ inl s ↦ s.1 | inr o ↦ absurd (o.0 (some_same up at (sym e ∙ is))) ])
+          | inr e ↦ inl (elim (set_cases marks at up Looped l) [ inl s ↦ s.1 | inr o ↦ absurd (o.0 (same_Some up at (sym e ∙ is))) ])
         ]
       ];
       within = λ up e. w at up (goes up after e m);
@@ -61,103 +46,26 @@ round_goes_on steps old marks start at next after w size r is m =
       round = λ up e. rotated (Goes steps) (one_up steps) at up (goes up after e m) (r.round at is);
       started = inl (elim (set_cases marks at start Looped l) [
         | inl s ↦ s.1
-        | inr n ↦ elim r.started [ inl h ↦ n.1 ∙ h | inr e ↦ absurd (n.0 (some_same start at (sym e ∙ is))) ]
+        | inr n ↦ elim r.started [ inl h ↦ n.1 ∙ h | inr e ↦ absurd (n.0 (same_Some start at (sym e ∙ is))) ]
       ]);
     }
   where
     goes : (up : ℕ) (o : Option ℕ) → o ≡ Some up → MatchOption o ((up : ℕ) → Goes steps at up → mark_at (set marks at Looped) up ≡ Looped) (λ up. Goes steps at up × (mark_at (set marks at Looped) up ≢ Looped)) → Goes steps at up
     goes up None e m = absurd cc
-    goes up (Some v) e m = subst (λ n. Goes steps at n) (some_same v up e) m.0
+    goes up (Some v) e m = subst (λ n. Goes steps at n) (same_Some v up e) m.0
 
     unlike : (up : ℕ) (o : Option ℕ) → o ≡ Some up → MatchOption o ((up : ℕ) → Goes steps at up → mark_at (set marks at Looped) up ≡ Looped) (λ up. Goes steps at up × (mark_at (set marks at Looped) up ≢ Looped)) → mark_at (set marks at Looped) up ≢ Looped
     unlike up None e m = absurd cc
-    unlike up (Some v) e m = subst (λ n. mark_at (set marks at Looped) n ≢ Looped) (some_same v up e) m.1
+    unlike up (Some v) e m = subst (λ n. mark_at (set marks at Looped) n ≢ Looped) (same_Some v up e) m.1
 
     from_here : (up : ℕ) (o : Option ℕ) → MatchOption o ((up : ℕ) → Goes steps at up → mark_at (set marks at Looped) up ≡ Looped) (λ up. Goes steps at up × (mark_at (set marks at Looped) up ≢ Looped)) → Goes steps at up → (mark_at (set marks at Looped) up ≡ Looped) ⊎ (o ≡ Some up)
     from_here up None m g = inl (m up g)
     from_here up (Some v) m g = inr (ap Some (one_up steps at v up m.0 g))
 
-pub rounded : (steps : List Step) (old marks : List Mark) (next : Option ℕ) (start : ℕ) → next ≡ None → Rounding steps old marks next start → Rounded steps old marks start
-rounded steps old marks next start e r = record {
-  changed = r.changed;
-  closed = λ at up m g. elim (r.closed at up m g) [ inl h ↦ h | inr f ↦ absurd (none up next e f) ];
-  started = elim r.started [ inl h ↦ h | inr f ↦ absurd (none start next e f) ];
-}
-  where
-    none : (up : ℕ) (next : Option ℕ) → next ≡ None → next ≡ Some up → ⊥
-    none up next e f = cc
-
 -- From climbing to settling.
 
 says_moved : (steps : List Step) (at : ℕ) (m n : Mark) → m ≡ n → Says steps at n → Says steps at m
 says_moved steps at m n e s = subst (λ x. Says steps at x) (sym e) s
-
-pub climbed_right : (steps : List Step) (old new : List Mark) (way : List ℕ) → length new ≡ length old → AreRight steps old → Climbed steps old new way → AreRight steps new
-climbed_right steps old new way size r c = record {
-  size = size ∙ r.size;
-  says = λ at. elim (c.changed at) [
-    | inl e ↦ says_moved steps at _ _ e (r.says at)
-    | inr w ↦ says_moved steps at _ _ w.after tt
-  ];
-  closed = λ at up m g. elim (c.changed at) [
-    | inl e ↦ elim (c.changed up) [
-      | inl f ↦ f ∙ r.closed at up (sym e ∙ m) g
-      | inr w ↦ absurd (unlike (mark_at old up) w.before (r.closed at up (sym e ∙ m) g))
-    ]
-    | inr w ↦ absurd (on (mark_at new at) w.after m)
-  ];
-}
-  where
-    unlike : (m : Mark) → m ≡ Unseen → m ≡ Looped → ⊥
-    unlike m e f = cc
-
-    on : (m : Mark) → m ≡ OnWay → m ≡ Looped → ⊥
-    on m e f = cc
-
-pub climbed_known : (steps : List Step) (old new : List Mark) (way : List ℕ) → AreIdle old → Climbed steps old new way → Known steps new way
-climbed_known steps old new way i c = record {
-  is_way = c.is_way;
-  ends = c.ends;
-  listed = λ at m. elim (c.changed at) [ inl e ↦ absurd (i at (sym e ∙ m)) | inr w ↦ w.there ];
-}
-
-pub climbed_seen : (steps : List Step) (old new : List Mark) (way : List ℕ) → Climbed steps old new way → KeepsSeen old new
-climbed_seen steps old new way c at h = elim (c.changed at) [ inl e ↦ (λ f. h (sym e ∙ f)) | inr w ↦ absurd (h w.before) ]
-
--- the way ends, or it leads to a place that is done
-pub settling_done : (steps : List Step) (marks : List Mark) (way : List ℕ) → AreRight steps marks → Known steps marks way
-    → ((k up : ℕ) → k + 1 ≡ length way → Goes steps (get_or way k 0) up → mark_at marks up ≢ OnWay) → Settling steps marks way
-settling_done steps marks way r k h = record {
-  right = r;
-  is_way = k.is_way;
-  listed = k.listed;
-  ends = λ n up e g. done (mark_at marks up) (k.ends n up e g) (h n up e g);
-}
-  where
-    done : (m : Mark) → m ≢ Unseen → m ≢ OnWay → IsDone m
-    done Unseen a b = absurd (a refl)
-    done OnWay a b = absurd (b refl)
-    done Looped a b = tt
-    done (Settled s) a b = tt
-
-pub settling_round : (steps : List Step) (old new : List Mark) (way : List ℕ) (top up : ℕ) → length new ≡ length old → AreRight steps old → Known steps old way → top + 1 ≡ length way → Goes steps (get_or way top 0) up
-    → Rounded steps old new up → Settling steps new way
-settling_round steps old new way top up size r k e g c = record {
-  right = record {
-    size = size ∙ r.size;
-    says = λ at. elim (c.changed at) [ inl f ↦ says_moved steps at _ _ f (r.says at) | inr h ↦ says_moved steps at _ _ h.0 h.1 ];
-    closed = c.closed;
-  };
-  is_way = k.is_way;
-  listed = λ at m. elim (c.changed at) [ inl f ↦ k.listed at (sym f ∙ m) | inr h ↦ absurd (unlike (mark_at new at) h.0 m) ];
-  ends = λ n v f h.
-      let s : n ≡ top = omega arith in
-      let t : v ≡ up = one_up steps (get_or way top 0) v up (subst (λ x. Goes steps (get_or way x 0) v) s h) g in
-      subst (λ x. IsDone (mark_at new x)) (sym t) (subst IsDone (sym c.started) tt);
-}
-  where
-    unlike : (m : Mark) → m ≡ Looped → m ≡ OnWay → ⊥
-    unlike m e f = cc
 
 last_place : (way : List ℕ) (top : ℕ) → slice_get way (length way - 1) ≡ Some top → ((length way - 1) + 1 ≡ length way) × (get_or way (length way - 1) 0 ≡ top)
 last_place way top e = (let l = slice_get_within way (length way - 1) top e in omega arith, get_or_from_slice_get way (length way - 1) top 0 e)
@@ -166,26 +74,6 @@ pub top_round : (steps : List Step) (marks : List Mark) (way : List ℕ) (top up
 top_round steps marks way top up k e g m =
     let p = last_place way top e in
     comes_round steps way k.is_way (length way - 1) up p.0 (subst (λ x. Goes steps x up) (sym p.1) g) (k.listed up m)
-
--- the place that the way leads to isn't on it
-pub top_done : (steps : List Step) (marks : List Mark) (way : List ℕ) → AreRight steps marks → Known steps marks way
-    → ((top up : ℕ) → slice_get way (length way - 1) ≡ Some top → Goes steps top up → mark_at marks up ≢ OnWay) → Settling steps marks way
-top_done steps marks way r k h = settling_done steps marks way r k (λ n up e g. h (get_or way n 0) up (last n e) g)
-  where
-    last : (n : ℕ) → n + 1 ≡ length way → slice_get way (length way - 1) ≡ Some (get_or way n 0)
-    last n e = (let f : length way - 1 ≡ n = omega arith in ap (slice_get way) f ∙ slice_get-get_or way n 0 (omega arith))
-
-pub top_looped : (steps : List Step) (old new : List Mark) (way : List ℕ) (top up : ℕ) → length new ≡ length old → AreRight steps old → Known steps old way → slice_get way (length way - 1) ≡ Some top → Goes steps top up
-    → Rounded steps old new up → Settling steps new way
-top_looped steps old new way top up size r k e g c =
-    let p = last_place way top e in
-    settling_round steps old new way (length way - 1) up size r k p.0 (subst (λ x. Goes steps x up) (sym p.1) g) c
-
-pub rounded_seen : (steps : List Step) (old new : List Mark) (start : ℕ) → Rounded steps old new start → KeepsSeen old new
-rounded_seen steps old new start c at h = elim (c.changed at) [ inl e ↦ (λ f. h (sym e ∙ f)) | inr w ↦ looped (mark_at new at) w.0 ]
-  where
-    looped : (m : Mark) → m ≡ Looped → m ≢ Unseen
-    looped m e f = cc
 
 -- Settling.
 
@@ -274,9 +162,6 @@ settled_seen marks at storey l j h = elim (set_cases marks at j (Settled storey)
     seen : (m : Mark) → m ≡ Settled storey → m ≢ Unseen
     seen m e f = cc
 
-pub settled_idle : (steps : List Step) (marks : List Mark) → Settling steps marks [] → AreIdle marks
-settled_idle steps marks s at m = (let c = s.listed at m in absurd (let l = c.1 in omega arith))
-
 -- Answers.
 
 pub answers_here : (steps : List Step) (at storey : ℕ) → storey_at steps at ≡ Some storey → Answers steps at (Some storey)
@@ -284,13 +169,6 @@ answers_here steps at storey e = here at storey e
 
 no_storey : (o : Option ℕ) (s : ℕ) → o ≡ None → o ≡ Some s → ⊥
 no_storey o s e f = cc
-
-pub answers_end : (steps : List Step) (at : ℕ) → storey_at steps at ≡ None → up_of steps at ≡ None → Answers steps at None
-answers_end steps at e u = inl (λ s f. none at s e u f)
-  where
-    none : (at s : ℕ) → storey_at steps at ≡ None → up_of steps at ≡ None → Finds steps at s → ⊥
-    none _ _ e u (here at s f) = no_storey (storey_at steps at) s e f
-    none _ _ e u (further at up s f g h) = no_storey (up_of steps at) up u g
 
 pub answers_up : (steps : List Step) (marks : List Mark) (at up : ℕ) (m : Mark) → AreRight steps marks → storey_at steps at ≡ None → Goes steps at up → mark_at marks up ≡ m → IsDone m → Answers steps at (told_by m)
 answers_up steps marks at up Unseen r e g is d = absurd d
@@ -340,10 +218,7 @@ surveyed steps marks count l r i s = record { size = r.size; says = r.says; done
     done (Settled s) a b = tt
 
 pub seen_more : (old new : List Mark) (at : ℕ) → KeepsSeen old new → mark_at new at ≢ Unseen → ((k : ℕ) → k < at → mark_at old k ≢ Unseen) → (k : ℕ) → k < at + 1 → mark_at new k ≢ Unseen
-seen_more old new at keeps now h k l = elim (split k at l) [ inl a ↦ keeps k (h k a) | inr e ↦ subst (λ n. mark_at new n ≢ Unseen) (sym e) now ]
-  where
-    split : (k n : ℕ) → k < n + 1 → (k < n) ⊎ (k ≡ n)
-    split k n l = grind arith
+seen_more old new at keeps now h k l = elim (below_next k at l) [ inl a ↦ keeps k (h k a) | inr e ↦ subst (λ n. mark_at new n ≢ Unseen) (sym e) now ]
 
 pub written : (n : ℕ) (xs ys : List Mark) → length xs ≡ n → take n (xs ++ drop (length xs) ys) ≡ xs
 written n xs ys e = take-append-le n xs (drop (length xs) ys) (omega arith) ∙ take_all n xs (omega arith)

@@ -5,6 +5,7 @@ use Rattle.std.specs.List.Sorted.{IsStrictlyIncreasing}
 use Rattle.std.proofs.lemmas.List.{get_or_default, get_or_append_left, get_or_push}
 use Rattle.std.proofs.lemmas.List.Kept.{AllPairs-from_increasing}
 use Rattle.std.proofs.lemmas.Option.{slice_get_within, slice_get-get_or, get_or_from_slice_get}
+use Rattle.ifc_instances.proofs.Rising.{below_next}
 use Rattle.spatial_tree.specs.declared.step.Step.{Step}
 use Rattle.spatial_tree.specs.Climbing.{HasTwo, IsNext, IsAbove, IsFirstStorey}
 use Rattle.spatial_tree.specs.Climbing as climbing
@@ -14,13 +15,7 @@ use Rattle.spatial_tree.proofs.Rounds.{first_step}
 some_step : Step
 some_step = record { torn = false; up = None; storey = None }
 
-same : (b c : ℕ) → Some b ≡ Some c → b ≡ c
-same b c e = cc
-
 -- Tables of steps.
-
-pub steps_start : (N : ℕ → ℕ → Type 0) (T S : ℕ → Type 0) (objects : List ℕ) → AreFirstStepsOf N T S objects [] 0
-steps_start N T S objects = record { size = refl; each = λ at step e. (let l = slice_get_within [] at step e in absurd (omega arith)) }
 
 pub steps_push : (N : ℕ → ℕ → Type 0) (T S : ℕ → Type 0) (objects : List ℕ) (steps : List Step) (at object : ℕ) (step : Step) → at < length objects → object ≡ get_or objects at object → IsStepOf N T S objects object step
     → AreFirstStepsOf N T S objects steps at → AreFirstStepsOf N T S objects (steps ++ step ∷ []) (at + 1)
@@ -29,7 +24,7 @@ steps_push N T S objects steps at object step l is s f = record {
   each = λ k t e.
       let lt = slice_get_within (steps ++ step ∷ []) k t e in
       let n = length-append steps (step ∷ []) in
-      elim (split (length steps) k (omega arith)) [
+      elim (below_next k (length steps) (omega arith)) [
         | inl a ↦ f.each k t (slice_get-get_or steps k t a ∙ ap Some (sym (get_or_append_left steps (step ∷ []) t k a) ∙ get_or_from_slice_get (steps ++ step ∷ []) k t t e))
         | inr b ↦ (
             let g : step ≡ t = sym (get_or_push steps step t k (sym b)) ∙ get_or_from_slice_get (steps ++ step ∷ []) k t t e in
@@ -37,12 +32,6 @@ steps_push N T S objects steps at object step l is s f = record {
             subst (λ n. IsStepOf N T S objects n t) h (subst (λ x. IsStepOf N T S objects object x) g s))
       ];
 }
-  where
-    split : (n k : ℕ) → k < n + 1 → (k < n) ⊎ (k ≡ n)
-    split n k l = grind arith
-
-pub steps_all : (N : ℕ → ℕ → Type 0) (T S : ℕ → Type 0) (objects : List ℕ) (steps : List Step) (count : ℕ) → count ≡ length objects → AreFirstStepsOf N T S objects steps count → AreStepsOf N T S objects steps
-steps_all N T S objects steps count e f = record { size = f.size ∙ e; each = f.each }
 
 -- the same for other words that say the same
 pub step_map : (N M : ℕ → ℕ → Type 0) (T U : ℕ → Type 0) (S R : ℕ → Type 0) (objects : List ℕ) (object : ℕ) (step : Step)
@@ -169,11 +158,6 @@ finds_storey N T S objects steps t _ _ (further at up storey e g f) =
     let s = goes_from steps at up g in
     let n = (goes_next N T S objects steps t at up g).1 in
     climbing.beyond (get_or objects at 0) (get_or objects up 0) storey n (λ h. (t.each at s.step s.there).other (sym (ap storey_in s.there) ∙ e) (get_or objects up 0) n h) (finds_storey N T S objects steps t up storey f)
-
-pub record Entry (steps : List Step) (at : ℕ) (storey : Option ℕ) : Type 0 where
-  pub step : Step
-  pub there : slice_get steps at ≡ Some step
-  pub is : step.storey ≡ storey
 
 pub first_up : (N : ℕ → ℕ → Type 0) (S : ℕ → Type 0) (x y : ℕ) → IsFirstStorey N S x y → (u : ℕ) × N x u
 first_up N S _ _ (climbing.found x y n h) = (y, n)

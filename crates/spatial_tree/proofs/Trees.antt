@@ -1,5 +1,6 @@
 -- From places back to the objects of a file.
 use Rattle.std.proofs.Common.{◌≡◌, ℕ, ◌+◌, ◌-◌, ◌<◌, ◌≤◌, ◌==◌, ◌⊎◌, inl, inr, nat_lt, Bool, true, false, List, [], ◌∷◌, ◌++◌, length, get_or, Contains, Option, Some, None, refl, sym, ap, ◌∙◌, subst, arith}
+use Rattle.std.proofs.lemmas.Bool.{cases_Bool}
 use Rattle.std.specs.Ordering.{nat_cmp, is_lt}
 use Rattle.std.specs.List.Sorted.{IsStrictlyIncreasing, IsNonDecreasingBy, IsSortedByKey}
 use Rattle.std.proofs.lemmas.Bool.Decides.{nat_tests}
@@ -7,6 +8,7 @@ use Rattle.std.proofs.lemmas.List.{get_or_default}
 use Rattle.std.proofs.lemmas.List.Kept.{AllPairs-from_increasing}
 use Rattle.std.proofs.lemmas.List.Elements.{Contains-append_left, Contains-push, Contains-push_cases}
 use Rattle.std.proofs.lemmas.List.Sorted.{IsNonDecreasingBy-push}
+use Rattle.ifc_instances.proofs.Rising.{below_next}
 use Rattle.spatial_tree.specs.declared.step.Step.{Step}
 use Rattle.spatial_tree.specs.declared.mark.Mark.{Mark}
 use Rattle.spatial_tree.specs.declared.mark.Mark.TheVariants.{Unseen, OnWay, Looped, Settled}
@@ -19,18 +21,6 @@ use Rattle.spatial_tree.specs.Faults.{IsFaulty}
 use Rattle.spatial_tree.proofs.Rounds.{first_step, one_up}
 use Rattle.spatial_tree.proofs.Stepping.{IsAt, stands, at_within, round_place, above_objects, finds_storey, storey_finds, first_up, from_within}
 
-tells : (b : Bool) → (b ≡ true) ⊎ (b ≡ false)
-tells true = inl refl
-tells false = inr refl
-
-not_less : (a b : ℕ) → b ≤ a → is_lt (nat_cmp a b) ≡ false
-not_less a b l =
-    let f : nat_lt a b ≡ false = grind (arith, nat_tests) in
-    rw f (elim (tells (a == b)) [ inl t ↦ rw t refl | inr g ↦ rw g refl ])
-
-pub sorted_by_key : {X : Type 0} (key : X → ℕ) (xs : List X) → IsNonDecreasingBy key xs → IsSortedByKey key nat_cmp xs
-sorted_by_key key xs up k d l m = not_less (key (get_or xs (k + 1) d)) (key (get_or xs k d)) (up k (k + 1) d (omega arith) m)
-
 pub increasing_rises : (xs : List ℕ) → IsStrictlyIncreasing xs → IsNonDecreasingBy (λ x. x) xs
 increasing_rises xs up i j d l m = elim (order i j l) [
   | inl lt ↦ (let h = AllPairs-from_increasing xs up i j d lt m in omega arith)
@@ -42,22 +32,13 @@ increasing_rises xs up i j d l m = elim (order i j l) [
 
 -- The list of objects with storeys.
 
-pub placed_none : (objects : List ℕ) (marks : List Mark) → ArePlaced objects marks 0 []
-placed_none objects marks = record {
-  sound = λ o s c. absurd (let l = c.1 in omega arith);
-  all = λ o s t. absurd (let l = t.within in omega arith);
-}
-
-count_split : (k n : ℕ) → k < n + 1 → (k < n) ⊎ (k ≡ n)
-count_split k n l = grind arith
-
 tells_more : (objects : List ℕ) (marks : List Mark) (at o s : ℕ) → Tells objects marks at o s → Tells objects marks (at + 1) o s
 tells_more objects marks at o s t = record { place = t.place; within = (let l = t.within in omega arith); is = t.is; marked = t.marked }
 
 pub placed_passed : (objects : List ℕ) (marks : List Mark) (at : ℕ) (list : List Placed) → ((s : ℕ) → mark_at marks at ≡ Settled (Some s) → ⊥) → ArePlaced objects marks at list → ArePlaced objects marks (at + 1) list
 placed_passed objects marks at list n p = record {
   sound = λ o s c. tells_more objects marks at o s (p.sound o s c);
-  all = λ o s t. elim (count_split t.place at t.within) [
+  all = λ o s t. elim (below_next t.place at t.within) [
     | inl l ↦ p.all o s (record { place = t.place; within = l; is = t.is; marked = t.marked })
     | inr e ↦ absurd (n s (ap (mark_at marks) (sym e) ∙ t.marked))
   ];
@@ -70,7 +51,7 @@ placed_pushed objects marks at object storey list is m p = record {
     | inl b ↦ tells_more objects marks at o s (p.sound o s b)
     | inr e ↦ record { place = at; within = omega arith; is = is ∙ ap (λ (x : Placed). x.object) e; marked = m ∙ ap (λ (x : Placed). Settled (Some x.storey)) e }
   ];
-  all = λ o s t. elim (count_split t.place at t.within) [
+  all = λ o s t. elim (below_next t.place at t.within) [
     | inl l ↦ Contains-append_left list (placed object storey ∷ []) (placed o s) (p.all o s (record { place = t.place; within = l; is = t.is; marked = t.marked }))
     | inr e ↦ (
         let a : object ≡ o = sym is ∙ ap (λ n. get_or objects n 0) (sym e) ∙ t.is in

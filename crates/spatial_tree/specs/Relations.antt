@@ -4,10 +4,11 @@ use Rattle.std.specs.Prelude.{◌≡◌, ℕ, true, List, Some, Any, option_and_
 use Rattle.std.specs.List.{slice_get}
 use Rattle.p21_reader.specs.declared.value.Value21.{Value21}
 use Rattle.p21_reader.specs.declared.value.Instance.{Instance}
-use Rattle.ifc_schema.specs.declared.entity.Entity.{Entity}
-use Rattle.ifc_schema.specs.declared.entity.Entity.TheVariants.{Aggregates, Containment, Storey}
-use Rattle.ifc_schema.specs.Values.{reference_of, items_of}
-use Rattle.ifc_schema.specs.Looking.{is_a}
+use Rattle.ifc_instances.specs.declared.entity.Entity.{Entity}
+use Rattle.ifc_instances.specs.declared.entity.Entity.TheVariants.{Aggregates, Containment, Storey}
+use Rattle.ifc_instances.specs.Values.{reference_of, items_of}
+use Rattle.ifc_instances.specs.Looking.{is_a}
+use Rattle.ifc_instances.specs.Attributes.{reference_at}
 
 -- An instance of the entity says that the object has that one above it: its attribute `many` is a list with a reference to the object, and its
 -- attribute `one` is a reference to the one above. Attributes count from 0.
@@ -16,7 +17,7 @@ pub record Relates (entity : Entity) (many one : ℕ) (i : Instance) (object abo
   pub items : List Value21
   pub lists : option_and_then items_of (slice_get i.values many) ≡ Some items
   pub listed : Any (λ v. reference_of v ≡ Some object) items
-  pub refers : option_and_then reference_of (slice_get i.values one) ≡ Some above
+  pub refers : reference_at i one ≡ Some above
 
 -- some relation of the entity says so
 abbrev pub IsRelated : Entity → ℕ → ℕ → List Instance → ℕ → ℕ → Type 0

@@ -4,12 +4,12 @@ ghost use Rattle.std.specs.List.Sorted.{IsNonDecreasing};
 ghost use Rattle.spatial_tree.specs.Trees.{IsTree, IsRefused, ListsStoreys, ListsStoreyIds};
 ghost use Rattle.spatial_tree.specs.Faults.{IsFirstFault};
 
-use crate::link::{is_a, links_of};
+use crate::link::links_of;
 use crate::mark::{Mark, mark_at, survey};
 use crate::step::{Step, table_of};
 use crate::storeys::{Tree, placed_by};
 use bim_model::{BuildError, UploadFault};
-use ifc_schema::Entity;
+use ifc_instances::{Entity, is_a};
 use p21_reader::{Exchange, Instance};
 use std::alloc::{AllocError, Global};
 

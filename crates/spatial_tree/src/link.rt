@@ -2,12 +2,11 @@
 ghost use Rattle.std.specs.Prelude.{◌≡◌, ℕ, Contains, option_copied, option_and_then, IfOk, OnOk, IsSortedByKey, Any};
 ghost use Rattle.std.specs.List.{slice_get};
 ghost use Rattle.std.specs.Ordering.{nat_cmp};
-ghost use Rattle.ifc_schema.specs.Values.{reference_of, items_of};
-ghost use Rattle.ifc_schema.specs.Looking.{is_a};
+ghost use Rattle.ifc_instances.specs.Values.{reference_of, items_of};
 ghost use Rattle.spatial_tree.specs.Relations.{Relates, IsRelated};
 ghost use Rattle.spatial_tree.specs.Onlys.{ListsLinks, Adds, link};
 
-use ifc_schema::Entity;
+use ifc_instances::{Entity, attribute, is_a, items_of, reference_at, reference_of};
 use p21_reader::{Exchange, Instance, Value21};
 use std::alloc::{AllocError, Global};
 
@@ -18,40 +17,12 @@ pub struct Link {
     pub above: u64,
 }
 
-pub fn is_a(entity: Entity, instance: &Instance) -> bool
-    ensures { result ≡ is_a entity instance.now }
-{
-    match &instance.keyword {
-        Some(keyword) => entity.is(keyword.as_str()),
-        None => false,
-    }
-}
-
-fn reference_of(value: &Value21) -> Option<u64>
-    ensures { result ≡ reference_of value.now }
-{
-    match value {
-        Value21::Reference(id) => Some(*id),
-        _ => None,
-    }
-}
-
-fn reference_at(instance: &Instance, at: usize) -> Option<u64>
-    ensures { result ≡ option_and_then reference_of (slice_get instance.now.values at) }
-{
-    match instance.values.as_slice().get(at) {
-        Some(value) => reference_of(value),
-        None => None,
-    }
-}
-
+/// The items of an attribute that is a list.
 fn items_at(instance: &Instance, at: usize) -> Option<&[Value21]>
     ensures { option_copied result ≡ option_and_then items_of (slice_get instance.now.values at) }
 {
-    match instance.values.as_slice().get(at) {
-        Some(Value21::List(items)) => Some(items.as_slice()),
-        _ => None,
-    }
+    let value = attribute(instance, at)?;
+    items_of(value)
 }
 
 /// Appends a pair of each reference among the items.

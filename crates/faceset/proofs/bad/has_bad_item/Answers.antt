@@ -1,6 +1,6 @@
 use Rattle.std.proofs.Common.{rules}
 use Rattle.faceset.specs.Indexes.{PointsNowhere}
-use Rattle.faceset.proofs.Scans.{any_never, any_more}
+use Rattle.ifc_instances.proofs.Scans.{any_never, any_more}
 use Rattle.faceset.proofs.bad.has_bad_item.Goals as goal
 
 pub loop-value-preserved : goal.loop-value-preserved

@@ -1,8 +1,8 @@
 use Rattle.std.proofs.Common.{rules, Any}
 use Rattle.faceset.specs.Indexes.{PointsNowhere}
-use Rattle.faceset.specs.Sets.{items_in}
+use Rattle.ifc_instances.specs.Attributes.{items_in}
 use Rattle.faceset.proofs.Anys.{any_unmap}
-use Rattle.faceset.proofs.Scans.{any_never, any_more}
+use Rattle.ifc_instances.proofs.Scans.{any_never, any_more}
 use Rattle.faceset.proofs.bad.has_bad_row.Goals as goal
 
 pub loop-row-preserved : goal.loop-row-preserved

@@ -1,6 +1,6 @@
 use Rattle.std.proofs.Common.{arith}
 use Rattle.faceset.specs.Indexes.{PointsNowhere}
-use Rattle.faceset.proofs.Scans.{any_here}
+use Rattle.ifc_instances.proofs.Scans.{any_here}
 use Rattle.faceset.proofs.Reaching.{reach_more, reach_all}
 use Rattle.faceset.proofs.reaches.reach_of.Goals as goal
 

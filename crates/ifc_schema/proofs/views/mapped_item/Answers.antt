@@ -1,16 +1,16 @@
 use Rattle.std.proofs.Common.{◌≡◌, Some, false, arith}
-use Rattle.ifc_schema.specs.declared.entity.Entity.TheVariants as entity
-use Rattle.ifc_schema.specs.Looking.{entity_at}
+use Rattle.ifc_instances.specs.declared.entity.Entity.TheVariants as entity
+use Rattle.ifc_instances.specs.Looking.{entity_at}
 use Rattle.ifc_schema.proofs.Rows as rows
 use Rattle.ifc_schema.proofs.views.mapped_item.Goals as goal
 
-pub attribute-source-requires : goal.attribute-source-requires
-attribute-source-requires c =
+pub present-source-requires : goal.present-source-requires
+present-source-requires c =
     let is : entity_at c.in_ok-instance.instance.now ≡ Some entity.MappedItem = cc (c.in-Some-MappedItem.ensures, c.in-Some-MappedItem.field-0-is) in
     omega (arith, rows.mapped_item c.args.exchange.now false c.in_ok-instance.instance.now is c.in_ok-instance.ensures.shaped)
 
-pub attribute-target-requires : goal.attribute-target-requires
-attribute-target-requires c =
+pub present-target-requires : goal.present-target-requires
+present-target-requires c =
     let is : entity_at c.in_ok-instance.instance.now ≡ Some entity.MappedItem = cc (c.in-Some-MappedItem.ensures, c.in-Some-MappedItem.field-0-is) in
     omega (arith, rows.mapped_item c.args.exchange.now false c.in_ok-instance.instance.now is c.in_ok-instance.ensures.shaped)
 
@@ -21,5 +21,5 @@ returns c =
       instance = c.in_ok-instance.instance.now;
       formed = c.in_ok-instance.ensures;
       kind = is;
-      fields = record { source = c.attribute-source.ensures; target = c.attribute-target.ensures };
+      fields = record { source = c.present-source.ensures; target = c.present-target.ensures };
     }

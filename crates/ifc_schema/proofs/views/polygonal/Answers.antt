@@ -1,16 +1,16 @@
 use Rattle.std.proofs.Common.{◌≡◌, Some, false, arith, refl}
-use Rattle.ifc_schema.specs.declared.entity.Entity.TheVariants as entity
-use Rattle.ifc_schema.specs.Looking.{entity_at}
+use Rattle.ifc_instances.specs.declared.entity.Entity.TheVariants as entity
+use Rattle.ifc_instances.specs.Looking.{entity_at}
 use Rattle.ifc_schema.proofs.Rows as rows
 use Rattle.ifc_schema.proofs.views.polygonal.Goals as goal
 
-pub attribute-points-requires : goal.attribute-points-requires
-attribute-points-requires c =
+pub present-points-requires : goal.present-points-requires
+present-points-requires c =
     let is : entity_at c.in_ok-instance.instance.now ≡ Some entity.PolygonalFaceSet = cc (c.in-Some-PolygonalFaceSet.ensures, c.in-Some-PolygonalFaceSet.field-0-is) in
     omega (arith, rows.polygonal c.args.exchange.now false c.in_ok-instance.instance.now is c.in_ok-instance.ensures.shaped)
 
-pub attribute-faces-requires : goal.attribute-faces-requires
-attribute-faces-requires c =
+pub present-faces-requires : goal.present-faces-requires
+present-faces-requires c =
     let is : entity_at c.in_ok-instance.instance.now ≡ Some entity.PolygonalFaceSet = cc (c.in-Some-PolygonalFaceSet.ensures, c.in-Some-PolygonalFaceSet.field-0-is) in
     omega (arith, rows.polygonal c.args.exchange.now false c.in_ok-instance.instance.now is c.in_ok-instance.ensures.shaped)
 
@@ -21,5 +21,5 @@ returns c =
       instance = c.in_ok-instance.instance.now;
       formed = c.in_ok-instance.ensures;
       kind = is;
-      fields = record { polygonal = refl; points = c.attribute-points.ensures; faces = c.attribute-faces.ensures; pn_index = c.attribute_if_any-pn_index.ensures };
+      fields = record { polygonal = refl; points = c.present-points.ensures; faces = c.present-faces.ensures; pn_index = c.attribute-pn_index.ensures };
     }

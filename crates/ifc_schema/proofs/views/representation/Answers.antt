@@ -1,11 +1,11 @@
 use Rattle.std.proofs.Common.{◌≡◌, Some, arith}
-use Rattle.ifc_schema.specs.declared.entity.Entity.TheVariants as entity
-use Rattle.ifc_schema.specs.Looking.{entity_at}
+use Rattle.ifc_instances.specs.declared.entity.Entity.TheVariants as entity
+use Rattle.ifc_instances.specs.Looking.{entity_at}
 use Rattle.ifc_schema.proofs.Rows as rows
 use Rattle.ifc_schema.proofs.views.representation.Goals as goal
 
-pub attribute-identifier-requires : goal.attribute-identifier-requires
-attribute-identifier-requires c =
+pub present-identifier-requires : goal.present-identifier-requires
+present-identifier-requires c =
     let is : entity_at c.in_ok-instance.instance.now ≡ Some entity.Representation = cc (c.in-Some-Representation.ensures, c.in-Some-Representation.field-0-is) in
     omega (arith, rows.representation c.args.exchange.now c.args.mapped c.in_ok-instance.instance.now is c.in_ok-instance.ensures.shaped)
 
@@ -16,5 +16,5 @@ returns c =
       instance = c.in_ok-instance.instance.now;
       formed = c.in_ok-instance.ensures;
       kind = is;
-      fields = record { identifier = c.attribute-identifier.ensures; items = c.attribute_if_any-items.ensures };
+      fields = record { identifier = c.present-identifier.ensures; items = c.attribute-items.ensures };
     }

@@ -1,11 +1,11 @@
 use Rattle.std.proofs.Common.{◌≡◌, Some, false, arith}
-use Rattle.ifc_schema.specs.declared.entity.Entity.TheVariants as entity
-use Rattle.ifc_schema.specs.Looking.{entity_at}
+use Rattle.ifc_instances.specs.declared.entity.Entity.TheVariants as entity
+use Rattle.ifc_instances.specs.Looking.{entity_at}
 use Rattle.ifc_schema.proofs.Rows as rows
 use Rattle.ifc_schema.proofs.views.voided_face.Goals as goal
 
-pub attribute-corners-requires : goal.attribute-corners-requires
-attribute-corners-requires c =
+pub present-corners-requires : goal.present-corners-requires
+present-corners-requires c =
     let is : entity_at c.in_ok-instance.instance.now ≡ Some entity.FaceWithVoids = cc (c.in-Some-FaceWithVoids.ensures, c.in-Some-FaceWithVoids.field-0-is) in
     omega (arith, rows.voided_face c.args.exchange.now false c.in_ok-instance.instance.now is c.in_ok-instance.ensures.shaped)
 
@@ -16,5 +16,5 @@ returns c =
       instance = c.in_ok-instance.instance.now;
       formed = c.in_ok-instance.ensures;
       kind = is;
-      fields = record { corners = c.attribute-corners.ensures; voids = c.attribute_if_any-voids.ensures };
+      fields = record { corners = c.present-corners.ensures; voids = c.attribute-voids.ensures };
     }

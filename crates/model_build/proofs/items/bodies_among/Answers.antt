@@ -1,5 +1,5 @@
 use Rattle.std.proofs.Common.{map, rules}
-use Rattle.ifc_schema.specs.Looking.{look}
+use Rattle.ifc_instances.specs.Looking.{look}
 use Rattle.model_build.proofs.Collecting.{bodies_more, bodies_all}
 use Rattle.model_build.proofs.items.bodies_among.Goals as goal
 

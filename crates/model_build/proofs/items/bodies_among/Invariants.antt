@@ -1,5 +1,5 @@
 use Rattle.std.proofs.Common.{◌≡◌, map, take, Some}
-use Rattle.ifc_schema.specs.Looking.{look}
+use Rattle.ifc_instances.specs.Looking.{look}
 use Rattle.model_build.specs.Items.{bodies_among}
 use Rattle.model_build.proofs.items.bodies_among.Given as goal
 

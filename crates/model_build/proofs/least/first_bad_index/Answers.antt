@@ -1,18 +1,18 @@
 use Rattle.std.proofs.Common.{arith}
+use Rattle.std.proofs.lemmas.Bool.{MatchBool-at_true, MatchBool-at_false}
 use Rattle.std.proofs.lemmas.List.Elements.{All-more}
 use Rattle.model_build.specs.Least.{IsBadSet}
-use Rattle.model_build.proofs.Joining.{only_then, only_else}
 use Rattle.model_build.proofs.LeastOf.{least_here, none_there}
 use Rattle.model_build.proofs.least.first_bad_index.Goals as goal
 
 pub returns-then-bad : goal.returns-then-bad
 returns-then-bad c =
-    least_here (IsBadSet c.args.exchange.now) c.args.used.now c.loop-id.id-index c.requires c.loop-id-test.true c.loop-id.invariant.well (only_then _ _ c.in_ok-bad.bad c.if-bad.true c.in_ok-bad.ensures.bad)
+    least_here (IsBadSet c.args.exchange.now) c.args.used.now c.loop-id.id-index c.requires c.loop-id-test.true c.loop-id.invariant.well (MatchBool-at_true _ _ c.if-bad.true c.in_ok-bad.ensures.bad)
 
 pub loop-id-preserved : goal.loop-id-preserved
 loop-id-preserved c = record {
   well =
-      All-more (λ k. IsBadSet c.args.exchange.now k → ⊥) c.args.used.now c.loop-id.id-index 0 c.loop-id-test.true c.loop-id.invariant.well (only_else _ _ c.in_ok-bad.bad c.if-bad.false c.in_ok-bad.ensures.bad);
+      All-more (λ k. IsBadSet c.args.exchange.now k → ⊥) c.args.used.now c.loop-id.id-index 0 c.loop-id-test.true c.loop-id.invariant.well (MatchBool-at_false _ _ c.if-bad.false c.in_ok-bad.ensures.bad);
   kept = c.in_ok-bad.ensures.kept;
 }
 

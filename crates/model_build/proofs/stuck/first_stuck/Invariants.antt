@@ -1,5 +1,6 @@
 use Rattle.std.proofs.Common.{take}
-use Rattle.model_build.specs.Least.{LeastOf, ShownBy}
+use Rattle.ifc_instances.specs.Least.{LeastOf}
+use Rattle.model_build.specs.Least.{ShownBy}
 use Rattle.model_build.specs.Outcomes.{ShowsStuckSet}
 use Rattle.model_build.proofs.stuck.first_stuck.Given as goal
 

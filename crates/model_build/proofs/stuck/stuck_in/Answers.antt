@@ -1,6 +1,6 @@
 use Rattle.std.proofs.Common.{◌∙◌, sym}
 use Rattle.faceset.specs.Sets.{HasStuck}
-use Rattle.model_build.specs.Least.{LeastOf}
+use Rattle.ifc_instances.specs.Least.{LeastOf}
 use Rattle.model_build.specs.Outcomes.{ShowsStuckSet}
 use Rattle.model_build.proofs.Gridded.{listed_grid}
 use Rattle.model_build.proofs.StuckSets.{IsFound, no_points, stuck_least, ok_by}

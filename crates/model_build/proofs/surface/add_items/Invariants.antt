@@ -1,6 +1,6 @@
 use Rattle.std.proofs.Common.{ℕ, List, take}
 use Rattle.faceset.specs.Sets.{Joined}
-use Rattle.model_build.specs.Finding.{led_to}
+use Rattle.ifc_instances.specs.Attributes.{led_to}
 use Rattle.model_build.specs.Sound.{AreSets, Adds, KeptItem}
 use Rattle.model_build.proofs.surface.add_items.Given as goal
 

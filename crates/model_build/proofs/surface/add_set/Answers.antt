@@ -13,4 +13,4 @@ returns-in_ok-extend_from_slice-in-Some-get-clause-added c = λ scale mode liste
 
 pub returns-in-None-clause-added : goal.returns-in-None-clause-added
 returns-in-None-clause-added c = λ scale mode listed are.
-    set_missing c.args.exchange.now scale mode listed c.args.sets.now c.args.value.now c.in-Some.id _ are (sym c.in-Some.ensures) (sym c.in-Some-fetch.ensures) (sym c.in-None.ensures.same)
+    set_missing c.args.exchange.now scale mode listed c.args.sets.now c.args.value.now c.in-Some.id _ are (sym c.in-Some.ensures) (sym c.in-Some-look.ensures) (sym c.in-None.ensures.same)

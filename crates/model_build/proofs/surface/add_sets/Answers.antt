@@ -1,5 +1,6 @@
 use Rattle.model_build.specs.Sound.{ReadySet, KeptSet}
-use Rattle.model_build.proofs.Joining.{adds_more, unready_there, only_then, only_else}
+use Rattle.std.proofs.lemmas.Bool.{MatchBool-at_true, MatchBool-at_false}
+use Rattle.model_build.proofs.Joining.{adds_more, unready_there}
 use Rattle.model_build.proofs.surface.add_sets.Goals as goal
 
 pub returns-then-not-added-clause-near : goal.returns-then-not-added-clause-near
@@ -8,12 +9,12 @@ returns-then-not-added-clause-near c = λ before. c.in_ok-added.ensures.near (c.
 pub returns-then-not-added-clause-added : goal.returns-then-not-added-clause-added
 returns-then-not-added-clause-added c = λ scale mode listed are.
     unready_there (ReadySet c.args.exchange.now listed) c.args.values.now c.loop-value.value-index c.value-item.result c.loop-value-test.true c.value-item.is
-    (only_else _ _ c.in_ok-added.added c.if-not-added.true (c.in_ok-added.ensures.added scale mode listed are))
+    (MatchBool-at_false _ _ c.if-not-added.true (c.in_ok-added.ensures.added scale mode listed are))
 
 pub loop-value-preserved : goal.loop-value-preserved
 loop-value-preserved c = record {
   near = λ before. c.in_ok-added.ensures.near (c.loop-value.invariant.near before);
   added = λ scale mode listed are.
       adds_more (KeptSet c.args.exchange.now scale mode) c.args.exchange.now c.args.values.now c.loop-value.value-index c.value-item.result c.args.out.now.items c.loop-value.out.items c.add_set.new.out.items
-      c.loop-value-test.true c.value-item.is (c.loop-value.invariant.added scale mode listed are) (only_then _ _ c.in_ok-added.added c.if-not-added.false (c.in_ok-added.ensures.added scale mode listed are));
+      c.loop-value-test.true c.value-item.is (c.loop-value.invariant.added scale mode listed are) (MatchBool-at_true _ _ c.if-not-added.false (c.in_ok-added.ensures.added scale mode listed are));
 }

@@ -1,5 +1,5 @@
 use Rattle.std.proofs.Common.{take}
-use Rattle.model_build.specs.Least.{LeastOf}
+use Rattle.ifc_instances.specs.Least.{LeastOf}
 use Rattle.model_build.specs.Showing.{HasOther}
 use Rattle.model_build.proofs.unsupported.least_other.Given as goal
 

@@ -1,17 +1,13 @@
 use Rattle.std.proofs.Common.{◌≡◌, ℕ, ◌+◌, ◌<◌, ◌⊎◌, inl, inr, ◌∙◌, subst, Bool, true, false, arith}
+use Rattle.ifc_instances.proofs.Rising.{below_next}
+use Rattle.ifc_instances.proofs.ValueLemmas.{unlike}
 use Rattle.spatial_tree.specs.Faults.{IsFaulty}
 use Rattle.spatial_tree.proofs.Listing.{not_faulty, none_faulty}
 use Rattle.spatial_tree.proofs.build.first_fault.Goals as goal
 use Rattle.spatial_tree.proofs.build.first_fault.Goals.{in-Looped, in_default}
 
-unlike : (b : Bool) → b ≡ true → b ≡ false → ⊥
-unlike b e f = cc
-
-split : (k n : ℕ) → k < n + 1 → (k < n) ⊎ (k ≡ n)
-split k n l = grind arith
-
 pub loop-at-preserved : goal.loop-at-preserved
-loop-at-preserved c k l f = elim (split k c.loop-at.at l) [
+loop-at-preserved c k l f = elim (below_next k c.loop-at.at l) [
   | inl a ↦ c.loop-at.invariant k a f
   | inr e ↦ not_faulty c.args.steps.now c.args.marks.now c.loop-at.at _ c.if-steps-at.false
       (elim c.match-matches.branch [

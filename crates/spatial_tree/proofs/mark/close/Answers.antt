@@ -1,10 +1,8 @@
 use Rattle.std.proofs.Common.{◌≡◌, sym, ap, ◌∙◌, option_copied, Bool, true, false}
+use Rattle.ifc_instances.proofs.ValueLemmas.{unlike}
 use Rattle.spatial_tree.proofs.Settles.{top_round}
 use Rattle.spatial_tree.proofs.mark.close.Goals as goal
 use Rattle.spatial_tree.proofs.mark.close.Goals.{in-OnWay, in_default-matches}
-
-unlike : (b : Bool) → b ≡ true → b ≡ false → ⊥
-unlike b e f = cc
 
 pub mark_loop-requires-clause-round : goal.mark_loop-requires-clause-round
 mark_loop-requires-clause-round c =

@@ -1,11 +1,9 @@
 use Rattle.std.proofs.Common.{◌≡◌, ◌<◌, ◌∙◌, sym, subst, length, true, false, Bool, arith}
+use Rattle.ifc_instances.proofs.ValueLemmas.{unlike}
 use Rattle.spatial_tree.specs.Marks.{Settling, KeepsSeen}
 use Rattle.spatial_tree.proofs.Settles.{settle_skips, settle_sets, settled_seen, popped_done, popped_within}
 use Rattle.spatial_tree.proofs.mark.settle.Goals as goal
 use Rattle.spatial_tree.proofs.mark.settle.Goals.{in-Looped, in_default-matches}
-
-unlike : (b : Bool) → b ≡ true → b ≡ false → ⊥
-unlike b e f = cc
 
 pub loop-at-preserved : goal.loop-at-preserved
 loop-at-preserved c = record {

@@ -1,0 +1,5 @@
+pub mod PlaceLemmas
+pub mod Scans
+pub mod Rising
+pub mod LedTo
+pub mod ValueLemmas

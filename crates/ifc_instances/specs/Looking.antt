@@ -1,0 +1,27 @@
+-- What a reference leads to. A world is the list of a file's instances.
+use Rattle.std.specs.Prelude.{ℕ, ◌==◌, Bool, false, List, Option, Some, None, option_and_then}
+use Rattle.std.specs.List.{find}
+use Rattle.p21_reader.specs.declared.value.Instance.{Instance}
+use Rattle.ifc_instances.specs.declared.entity.Entity.{Entity}
+use Rattle.ifc_instances.specs.Entities.{entity_of, is_of}
+
+-- the instance of that number
+unfoldable pub look : List Instance → ℕ → Option Instance
+look world id = find (λ (i : Instance). i.id == id) world
+
+-- the entity of an instance
+abbrev pub entity_at : Instance → Option Entity
+entity_at i = option_and_then entity_of i.keyword
+
+abbrev pub is_keyword_of : Entity → Option (List ℕ) → Bool
+is_keyword_of entity None = false
+is_keyword_of entity (Some keyword) = is_of entity keyword
+
+-- an instance is of that entity
+abbrev pub is_a : Entity → Instance → Bool
+is_a entity i = is_keyword_of entity i.keyword
+
+-- a test of what is there
+abbrev pub some_passes : {X : Type 0} → (X → Bool) → Option X → Bool
+some_passes test None = false
+some_passes test (Some x) = test x
