@@ -1,9 +1,15 @@
 -- A source's place in its contents after one more read.
-use Rattle.std.proofs.Common.{◌≡◌, ◌+◌, ◌<◌, ◌≤◌, ℕ, List, [], ◌++◌, length, take, drop, sym, ◌∙◌, ap, arith, length-drop}
+use Rattle.std.proofs.Common.{◌≡◌, ◌+◌, ◌<◌, ◌≤◌, ◌||◌, ◌&&◌, ◌==◌, nat_lt, ℕ, List, [], ◌++◌, length, take, drop, Bool, true, false, refl, sym, ◌∙◌, ap, arith, length-drop}
 use Rattle.std.proofs.Math.Seq.{take-add}
+use Rattle.std.proofs.lemmas.Bool.Decides.{nat_tests}
 use Rattle.std.proofs.lemmas.Grind.{common_steps}
 use Rattle.std.proofs.lemmas.List.{take-append-drop}
-use Rattle.bim_io.specs.Memory.{moved}
+use Rattle.bim_io.specs.Memory.{moved, left_at}
+
+-- what is left, whether or not the end was answered
+pub left_is : (ended : Bool) (left : List ℕ) → (ended ≡ true → left ≡ []) → left_at ended left ≡ left
+left_is true left empty = sym (empty refl)
+left_is false left empty = refl
 
 -- what was given grows by what the room got
 pub given_more : (contents room : List ℕ) (at n : ℕ) → take n room ≡ take n (drop at contents) → take (at + n) contents ≡ take at contents ++ take n room
@@ -22,3 +28,19 @@ pub none_left : (contents : List ℕ) (at n most space : ℕ) → 1 ≤ most →
 none_left contents at n most space one is none some =
     let empty : length (drop at contents) ≡ 0 = omega (arith) in
     grind (arith, common_steps, empty, length-drop at contents)
+
+empty_after : (contents : List ℕ) (at n : ℕ) → drop at contents ≡ [] → drop (at + n) contents ≡ []
+empty_after contents at n empty = grind (arith, common_steps, length-drop at contents, ap length empty)
+
+-- nothing is left once the end was answered
+pub over_empty : (contents : List ℕ) (at n most space : ℕ) (ended over : Bool) → 1 ≤ most → n ≡ moved most space (length (drop at contents))
+    → (ended ≡ true → drop at contents ≡ []) → over ≡ (ended || (nat_lt 0 space && n == 0)) → over ≡ true → drop (at + n) contents ≡ []
+over_empty contents at n most space true over one is empty e here = empty_after contents at n (empty refl)
+over_empty contents at n most space false over one is empty e here =
+    none_left contents at n most space one is (grind (arith, nat_tests, sym e ∙ here)) (grind (arith, nat_tests, sym e ∙ here))
+
+-- what is left loses what the room got, whether or not the end was answered before or now
+pub left_moves : (ended over : Bool) (left front rest : List ℕ) → (ended ≡ true → left ≡ []) → (over ≡ true → rest ≡ []) → left ≡ front ++ rest
+    → left_at ended left ≡ front ++ left_at over rest
+left_moves ended over left front rest empty none moves =
+    left_is ended left empty ∙ moves ∙ ap (λ b. front ++ b) (sym (left_is over rest none))

@@ -1,9 +1,20 @@
--- What contracts see of the sources and sinks in memory.
-use Rattle.std.specs.Prelude.{ℕ, List, Bool, min, Option}
+-- What contracts see of the sources, sinks and clocks in memory.
+use Rattle.std.proofs.lemmas.Bool.{false≢true}
+use Rattle.std.specs.Prelude.{◌≡◌, ℕ, List, [], Bool, true, false, IsTrue, refl, min, Option}
 
 -- how many bytes a call that doesn't fail moves: as many as the limit, the room and what is there allow
 abbrev pub moved : ℕ → ℕ → ℕ → ℕ
 moved most room there = min most (min room there)
+
+-- what is left where the end was answered, and where it was not
+abbrev pub left_at : Bool → List ℕ → List ℕ
+left_at true left = []
+left_at false left = left
+
+-- nothing is left where the end was answered
+pub ended_empty : (ended : Bool) (left : List ℕ) → IsTrue ended → left_at ended left ≡ []
+ended_empty true left is = refl
+ended_empty false left is = absurd (false≢true is)
 
 pub record SureSourceState : Type 0 where
   pub left : List ℕ
@@ -30,4 +41,14 @@ pub record SinkState : Type 0 where
   pub most : ℕ
   pub fails : List ℕ
   pub calls : ℕ
+  pub faults : ℕ
+
+-- the moments that are still to come, and those that were given, where it still tells
+pub record ListClockState : Type 0 where
+  pub left : List ℕ
+  pub gave : Option (List ℕ)
+
+-- whether a source of the system has answered its end, and how often it has failed
+pub record StreamState : Type 0 where
+  pub ended : Bool
   pub faults : ℕ

@@ -1,8 +1,10 @@
 //! The real streams and the real clock.
-ghost use Rattle.std.specs.Prelude.{◌≡◌, false, None};
+ghost use Rattle.std.specs.Prelude.{◌≡◌, ◌/◌, false, None, min, IfOk, OnErr};
+ghost use Rattle.std.specs.Time.{system_time_nanos};
 
 use crate::traits::{Clock, Failed, Sink, Source};
-use std::io::{Read, Write};
+use bim_model::Moment;
+use std::io::{Read, Result as IoResult, Write};
 use std::marker::Model;
 use std::rt;
 use std::time::SystemTime;
@@ -16,7 +18,7 @@ pub struct StdSource<R: Read + Drop> {
 }
 
 impl<R: Read + Drop> Model for StdSource<R> {
-    ghost use Rattle.bim_io.specs.Causes.{StreamState};
+    ghost use Rattle.bim_io.specs.Memory.{StreamState};
 
     ghost Value = { StreamState };
 
@@ -37,13 +39,9 @@ impl<R: Read + Drop> StdSource<R> {
 }
 
 impl<R: Read + Drop> Source for StdSource<R> {
-    ghost left = { λ s. None };
+    ghost seen = { λ s. record { left = None; given = None; ended = s.ended; faults = s.faults } };
 
-    ghost given = { λ s. None };
-
-    ghost ended = { λ s. s.ended };
-
-    ghost faults = { λ s. s.faults };
+    ghost at_end = { λ s ended. tt };
 
     fn read(&mut self, room: &mut [u8]) -> Result<usize, Failed> {
         match self.inner.read(room) {
@@ -86,9 +84,7 @@ impl<W: Write + Drop> StdSink<W> {
 }
 
 impl<W: Write + Drop> Sink for StdSink<W> {
-    ghost held = { λ s. None };
-
-    ghost faults = { λ faults. faults };
+    ghost seen = { λ faults. record { held = None; faults = faults } };
 
     fn write(&mut self, piece: &[u8]) -> Result<usize, Failed> {
         match self.inner.write(piece) {
@@ -107,10 +103,22 @@ impl<W: Write + Drop> Sink for StdSink<W> {
     }
 }
 
-const LAST_MOMENT: u64 = 253_402_207_200;
+// The moment of a reading of the system's clock: 0 where it can't be read, and the last where it is later.
+fn moment_of(time: IoResult<SystemTime>) -> u64
+    ensures read { IfOk time (λ t. result ≡ min (system_time_nanos t / 1_000_000_000) Moment.LAST) }
+    ensures unread { OnErr time (result ≡ 0) }
+{
+    match time {
+        Ok(time) => match time.duration_since(SystemTime::UNIX_EPOCH) {
+            Ok(since) => since.as_secs().min(Moment::LAST),
+            Err(_) => 0,
+        },
+        Err(_) => 0,
+    }
+}
 
-/// The system's clock. One that can't be read, or stands before 1970, gives 0.
-/// No clause says which moment it gives, since none can say what the system answers.
+/// The system's clock. One that can't be read, or stands before 1970, gives 0. It tells no moments: no clause can say
+/// what the system answers, only what is made of it.
 #[derive(Drop)]
 pub struct SystemClock<R: rt::Clock + Drop> {
     handle: R,
@@ -123,15 +131,9 @@ impl<R: rt::Clock + Drop> SystemClock<R> {
 }
 
 impl<R: rt::Clock + Drop> Clock for SystemClock<R> {
-    ghost moment = { λ s. None };
+    ghost seen = { λ s. record { one = None; gave = None } };
 
     fn now(&mut self) -> u64 {
-        match SystemTime::now(&self.handle) {
-            Ok(time) => match time.duration_since(SystemTime::UNIX_EPOCH) {
-                Ok(since) => since.as_secs().min(LAST_MOMENT),
-                Err(_) => 0,
-            },
-            Err(_) => 0,
-        }
+        moment_of(SystemTime::now(&self.handle))
     }
 }

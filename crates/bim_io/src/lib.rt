@@ -2,13 +2,15 @@
 #![tactic(auto)]
 
 mod adapters;
+mod clocks;
 mod memory;
 mod sure;
 mod traits;
 
 pub use adapters::{StdSink, StdSource, SystemClock};
+pub use clocks::{ListClock, MemClock};
 pub use memory::{MemSink, MemSource};
-pub use sure::{MemClock, SureSink, SureSource};
+pub use sure::{SureSink, SureSource};
 pub use traits::{Clock, Failed, Sink, Source};
 
 #[cfg(test)]

@@ -1,11 +1,10 @@
 //! A source and a sink in memory that fail at the calls that they are told to fail at.
 ghost use Rattle.std.specs.Prelude.{◌≡◌, ◌≤◌, ◌+◌, ◌↔◌, ◌^◌, ◌-◌, [], false, ℕ, List, Some, length, min, Contains, IfOk, IsErr, IsTrue};
 ghost use Rattle.std.specs.Io.{ReadsAtMost, WritesAtMost};
-ghost use Rattle.std.specs.Io.KnownBytes.{ReadConsumes};
-ghost use Rattle.bim_io.specs.Causes.{HasCause, ReadGives, ends_read, WritesSome, WriteTells, counted};
-ghost use Rattle.bim_io.specs.Memory.{moved};
+ghost use Rattle.bim_io.specs.Causes.{HasCause, ReadGives, ReadTakes, ends_read, WritesSome, WriteTells, counted};
+ghost use Rattle.bim_io.specs.Memory.{moved, left_at, ended_empty};
 
-use crate::sure::{at_most, copy_front, tail};
+use crate::sure::{at_most, copy_front, is_over, tail};
 use crate::traits::{Failed, Sink, Source};
 use bim_model::{Bytes, Items};
 use std::alloc::{AllocError, Global};
@@ -24,14 +23,14 @@ pub struct MemSource {
 }
 
 impl Model for MemSource {
-    ghost use Rattle.std.specs.Prelude.{◌≤◌, length, take, drop};
+    ghost use Rattle.std.specs.Prelude.{◌≡◌, ◌≤◌, [], true, length, take, drop};
     ghost use Rattle.bim_io.specs.Memory.{SourceState};
 
     ghost Value = { SourceState };
 
     ghost view = { λ s. record { left = drop s.at s.contents; given = take s.at s.contents; ended = s.ended; most = s.most; fails = s.fails; calls = s.calls; faults = s.faults } };
 
-    ghost invariant = { λ s. (s.at ≤ length s.contents) × (1 ≤ s.most) };
+    ghost invariant = { λ s. (s.at ≤ length s.contents) × (1 ≤ s.most) × (s.ended ≡ true → drop s.at s.contents ≡ []) };
 }
 
 /// One more, up to the type's end.
@@ -68,17 +67,13 @@ impl MemSource {
 }
 
 impl Source for MemSource {
-    ghost left = { λ s. Some s.left };
+    ghost seen = { λ s. record { left = Some (left_at s.ended s.left); given = Some s.given; ended = s.ended; faults = s.faults } };
 
-    ghost given = { λ s. Some s.given };
-
-    ghost ended = { λ s. s.ended };
-
-    ghost faults = { λ s. s.faults };
+    ghost at_end = { λ s. ended_empty s.ended s.left };
 
     fn read(&mut self, room: &mut [u8]) -> Result<usize, Failed>
         ensures bound { ReadsAtMost result room.new }
-        ensures left { ReadConsumes (Some self.old.left) (Some self.new.left) result room.new }
+        ensures left { ReadTakes (Some (left_at self.old.ended self.old.left)) (Some (left_at self.new.ended self.new.left)) result room.new }
         ensures given { ReadGives (Some self.old.given) (Some self.new.given) result room.new }
         ensures end { self.new.ended ≡ ends_read self.old.ended (length room.new) result }
         ensures cause { HasCause self.old.faults self.new.faults result }
@@ -95,7 +90,7 @@ impl Source for MemSource {
         }
         let count = copy_front(self.most, tail(self.contents.as_slice(), self.at), room);
         self.at += count;
-        self.ended = self.ended || (room.len() > 0 && count == 0);
+        self.ended = is_over(self.ended, room, count);
         Ok(count)
     }
 }
@@ -146,9 +141,7 @@ impl MemSink {
 }
 
 impl Sink for MemSink {
-    ghost held = { λ s. Some s.held };
-
-    ghost faults = { λ s. s.faults };
+    ghost seen = { λ s. record { held = Some s.held; faults = s.faults } };
 
     fn write(&mut self, piece: &[u8]) -> Result<usize, Failed>
         ensures bound { WritesAtMost result piece.now }

@@ -1,12 +1,10 @@
-//! A source, a sink and a clock in memory that never fail.
-ghost use Rattle.std.specs.Prelude.{◌≡◌, ◌≤◌, ◌<◌, ◌++◌, [], true, false, if◌then◌else◌, None, ℕ, List, Some, length, take, drop, min, IfOk, IfSome};
+//! A source and a sink in memory that never fail.
+ghost use Rattle.std.specs.Prelude.{◌≡◌, ◌≤◌, ◌<◌, ◌++◌, ◌||◌, ◌&&◌, ◌==◌, nat_lt, [], true, false, if◌then◌else◌, None, ℕ, List, Some, length, take, drop, min, IfOk, IfSome};
 ghost use Rattle.std.specs.Io.{ReadsAtMost, WritesAtMost};
-ghost use Rattle.std.specs.Io.KnownBytes.{ReadConsumes};
-ghost use Rattle.bim_model.specs.Moments.{IsMoment};
-ghost use Rattle.bim_io.specs.Causes.{HasCause, ReadGives, ends_read, WritesSome, WriteTells};
-ghost use Rattle.bim_io.specs.Memory.{moved};
+ghost use Rattle.bim_io.specs.Causes.{HasCause, ReadGives, ReadTakes, ends_read, WritesSome, WriteTells};
+ghost use Rattle.bim_io.specs.Memory.{moved, left_at, ended_empty};
 
-use crate::traits::{Clock, Failed, Sink, Source};
+use crate::traits::{Failed, Sink, Source};
 use bim_model::Bytes;
 use std::alloc::{AllocError, Global};
 use std::marker::Model;
@@ -21,14 +19,14 @@ pub struct SureSource {
 }
 
 impl Model for SureSource {
-    ghost use Rattle.std.specs.Prelude.{◌≤◌, length, take, drop};
+    ghost use Rattle.std.specs.Prelude.{◌≡◌, ◌≤◌, [], true, length, take, drop};
     ghost use Rattle.bim_io.specs.Memory.{SureSourceState};
 
     ghost Value = { SureSourceState };
 
     ghost view = { λ s. record { left = drop s.at s.contents; given = take s.at s.contents; ended = s.ended; most = s.most } };
 
-    ghost invariant = { λ s. (s.at ≤ length s.contents) × (1 ≤ s.most) };
+    ghost invariant = { λ s. (s.at ≤ length s.contents) × (1 ≤ s.most) × (s.ended ≡ true → drop s.at s.contents ≡ []) };
 }
 
 impl SureSource {
@@ -75,18 +73,21 @@ pub(crate) fn copy_front(most: u64, rest: &[u8], room: &mut [u8]) -> usize
     count
 }
 
+/// Whether the end was answered, with a read of so many bytes into the room.
+pub(crate) fn is_over(ended: bool, room: &[u8], count: usize) -> bool
+    ensures { result ≡ (ended || (nat_lt 0 (length room.now) && count == 0)) }
+{
+    ended || (!room.is_empty() && count == 0)
+}
+
 impl Source for SureSource {
-    ghost left = { λ s. Some s.left };
+    ghost seen = { λ s. record { left = Some (left_at s.ended s.left); given = Some s.given; ended = s.ended; faults = 0 } };
 
-    ghost given = { λ s. Some s.given };
-
-    ghost ended = { λ s. s.ended };
-
-    ghost faults = { λ s. 0 };
+    ghost at_end = { λ s. ended_empty s.ended s.left };
 
     fn read(&mut self, room: &mut [u8]) -> Result<usize, Failed>
         ensures bound { ReadsAtMost result room.new }
-        ensures left { ReadConsumes (Some self.old.left) (Some self.new.left) result room.new }
+        ensures left { ReadTakes (Some (left_at self.old.ended self.old.left)) (Some (left_at self.new.ended self.new.left)) result room.new }
         ensures given { ReadGives (Some self.old.given) (Some self.new.given) result room.new }
         ensures end { self.new.ended ≡ ends_read self.old.ended (length room.new) result }
         ensures cause { HasCause 0 0 result }
@@ -95,43 +96,8 @@ impl Source for SureSource {
     {
         let count = copy_front(self.most, tail(self.contents.as_slice(), self.at), room);
         self.at += count;
-        self.ended = self.ended || (room.len() > 0 && count == 0);
+        self.ended = is_over(self.ended, room, count);
         Ok(count)
-    }
-}
-
-/// A clock that always gives one moment.
-#[derive(Drop)]
-pub struct MemClock {
-    moment: u64,
-}
-
-impl Model for MemClock {
-    ghost use Rattle.std.specs.Prelude.{ℕ};
-    ghost use Rattle.bim_model.specs.Moments.{IsMoment};
-
-    ghost Value = { ℕ };
-
-    ghost view = { λ c. c.moment };
-
-    ghost invariant = { λ c. IsMoment c.moment };
-}
-
-impl MemClock {
-    /// A clock of this moment, in seconds since 1970, at most 253,402,207,200.
-    pub fn new(moment: u64) -> MemClock
-        requires { IsMoment moment }
-        ensures { result ≡ moment }
-    {
-        MemClock { moment }
-    }
-}
-
-impl Clock for MemClock {
-    ghost moment = { λ c. Some c };
-
-    fn now(&mut self) -> u64 {
-        self.moment
     }
 }
 
@@ -177,9 +143,7 @@ impl SureSink {
 }
 
 impl Sink for SureSink {
-    ghost held = { λ s. s.held };
-
-    ghost faults = { λ s. 0 };
+    ghost seen = { λ s. record { held = s.held; faults = 0 } };
 
     fn write(&mut self, piece: &[u8]) -> Result<usize, Failed>
         ensures bound { WritesAtMost result piece.now }

@@ -2,10 +2,11 @@
 ghost use Rattle.std.specs.Prelude.{◌≤◌, IfOk};
 
 use crate::adapters::{StdSink, StdSource, SystemClock};
+use crate::clocks::{ListClock, MemClock};
 use crate::memory::{MemSink, MemSource};
-use crate::sure::{MemClock, SureSink, SureSource};
+use crate::sure::{SureSink, SureSource};
 use crate::traits::{Clock, Sink, Source};
-use bim_model::{Bytes, Items};
+use bim_model::{Bytes, Items, Moment};
 use std::alloc::{AllocError, Global};
 use std::io::{Error, ErrorKind, Read, Result as IoResult, Write};
 use std::process::Abort;
@@ -68,11 +69,19 @@ fn sinks_fail_where_told(rt: HostRuntime) -> Result<(), Fail> {
 }
 
 #[test]
-fn clocks_tell_the_time(rt: HostRuntime) {
+fn clocks_tell_the_time(rt: HostRuntime) -> Result<(), Fail> {
     assert_eq!(rt; MemClock::new(1_714_564_800).now(), 1_714_564_800);
+    let mut moments = Items::new(rt.alloc());
+    moments.push(Moment::new(1_714_564_800))?;
+    moments.push(Moment::new(1_714_564_812))?;
+    let mut listed = ListClock::new(moments);
+    assert_eq!(rt; listed.now(), 1_714_564_800);
+    assert_eq!(rt; listed.now(), 1_714_564_812);
+    assert_eq!(rt; listed.now(), 0);
     let mut clock = SystemClock::new(rt);
     let moment = clock.now();
-    assert!(rt; 1_700_000_000 < moment && moment < 253_402_207_200);
+    assert!(rt; 1_700_000_000 < moment && moment < Moment::LAST);
+    Ok(())
 }
 
 // A stream whose first call moves at most two bytes, whose second fails and whose others move none.
