@@ -1,8 +1,8 @@
 -- How many entries a pass has made.
-use Rattle.std.proofs.Common.{◌≡◌, ℕ, ◌+◌, List, [], ◌∷◌, ◌++◌, ◌||◌, false, if◌then◌else◌, length, sym, ap, ◌∙◌, arith, length-append, eq-eqb}
+use Rattle.std.proofs.Common.{◌≡◌, ℕ, zero, suc, refl, ◌+◌, List, [], ◌∷◌, ◌++◌, ◌||◌, false, if◌then◌else◌, length, sym, ap, ◌∙◌, arith, length-append, eq-eqb}
 use Rattle.book_turn.specs.declared.object.Stamp.{Stamp}
 use Rattle.book_turn.specs.Entries.{calls_by}
-use Rattle.book_turn.specs.Passes.{PassState, TurnState, KeepsNumbers, new_pass}
+use Rattle.book_turn.specs.Passes.{PassState, TurnState, KeepsNumbers, new_pass, new_passes}
 use Rattle.book_turn.specs.Counts.{own_count}
 use Rattle.book_turn.proofs.Prefixes.{calls_by-append}
 
@@ -32,3 +32,8 @@ all_made t x n v p w journal new kept more own whole =
     let here : length (calls_by pass (x ∷ []) journal) ≡ length (calls_by pass p.numbers w.seen) = λ i. length (calls_by pass (sym numbers i) (whole i)) in
     let same : length (calls_by pass p.numbers w.seen) ≡ own_count p = ap (λ l. length l) own in
     omega arith
+
+-- so many passes are made
+pub new_passes_length : (E : Type 0) {S : Type 0} (t : TurnState S) (a n : ℕ) → length (new_passes {E = E} t a n) ≡ n
+new_passes_length E t a zero = refl
+new_passes_length E t a (suc n) = ap suc (new_passes_length E t (suc a) n)

@@ -10,13 +10,13 @@ use Rattle.atomic_table.proofs.Lists.{at_set, at_snoc, at_longer, set_again, set
 use Rattle.book_turn.specs.declared.rule.View.{View}
 use Rattle.book_turn.specs.declared.rule.Stage.{Stage}
 use Rattle.book_turn.specs.declared.rule.Stage.TheVariants.{Free, Waiting, Called}
-use Rattle.book_turn.specs.Entries.{IsAfter, IsBefore, up_to, calls_by, IsOneOf, OwnUpTo, Rises}
+use Rattle.book_turn.specs.Entries.{AllBefore, AllAfter, up_to, calls_by, IsOneOf, OwnUpTo, Rises}
 use Rattle.book_turn.specs.Numbers.{same, times, has}
 use Rattle.book_turn.specs.Views.{staged, IsInTurn, IsCalled, first_view, drawn_view, called_view, done_view, kept_view, given_view, both_views, spent_view, compared_view, awaited}
 use Rattle.book_turn.specs.Steps.{stays, AreBeginnings, Glued, drew, looked, passed, compared, journal_in, Comes, Adds}
 use Rattle.book_turn.specs.Rule.{total, Fits, NobodyIsCalled, Placed, Kept}
 use Rattle.book_turn.proofs.Totals.{total_set, total_snoc, times_append, cut_times, cut_length, in_first, in_others, total_only, times_empty, numbers_length, numbers_in, numbers_out, has_first, has_last, total_at, total_two, total_bounded, same_one, same_none, has_times, times_has}
-use Rattle.book_turn.proofs.Prefixes.{IsAfter_append, IsAfter_later, up_to_all, up_to_later, up_to_splits, own_append, own_drop, own_all, own_none, one_after, one_before, one_rises, one_known, one_other, own_fewer, own_later, own_both, begins_later, begins_of, picked, own_whole}
+use Rattle.book_turn.proofs.Prefixes.{before_append, before_later, up_to_all, up_to_later, up_to_splits, own_append, own_drop, own_all, own_none, one_up_to, one_since, one_rises, one_known, one_other, own_fewer, own_later, own_both, begins_later, begins_of, picked, own_whole}
 use lib.Seq.{set-get_or}
 
 at_below : {A : Type 0} (l : List A) (i : ℕ) (a : A) → get_elem? l i ≡ some a → i < length l
@@ -189,7 +189,7 @@ module _ {O E S : Type 0} (journal : O → List E) (settings : O → S) (turn pa
       )
 
   called_at : (s : St) (r : Rule s) (id : ℕ) (v : V) → get_elem? s.views id ≡ some v → (t : ℕ) → v.stage ≡ Waiting t → r.serving ≡ t → 0 < length v.passes
-      → (o : O) × (news : List E) × (s.homes ≡ some (Some o) ∷ []) × (journal o ≡ v.seen ++ news) × (v.settings ≡ Some (settings o)) × IsBefore turn v.last news × IsAfter turn r.serving (v.seen ++ news) × (calls_by pass v.passes news ≡ []) × Rises turn (v.seen ++ news)
+      → (o : O) × (news : List E) × (s.homes ≡ some (Some o) ∷ []) × (journal o ≡ v.seen ++ news) × (v.settings ≡ Some (settings o)) × AllAfter turn v.last news × AllBefore turn r.serving (v.seen ++ news) × (calls_by pass v.passes news ≡ []) × Rises turn (v.seen ++ news)
       × Rule record { words = r.ticket ∷ r.serving ∷ r.bells; homes = none ∷ []; views = set s.views id (called_view v r.serving (v.seen ++ news)) }
   called_at s r id v at t is hit some_pass =
       let h = r.history in let vs = s.views in let stands = (r.each id v at).stands some_pass in
@@ -225,8 +225,8 @@ module _ {O E S : Type 0} (journal : O → List E) (settings : O → S) (turn pa
               named = λ _. some_pass;
               stands = λ _. record {
                 same = stands.same;
-                seen = sym whole ∙ sym (up_to_all turn r.serving h (IsAfter_later turn r.serving (r.serving + 1) h (omega arith) r.before));
-                own = own_all turn pass v.passes r.serving h (IsAfter_later turn r.serving (r.serving + 1) h (omega arith) r.before);
+                seen = sym whole ∙ sym (up_to_all turn r.serving h (before_later turn r.serving (r.serving + 1) h (omega arith) r.before));
+                own = own_all turn pass v.passes r.serving h (before_later turn r.serving (r.serving + 1) h (omega arith) r.before);
                 in_turn = (refl, refl);
                 begins = tt;
               };
@@ -245,7 +245,7 @@ module _ {O E S : Type 0} (journal : O → List E) (settings : O → S) (turn pa
         p.2 ∙ whole,
         stands.same ∙ ap Some (sym p.3),
         k.2,
-        subst (IsAfter turn r.serving) whole r.before,
+        subst (AllBefore turn r.serving) whole r.before,
         own_none turn pass v.passes v.last news (own_drop turn pass v.passes v.last v.seen news (subst (OwnUpTo turn pass v.passes v.last) whole stands.own)) k.2,
         subst (Rises turn) whole r.rises,
         rule,
@@ -280,10 +280,10 @@ module _ {O E S : Type 0} (journal : O → List E) (settings : O → S) (turn pa
       let w : V = done_view v (journal o) in
       let turn_is = subst (IsInTurn r.serving v.last) is stands.in_turn in
       let one' : IsOneOf turn pass r.serving v.passes news = subst (λ (x : ℕ). IsOneOf turn pass x v.passes news) turn_is.0 one in
-      let before' : IsAfter turn (r.serving + 1) h = IsAfter_later turn r.serving (r.serving + 1) h (omega arith) r.before in
+      let before' : AllBefore turn (r.serving + 1) h = before_later turn r.serving (r.serving + 1) h (omega arith) r.before in
       let seen_all : v.seen ≡ h = stands.seen ∙ ap (λ (x : ℕ). up_to turn x h) turn_is.1 ∙ up_to_all turn r.serving h before' in
       let now : journal o ≡ h ++ news = whole ∙ ap (λ l. l ++ news) seen_all in
-      let after : IsAfter turn (r.serving + 1) (h ++ news) = IsAfter_append turn (r.serving + 1) h news before' (one_after turn pass r.serving v.passes news one') in
+      let after : AllBefore turn (r.serving + 1) (h ++ news) = before_append turn (r.serving + 1) h news before' (one_up_to turn pass r.serving v.passes news one') in
       let called : IsCalled v.stage = subst IsCalled (sym is) tt in
       let mine : staged r.serving v.stage ≡ 1 = called_turn r.serving v.last v.stage called stands.in_turn in
       let apart = nobody_else s r id v at mine in
@@ -306,10 +306,10 @@ module _ {O E S : Type 0} (journal : O → List E) (settings : O → S) (turn pa
         named = fit.named;
         stands = λ p. let st = fit.stands p in let l = later_turn r.serving u.last u.stage (apart j u other e) st.in_turn in record {
           same = st.same;
-          seen = st.seen ∙ sym (up_to_later turn u.last h news (one_before turn pass u.last r.serving v.passes news one' l.0));
+          seen = st.seen ∙ sym (up_to_later turn u.last h news (one_since turn pass u.last r.serving v.passes news one' l.0));
           own = own_append turn pass u.passes u.last h news st.own (one_other turn pass r.serving v.passes u.passes u.last news one' (number_once s r id j v u other at e));
           in_turn = l.1;
-          begins = begins_later turn pass u.passes u.begins u.last h news (one_before turn pass u.last r.serving v.passes news one' l.0) (λ qs b sub. one_other turn pass r.serving v.passes qs b news one' (λ x mine theirs. number_once s r id j v u other at e x mine (sub x theirs))) st.begins;
+          begins = begins_later turn pass u.passes u.begins u.last h news (one_since turn pass u.last r.serving v.passes news one' l.0) (λ qs b sub. one_other turn pass r.serving v.passes qs b news one' (λ x mine theirs. number_once s r id j v u other at e x mine (sub x theirs))) st.begins;
         };
       } in
       let rule : Rule record { words = r.ticket ∷ (r.serving + 1) % 2 ^ 64 ∷ r.bells; homes = some (Some o) ∷ []; views = set vs id w } = record {
@@ -333,7 +333,7 @@ module _ {O E S : Type 0} (journal : O → List E) (settings : O → S) (turn pa
         placed = inl (o, refl, now, some-inj (sym chosen_is ∙ stands.same), each_set (λ u. IsCalled u.stage → ⊥) vs id w (λ c. c) apart);
         rises = one_rises turn pass h r.serving v.passes news one' r.rises r.before;
         before = after;
-        known = IsAfter_append pass n h news r.known (one_known turn pass n r.serving v.passes news one' (number_below s r id v at));
+        known = before_append pass n h news r.known (one_known turn pass n r.serving v.passes news one' (number_below s r id v at));
       } in (
         ⊎_elim
             (λ (p : (o : O) × (s.homes ≡ some (Some o) ∷ []) × (journal o ≡ h) × (settings o ≡ chosen) × NobodyIsCalled journal settings turn pass n chosen vs). absurd (p.4 id v at called))

@@ -8,20 +8,20 @@ listed None = []
 listed (Some e) = e ∷ []
 
 module _ {E : Type 0} (turn : E → ℕ) where
-  -- the turn t comes after that of each entry
-  abbrev pub IsAfter : ℕ → List E → Type 0
-  IsAfter t [] = Unit {0}
-  IsAfter t (e ∷ es) = (turn e < t) × IsAfter t es
+  -- all entries come before the turn t
+  abbrev pub AllBefore : ℕ → List E → Type 0
+  AllBefore t [] = Unit {0}
+  AllBefore t (e ∷ es) = (turn e < t) × AllBefore t es
 
-  -- the turn t comes before that of each entry
-  abbrev pub IsBefore : ℕ → List E → Type 0
-  IsBefore t [] = Unit {0}
-  IsBefore t (e ∷ es) = (t < turn e) × IsBefore t es
+  -- all entries come after the turn t
+  abbrev pub AllAfter : ℕ → List E → Type 0
+  AllAfter t [] = Unit {0}
+  AllAfter t (e ∷ es) = (t < turn e) × AllAfter t es
 
   -- each entry has a later turn than those before it
   abbrev pub Rises : List E → Type 0
   Rises [] = Unit {0}
-  Rises (e ∷ es) = IsBefore (turn e) es × Rises es
+  Rises (e ∷ es) = AllAfter (turn e) es × Rises es
 
   -- the entries with turns up to t
   abbrev pub up_to : ℕ → List E → List E

@@ -6,7 +6,7 @@ use Rattle.book_turn.specs.declared.rule.View.{View}
 use Rattle.book_turn.specs.declared.rule.Stage.TheVariants.{Free}
 use Rattle.book_turn.specs.declared.object.Stamp.{Stamp}
 use Rattle.book_turn.specs.Numbers.{has, times, greatest}
-use Rattle.book_turn.specs.Entries.{listed, IsAfter, IsBefore, Rises, up_to, calls_by}
+use Rattle.book_turn.specs.Entries.{listed, AllBefore, AllAfter, Rises, up_to, calls_by}
 
 -- which turn it is
 abbrev pub TurnId : Type 0
@@ -66,8 +66,8 @@ module _ {E S : Type 0} where
       pub last : w.last ≡ t
       pub turns : w.turns ≡ t ∷ v.turns
       pub made : w.made ≡ v.made + 1
-      pub since : IsBefore (λ e. (stamp_of e).turn) v.last news
-      pub before : IsAfter (λ e. (stamp_of e).turn) t (v.seen ++ news)
+      pub since : AllAfter (λ e. (stamp_of e).turn) v.last news
+      pub before : AllBefore (λ e. (stamp_of e).turn) t (v.seen ++ news)
       pub rises : Rises (λ e. (stamp_of e).turn) (v.seen ++ news)
       pub others : calls_by (λ e. (stamp_of e).pass) v.numbers news ≡ []
 

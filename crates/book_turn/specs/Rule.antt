@@ -5,7 +5,7 @@ use lib.ListN.{get_elem?}
 use Rattle.atomic_table.specs.Table.{State}
 use Rattle.book_turn.specs.declared.rule.View.{View}
 use Rattle.book_turn.specs.Numbers.{times}
-use Rattle.book_turn.specs.Entries.{IsAfter, Rises, up_to, OwnUpTo}
+use Rattle.book_turn.specs.Entries.{AllBefore, Rises, up_to, OwnUpTo}
 use Rattle.book_turn.specs.Views.{staged, IsCalled, IsInTurn}
 use Rattle.book_turn.specs.Steps.{AreBeginnings}
 
@@ -68,5 +68,5 @@ module _ {O E S : Type 0} (journal : O → List E) (settings : O → S) (turn pa
     pub placed : Placed history s.homes s.views
     -- the history rises in turn, up to the turn that is served, and has entries of the n passes alone
     pub rises : Rises turn history
-    pub before : IsAfter turn serving history
-    pub known : IsAfter pass n history
+    pub before : AllBefore turn serving history
+    pub known : AllBefore pass n history

@@ -6,7 +6,7 @@ use Rattle.atomic_table.specs.Table.{Me, Step}
 use Rattle.book_turn.specs.declared.rule.View.{View}
 use Rattle.book_turn.specs.declared.rule.Beginning.{Beginning}
 use Rattle.book_turn.specs.Numbers.{times, has}
-use Rattle.book_turn.specs.Entries.{IsAfter, IsBefore, Rises, up_to, calls_by, listed, IsOneOf, OwnUpTo}
+use Rattle.book_turn.specs.Entries.{AllBefore, AllAfter, Rises, up_to, calls_by, listed, IsOneOf, OwnUpTo}
 use Rattle.book_turn.specs.Views.{awaited, drawn_view, called_view, done_view, compared_view, both_views}
 
 module _ {O E S : Type 0} where
@@ -61,7 +61,7 @@ module _ {O E S : Type 0} (journal : O → List E) (settings : O → S) (turn pa
       (o : O) × (news : List E)
       × (m' ≡ (called_view m.0 t (m.0.seen ++ news), (0, Some o) ∷ []))
       × (journal o ≡ m.0.seen ++ news) × (m.0.settings ≡ Some (settings o))
-      × IsBefore turn m.0.last news × IsAfter turn t (m.0.seen ++ news) × (calls_by pass m.0.passes news ≡ []) × Rises turn (m.0.seen ++ news)
+      × AllAfter turn m.0.last news × AllBefore turn t (m.0.seen ++ news) × (calls_by pass m.0.passes news ≡ []) × Rises turn (m.0.seen ++ news)
 
   -- nothing changed, or the turn has come
   abbrev pub looked : Step (Option O) → Me (Option O) (View E S) → ℕ → Me (Option O) (View E S) → Type 0
@@ -82,8 +82,8 @@ pub record TakesTurn {E S Rq Rp : Type 0} (stamp_of : E → Stamp) (reply_of : S
   pub news : List E
   pub later : v.last < t
   pub within : t < 2 ^ 47
-  pub since : IsBefore (λ e. (stamp_of e).turn) v.last news
-  pub before : IsAfter (λ e. (stamp_of e).turn) t (v.seen ++ news)
+  pub since : AllAfter (λ e. (stamp_of e).turn) v.last news
+  pub before : AllBefore (λ e. (stamp_of e).turn) t (v.seen ++ news)
   pub others : calls_by (λ e. (stamp_of e).pass) v.passes news ≡ []
   pub rises : Rises (λ e. (stamp_of e).turn) (v.seen ++ news)
   pub served : Serves reply_of added_by (record { turn = t; pass = number; call = call }) request (called_view (drawn_view v t) t (v.seen ++ news)) w res

@@ -2,7 +2,7 @@
 ghost use Rattle.std.specs.Prelude.{ℕ, ◌≡◌, ◌<◌, ◌≤◌, ◌^◌, ◌+◌, ◌*◌, [], ◌∷◌, ◌++◌, Some, length, true, replicate, IfSome, IfOk};
 ghost use Rattle.book_turn.specs.Views.{kept_view, given_view, first_view};
 ghost use Rattle.book_turn.specs.Steps.{drew, looked, passed, Adds, Glued, Comes, Serves, TakesTurn};
-ghost use Rattle.book_turn.specs.Entries.{IsAfter};
+ghost use Rattle.book_turn.specs.Entries.{AllBefore};
 ghost use Rattle.book_turn.specs.Numbers.{has};
 ghost use Rattle.atomic_table.specs.Table.{step};
 ghost use Rattle.book_turn.specs.declared.rule.Stage.TheVariants.{Free, Waiting, Called};
@@ -97,7 +97,7 @@ impl<O: SeqObject> Board<O> {
     ) -> Result<O::Reply, AllocError>
         requires own { seat.old.table_id ≡ self.now.table.shared.table_id }
         requires called { (o : O) × (seat.old.me.0.stage ≡ Called stamp.turn) × (seat.old.me.1 ≡ (0, Some o) ∷ []) × (O.journal o ≡ seat.old.me.0.seen) × (seat.old.me.0.settings ≡ Some (O.settings o)) × O.is_legal (O.settings o) seat.old.me.0.seen request }
-        requires after { IsAfter (λ e. (O.stamp_of e).turn) stamp.turn seat.old.me.0.seen }
+        requires after { AllBefore (λ e. (O.stamp_of e).turn) stamp.turn seat.old.me.0.seen }
         requires named { has stamp.pass seat.old.me.0.passes ≡ true }
         ensures own { (seat.new.table_id ≡ seat.old.table_id) × (seat.new.id ≡ seat.old.id) }
         ensures done { Serves O.reply_of O.added_by stamp request seat.old.me.0 seat.new.me.0 result × (seat.new.me.1 ≡ []) }

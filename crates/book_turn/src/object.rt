@@ -1,7 +1,7 @@
 //! What an object is whose calls take turns.
 ghost use Rattle.std.specs.Prelude.{◌≡◌, ◌++◌, List, Option, Some, OnOk, OnErr, IfOk};
 ghost use Rattle.book_turn.specs.declared.object.Stamp.{Stamp};
-ghost use Rattle.book_turn.specs.Entries.{listed, IsAfter};
+ghost use Rattle.book_turn.specs.Entries.{listed, AllBefore};
 
 use std::alloc::AllocError;
 
@@ -54,7 +54,7 @@ pub trait SeqObject {
     /// Answers a request. At an `Err`, which says that memory ran out, the journal is as it was.
     fn act(&mut self, stamp: Stamp, request: Self::Request) -> Result<Self::Reply, AllocError>
         requires legal { is_legal (settings self.old) (journal self.old) request }
-        requires after { IsAfter (λ e. (stamp_of e).turn) stamp.turn (journal self.old) }
+        requires after { AllBefore (λ e. (stamp_of e).turn) stamp.turn (journal self.old) }
         ensures settings { settings self.new ≡ settings self.old }
         ensures reply { IfOk result (λ r. r ≡ reply_of (settings self.old) (journal self.old) stamp request) }
         ensures added { OnOk result (journal self.new ≡ journal self.old ++ listed (added_by (settings self.old) (journal self.old) stamp request)) }

@@ -1,4 +1,4 @@
-ghost use Rattle.std.specs.Prelude.{ℕ, ◌≡◌, ◌+◌, [], ◌∷◌, length, vec_len, Some, None, IfSome, All, if◌then◌else◌};
+ghost use Rattle.std.specs.Prelude.{ℕ, ◌≡◌, ◌<◌, ◌≤◌, ◌+◌, [], ◌∷◌, length, vec_len, Some, None, IfSome, All, if◌then◌else◌};
 ghost use Rattle.book_turn.specs.Entries.{calls_by};
 ghost use Rattle.book_turn.specs.Passes.{BelongsTo, IsSingle, KeepsNumbers};
 ghost use Rattle.book_turn.specs.Counts.{own_count};
@@ -9,6 +9,8 @@ use crate::object::{SeqObject, Stamp};
 use crate::pass::Pass;
 use crate::turn::Turn;
 use std::alloc::{AllocError, Global};
+use std::hint;
+use std::process::Abort;
 use std::sync::Wait;
 use std::test::Fail;
 use std::thread::{Threads, for_each_mut, join};
@@ -24,21 +26,21 @@ struct Counter {
 struct Ask {
     adds: bool,
     starves: bool,
+    // How long the call takes.
+    steps: u32,
 }
 
 const ADD: Ask = Ask {
     adds: true,
     starves: false,
+    steps: 0,
 };
 
-const READ: Ask = Ask {
-    adds: false,
-    starves: false,
-};
+const READ: Ask = Ask { adds: false, ..ADD };
 
 const STARVE: Ask = Ask {
-    adds: true,
     starves: true,
+    ..ADD
 };
 
 impl SeqObject for Counter {
@@ -63,6 +65,7 @@ impl SeqObject for Counter {
     ghost is_legal = { λ _ _ _. Unit {0} };
 
     fn act(&mut self, stamp: Stamp, ask: Ask) -> Result<(u64, u64), AllocError> {
+        dwell(ask.steps);
         if ask.starves {
             return Err(AllocError);
         }
@@ -75,6 +78,12 @@ impl SeqObject for Counter {
     ghost legal_later = { λ s h more r may. tt };
 
     ghost stamped = { λ s h st ask e is. Prim.grind arith };
+}
+
+fn dwell(steps: u32) {
+    for _ in 0..steps {
+        hint::spin_loop();
+    }
 }
 
 fn new_counter(alloc: Global, name: u64) -> Counter
@@ -136,28 +145,50 @@ fn in_two_threads<R: Threads + Wait + Sync>(rt: &R, alloc: Global) -> Option<Cou
     Some(turn.close(into))
 }
 
-// Adds in as many threads as there are passes.
-fn lanes<R: Threads + Wait + Sync>(rt: &R, turn: &Turn<Counter>, passes: &mut [Pass<Counter>])
+// How calls are made: so many rounds, with a call of each number of steps from `shortest` on.
+#[derive(Clone, Copy, Drop)]
+struct Pace {
+    rounds: u32,
+    shortest: u32,
+    end: u32,
+}
+
+// Adds at this pace in as many threads as there are passes.
+fn lanes<R: Threads + Wait + Sync>(
+    rt: &R,
+    turn: &Turn<Counter>,
+    passes: &mut [Pass<Counter>],
+    pace: Pace,
+)
     requires { All (IsSingle turn.now) passes.old }
     ensures { All (IsSingle turn.entry.now) passes.new }
 {
     for_each_mut(
         rt,
         passes,
-        8,
+        64,
         &|_, pass: &mut Pass<Counter>|
             requires { IsSingle turn.now pass.old }
             ensures { IsSingle turn.entry.now pass.new }
-        { several(rt, turn, pass, 25) },
+        { several(rt, turn, pass, pace) },
     );
 }
 
-fn several<R: Wait>(rt: &R, turn: &Turn<Counter>, pass: &mut Pass<Counter>, times: u32)
+fn several<R: Wait>(rt: &R, turn: &Turn<Counter>, pass: &mut Pass<Counter>, pace: Pace)
     requires { IsSingle turn.now pass.old }
     ensures { IsSingle turn.now pass.new }
 {
-    for _ in 0..times {
-        let _ = turn.call(rt, pass, ADD);
+    for _ in 0..pace.rounds {
+        sweep(rt, turn, pass, pace);
+    }
+}
+
+fn sweep<R: Wait>(rt: &R, turn: &Turn<Counter>, pass: &mut Pass<Counter>, pace: Pace)
+    requires { IsSingle turn.now pass.old }
+    ensures { IsSingle turn.now pass.new }
+{
+    for steps in pace.shortest..pace.end {
+        let _ = turn.call(rt, pass, Ask { steps, ..ADD });
     }
 }
 
@@ -174,9 +205,18 @@ fn join_all(turn: &Turn<Counter>, mut passes: Vec<Pass<Counter>>) -> Option<Pass
     Some(into)
 }
 
-fn in_eight_lanes<R: Threads + Wait + Sync>(rt: &R, alloc: Global) -> Option<Counter> {
-    let (turn, mut passes) = Turn::new(alloc, new_counter(alloc, 8), 8).ok()?;
-    lanes(rt, &turn, passes.as_mut_slice());
+// Adds in so many threads, and gives back the counter, whose name is their number.
+fn in_lanes<R: Threads + Wait + Sync>(
+    rt: &R,
+    alloc: Global,
+    number: u32,
+    pace: Pace,
+) -> Option<Counter>
+    requires { (0 < number) × (number ≤ 64) }
+{
+    let counter = new_counter(alloc, u64::from(number));
+    let (turn, mut passes) = Turn::new(alloc, counter, number).ok()?;
+    lanes(rt, &turn, passes.as_mut_slice(), pace);
     let all = join_all(&turn, passes)?;
     Some(turn.close(all))
 }
@@ -213,13 +253,59 @@ fn threads_stand_in_one_history(rt: HostRuntime) -> Result<(), Fail> {
         (two.name, two.calls.len(), shares(&two, 2)),
         (7, 200, Some(100))
     );
-    let Some(eight) = in_eight_lanes(&rt, rt.alloc()) else {
-        panic!(rt; "no answer in eight lanes")
+    Ok(())
+}
+
+// Has so many threads add at this pace, and sees that each made as many calls as it was to make.
+fn each_made<R: Threads + Wait + Sync + Abort>(
+    rt: &R,
+    alloc: Global,
+    number: u32,
+    pace: Pace,
+    calls: usize,
+)
+    requires { (0 < number) × (number ≤ 64) }
+{
+    let Some(counter) = in_lanes(rt, alloc, number, pace) else {
+        panic!(rt; "no answer in lanes")
     };
-    assert_eq!(rt;
-        (eight.name, eight.calls.len(), shares(&eight, 8)),
-        (8, 200, Some(25))
-    );
+    assert_eq!(rt; counter.name, u64::from(number));
+    assert_eq!(rt; shares(&counter, number), Some(calls));
+}
+
+#[test]
+fn lanes_stand_in_one_history(rt: HostRuntime) -> Result<(), Fail> {
+    let short = Pace {
+        rounds: 25,
+        shortest: 0,
+        end: 1,
+    };
+    each_made(&rt, rt.alloc(), 8, short, 25);
+    Ok(())
+}
+
+// While one call takes thousands of steps, all others that wait have gone to sleep. Each must be woken: where one
+// isn't, the test never ends.
+#[test]
+fn sleepers_are_woken(rt: HostRuntime) -> Result<(), Fail> {
+    let long = Pace {
+        rounds: 8,
+        shortest: 9_999,
+        end: 10_000,
+    };
+    each_made(&rt, rt.alloc(), 64, long, 8);
+    Ok(())
+}
+
+// Calls of about the length after which one that waits goes to sleep, so that some turns come at that very moment.
+#[test]
+fn nobody_sleeps_through_its_turn(rt: HostRuntime) -> Result<(), Fail> {
+    let middling = Pace {
+        rounds: 40,
+        shortest: 50,
+        end: 250,
+    };
+    each_made(&rt, rt.alloc(), 2, middling, 8_000);
     Ok(())
 }
 

@@ -5,7 +5,7 @@ use Rattle.std.proofs.lemmas.Bool.Decides.{nat_tests}
 use Rattle.std.proofs.lemmas.Bool.{eq-eqb}
 use Rattle.std.proofs.lemmas.List.Sums.{sum_by-cons}
 use Rattle.book_turn.specs.declared.object.Stamp.{Stamp}
-use Rattle.book_turn.specs.Entries.{listed, IsAfter}
+use Rattle.book_turn.specs.Entries.{listed, AllBefore}
 use Rattle.federation_book.specs.declared.types.Entry.{Entry}
 use Rattle.federation_book.specs.declared.types.BookRequest.{BookRequest}
 use Rattle.federation_book.specs.declared.types.Change.{Change}
@@ -155,6 +155,6 @@ before_cons t e es first rest zero d lt = first
 before_cons t e es first rest (suc k) d lt = rest k d (omega arith)
 
 -- entries of earlier turns, said as for any object whose calls take turns
-pub before_all : (t : ℕ) (es : List Entry) → IsAfter (λ (e : Entry). e.stamp.turn) t es → IsBefore t es
+pub before_all : (t : ℕ) (es : List Entry) → AllBefore (λ (e : Entry). e.stamp.turn) t es → IsBefore t es
 before_all t [] after = none_before t
 before_all t (e ∷ es) after = before_cons t e es after.0 (before_all t es after.1)

@@ -1,6 +1,6 @@
 use Rattle.std.proofs.Common.{◌∷◌, Some, sym, ap, ◌∙◌, subst}
 use Rattle.atomic_table.specs.Table.{rest}
-use Rattle.book_turn.specs.Entries.{IsAfter}
+use Rattle.book_turn.specs.Entries.{AllBefore}
 use Rattle.book_turn.proofs.Calls.{same_hand, acted, put_hand, may_pass, some_has, served}
 use Rattle.book_turn.proofs.board.Board.serve.Goals as goal
 
@@ -11,7 +11,7 @@ pub act-answer-requires-clause-after : goal.act-answer-requires-clause-after
 act-answer-requires-clause-after g c =
     let k = c.requires.called in
     let same = same_hand _ _ _ _ k.2 c.exchange-hand.ensures.2 c.in-Some.is in
-    subst (IsAfter (λ e. (g.O.SeqObject.stamp_of e).turn) c.args.stamp.turn) (sym (ap g.O.SeqObject.journal same ∙ k.3)) c.requires.after
+    subst (AllBefore (λ e. (g.O.SeqObject.stamp_of e).turn) c.args.stamp.turn) (sym (ap g.O.SeqObject.journal same ∙ k.3)) c.requires.after
 
 pub hand_on-requires-clause-called : goal.hand_on-requires-clause-called
 hand_on-requires-clause-called g c =
