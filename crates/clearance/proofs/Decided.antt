@@ -159,6 +159,12 @@ pub elements_decided : (a b : Element) (d : ℕ) → IsTrue (is_near a b d) ↔ 
 unfolding is_near ElementsNear
 elements_decided a b d = lists_decided a.triangles b.triangles d
 
--- what decides the same is the same
-pub same_answer : {P : Type 0} {r s : Bool} → IsTrue r ↔ P → IsTrue s ↔ P → r ≡ s
-same_answer {P} {r} {s} f g = same_from_decides r s f g
+-- ---- an answer that is true exactly where they are near is the truth value
+pub triangles_told : (r : Bool) (p q : Triangle) (d : ℕ) → IsTrue r ↔ Near p q d → r ≡ is_near_triangles p q d
+triangles_told r p q d h = same_from_decides r (is_near_triangles p q d) h (triangles_decided p q d)
+
+pub lists_told : (r : Bool) (ps qs : List Triangle) (d : ℕ) → IsTrue r ↔ ListsNear ps qs d → r ≡ is_near_lists ps qs d
+lists_told r ps qs d h = same_from_decides r (is_near_lists ps qs d) h (lists_decided ps qs d)
+
+pub elements_told : (r : Bool) (a b : Element) (d : ℕ) → IsTrue r ↔ ElementsNear a b d → r ≡ is_near a b d
+elements_told r a b d h = same_from_decides r (is_near a b d) h (elements_decided a b d)

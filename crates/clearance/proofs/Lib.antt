@@ -10,3 +10,4 @@ pub mod Parts
 pub mod Parted
 pub mod Decided
 pub mod Surfaces
+pub mod Computed
