@@ -1,3 +1,4 @@
+pub mod Spans
 pub mod NearTest
 pub mod RowsTest
 pub mod Gaps
@@ -7,3 +8,6 @@ pub mod Lists
 pub mod Words
 pub mod Parts
 pub mod Parted
+pub mod Decided
+pub mod Surfaces
+pub mod Computed

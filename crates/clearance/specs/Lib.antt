@@ -5,3 +5,4 @@ pub mod Planes
 pub mod Boxes
 pub mod Runs
 pub mod Apart
+pub mod Decided

@@ -1,5 +1,5 @@
 // Boxes along the axes.
-ghost use Rattle.std.specs.Prelude.{◌≤◌, ◌<◌, ◌≤ℤ◌, ◌↔◌, unsigned_abs, IsTrue, All};
+ghost use Rattle.std.specs.Prelude.{◌≤◌, ◌<◌, pos, ◌+ℤ◌, ◌≤ℤ◌, ◌<ℤ◌, ◌↔◌, unsigned_abs, IsTrue, All};
 ghost use Rattle.bim_model.specs.Points.{grid_limit, IsInGrid, shape_of};
 ghost use Rattle.bim_model.specs.Gaps.{gap};
 ghost use Rattle.clearance.specs.Boxes.{InExtent, IsExtent, Wider, IsOff};
@@ -91,6 +91,17 @@ pub fn extent_of(t: &Triangle) -> Extent
     }
 }
 
+/// Whether a coordinate is more than d above another.
+#[inline(always)]
+fn is_past(high: i32, low: i32, d: u32) -> bool
+    requires high_in { unsigned_abs high ≤ grid_limit }
+    requires low_in { unsigned_abs low ≤ grid_limit }
+    requires d_in { d ≤ 10000 }
+    ensures { IsTrue result ↔ (high +ℤ pos d) <ℤ low }
+{
+    high + (d as i32) < low
+}
+
 /// Whether the gap of two spans of an axis is more than d.
 #[inline(always)]
 fn is_span_off(low: i32, high: i32, other_low: i32, other_high: i32, d: u32) -> bool
@@ -101,11 +112,10 @@ fn is_span_off(low: i32, high: i32, other_low: i32, other_high: i32, d: u32) -> 
     requires d_in { d ≤ 10000 }
     ensures { IsTrue result ↔ d < gap low high other_low other_high }
 {
-    let d = d as i32;
-    if high + d < other_low {
+    if is_past(high, other_low, d) {
         return true;
     }
-    other_high + d < low
+    is_past(other_high, low, d)
 }
 
 /// Whether two boxes have a gap of more than d on an axis.

@@ -4,6 +4,7 @@
 mod apart;
 mod boxes;
 mod corners;
+mod laws;
 mod planes;
 mod rows;
 mod runs;
@@ -13,5 +14,6 @@ mod solids;
 mod tests;
 mod triangles;
 
+pub use laws::{near_elements_have_close_boxes, nearness_is_decided};
 pub use solids::{lists_near, solids_near};
 pub use triangles::near;

@@ -2,6 +2,7 @@
 ghost use Rattle.std.specs.Prelude.{◌≡◌, ◌+◌, ◌≤◌, ◌↔◌, IsTrue, All};
 ghost use Rattle.bim_model.specs.Points.{IsInGrid};
 ghost use Rattle.clearance.specs.Near.{ListsNear, ElementsNear, ElementInGrid};
+ghost use Rattle.clearance.specs.Decided.{is_near_lists, is_near};
 
 use crate::boxes::extent_of_all;
 use crate::runs::{BLOCK, RUN, block_near, pairs_near, split_front};
@@ -13,7 +14,8 @@ pub fn lists_near(ps: &[Triangle], qs: &[Triangle], d: u32) -> bool
     requires ps_in { All IsInGrid ps.now }
     requires qs_in { All IsInGrid qs.now }
     requires d_in { d ≤ 10000 }
-    ensures { IsTrue result ↔ ListsNear ps.now qs.now d }
+    ensures near { IsTrue result ↔ ListsNear ps.now qs.now d }
+    ensures value { result ≡ is_near_lists ps.now qs.now d }
 {
     if qs.len() <= RUN {
         return pairs_near(ps, qs, extent_of_all(qs), d);
@@ -36,6 +38,7 @@ pub fn solids_near<L: Ledger>(a: &Element, b: &Element, d: u32, steps: &mut Step
     requires b_in { ElementInGrid b.now }
     requires d_in { d ≤ 10000 }
     ensures near { IsTrue result ↔ ElementsNear a.now b.now d }
+    ensures value { result ≡ is_near a.now b.now d }
     ensures step { steps.new ≡ steps.old + 1 }
 {
     steps.tick();

@@ -1,7 +1,8 @@
 // Two triangles.
-ghost use Rattle.std.specs.Prelude.{◌≤◌, ◌↔◌, IsTrue};
+ghost use Rattle.std.specs.Prelude.{◌≡◌, ◌≤◌, ◌↔◌, IsTrue};
 ghost use Rattle.bim_model.specs.Points.{IsInGrid};
 ghost use Rattle.clearance.specs.Near.{FacesNear, Near};
+ghost use Rattle.clearance.specs.Decided.{is_near_triangles};
 ghost use Rattle.clearance.specs.Corners.{face_of, InGrid};
 ghost use Rattle.clearance.specs.Planes.{IsPlane};
 
@@ -62,7 +63,8 @@ pub fn near(p: &Triangle, q: &Triangle, d: u32) -> bool
     requires p_in { IsInGrid p.now }
     requires q_in { IsInGrid q.now }
     requires d_in { d ≤ 10000 }
-    ensures { IsTrue result ↔ Near p.now q.now d }
+    ensures near { IsTrue result ↔ Near p.now q.now d }
+    ensures value { result ≡ is_near_triangles p.now q.now d }
 {
     if is_off(extent_of(p), extent_of(q), d) {
         return false;
