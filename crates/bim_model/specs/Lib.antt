@@ -8,3 +8,5 @@ pub mod Polygons
 pub mod Gaps
 pub mod Models
 pub mod Snapshots
+pub mod Rules
+pub mod Keys
