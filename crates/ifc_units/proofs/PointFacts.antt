@@ -18,7 +18,7 @@ use Rattle.ifc_units.proofs.Firsts.{never_refused, one_first, one_row, fails_her
 use Rattle.ifc_units.specs.Faults.{fault_in}
 
 -- points are equal by their coordinates
-same_point : (p q : Point) → p.x ≡ q.x → p.y ≡ q.y → p.z ≡ q.z → p ≡ q
+pub same_point : (p q : Point) → p.x ≡ q.x → p.y ≡ q.y → p.z ≡ q.z → p ≡ q
 same_point p q e f g = let r : Point = record { x = q.x; y = q.y; z = q.z } in let h : record { x = p.x; y = p.y; z = p.z } ≡ r = rw (e, f, g) refl in h
 
 abbrev pub coordinates : Point → List ℤ
