@@ -10,7 +10,7 @@ use Rattle.ifc_units.specs.declared.scale.Scale.{Scale}
 use Rattle.ifc_units.specs.declared.fault.LengthError.{LengthError}
 use Rattle.ifc_units.specs.Lengths.{IsPoint, PointRefused, Fails}
 use Rattle.ifc_units.proofs.PointFacts.{one_point}
-use Rattle.ifc_instances.proofs.ValueLemmas.{one}
+use Rattle.ifc_instances.proofs.ValueLemmas.{one, refers_absent}
 use Rattle.placement.specs.declared.axis.Axis.{Axis}
 use Rattle.placement.specs.declared.axes.Axes.{Axes}
 use Rattle.placement.specs.declared.direction.Direction.{Direction}
@@ -21,7 +21,7 @@ use Rattle.placement.specs.Directions.{Directs, LiesAlong, without, first_direct
 use Rattle.ifc_instances.specs.Attributes.{referred_at, value_at}
 use Rattle.placement.specs.Operators.{MayDirect, OperatorDirections, HasOperatorDirections, GiveOperatorAxes, HasOperatorAxes, ObliqueOperator, third_direction, IsOrigin, OperatorFrame}
 use Rattle.placement.proofs.Aligned.{one_axis}
-use Rattle.placement.proofs.Square.{same_vector, GiveSame, refers_absent, same_directs}
+use Rattle.placement.proofs.Square.{same_vector, GiveSame, same_directs}
 use Rattle.placement.proofs.OneFrame.{same_axes}
 use Rattle.placement.proofs.Owning.{unpointed}
 
