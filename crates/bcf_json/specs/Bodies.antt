@@ -3,6 +3,7 @@ use Rattle.std.specs.Prelude.{◌≡◌, ℕ, ◌&&◌, ◌||◌, List, length, 
 use Rattle.std.specs.Option.{option_map_or}
 use Rattle.serde_json.specs.Data.{Data, null, boolean, number, string, array, object}
 use Rattle.serde_json.specs.Find.{get, as_str}
+use Rattle.bim_model.specs.declared.limits.TheConstants.{MOST_TITLE}
 use Rattle.bim_model.specs.declared.topic.TopicBody.{TopicBody}
 use Rattle.bcf_json.specs.declared.body.BodyFault.{BodyFault}
 use Rattle.bcf_json.specs.declared.body.BodyFault.TheVariants.{Title}
@@ -38,7 +39,7 @@ asks_unbuilt tree =
 
 -- a title has 1 to 1,024 bytes
 abbrev pub if_title : List ℕ → Option (List ℕ)
-if_title title = if nat_lt 0 (length title) && nat_le (length title) 1024 then Some title else None
+if_title title = if nat_lt 0 (length title) && nat_le (length title) MOST_TITLE then Some title else None
 
 -- the title of a topic's body, where it is a text of its length
 unfoldable pub title_of : Data → Option (List ℕ)

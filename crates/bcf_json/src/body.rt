@@ -3,7 +3,7 @@ ghost use Rattle.std.specs.Prelude.{◌≡◌, codes, Option, option_map};
 ghost use Rattle.serde_json.specs.View.{view};
 ghost use Rattle.bcf_json.specs.Bodies.{is_there, title_of, asks_unbuilt, topic_body, IsReadAs};
 
-use bim_model::{Text, TopicBody};
+use bim_model::{MOST_TITLE, Text, TopicBody};
 use serde_json::Value;
 use std::alloc::Global;
 
@@ -70,7 +70,7 @@ fn title_of(tree: &Value) -> Option<&str>
     match tree.get("title") {
         Some(value) => match value.as_str() {
             Some(title) => {
-                if title.is_empty() || title.len() > 1024 {
+                if title.is_empty() || title.len() > MOST_TITLE {
                     None
                 } else {
                     Some(title)

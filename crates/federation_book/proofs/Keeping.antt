@@ -8,13 +8,12 @@ use Rattle.federation_book.specs.declared.types.Entry.{Entry}
 use Rattle.federation_book.specs.declared.types.Change.{Change}
 use Rattle.federation_book.specs.declared.types.Change.TheVariants.{PostTopic, Upload}
 use Rattle.federation_book.specs.declared.project.Project.{Project}
-use Rattle.bim_model.specs.Snapshots.{with_model}
+use Rattle.bim_model.specs.Snapshots.{Version}
 use Rattle.bim_model.specs.declared.element.Element.{Element}
-use Rattle.bim_model.specs.declared.named_model.NamedModel.{NamedModel}
 use Rattle.bim_model.specs.declared.topic.Topic.{Topic}
 use Rattle.bim_model.specs.declared.topic.TopicBody.{TopicBody}
 use Rattle.bim_model.specs.declared.topic.Author.{Author}
-use Rattle.federation_book.specs.History.{ProjectState, untouched, new_topic, named_model, state_of, newest_of, with_entry, with_change, IsBefore}
+use Rattle.federation_book.specs.History.{ProjectState, untouched, new_topic, named_model, with_upload, state_of, newest_of, with_entry, with_change, IsBefore}
 use Rattle.federation_book.specs.Kept.{state_kept, KeepStates, IsKept}
 
 pub kept_at : (n : ℕ) (ps : List Project) (j : List Entry) (k : ℕ) (d : Project) → KeepStates n ps j → k < length ps → state_kept (get_or ps k d) ≡ state_of (n + k) j
@@ -96,16 +95,16 @@ few_versions m j = let few = versions_after m untouched j in omega arith
 -- a topic is pushed to those of a project
 pub with_topic : (p : Project) (s : ProjectState) (topics : List Topic) (topic copy : Topic) (body : TopicBody) (author : Author) (weight : ℕ)
     → state_kept p ≡ s → topics ≡ p.topics ++ copy ∷ [] → copy ≡ topic → topic ≡ new_topic s.topics body author
-    → record { topics = topics; version = p.version; models = p.newest } ≡ with_change s (PostTopic body author weight)
-with_topic p s topics topic copy body author weight is grown same made = subst (λ (t : ProjectState). record { topics = topics; version = p.version; models = p.newest } ≡ with_change t (PostTopic body author weight)) is
+    → record { topics = topics; version = p.version; newest = p.newest } ≡ with_change s (PostTopic body author weight)
+with_topic p s topics topic copy body author weight is grown same made = subst (λ (t : ProjectState). record { topics = topics; version = p.version; newest = p.newest } ≡ with_change t (PostTopic body author weight)) is
     (let one : copy ≡ new_topic p.topics body author = same ∙ made ∙ ap (λ (t : ProjectState). new_topic t.topics body author) (sym is) in
-    ap (λ ts. (let r : ProjectState = record { topics = ts; version = p.version; models = p.newest } in r)) (grown ∙ ap (λ t. p.topics ++ t ∷ []) one))
+    ap (λ ts. (let r : ProjectState = record { topics = ts; version = p.version; newest = p.newest } in r)) (grown ∙ ap (λ t. p.topics ++ t ∷ []) one))
 
--- the next version has these models
-pub with_version : (p : Project) (s : ProjectState) (name : List ℕ) (model : List Element) (version : ℕ) (models : List NamedModel)
-    → state_kept p ≡ s → version ≡ s.version → models ≡ with_model (named_model name model) s.models
-    → record { topics = p.topics; version = version + 1; models = models } ≡ with_change s (Upload name model)
-with_version p s name model version models is count made =
-    ap (λ ts. (let r : ProjectState = record { topics = ts; version = version + 1; models = models } in r)) (ap (λ (t : ProjectState). t.topics) is)
-    ∙ ap (λ v. (let r : ProjectState = record { topics = s.topics; version = v + 1; models = models } in r)) count
-    ∙ ap (λ ms. (let r : ProjectState = record { topics = s.topics; version = s.version + 1; models = ms } in r)) made
+-- the next version is this one
+pub with_version : (p : Project) (s : ProjectState) (name : List ℕ) (model : List Element) (version : ℕ) (next : Version)
+    → state_kept p ≡ s → version ≡ s.version → next ≡ with_upload s.newest (named_model name model)
+    → record { topics = p.topics; version = version + 1; newest = next } ≡ with_change s (Upload name model)
+with_version p s name model version next is count made =
+    ap (λ ts. (let r : ProjectState = record { topics = ts; version = version + 1; newest = next } in r)) (ap (λ (t : ProjectState). t.topics) is)
+    ∙ ap (λ v. (let r : ProjectState = record { topics = s.topics; version = v + 1; newest = next } in r)) count
+    ∙ ap (λ n. (let r : ProjectState = record { topics = s.topics; version = s.version + 1; newest = n } in r)) made

@@ -1,2 +1,3 @@
 pub mod Keeping
 pub mod Histories
+pub mod Newest

@@ -2,7 +2,7 @@
 use Rattle.std.specs.Prelude.{ℕ, ◌+◌, ◌/◌, ◌<◌, ◌^◌, ◌&&◌, ◌==◌, ◌++◌, List, [], ◌∷◌, length, fold, filter, nat_lt, nat_le, All, AllPairs, if◌then◌else◌, Option, Some, None}
 use Rattle.bim_model.specs.Identifiers.{identifier}
 use Rattle.bim_model.specs.Models.{triangle_count}
-use Rattle.bim_model.specs.Snapshots.{with_model}
+use Rattle.bim_model.specs.Snapshots.{Version, with_model}
 use Rattle.bim_model.specs.declared.element.Element.{Element}
 use Rattle.bim_model.specs.declared.named_model.NamedModel.{NamedModel}
 use Rattle.bim_model.specs.declared.topic.Topic.{Topic}
@@ -50,22 +50,29 @@ project_of projects id =
 abbrev pub new_topic : List Topic → TopicBody → Author → Topic
 new_topic topics body author = record { serial = length topics + 1; body = body; created = author }
 
--- What follows of a history for a project: its topics, how many versions were made, and the models of the newest. Version 0 has no models.
+-- what follows of a history for a project: its topics, how many versions were made, and the newest of them
 pub record ProjectState : Type 0 where
   pub topics : List Topic
   pub version : ℕ
-  pub models : List NamedModel
+  pub newest : Version
 
+-- a project before its first change: version 0 has no models and no rules
 abbrev pub untouched : ProjectState
-untouched = record { topics = []; version = 0; models = [] }
+untouched = record { topics = []; version = 0; newest = record { models = []; rules = [] } }
 
 abbrev pub named_model : List ℕ → List Element → NamedModel
 named_model name model = record { name = name; model = model }
 
+-- a version with a model put in its place, under the same rules
+abbrev pub with_upload : Version → NamedModel → Version
+with_upload version model = record { models = with_model model version.models; rules = version.rules }
+
 -- a change of the project: a topic is made, or a model takes its place in the next version
 abbrev pub with_change : ProjectState → Change → ProjectState
-with_change s (change.PostTopic body author weight) = record { topics = s.topics ++ new_topic s.topics body author ∷ []; version = s.version; models = s.models }
-with_change s (change.Upload name model) = record { topics = s.topics; version = s.version + 1; models = with_model (named_model name model) s.models }
+with_change s (change.PostTopic body author weight) =
+    record { topics = s.topics ++ new_topic s.topics body author ∷ []; version = s.version; newest = s.newest }
+with_change s (change.Upload name model) =
+    record { topics = s.topics; version = s.version + 1; newest = with_upload s.newest (named_model name model) }
 
 abbrev pub with_entry : ℕ → ProjectState → Entry → ProjectState
 with_entry project s entry = if entry.project == project then with_change s entry.change else s
@@ -82,9 +89,9 @@ topics_of project history = (state_of project history).topics
 abbrev pub newest_of : ℕ → List Entry → ℕ
 newest_of project history = (state_of project history).version
 
--- the models of its newest version, by rising name
-abbrev pub models_of : ℕ → List Entry → List NamedModel
-models_of project history = (state_of project history).models
+-- its newest version: the models by rising name, and the rules
+abbrev pub snapshot_of : ℕ → List Entry → Version
+snapshot_of project history = (state_of project history).newest
 
 -- the reply to a request for a project's topics, by the project's number where there is one
 abbrev pub topic_list : List Entry → Option ℕ → ReplyBody
@@ -104,7 +111,7 @@ model_put history model (Some project) = reply.Changed (newest_of project histor
 -- the reply to a request for a project's newest version
 abbrev pub newest_version : List Entry → Option ℕ → ReplyBody
 newest_version history None = reply.Refused NoProject
-newest_version history (Some project) = reply.Version (newest_of project history) (newest_of project history) (models_of project history)
+newest_version history (Some project) = reply.Version (newest_of project history) (newest_of project history) (snapshot_of project history)
 
 abbrev pub body_of : ℕ → List Entry → BookRequest → ReplyBody
 body_of projects history (request.ListTopics id) = topic_list history (project_of projects id)

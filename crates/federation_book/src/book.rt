@@ -4,6 +4,7 @@ ghost use Rattle.bim_model.specs.Models.{triangle_count};
 ghost use Rattle.federation_book.specs.History.{body_of, reply_of, added_by, entry_of, state_of, topics_of, newest_of, new_topic, project_of, topic_list, newest_version, BookState, IsBefore, IsHistory};
 ghost use Rattle.federation_book.specs.Kept.{state_kept, IsKept, KeepStates};
 
+use crate::limits::MOST_PROJECTS;
 use crate::project::Project;
 use crate::types::{BookFault, BookReply, BookRequest, Change, Entry, ReplyBody};
 use bim_model::{Author, Duplicate, Model, Shared, Text, Topic, TopicBody, id_of};
@@ -153,14 +154,14 @@ fn upload(
     ensures err { OnErr result (entries.new.items ≡ entries.old.items) }
 {
     let alloc = *entries.allocator();
-    let models = kept_of(projects, entries, number).next_models(alloc, &name, &model)?;
+    let next = kept_of(projects, entries, number).next_version(alloc, &name, &model)?;
     let elements = model.get().elements().len() as u64;
     let triangles = model.get().triangle_count();
     entries.reserve(1)?;
     let version = kept_of(projects, entries, number).version + 1;
     let project = &mut projects[number as usize - 1];
     project.version = version;
-    project.newest = models;
+    project.newest = next;
     entries.push_reserved(Entry {
         stamp,
         project: number,
@@ -178,7 +179,7 @@ impl Book {
     /// A book of 1 to 8 projects, with nothing in it.
     pub fn new(alloc: Global, projects: u32) -> Result<Book, AllocError>
         requires low { 1 ≤ projects }
-        requires high { projects ≤ 8 }
+        requires high { projects ≤ MOST_PROJECTS }
         ensures { IfOk result (λ book. book ≡ record { projects = projects; journal = [] }) }
     {
         let mut kept = Vec::new(alloc);

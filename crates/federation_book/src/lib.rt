@@ -2,12 +2,14 @@
 #![tactic(auto)]
 
 mod book;
+mod limits;
 mod project;
 mod sequence;
 mod types;
 
 pub use book::Book;
 pub use book_turn::object::Stamp;
+pub use limits::MOST_PROJECTS;
 pub use types::{BookFault, BookReply, BookRequest, Change, Entry, ReplyBody, Wanted};
 
 #[cfg(test)]

@@ -1,11 +1,10 @@
 //! What the book keeps of each project.
 ghost use Rattle.std.specs.Prelude.{◌≡◌, ◌≤◌, ◌+◌, ◌++◌, ◌∷◌, [], List, IfOk, OnOk, OnErr};
-ghost use Rattle.federation_book.specs.History.{untouched, new_topic, named_model};
+ghost use Rattle.federation_book.specs.History.{untouched, new_topic, named_model, with_upload};
 ghost use Rattle.federation_book.specs.Kept.{state_kept};
-ghost use Rattle.bim_model.specs.Snapshots.{with_model};
 
 use bim_model::{
-    Author, Duplicate, Items, Model, NamedModel, Shared, Snapshot, Text, Topic, TopicBody,
+    Author, Duplicate, Items, Model, NamedModel, Rules, Shared, Snapshot, Text, Topic, TopicBody,
 };
 use std::alloc::{AllocError, Global};
 
@@ -16,19 +15,21 @@ pub struct Project {
     pub topics: Items<Topic>,
     /// The number of its newest version.
     pub version: u64,
-    /// The models of its newest version.
+    /// The models and the rules of its newest version.
     pub newest: Shared<Snapshot>,
 }
 
 impl Project {
     /// A project of which nothing was changed yet.
+    #[tactic(auto, using(crate::proofs::Newest::version_is))]
     pub fn new(alloc: Global) -> Result<Project, AllocError>
         ensures { IfOk result (λ made. state_kept made ≡ untouched) }
     {
+        let rules = Shared::new(alloc, Rules::new(alloc))?;
         Ok(Project {
             topics: Items::new(alloc),
             version: 0,
-            newest: Shared::new(alloc, Snapshot::new(alloc))?,
+            newest: Shared::new(alloc, Snapshot::new(alloc, rules))?,
         })
     }
 
@@ -48,20 +49,21 @@ impl Project {
         })
     }
 
-    /// The models of the version that an upload makes.
-    pub fn next_models(
+    /// The version that an upload makes: the model in its place, and the same rules.
+    #[tactic(auto, using(crate::proofs::Newest::version_is))]
+    pub fn next_version(
         &self,
         alloc: Global,
         name: &Text,
         model: &Shared<Model>,
     ) -> Result<Shared<Snapshot>, AllocError>
-        ensures { IfOk result (λ models. models ≡ with_model (named_model name.now model.now) self.now.newest) }
+        ensures { IfOk result (λ next. next ≡ with_upload self.now.newest (named_model name.now model.now)) }
     {
         let named = NamedModel {
             name: name.copy(alloc)?,
             model: model.share()?,
         };
-        let models = self.newest.get().with_model(alloc, named)?;
-        Shared::new(alloc, models)
+        let next = self.newest.get().with_model(alloc, named)?;
+        Shared::new(alloc, next)
     }
 }

@@ -182,6 +182,7 @@ fn try_version(
         } => {
             assert_eq!(rt; (*version, *newest), (wanted, wanted));
             are_named(rt, snapshot.get().models(), names);
+            assert_eq!(rt; snapshot.get().rules().list().len(), 0);
         }
         _ => assert!(rt; false),
     }
@@ -209,7 +210,7 @@ fn upload(
     let request = BookRequest::Upload {
         project,
         name: Text::of(alloc, name)?,
-        model: Shared::new(alloc, Model::from_vec(Vec::new(alloc)))?,
+        model: Shared::new(alloc, Model::of(alloc, Vec::new(alloc))?)?,
     };
     Ok(book.act(stamp(turn), request)?.body)
 }

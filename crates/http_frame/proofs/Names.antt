@@ -4,6 +4,7 @@ use Rattle.std.specs.List.{list_all}
 use Rattle.std.specs.Str.{IsUtf8, IsAscii, bytes_eq}
 use Rattle.std.proofs.lemmas.Str.{IsUtf8-from_ascii}
 use Rattle.std.proofs.lemmas.Grind.{common_steps}
+use Rattle.bim_model.specs.declared.limits.TheConstants.{MOST_NAME}
 use Rattle.http_frame.specs.declared.route.Route.{Route}
 use Rattle.http_frame.specs.Routes.{is_name_char, is_name, query_at, put_route, put_before, grid_mode, models_address}
 
@@ -25,7 +26,7 @@ all_low (b ∷ bs) e (suc i) = all_low bs (second (is_name_char b) (list_all is_
 
 pub name_is_text : (bs : List ℕ) → is_name bs ≡ true → IsUtf8 bs
 unfolding is_name
-name_is_text bs e = IsUtf8-from_ascii bs (all_low bs (second (nat_lt 0 (length bs) && nat_le (length bs) 64) (list_all is_name_char bs) e))
+name_is_text bs e = IsUtf8-from_ascii bs (all_low bs (second (nat_lt 0 (length bs) && nat_le (length bs) MOST_NAME) (list_all is_name_char bs) e))
 
 no_name : is_name [] ≡ false
 unfolding is_name

@@ -20,6 +20,8 @@ use Rattle.http_frame.specs.declared.route.Route.{Route}
 use Rattle.http_frame.specs.declared.route.Route.TheVariants.{MakeTopic, ListTopics, PutModel, NewestVersion}
 use Rattle.http_frame.specs.Routes.{route_of}
 use Rattle.http_frame.specs.Heads.{IsSimple, simple_length, length_asked, small_number, no_length, body_length, is_named}
+use Rattle.bim_model.specs.declared.limits.TheConstants.{MOST_UPLOAD}
+use Rattle.http_frame.specs.declared.limits.TheConstants.{MOST_BODY}
 use Rattle.http_frame.specs.Requests.{IsBlock, Begins, HasNoBlock, IsRefused, IsUnfinished, Frames, blank_line, most_head}
 use Rattle.http_frame.proofs.Framing.{occurs_front, occurs_whole}
 
@@ -178,11 +180,11 @@ two_by digits most true b f g n e = small digits most g.1 n e
 two_by digits most false true f g n e = small digits most f.1 n e
 two_by digits most false false f g n e = cc
 
-none_small : (fs : List (List ℕ × List ℕ)) (n : ℕ) → no_length fs ≡ Some n → n ≤ 33554432
+none_small : (fs : List (List ℕ × List ℕ)) (n : ℕ) → no_length fs ≡ Some n → n ≤ MOST_UPLOAD
 none_small [] n e = cc
 none_small (f ∷ []) n e = none_by (is_named (codes "host") f) n e
   where
-    none_by : (b : Bool) (n : ℕ) → (if b then Some 0 else None) ≡ Some n → n ≤ 33554432
+    none_by : (b : Bool) (n : ℕ) → (if b then Some 0 else None) ≡ Some n → n ≤ MOST_UPLOAD
     none_by true n e = let is : 0 ≡ n = cc in omega arith
     none_by false n e = cc
 none_small (f ∷ g ∷ fs) n e = cc
@@ -194,18 +196,18 @@ body_small digits most (f ∷ g ∷ []) n e =
     two_by digits most (is_named (codes "host") f && is_named (codes "content-length") g) (is_named (codes "content-length") f && is_named (codes "host") g) f g n e
 body_small digits most (f ∷ g ∷ h ∷ fs) n e = cc
 
-route_small : (route : Option Route) (fs : List (List ℕ × List ℕ)) (n : ℕ) → length_asked route fs ≡ Some n → n ≤ 33554432
+route_small : (route : Option Route) (fs : List (List ℕ × List ℕ)) (n : ℕ) → length_asked route fs ≡ Some n → n ≤ MOST_UPLOAD
 route_small None fs n e = cc
-route_small (Some MakeTopic) fs n e = let le = body_small 5 65536 fs n e in omega (arith, le)
+route_small (Some MakeTopic) fs n e = let le = body_small 5 MOST_BODY fs n e in omega (arith, le)
 route_small (Some ListTopics) fs n e = none_small fs n e
-route_small (Some (PutModel name mode)) fs n e = body_small 8 33554432 fs n e
+route_small (Some (PutModel name mode)) fs n e = body_small 8 MOST_UPLOAD fs n e
 route_small (Some NewestVersion) fs n e = none_small fs n e
 
-asked_by : (b : Bool) (route : Option Route) (fs : List (List ℕ × List ℕ)) (n : ℕ) → (if b then length_asked route fs else None) ≡ Some n → n ≤ 33554432
+asked_by : (b : Bool) (route : Option Route) (fs : List (List ℕ × List ℕ)) (n : ℕ) → (if b then length_asked route fs else None) ≡ Some n → n ≤ MOST_UPLOAD
 asked_by true route fs n e = route_small route fs n e
 asked_by false route fs n e = cc
 
-asked_small : (method target : List ℕ) (minor : ℕ) (fs : List (List ℕ × List ℕ)) (n : ℕ) → simple_length method target minor fs ≡ Some n → n ≤ 33554432
+asked_small : (method target : List ℕ) (minor : ℕ) (fs : List (List ℕ × List ℕ)) (n : ℕ) → simple_length method target minor fs ≡ Some n → n ≤ MOST_UPLOAD
 unfolding simple_length
 asked_small method target minor fs n e = asked_by (minor == 1) (route_of method target) fs n e
 

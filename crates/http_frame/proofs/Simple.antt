@@ -12,6 +12,8 @@ use Rattle.httparse.specs.Grammar.{RequestHead, ReadsRequest, IsToken, is_token_
 use Rattle.httparse.specs.Ascii.{space}
 use Rattle.httparse.specs.Outcome.{IsCompleteAnd}
 use Rattle.httparse.specs.Spans.{FindsRequest, IsRequestOf, IsRequestAt, IsRequestWithin, header_bytes, span_bytes, name_and_value}
+use Rattle.bim_model.specs.declared.limits.TheConstants.{MOST_UPLOAD}
+use Rattle.http_frame.specs.declared.limits.TheConstants.{MOST_BODY}
 use Rattle.http_frame.specs.declared.head.SimpleHead.{SimpleHead}
 use Rattle.http_frame.specs.declared.route.Route.{Route}
 use Rattle.http_frame.specs.declared.route.Route.TheVariants.{MakeTopic, ListTopics, PutModel, NewestVersion}
@@ -32,9 +34,9 @@ body_few digits most (f ∷ g ∷ h ∷ fs) n e = cc
 
 asked_few : (route : Option Route) (fs : List (List ℕ × List ℕ)) (n : ℕ) → length_asked route fs ≡ Some n → length fs ≤ 2
 asked_few None fs n e = cc
-asked_few (Some MakeTopic) fs n e = body_few 5 65536 fs n e
+asked_few (Some MakeTopic) fs n e = body_few 5 MOST_BODY fs n e
 asked_few (Some ListTopics) fs n e = none_few fs n e
-asked_few (Some (PutModel name mode)) fs n e = body_few 8 33554432 fs n e
+asked_few (Some (PutModel name mode)) fs n e = body_few 8 MOST_UPLOAD fs n e
 asked_few (Some NewestVersion) fs n e = none_few fs n e
 
 simple_by : (b : Bool) (route : Option Route) (fs : List (List ℕ × List ℕ)) (n : ℕ) → (if b then length_asked route fs else None) ≡ Some n → length fs ≤ 2

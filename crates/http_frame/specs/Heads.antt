@@ -6,6 +6,8 @@ use Rattle.std.specs.Str.{str_eq_ignore_ascii_case}
 use Rattle.std.specs.Str.Parse.{digits_value}
 use Rattle.httparse.specs.Grammar.{RequestHead, ReadsRequest}
 use Rattle.httparse.specs.Spans.{IsWithin, span_bytes, name_and_value}
+use Rattle.bim_model.specs.declared.limits.TheConstants.{MOST_UPLOAD}
+use Rattle.http_frame.specs.declared.limits.TheConstants.{MOST_BODY}
 use Rattle.http_frame.specs.declared.route.Route.{Route}
 use Rattle.http_frame.specs.declared.route.Route.TheVariants.{MakeTopic, ListTopics, PutModel, NewestVersion}
 use Rattle.http_frame.specs.declared.head.SimpleHead.{SimpleHead}
@@ -42,9 +44,9 @@ body_length digits most (f ∷ g ∷ h ∷ fs) = None
 
 -- the length of the body that the fields ask for: at most 65,536 bytes for a topic, and 33,554,432 for a model
 abbrev pub route_length : Route → List (List ℕ × List ℕ) → Option ℕ
-route_length MakeTopic fields = body_length 5 65536 fields
+route_length MakeTopic fields = body_length 5 MOST_BODY fields
 route_length ListTopics fields = no_length fields
-route_length (PutModel name mode) fields = body_length 8 33554432 fields
+route_length (PutModel name mode) fields = body_length 8 MOST_UPLOAD fields
 route_length NewestVersion fields = no_length fields
 
 abbrev pub length_asked : Option Route → List (List ℕ × List ℕ) → Option ℕ

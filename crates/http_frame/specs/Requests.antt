@@ -2,6 +2,7 @@
 use Rattle.std.specs.Prelude.{◌≡◌, ◌⊎◌, ℕ, ◌+◌, ◌-◌, ◌<◌, ◌≤◌, ◌++◌, List, [], ◌∷◌, length, take, Some, None, Result, Ok, Err, codes}
 use Rattle.memchr.specs.Find.{FindsNeedle}
 use Rattle.httparse.specs.Grammar.{RequestHead}
+use Rattle.http_frame.specs.declared.limits.TheConstants.{MOST_HEAD}
 use Rattle.http_frame.specs.declared.head.SimpleHead.{SimpleHead}
 use Rattle.http_frame.specs.declared.framer.HttpRequest.{HttpRequest}
 use Rattle.http_frame.specs.declared.framer.FrameStep.{FrameStep}
@@ -18,7 +19,7 @@ blank_line = 13 ∷ 10 ∷ 13 ∷ 10 ∷ []
 
 -- the most bytes of a block
 abbrev pub most_head : ℕ
-most_head = 16384
+most_head = MOST_HEAD
 
 -- bytes that end in their first blank line
 pub record IsBlock (block : List ℕ) : Type 0 where

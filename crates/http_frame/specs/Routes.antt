@@ -6,6 +6,7 @@ use Rattle.std.specs.Char.{is_ascii_alphanumeric}
 use Rattle.std.specs.Str.{IsUtf8, bytes_eq}
 use Rattle.httparse.specs.declared.spans.Span.{Span}
 use Rattle.httparse.specs.Spans.{IsWithin, span_bytes}
+use Rattle.bim_model.specs.declared.limits.TheConstants.{MOST_NAME}
 use Rattle.bim_model.specs.declared.upload.Mode.{Mode}
 use Rattle.bim_model.specs.declared.upload.Mode.TheVariants.{Exact, Snap}
 use Rattle.http_frame.specs.declared.route.Route.{Route}
@@ -33,7 +34,7 @@ is_name_char byte = is_ascii_alphanumeric byte || byte == 95 || byte == 46 || by
 
 -- 1 to 64 such characters
 unfoldable pub is_name : List ℕ → Bool
-is_name text = nat_lt 0 (length text) && nat_le (length text) 64 && list_all is_name_char text
+is_name text = nat_lt 0 (length text) && nat_le (length text) MOST_NAME && list_all is_name_char text
 
 -- a question mark
 abbrev pub begins_query : ℕ → Bool

@@ -4,6 +4,7 @@ ghost use Rattle.httparse.specs.Spans.{IsWithin, span_bytes};
 ghost use Rattle.http_frame.specs.Requests.{Frames, IsLook, IsBlock, IsWhole, Begins};
 
 use crate::head::{SimpleHead, simple_head};
+use crate::limits::MOST_HEAD;
 use bim_model::{Bytes, Text};
 use memchr::memmem;
 use std::alloc::{AllocError, Global};
@@ -52,8 +53,6 @@ pub enum Look {
     /// A whole request: the length of its block, and its head.
     Whole(usize, SimpleHead),
 }
-
-const MOST_HEAD: usize = 16_384;
 
 /// Looks at the front of the bytes.
 fn look_at(bytes: &[u8]) -> Look

@@ -6,7 +6,9 @@ ghost use Rattle.httparse.specs.Grammar.{RequestHead};
 ghost use Rattle.httparse.specs.Spans.{IsHeaderWithin, IsWithin, header_bytes, span_bytes};
 ghost use Rattle.http_frame.specs.Heads.{small_number, is_named, no_length, body_length, length_of_two, route_length, simple_length, begins_blank, IsSimple, Finds};
 
+use crate::limits::MOST_BODY;
 use crate::route::{Route, route_of};
+use bim_model::MOST_UPLOAD;
 use httparse::Status;
 use httparse::spans::{EMPTY_HEADER_SPAN, HeaderSpan, RequestSpans, Span, parse_request};
 
@@ -101,9 +103,9 @@ fn route_length(route: Route, block: &[u8], headers: &[HeaderSpan]) -> Option<us
     ensures { result ≡ route_length route (map (header_bytes block.now) headers.now) }
 {
     match route {
-        Route::MakeTopic => body_length(5, 65_536, block, headers),
+        Route::MakeTopic => body_length(5, MOST_BODY, block, headers),
         Route::ListTopics => no_length(block, headers),
-        Route::PutModel { .. } => body_length(8, 33_554_432, block, headers),
+        Route::PutModel { .. } => body_length(8, MOST_UPLOAD, block, headers),
         Route::NewestVersion => no_length(block, headers),
     }
 }

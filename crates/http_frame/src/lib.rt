@@ -4,11 +4,13 @@
 mod framer;
 mod head;
 mod laws;
+mod limits;
 mod route;
 
 pub use framer::{FrameError, FrameFault, FrameStep, Framer, HttpRequest, Look};
 pub use head::{SimpleHead, simple_head};
 pub use laws::{bytes_have_one_reading, readings_exclude_each_other};
+pub use limits::{MOST_BODY, MOST_HEAD};
 pub use route::{Route, route_of};
 
 #[cfg(test)]

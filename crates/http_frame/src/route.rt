@@ -4,7 +4,7 @@ ghost use Rattle.std.specs.List.{list_all, position};
 ghost use Rattle.std.specs.Str.{bytes_eq};
 ghost use Rattle.http_frame.specs.Routes.{is_name_char, is_name, begins_query, query_at, grid_mode, put_route, topics_route, newest_route, model_route, route_of, NamesText};
 
-use bim_model::Mode;
+use bim_model::{MOST_NAME, Mode};
 use httparse::spans::Span;
 
 /// What a request asks for.
@@ -56,7 +56,7 @@ fn are_name_chars(text: &[u8]) -> bool
 fn is_name(text: &[u8]) -> bool
     ensures { result ≡ is_name text.now }
 {
-    !text.is_empty() && text.len() <= 64 && are_name_chars(text)
+    !text.is_empty() && text.len() <= MOST_NAME && are_name_chars(text)
 }
 
 fn question_at(target: &[u8]) -> Option<usize>
