@@ -9,6 +9,7 @@ use Rattle.p21_reader.specs.declared.value.Instance.{Instance}
 use Rattle.ifc_instances.specs.Looking.{look}
 use Rattle.ifc_instances.specs.Values.{reference_of}
 use Rattle.ifc_instances.specs.Attributes.{led_to}
+use Rattle.ifc_instances.proofs.LedTo.{led_more, led_parts}
 use Rattle.faceset.proofs.Anys.{any_left, any_right, all_not, not_any}
 
 -- Something of each face, searched value by value.

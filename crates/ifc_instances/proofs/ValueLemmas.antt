@@ -1,4 +1,4 @@
--- What values, options and tests say of one thing.
+-- What values and options say of one thing.
 use Rattle.std.proofs.Common.{◌≡◌, ℕ, Bool, true, false, Option, Some, sym, ◌∙◌}
 use Rattle.std.proofs.lemmas.Option.{same_Some}
 use Rattle.p21_reader.specs.declared.value.Value21.{Value21}
@@ -10,10 +10,6 @@ use Rattle.ifc_instances.specs.Values.{reference_in, absent_in, reference_of, is
 -- what is there is one thing
 pub one : {X : Type 0} (o : Option X) (a b : X) → o ≡ Some a → o ≡ Some b → a ≡ b
 one o a b e f = same_Some a b (sym e ∙ f)
-
--- a test has one answer
-pub unlike : (b : Bool) → b ≡ true → b ≡ false → ⊥
-unlike b e f = cc
 
 -- A value that is absent is no reference.
 

@@ -3,6 +3,7 @@ use Rattle.std.proofs.Common.{◌≡◌, ℕ, ◌+◌, ◌<◌, ◌≤◌, ◌�
 use Rattle.std.proofs.lemmas.List.{get_or_default, get_or-append-add}
 use Rattle.std.proofs.Math.ListN.{get_or-append}
 use Rattle.std.proofs.lemmas.List.Elements.{Contains-append_left, Contains-push, Contains-push_cases}
+use Rattle.ifc_instances.proofs.Rising.{below_next}
 use Rattle.p21_reader.specs.declared.value.Instance.{Instance}
 use Rattle.p21_reader.specs.Uploads.{Rises}
 use Rattle.ifc_schema.specs.declared.flaw.Flaw.{Flaw}
@@ -69,19 +70,16 @@ below_on : (world : List Instance) (at : ℕ) (P : ℕ → Type 0) (id : ℕ) �
 below_on world at P id b = record { place = b.place; below = let l = b.below in omega arith; there = b.there; holds = b.holds }
 
 below_last : (world : List Instance) (at : ℕ) (P : ℕ → Type 0) (id : ℕ) → Below world (at + 1) P id → (Below world at P id) ⊎ (IsPlaceOf world id at × P id)
-below_last world at P id b = elim (last b.place at b.below) [
+below_last world at P id b = elim (below_next b.place at b.below) [
   | inl l ↦ inl (record { place = b.place; below = l; there = b.there; holds = b.holds })
   | inr e ↦ inr (subst (IsPlaceOf world id) e b.there, b.holds)
 ]
-  where
-    last : (k n : ℕ) → k < n + 1 → (k < n) ⊎ (k ≡ n)
-    last k n h = grind arith
 
 -- one more number
 pub lists_more : (world : List Instance) (at id : ℕ) (P : ℕ → Type 0) (ids : List ℕ) → Rises world → IsPlaceOf world id at → P id
     → Lists (Below world at P) ids → Lists (Below world (at + 1) P) (ids ++ id ∷ [])
 lists_more world at id P ids rises p h ls = record {
-  rises = λ k l. elim (last k (length ids) (let e = length-append ids (id ∷ []) in omega arith)) [
+  rises = λ k l. elim (below_next (k + 1) (length ids) (let e = length-append ids (id ∷ []) in omega arith)) [
     | inl lt ↦ (
         let a = get_or-append ids (id ∷ []) 0 k (omega arith) in
         let b = get_or-append ids (id ∷ []) 0 (k + 1) lt in
@@ -103,9 +101,6 @@ lists_more world at id P ids rises p h ls = record {
   ];
 }
   where
-    last : (k n : ℕ) → k + 1 < n + 1 → (k + 1 < n) ⊎ (k + 1 ≡ n)
-    last k n h = grind arith
-
     seam : (ids : List ℕ) (id : ℕ) → get_or (ids ++ id ∷ []) (length ids) 0 ≡ id
     seam ids id = (let e = get_or-append-add ids (id ∷ []) 0 0 in ap (λ j. get_or (ids ++ id ∷ []) j 0) (zero_more (length ids)) ∙ e)
       where

@@ -20,14 +20,10 @@ use Rattle.ifc_schema.specs.Used.{Used}
 use Rattle.ifc_schema.specs.StageFive.{is_subject}
 use Rattle.ifc_instances.specs.Attributes.{target_at, led_to}
 use Rattle.model_build.specs.Items.{bodies, listed_by}
-use Rattle.model_build.proofs.Keywords.{is_shape, is_element, is_a_held}
+use Rattle.model_build.proofs.Keywords.{is_shape, is_element, is_a_held, both}
 use Rattle.model_build.proofs.Attributes.{in_row}
 use Rattle.model_build.proofs.Shaped.{one_used, listed_there}
 use Rattle.model_build.proofs.Listed.{list_used}
-
-pub both : (a b : Bool) → (a && b) ≡ true → (a ≡ true) × (b ≡ true)
-both true b h = (refl, h)
-both false b h = cc
 
 -- a value refers to an instance that passes the test
 pub record Passed (world : List Instance) (test : Instance → Bool) (v : Value21) : Type 0 where

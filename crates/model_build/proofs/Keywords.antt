@@ -1,5 +1,5 @@
 -- The entities of instances: no two entities share a keyword.
-use Rattle.std.proofs.Common.{◌≡◌, ℕ, Bool, true, false, ◌||◌, List, [], ◌∷◌, Option, Some, None, codes, option_and_then, refl, ap, ◌∙◌}
+use Rattle.std.proofs.Common.{◌≡◌, ℕ, Bool, true, false, ◌&&◌, ◌||◌, List, [], ◌∷◌, Option, Some, None, codes, option_and_then, refl, ap, ◌∙◌}
 use Rattle.std.specs.Str.{bytes_eq}
 use Rattle.std.proofs.lemmas.Slice.Eq.{bytes_eq-Decides}
 use Rattle.p21_reader.specs.declared.value.Instance.{Instance}
@@ -10,6 +10,10 @@ use Rattle.ifc_instances.specs.Entities.{is_of, entity_of, keywords_of}
 use Rattle.ifc_schema.specs.Forms.{holds}
 use Rattle.ifc_instances.specs.Looking.{entity_at, is_a, is_keyword_of}
 use Rattle.ifc_schema.specs.StageFive.{is_subject}
+
+pub both : (a b : Bool) → (a && b) ≡ true → (a ≡ true) × (b ≡ true)
+both true b h = (refl, h)
+both false b h = cc
 
 first_true : (b : Bool) → (b || false) ≡ true → b ≡ true
 first_true true h = refl

@@ -35,7 +35,7 @@ use Rattle.model_build.specs.declared.lack.Lack.TheVariants.{Beyond, Unready}
 use Rattle.ifc_instances.proofs.ValueLemmas.{one}
 use Rattle.model_build.proofs.OneSet.{same_triangle}
 use Rattle.model_build.proofs.OneSurface.{same_map}
-use Rattle.model_build.proofs.Leasts.{earlier}
+use Rattle.ifc_instances.proofs.Rising.{earlier}
 use Rattle.model_build.proofs.Tables.{zipped_at}
 
 -- what is said of a result

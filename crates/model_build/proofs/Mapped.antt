@@ -4,6 +4,7 @@ use Rattle.std.specs.Bool.{MatchBool}
 use Rattle.std.specs.Option.{MatchOption, IfSome, IfNone}
 use Rattle.std.proofs.Math.Bool.{beq}
 use Rattle.std.proofs.lemmas.Bool.{eqb-true}
+use Rattle.model_build.proofs.Keywords.{both}
 use Rattle.bim_model.specs.declared.upload.Mode.{Mode}
 use Rattle.p21_reader.specs.declared.value.Value21.{Value21}
 use Rattle.p21_reader.specs.declared.value.Instance.{Instance}
@@ -22,7 +23,7 @@ use Rattle.model_build.specs.Unsupported.{IsNotOne, IsTurned, IsAway, IsOtherOri
 use Rattle.model_build.specs.Showing.{lesser, ItemShows, NamesNoTarget}
 use Rattle.placement.proofs.OneFrame.{one_axes, same_axes}
 use Rattle.model_build.proofs.Lesser.{same_least, lesser_least}
-use Rattle.model_build.proofs.Others.{no_finding, finding}
+use Rattle.model_build.proofs.Others.{finding}
 
 target_least : (world : List Instance) (item : Instance) (found : Option ℕ) → MatchOption found ((id : ℕ) → NamesNoTarget world item id → ⊥) (NamesNoTarget world item) → LeastOf (NamesNoTarget world item) found
 target_least world item None h = h
@@ -71,10 +72,6 @@ not_one v bytes (Some k) false e t some none = λ h. (
 -- the test of the code whether axes are those of the grid
 abbrev pub is_plain : Axes → Bool
 is_plain a = ((a.x.direction == 0) && beq a.x.negative false) && (((a.y.direction == 1) && beq a.y.negative false) && ((a.z.direction == 2) && beq a.z.negative false))
-
-both : (a b : Bool) → (a && b) ≡ true → (a ≡ true) × (b ≡ true)
-both true b h = (refl, h)
-both false b h = cc
 
 abbrev axis : ℕ → Bool → Axis
 axis d n = record { direction = d; negative = n }

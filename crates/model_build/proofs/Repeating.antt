@@ -1,6 +1,6 @@
 -- How the first global identifier that stands twice is found.
 use Rattle.std.proofs.Common.{◌≡◌, ℕ, ◌+◌, ◌<◌, ◌≤◌, ◌⊎◌, inl, inr, Bool, true, false, cond, List, length, get_or, Some, Contains, refl, sym, ap, ◌∙◌, subst, arith}
-use Rattle.std.proofs.lemmas.Bool.{cases_Bool}
+use Rattle.std.proofs.lemmas.Bool.{cases_Bool, both_ways}
 use Rattle.std.specs.Ordering.{nat_cmp, is_eq}
 use Rattle.std.specs.Cmp.Lexicographic.{slice_cmp}
 use Rattle.std.specs.declared.cmp.Ordering.{Ordering}
@@ -11,7 +11,6 @@ use Rattle.std.proofs.lemmas.List.{get_or_default}
 use Rattle.std.proofs.lemmas.List.Kept.{AllPairs-from_increasing}
 use Rattle.std.proofs.lemmas.List.Elements.{Contains-get_or}
 use Rattle.std.proofs.lemmas.Map.Lookups.{exact_bytes}
-use Rattle.ifc_instances.proofs.ValueLemmas.{unlike}
 use Rattle.p21_reader.specs.declared.value.Instance.{Instance}
 use Rattle.ifc_instances.proofs.Rising.{earlier, below_next}
 use Rattle.model_build.specs.Texts.{guid_of, HasGuid, RepeatsGuid, IsIdentified, HasNoGuid, NoneRepeats, IsFirstRepeated}
@@ -94,7 +93,7 @@ searched_more world ids at id guid old new up lt is given c u s =
       ];
       none = λ k l r. elim (below_next k at l) [
         | inl m ↦ s.none k m r
-        | inr e ↦ unlike (contains by_bytes old guid) (s.all guid (repeats_earlier world ids at guid up lt here (subst (λ n. RepeatsGuid world (Contains ids) (get_or ids n 0)) e r))) c
+        | inr e ↦ both_ways (contains by_bytes old guid) c (s.all guid (repeats_earlier world ids at guid up lt here (subst (λ n. RepeatsGuid world (Contains ids) (get_or ids n 0)) e r)))
       ];
     }
 

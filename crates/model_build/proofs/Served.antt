@@ -24,10 +24,10 @@ use Rattle.model_build.specs.Items.{bodies, spelled_items, items_of, body_items,
 use Rattle.model_build.specs.Unsupported.{IsUnsupported}
 use Rattle.model_build.specs.Faces.{HasManyCorners, is_face}
 use Rattle.model_build.specs.Least.{IsVoided}
-use Rattle.model_build.proofs.Keywords.{is_a_held}
+use Rattle.model_build.proofs.Keywords.{is_a_held, both}
 use Rattle.model_build.proofs.Attributes.{Shaped, Refers, SpellsWhole}
 use Rattle.model_build.proofs.Shaped.{ThreeOf, listed_there, listed_some, triangles_whole, three_values}
-use Rattle.model_build.proofs.Bodied.{both, UsedAs, IsBody, led_each, bodies_used, bodies_some}
+use Rattle.model_build.proofs.Bodied.{UsedAs, IsBody, led_each, bodies_used, bodies_some}
 use Rattle.model_build.proofs.Listed.{either, is_map, item_meant, face_meant, stands_in, list_used, NamesUsedOne, faces_used, faces_some, corners_some, map_used, target_there, target_used, representation_used, items_attribute, items_row, HasItems, items_there}
 
 -- nothing is unsupported

@@ -34,8 +34,8 @@ use Rattle.ifc_instances.specs.Attributes.{listed, reference_at}
 use Rattle.faceset.specs.Sets.{spelled_triangles, HasThree}
 use Rattle.model_build.specs.Finding.{IsUsed}
 use Rattle.model_build.specs.Texts.{guid_of}
-use Rattle.model_build.proofs.Keywords.{is_storey, is_placement, is_axis_placement, is_point, is_direction, is_point_list, is_face_set, is_element, is_a_held}
-use Rattle.model_build.proofs.Attributes.{Shaped, Formed, formed_there, At, OrAway, in_row, attribute_flaw, must_at, absent_at, at_more, away_more, SpellsNumber, SpellsWhole, SpellsText, RefersToA, number_spelled, whole_spelled, text_spelled, referred, ListOf, list_there, list_more, follows}
+use Rattle.model_build.proofs.Keywords.{is_placement, is_axis_placement, is_point, is_direction, is_point_list, is_face_set, is_element, is_a_held, both}
+use Rattle.model_build.proofs.Attributes.{Shaped, Formed, formed_there, At, OrAway, in_row, attribute_flaw, must_at, absent_at, at_more, SpellsNumber, SpellsWhole, RefersToA, number_spelled, whole_spelled, referred, ListOf, list_there, list_more, follows}
 
 -- Values.
 
@@ -266,10 +266,6 @@ unfolding says_guid
 guid_from v None e h = cc
 guid_from v (Some words) e h = record { words = words; spelled = e; guid = says (is_guid (text_of_spelling words)) refl h }
   where
-    both : (a b : Bool) → (a && b) ≡ true → (a ≡ true) × (b ≡ true)
-    both true b h = (refl, h)
-    both false b h = cc
-
     says : (b : Bool) → is_guid (text_of_spelling words) ≡ b → None ≡ bad_unless b → IsGuid (text_of_spelling words)
     says true e h = let t = both (length (text_of_spelling words) == 22) (list_all is_guid_char (text_of_spelling words)) e in (eqb-true (length (text_of_spelling words)) 22 t.0, t.1)
     says false e h = cc

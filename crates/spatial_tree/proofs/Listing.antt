@@ -1,10 +1,10 @@
 -- How storeys are listed, and the first fault is found.
 use Rattle.std.proofs.Common.{◌≡◌, ℕ, ◌+◌, ◌<◌, ◌≤◌, inl, inr, Bool, true, false, List, [], ◌∷◌, ◌++◌, length, get_or, Contains, sym, ap, ◌∙◌, subst, arith}
+use Rattle.std.proofs.lemmas.Bool.{both_ways}
 use Rattle.std.specs.List.Sorted.{IsPermutation}
 use Rattle.std.proofs.lemmas.Option.{slice_get-get_or, slice_get_within, get_or_from_slice_get}
 use Rattle.std.proofs.lemmas.List.Sorted.{Contains-permutation, IsPermutation-sym}
 use Rattle.std.proofs.lemmas.List.Elements.{Contains-append_left, Contains-push, Contains-push_cases}
-use Rattle.ifc_instances.proofs.ValueLemmas.{unlike}
 use Rattle.p21_reader.specs.declared.value.Instance.{Instance}
 use Rattle.ifc_instances.specs.declared.entity.Entity.TheVariants.{Storey}
 use Rattle.ifc_instances.specs.Looking.{is_a}
@@ -14,7 +14,7 @@ use Rattle.spatial_tree.specs.declared.mark.Mark.TheVariants.{Looped}
 use Rattle.spatial_tree.specs.Marks.{mark_at}
 use Rattle.spatial_tree.specs.Trees.{ListsStoreyIds}
 use Rattle.spatial_tree.specs.Faults.{IsFaulty}
-use Rattle.spatial_tree.proofs.Adding.{AnyBefore, before_none, before_more, before_kept, before_here, any_from_before, before_from_any}
+use Rattle.spatial_tree.proofs.Adding.{AnyBefore, before_more, before_kept, before_here, any_from_before, before_from_any}
 
 abbrev pub IsStoreyOfId : ℕ → Instance → Type 0
 IsStoreyOfId id i = (i.id ≡ id) × (is_a Storey i ≡ true)
@@ -41,9 +41,10 @@ ids_passed world at i xs lt is k b = record {
   sound = λ id c. before_kept (IsStoreyOfId id) world at (b.sound id c);
   all = λ id a. elim (before_more (IsStoreyOfId id) world at i lt is a) [
     | inl h ↦ b.all id h
-    | inr h ↦ absurd (unlike (is_a Storey i) h.1 k)
+    | inr h ↦ absurd (both_ways (is_a Storey i) k h.1)
   ];
 }
+
 pub ids_all : (world : List Instance) (at : ℕ) (xs ys : List ℕ) → length world ≤ at → IsPermutation xs ys → IdsBefore world at xs → ListsStoreyIds world ys
 ids_all world at xs ys l p b = record {
   sound = λ id c. any_from_before (IsStoreyOfId id) world at (b.sound id (Contains-permutation ys xs id (IsPermutation-sym xs ys p) c));
@@ -54,9 +55,10 @@ ids_all world at xs ys l p b = record {
 
 pub not_faulty : (steps : List Step) (marks : List Mark) (at : ℕ) (d : Step) → (get_or steps at d).torn ≡ false → (mark_at marks at ≡ Looped → ⊥) → IsFaulty steps marks at → ⊥
 not_faulty steps marks at d t m f = elim f.wrong [
-  | inl i ↦ unlike (get_or steps at d).torn (ap (λ (s : Step). s.torn) (get_or_from_slice_get steps at f.step d f.there) ∙ i) t
+  | inl i ↦ both_ways (get_or steps at d).torn t (ap (λ (s : Step). s.torn) (get_or_from_slice_get steps at f.step d f.there) ∙ i)
   | inr e ↦ m e
 ]
+
 pub none_faulty : (steps : List Step) (marks : List Mark) (count : ℕ) → length steps ≤ count → ((k : ℕ) → k < count → IsFaulty steps marks k → ⊥) → (k : ℕ) → IsFaulty steps marks k → ⊥
 none_faulty steps marks count l n k f = n k (let b = slice_get_within steps k f.step f.there in omega arith) f
 

@@ -1,5 +1,6 @@
 -- How the table of objects and their steps is made.
 use Rattle.std.proofs.Common.{◌≡◌, ℕ, ◌+◌, ◌<◌, ◌||◌, ◌⊎◌, inl, inr, Bool, true, false, nat_eq, List, [], ◌∷◌, ◌++◌, length, get_or, Contains, Option, Some, None, MatchOption, refl, sym, ◌∙◌, subst}
+use Rattle.std.proofs.lemmas.Bool.{both_ways}
 use Rattle.std.specs.List.Retain.{IsFiltered, DiffersFromLast}
 use Rattle.std.specs.List.Sorted.{IsStrictlyIncreasing, IsSorted, IsPermutation}
 use Rattle.std.specs.Ordering.{nat_cmp}
@@ -9,7 +10,7 @@ use Rattle.std.proofs.lemmas.List.Sorted.{Contains-permutation}
 use Rattle.std.proofs.lemmas.List.{get_or_default}
 use Rattle.std.proofs.lemmas.Map.Keys.{IsStrictlyIncreasing-dedup}
 use Rattle.std.proofs.lemmas.List.Elements.{Contains-append_left, Contains-push}
-use Rattle.ifc_instances.proofs.ValueLemmas.{unlike}
+use Rattle.std.proofs.lemmas.Option.{same_Some}
 use Rattle.spatial_tree.specs.declared.link.Link.{Link}
 use Rattle.spatial_tree.specs.declared.only.Only.{Only}
 use Rattle.spatial_tree.specs.declared.step.Step.{Step}
@@ -47,9 +48,6 @@ IsMade storeys objects (Some next) step = IsPlaceIn objects next step.up × (((s
 no_some : (o : Option ℕ) (n : ℕ) → o ≡ None → o ≡ Some n → ⊥
 no_some o n e f = cc
 
-same : (b c : ℕ) → Some b ≡ Some c → b ≡ c
-same b c e = cc
-
 pub made : (containers wholes : List Link) (storeys objects : List ℕ) (object : ℕ) (c w : Only) (next : Option ℕ) (step : Step)
     → Counts (Has containers object) c → Counts (Has wholes object) w → step.torn ≡ (is_several c || is_several w) → next ≡ next_in c w → IsMade storeys objects next step
     → IsStepOf (NextIn containers wholes) (TornIn containers wholes) (Contains storeys) objects object step
@@ -59,16 +57,16 @@ made containers wholes storeys objects object c w next step cc' cw t e m =
     or_true : (a b r : Bool) → r ≡ (a || b) → r ≡ true → (a ≡ true) ⊎ (b ≡ true)
     or_true true b r e i = inl refl
     or_true false true r e i = inr refl
-    or_true false false r e i = absurd (unlike r i e)
+    or_true false false r e i = absurd (both_ways r e i)
 
     left : (a b r : Bool) → r ≡ (a || b) → a ≡ true → r ≡ true
     left true b r e i = e
-    left false b r e i = absurd (unlike false i refl)
+    left false b r e i = absurd (both_ways false refl i)
 
     right : (a b r : Bool) → r ≡ (a || b) → b ≡ true → r ≡ true
     right true b r e i = e
     right false true r e i = e
-    right false false r e i = absurd (unlike false i refl)
+    right false false r e i = absurd (both_ways false refl i)
 
     torn : step.torn ≡ true → TornIn containers wholes object
     torn i = elim (or_true (is_several c) (is_several w) step.torn t i) [ inl a ↦ inl (several_two (Has containers object) c cc' a) | inr b ↦ inr (several_two (Has wholes object) w cw b) ]
@@ -95,7 +93,7 @@ made containers wholes storeys objects object c w next step cc' cw t e m =
       up = λ at e. (let p = subst (λ o. IsPlaceIn objects next o) e m.0 in (p.0, subst (λ x. NextIn containers wholes object x) (sym p.1) n));
       place = λ above x. subst (λ y. IsPlaceIn objects y step.up) (next_once (Has containers) (Has wholes) object next above n x) m.0;
       storey = λ s e. elim m.1 [
-        | inl h ↦ (let q = same next s (sym h.0 ∙ e) in (subst (λ x. NextIn containers wholes object x) q n, subst (λ x. Contains storeys x) q h.1))
+        | inl h ↦ (let q = same_Some next s (sym h.0 ∙ e) in (subst (λ x. NextIn containers wholes object x) q n, subst (λ x. Contains storeys x) q h.1))
         | inr h ↦ absurd (no_some step.storey s h.0 e)
       ];
       other = λ e above x y. elim m.1 [

@@ -3,6 +3,7 @@ use Rattle.std.proofs.Common.{◌≡◌, ◌≢◌, ℕ, ◌+◌, ◌<◌, ◌�
 use Rattle.std.proofs.lemmas.List.{get_or_append_left, get_or_push}
 use Rattle.std.proofs.lemmas.List.Elements.{Contains-append_left, Contains-push}
 use Rattle.std.proofs.lemmas.List.Sums.{sum_by-set}
+use Rattle.std.proofs.lemmas.Option.{same_Some}
 use Rattle.ifc_instances.proofs.Rising.{below_next}
 use Rattle.spatial_tree.specs.declared.step.Step.{Step}
 use Rattle.spatial_tree.specs.declared.mark.Mark.{Mark}
@@ -113,19 +114,16 @@ climb_goes_on steps old marks way start at next after w size c is m =
         | inl s ↦ on_way_seen (mark_at (set marks at OnWay) start) s.1
         | inr n ↦ elim c.started [
           | inl h ↦ (λ f. h (sym n.1 ∙ f))
-          | inr e ↦ absurd (n.0 (same start at (sym e ∙ is)))
+          | inr e ↦ absurd (n.0 (same_Some start at (sym e ∙ is)))
         ]
       ]);
     }
   where
-    same : (b c : ℕ) → Some b ≡ Some c → b ≡ c
-    same b c e = cc
-
     going : (steps : List Step) (marks : List Mark) (way : List ℕ) (at up : ℕ) (after : Option ℕ) → AreWithin steps → after ≡ Some up
         → MatchOption after ((up : ℕ) → Goes steps at up → mark_at marks up ≢ Unseen) (λ up. Goes steps at up × (mark_at marks up ≡ Unseen)) → Ahead steps marks (way ++ at ∷ []) up
     going steps marks way at up None w e m = absurd cc
     going steps marks way at up (Some v) w e m =
-        let s : v ≡ up = same v up e in
+        let s : v ≡ up = same_Some v up e in
         let g = subst (λ n. Goes steps at n) s m.0 in
         record {
           within = w at up g;

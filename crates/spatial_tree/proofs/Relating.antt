@@ -1,6 +1,7 @@
 -- What an instance relates.
 use Rattle.std.proofs.Common.{◌≡◌, ℕ, inl, inr, true, List, Some, Result, Ok, Err, OnOk, Any, option_and_then, sym, ap, ◌∙◌, subst}
 use Rattle.std.specs.List.{slice_get}
+use Rattle.std.proofs.lemmas.Option.{same_Some}
 use Rattle.p21_reader.specs.declared.value.Value21.{Value21}
 use Rattle.p21_reader.specs.declared.value.Instance.{Instance}
 use Rattle.ifc_instances.specs.declared.entity.Entity.{Entity}
@@ -22,20 +23,14 @@ relates_added entity many one i items above xs ys k l r a = record {
   all = λ o u h. a.all o u (pairs o u h);
 }
   where
-    same_items : (xs ys : List Value21) → Some xs ≡ Some ys → xs ≡ ys
-    same_items xs ys e = cc
-
-    same : (b c : ℕ) → Some b ≡ Some c → b ≡ c
-    same b c e = cc
-
     relates : (o u : ℕ) → Pairs items above o u → Relates entity many one i o u
     relates o u p = record { kind = k; items = items; lists = l; listed = (p.0, p.1, p.2, p.3, p.4.0); refers = r ∙ ap Some (sym p.4.1) }
 
     pairs : (o u : ℕ) → Relates entity many one i o u → Pairs items above o u
     pairs o u h =
-        let e = same_items h.items items (sym h.lists ∙ l) in
+        let e = same_Some h.items items (sym h.lists ∙ l) in
         let t = subst (λ xs. Any (λ v. reference_of v ≡ Some o) xs) e h.listed in
-        (t.0, t.1, t.2, t.3, (t.4, same u above (sym h.refers ∙ r)))
+        (t.0, t.1, t.2, t.3, (t.4, same_Some u above (sym h.refers ∙ r)))
 
 pub on_ok_map : {A E : Type 0} (P Q : Type 0) → (P → Q) → (r : Result A E) → OnOk r P → OnOk r Q
 on_ok_map P Q f (Ok x) h = f h

@@ -1,6 +1,7 @@
 -- Ways up, and loops on them.
 use Rattle.std.proofs.Common.{◌≡◌, ℕ, zero, suc, ◌+◌, ◌<◌, ◌⊎◌, inl, inr, Some, List, length, get_or, Contains, refl, sym, ap, ◌∙◌, subst, arith}
 use Rattle.std.proofs.lemmas.List.{get_or_default}
+use Rattle.std.proofs.lemmas.Option.{same_Some}
 use Rattle.spatial_tree.specs.declared.step.Step.{Step}
 use Rattle.spatial_tree.specs.Climbing.{IsAbove, next, further}
 use Rattle.spatial_tree.specs.Steps.{Goes, IsRound}
@@ -53,10 +54,7 @@ kept_above N C closed _ _ h (further a m b s p) = kept_above N C closed m b (clo
 
 -- a step has one end
 pub one_up : (steps : List Step) (a b c : ℕ) → Goes steps a b → Goes steps a c → b ≡ c
-one_up steps a b c p q = same b c (sym p ∙ q)
-  where
-    same : (b c : ℕ) → Some b ≡ Some c → b ≡ c
-    same b c e = cc
+one_up steps a b c p q = same_Some b c (sym p ∙ q)
 
 -- a later place of a way is above an earlier one
 pub along : (steps : List Step) (way : List ℕ) → IsWay steps way → (k j n : ℕ) → j ≡ k + suc n → j < length way → IsAbove (Goes steps) (get_or way k 0) (get_or way j 0)

@@ -8,6 +8,7 @@ use Rattle.std.proofs.lemmas.List.{get_or_default}
 use Rattle.std.proofs.lemmas.List.Kept.{AllPairs-from_increasing}
 use Rattle.std.proofs.lemmas.List.Elements.{Contains-append_left, Contains-push, Contains-push_cases}
 use Rattle.std.proofs.lemmas.List.Sorted.{IsNonDecreasingBy-push}
+use Rattle.std.proofs.lemmas.Option.{same_Some}
 use Rattle.ifc_instances.proofs.Rising.{below_next}
 use Rattle.spatial_tree.specs.declared.step.Step.{Step}
 use Rattle.spatial_tree.specs.declared.mark.Mark.{Mark}
@@ -111,12 +112,9 @@ found_how steps _ _ (further at up storey n g f) = inr (record { none = n; up = 
 -- a place finds one storey
 pub finds_once : (steps : List Step) (at a b : ℕ) → Finds steps at a → Finds steps at b → a ≡ b
 finds_once steps _ _ c (here at b e) q = elim (found_how steps at c q) [
-  | inl f ↦ same b c (sym e ∙ f)
+  | inl f ↦ same_Some b c (sym e ∙ f)
   | inr r ↦ absurd (unlike (storey_at steps at) b e r.none)
 ]
-  where
-    same : (b c : ℕ) → Some b ≡ Some c → b ≡ c
-    same b c e = cc
 
     unlike : (o : Option ℕ) (b : ℕ) → o ≡ Some b → o ≡ None → ⊥
     unlike o b e f = cc

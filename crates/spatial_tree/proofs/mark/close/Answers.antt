@@ -1,5 +1,5 @@
 use Rattle.std.proofs.Common.{◌≡◌, sym, ap, ◌∙◌, option_copied, Bool, true, false}
-use Rattle.ifc_instances.proofs.ValueLemmas.{unlike}
+use Rattle.std.proofs.lemmas.Bool.{both_ways}
 use Rattle.spatial_tree.proofs.Settles.{top_round}
 use Rattle.spatial_tree.proofs.mark.close.Goals as goal
 use Rattle.spatial_tree.proofs.mark.close.Goals.{in-OnWay, in_default-matches}
@@ -11,5 +11,5 @@ mark_loop-requires-clause-round c =
     (sym c.up_of.ensures ∙ c.in-Some-up_of.is)
     (elim c.match-matches.branch [
       | in-OnWay w ↦ sym c.mark_at.ensures ∙ w.in-OnWay.is
-      | in_default-matches w ↦ absurd (unlike c.match-matches.matches c.if-matches.true w.matches-is)
+      | in_default-matches w ↦ absurd (both_ways c.match-matches.matches w.matches-is c.if-matches.true)
     ])

@@ -1,5 +1,5 @@
 use Rattle.std.proofs.Common.{◌≡◌, ◌<◌, ◌∙◌, sym, subst, length, true, false, Bool, arith}
-use Rattle.ifc_instances.proofs.ValueLemmas.{unlike}
+use Rattle.std.proofs.lemmas.Bool.{both_ways}
 use Rattle.spatial_tree.specs.Marks.{Settling, KeepsSeen}
 use Rattle.spatial_tree.proofs.Settles.{settle_skips, settle_sets, settled_seen, popped_done, popped_within}
 use Rattle.spatial_tree.proofs.mark.settle.Goals as goal
@@ -10,7 +10,7 @@ loop-at-preserved c = record {
   settling = settle_skips c.args.steps.now c.loop-at.marks c.loop-at.way.items c.pop.new.self.items c.in-Some.at c.in-Some.ensures.items
       (elim c.match-matches.branch [
         | in-Looped w ↦ sym c.mark_at.ensures ∙ w.in-Looped.is
-        | in_default-matches w ↦ absurd (unlike c.match-matches.matches c.if-not-matches.false w.matches-is)
+        | in_default-matches w ↦ absurd (both_ways c.match-matches.matches w.matches-is c.if-not-matches.false)
       ]) c.loop-at.invariant.settling;
   seen = c.loop-at.invariant.seen;
 }
@@ -33,7 +33,7 @@ loop-at-preserved-then-not-matches c =
       settling = subst (λ m. Settling c.args.steps.now m c.pop.new.self.items) (sym c.set_mark.ensures)
           (settle_sets c.args.steps.now c.loop-at.marks c.loop-at.way.items c.pop.new.self.items c.in-Some.at c.answer-storey.result c.in-Some.ensures.items
           (elim c.match-matches.branch [
-            | in-Looped w ↦ absurd (unlike c.match-matches.matches w.matches-is c.if-not-matches.true)
+            | in-Looped w ↦ absurd (both_ways c.match-matches.matches c.if-not-matches.true w.matches-is)
             | in_default-matches w ↦ λ e. w.in_default-matches.not-Looped (c.mark_at.ensures ∙ e)
           ]) c.answer-storey.ensures c.loop-at.invariant.settling);
       seen = subst (λ m. KeepsSeen c.args.marks.now m) (sym c.set_mark.ensures) (λ j h. settled_seen c.loop-at.marks c.in-Some.at c.answer-storey.result l j (c.loop-at.invariant.seen j h));
