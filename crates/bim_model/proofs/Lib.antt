@@ -1,3 +1,7 @@
 pub mod Extents
 pub mod Versions
 pub mod Ascii
+pub mod Zips
+pub mod Unique
+pub mod Rising
+pub mod Tested

@@ -5,3 +5,5 @@ pub mod Identifiers
 pub mod Boxes
 pub mod Models
 pub mod Snapshots
+pub mod Rules
+pub mod Keys

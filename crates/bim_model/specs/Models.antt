@@ -1,11 +1,14 @@
 -- Building models.
-use Rattle.std.specs.Prelude.{ℕ, ℤ, pos, ◌*ℤ◌, ◌-ℤ◌, ◌≤ℤ◌, ◌≤◌, ◌<◌, List, length, sum_by, Bool, IsTrue, All, AllPairs}
+use Rattle.std.specs.Prelude.{ℕ, ℤ, pos, ◌-ℤ◌, ◌≤ℤ◌, ◌≤◌, ◌<◌, List, length, sum_by, Bool, IsTrue, All, AllPairs}
+use Rattle.std.specs.List.{AllZip}
 use Rattle.std.specs.Ordering.{nat_cmp, is_lt}
 use Rattle.std.specs.Cmp.Lexicographic.{slice_cmp}
 use Rattle.bim_model.specs.Guids.{IsGuid}
-use Rattle.bim_model.specs.Boxes.{corners_of}
+use Rattle.bim_model.specs.Boxes.{corners_of, IsExtentOf}
 use Rattle.bim_model.specs.declared.geometry.Point.{Point}
-use Rattle.bim_model.specs.declared.geometry.TheConstants.{PER_MM}
+use Rattle.bim_model.specs.declared.geometry.Extent.{Extent}
+use Rattle.bim_model.specs.declared.geometry.TheConstants.{FARTHEST}
+use Rattle.bim_model.specs.declared.limits.TheConstants.{MOST_TRIANGLES}
 use Rattle.bim_model.specs.declared.element.Element.{Element}
 
 -- the order of texts and identifiers: by their bytes, from the first on
@@ -14,7 +17,7 @@ is_below a b = is_lt (slice_cmp nat_cmp a b)
 
 -- 800 metres, in grid numbers
 abbrev pub farthest : ℤ
-farthest = pos 800000 *ℤ PER_MM
+farthest = FARTHEST
 
 -- within 800 metres of zero on each axis
 pub record IsInReach (p : Point) : Type 0 where
@@ -39,4 +42,12 @@ triangle_count elements = sum_by (λ (e : Element). length e.triangles) elements
 pub record IsModel (elements : List Element) : Type 0 where
   pub rising : AllPairs (λ (e f : Element). IsTrue (is_below e.guid.chars f.guid.chars)) elements
   pub modelled : All IsModelled elements
-  pub few : triangle_count elements ≤ 1000000
+  pub few : triangle_count elements ≤ MOST_TRIANGLES
+
+-- the smallest box round an element
+abbrev pub IsBoxOf : Element → Extent → Type 0
+IsBoxOf element extent = IsExtentOf element.triangles extent
+
+-- the smallest boxes round these elements, in their order
+abbrev pub AreBoxes : List Element → List Extent → Type 0
+AreBoxes elements extents = AllZip IsBoxOf elements extents

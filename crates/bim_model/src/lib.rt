@@ -2,14 +2,19 @@
 #![tactic(auto)]
 
 mod bytes;
+mod checks;
 mod element;
 mod geometry;
 mod guid;
 mod identifiers;
 mod items;
+mod keys;
+mod laws;
+mod limits;
 mod model;
 mod moment;
 mod named_model;
+mod rules;
 mod shared;
 mod snapshot;
 mod steps;
@@ -23,9 +28,18 @@ pub use geometry::{Extent, FARTHEST, GRID_LIMIT, PER_MM, Point, Triangle, extent
 pub use guid::Guid;
 pub use identifiers::{id_of, serial_of};
 pub use items::{Duplicate, Items};
+pub use keys::{ElementKey, Pair};
+pub use laws::{keys_rise, names_tell_models, smallest_boxes_are_unique};
+pub use limits::{
+    MOST_CLASS, MOST_DISTANCE, MOST_LEVEL, MOST_NAME, MOST_RULES, MOST_TITLE, MOST_TRIANGLES,
+    MOST_UPLOAD,
+};
 pub use model::Model;
 pub use moment::Moment;
 pub use named_model::NamedModel;
+pub use rules::{
+    ClassTest, Found, ModelTest, Rule, RuleKind, Rules, StoreyTest, greatest_distance, rule_of,
+};
 pub use shared::Shared;
 pub use snapshot::Snapshot;
 pub use steps::Steps;

@@ -2,12 +2,21 @@
 ghost use Rattle.std.specs.Prelude.{◌≡◌, ◌<◌};
 
 use crate::bytes::Bytes;
-use crate::geometry::{Extent, Point, Triangle, extent_of};
+use crate::element::Element;
+use crate::geometry::{Extent, FARTHEST, Point, Triangle, extent_of};
 use crate::guid::Guid;
 use crate::identifiers::{id_of, serial_of};
 use crate::items::{Duplicate, Items};
+use crate::keys::{ElementKey, Pair};
+use crate::laws::{keys_rise, names_tell_models, smallest_boxes_are_unique};
+use crate::model::Model;
 use crate::moment::Moment;
+use crate::named_model::NamedModel;
+use crate::rules::{
+    ClassTest, Found, ModelTest, Rule, RuleKind, Rules, StoreyTest, greatest_distance, rule_of,
+};
 use crate::shared::Shared;
+use crate::snapshot::Snapshot;
 use crate::steps::Steps;
 use crate::text::Text;
 use crate::topic::{Author, Topic, TopicBody};
@@ -109,6 +118,244 @@ fn finds_a_box(rt: HostRuntime) {
         high: point((4, 5, 9)),
     };
     assert_eq!(rt; extent_of(&triangles), wanted);
+}
+
+const BEAM: &str = "0000000000000000000001";
+
+const DUCT: &str = "0000000000000000000002";
+
+fn guid(text: &str) -> Result<Guid, Fail> {
+    Ok(Guid::read(text.as_bytes()).ok_or("no identifier")?)
+}
+
+fn element(
+    alloc: Global,
+    guid: Guid,
+    class: &str,
+    storey: Option<&str>,
+    x: i32,
+) -> Result<Element, AllocError> {
+    let mut triangles = Items::new(alloc);
+    triangles.push(triangle((x, 0, 0), (0, 7, 0), (0, 0, -3)))?;
+    let storey = match storey {
+        Some(name) => Some(Text::of(alloc, name)?),
+        None => None,
+    };
+    Ok(Element {
+        guid,
+        class: Text::of(alloc, class)?,
+        name: Text::of(alloc, "")?,
+        storey,
+        triangles,
+    })
+}
+
+#[test]
+fn checks_models(rt: HostRuntime) -> Result<(), Fail> {
+    let cases = [
+        (BEAM, DUCT, FARTHEST, true),
+        (BEAM, BEAM, 5, false),
+        (DUCT, BEAM, 5, false),
+        (BEAM, DUCT, FARTHEST + 1, false),
+        (BEAM, DUCT, -FARTHEST, true),
+        (BEAM, DUCT, -FARTHEST - 1, false),
+    ];
+    let alloc = rt.alloc();
+    for (first, second, x, wanted) in cases {
+        let mut elements = Vec::new(alloc);
+        elements.push(element(alloc, guid(first)?, "IFCBEAM", None, 4)?)?;
+        elements.push(element(alloc, guid(second)?, "IFCBEAM", None, x)?)?;
+        let made = Model::checked(alloc, elements)?;
+        assert_eq!(rt; made.is_some(), wanted, "{first} {second} {x}");
+    }
+    let mut bare = element(alloc, guid(BEAM)?, "IFCBEAM", None, 4)?;
+    bare.triangles = Items::new(alloc);
+    let mut elements = Vec::new(alloc);
+    elements.push(bare)?;
+    assert!(rt; Model::checked(alloc, elements)?.is_none());
+    Ok(())
+}
+
+fn one_element(alloc: Global, x: i32) -> Result<Model, Fail> {
+    let mut elements = Vec::new(alloc);
+    elements.push(element(alloc, guid(BEAM)?, "IFCBEAM", None, x)?)?;
+    Ok(Model::checked(alloc, elements)?.ok_or("no model")?)
+}
+
+#[test]
+fn keeps_boxes(rt: HostRuntime) -> Result<(), Fail> {
+    let model = one_element(rt.alloc(), 5)?;
+    let wanted = Extent {
+        low: point((0, 0, -3)),
+        high: point((5, 7, 0)),
+    };
+    assert_eq!(rt; model.extents(), [wanted].as_slice());
+    assert_eq!(rt; model.triangle_count(), 1);
+    Ok(())
+}
+
+fn named(alloc: Global, name: &str, x: i32) -> Result<NamedModel, Fail> {
+    let model = Shared::new(alloc, one_element(alloc, x)?)?;
+    Ok(NamedModel {
+        name: Text::of(alloc, name)?,
+        model,
+    })
+}
+
+fn assert_names(rt: &impl Abort, snapshot: &Snapshot, wanted: &[&str]) {
+    let models = snapshot.models();
+    assert_eq!(rt; models.len(), wanted.len());
+    for (model, name) in models.iter().zip(wanted) {
+        assert_eq!(rt; model.name.as_str(), *name);
+    }
+}
+
+#[test]
+fn makes_versions(rt: HostRuntime) -> Result<(), Fail> {
+    let alloc = rt.alloc();
+    let empty = Snapshot::new(alloc, Shared::new(alloc, Rules::new(alloc))?);
+    let first = empty.with_model(alloc, named(alloc, "m", 1)?)?;
+    let second = first.with_model(alloc, named(alloc, "a", 2)?)?;
+    let third = second.with_model(alloc, named(alloc, "m", 3)?)?;
+    assert_names(&rt, &third, &["a", "m"]);
+    assert_names(&rt, &third.without_model(alloc, "a")?, &["m"]);
+    assert_names(&rt, &third.without_model(alloc, "b")?, &["a", "m"]);
+    let ruled = third.with_rules(alloc, Shared::new(alloc, one_rule(alloc)?)?)?;
+    assert_names(&rt, &ruled, &["a", "m"]);
+    assert_eq!(rt; ruled.rules().list().len(), 1);
+    assert_eq!(rt; third.rules().list().len(), 0);
+    keys_rise();
+    names_tell_models();
+    smallest_boxes_are_unique();
+    Ok(())
+}
+
+fn one_rule(alloc: Global) -> Result<Rules, AllocError> {
+    let mut list = Vec::new(alloc);
+    list.push(Rule {
+        a: ClassTest::Any,
+        b: ClassTest::Any,
+        storey: StoreyTest::Any,
+        level: None,
+        models: ModelTest::Any,
+        kind: RuleKind::Clash { distance: 7 },
+    })?;
+    Ok(Rules::from_vec(list))
+}
+
+// Two elements of one storey are ignored where both are beams; beams of one model clash with all but beams at 50 mm where both stand in
+// the storey `EG`; all others of two models clash at 1,000 mm.
+fn three_rules(alloc: Global) -> Result<Rules, AllocError> {
+    let mut list = Vec::new(alloc);
+    list.push(Rule {
+        a: ClassTest::Named(Text::of(alloc, "IFCBEAM")?),
+        b: ClassTest::Named(Text::of(alloc, "IFCBEAM")?),
+        storey: StoreyTest::Same,
+        level: None,
+        models: ModelTest::Any,
+        kind: RuleKind::Ignore,
+    })?;
+    list.push(Rule {
+        a: ClassTest::Any,
+        b: ClassTest::Named(Text::of(alloc, "IFCBEAM")?),
+        storey: StoreyTest::Any,
+        level: Some(Text::of(alloc, "EG")?),
+        models: ModelTest::Same,
+        kind: RuleKind::Clash { distance: 50 },
+    })?;
+    list.push(Rule {
+        a: ClassTest::Any,
+        b: ClassTest::Any,
+        storey: StoreyTest::Different,
+        level: None,
+        models: ModelTest::Other,
+        kind: RuleKind::Clash { distance: 1_000 },
+    })?;
+    Ok(Rules::from_vec(list))
+}
+
+#[test]
+fn finds_rules(rt: HostRuntime) -> Result<(), Fail> {
+    let alloc = rt.alloc();
+    let rules = three_rules(alloc)?;
+    let cases = [
+        ("IFCBEAM", Some("EG"), "IFCBEAM", Some("EG"), true, None),
+        (
+            "IFCBEAM",
+            Some("EG"),
+            "IFCDUCT",
+            Some("EG"),
+            true,
+            Some((1, 50)),
+        ),
+        (
+            "IFCDUCT",
+            Some("EG"),
+            "IFCBEAM",
+            Some("EG"),
+            true,
+            Some((1, 50)),
+        ),
+        ("IFCDUCT", Some("OG"), "IFCBEAM", Some("EG"), true, None),
+        (
+            "IFCDUCT",
+            Some("OG"),
+            "IFCBEAM",
+            Some("EG"),
+            false,
+            Some((2, 1_000)),
+        ),
+        ("IFCDUCT", Some("EG"), "IFCDUCT", Some("EG"), false, None),
+        ("IFCDUCT", None, "IFCDUCT", Some("EG"), false, None),
+        ("IFCDUCT", None, "IFCDUCT", None, false, None),
+    ];
+    for (class, storey, other, above, same, wanted) in cases {
+        let a = element(alloc, guid(BEAM)?, class, storey, 1)?;
+        let b = element(alloc, guid(DUCT)?, other, above, 1)?;
+        let found = rule_of(&rules, &a, &b, same);
+        let wanted = wanted.map(|(rule, distance)| Found { rule, distance });
+        assert_eq!(rt; found, wanted, "{class} {other}");
+    }
+    assert_eq!(rt; greatest_distance(&rules), 1_000);
+    assert_eq!(rt; greatest_distance(&Rules::new(alloc)), 0);
+    Ok(())
+}
+
+#[test]
+fn orders_keys_and_pairs(rt: HostRuntime) -> Result<(), Fail> {
+    let alloc = rt.alloc();
+    let cases = [
+        ("a", DUCT, "b", BEAM, true),
+        ("a", BEAM, "a", DUCT, true),
+        ("a", BEAM, "a", BEAM, false),
+        ("aa", BEAM, "a", DUCT, false),
+        ("Z", DUCT, "a", BEAM, true),
+    ];
+    for (model, first, other, second, wanted) in cases {
+        let a = key(alloc, model, first)?;
+        let b = key(alloc, other, second)?;
+        assert_eq!(rt; a.is_below(&b), wanted, "{a:?} {b:?}");
+        let one = pair(&a, &b, 0, alloc)?;
+        let same = pair(&a, &a, 7, alloc)?;
+        assert_eq!(rt; same.is_before(&one), wanted);
+        assert!(rt; !one.is_before(&one.copy(alloc)?));
+    }
+    Ok(())
+}
+
+fn key(alloc: Global, model: &str, of: &str) -> Result<ElementKey, Fail> {
+    Ok(ElementKey {
+        model: Text::of(alloc, model)?,
+        guid: guid(of)?,
+    })
+}
+
+fn pair(a: &ElementKey, b: &ElementKey, rule: u32, alloc: Global) -> Result<Pair, AllocError> {
+    Ok(Pair {
+        a: a.copy(alloc)?,
+        b: b.copy(alloc)?,
+        rule,
+    })
 }
 
 #[test]

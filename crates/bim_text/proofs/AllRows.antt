@@ -1,15 +1,14 @@
 -- What all rows give.
-use Rattle.std.proofs.Common.{◌≡◌, ℕ, zero, suc, ◌+◌, ◌-◌, ◌*◌, ◌/◌, ◌%◌, ◌^◌, ◌<◌, ◌≤◌, ◌==◌, ◌&&◌, not, nat_le, nat_lt, List, [], ◌∷◌, ◌++◌, length, get_or, take, drop, Bool, true, false, refl, sym, ap, ◌∙◌, add-one, arith, append_assoc, drop-cons, inl, inr, ◌⊎◌}
+use Rattle.std.proofs.Common.{◌≡◌, ℕ, zero, suc, ◌+◌, ◌-◌, ◌<◌, ◌≤◌, ◌==◌, ◌&&◌, not, nat_le, nat_lt, List, [], ◌∷◌, ◌++◌, length, get_or, take, drop, true, false, refl, sym, ap, ◌∙◌, arith, append_assoc, inl, inr}
 use Rattle.std.specs.List.{list_all}
 use Rattle.std.specs.Str.{IsUtf8, IsAscii, is_utf8}
-use Rattle.std.proofs.lemmas.Bool.{eqb-true, leb-true, ltb-true}
+use Rattle.std.proofs.lemmas.Bool.{eqb-true, leb-true, ltb-true, cases_Bool, not-true, and_parts}
 use Rattle.std.proofs.lemmas.Bool.Decides.{nat_tests}
-use Rattle.std.proofs.lemmas.List.{append-nil, drop-drop, length-drop, take-append-drop}
+use Rattle.std.proofs.lemmas.List.{append-nil, drop-drop, length-drop, drop_all}
 use Rattle.std.proofs.lemmas.Str.{IsUtf8-from_ascii}
 use Rattle.bim_text.proofs.Cleaning.{cleaned_nil, cleaned_kept}
-use Rattle.bim_text.specs.Texts.{Row, sequence_len, row_of, escape_row, high_row, wide_row, is_code, is_wide, is_shifted, is_page, is_hexadecimal, run, rows_within, rows, cleaned, is_plain, is_clean, text_of_spelling}
-use Rattle.bim_text.proofs.Truths.{tells, and_left, and_right}
-use Rattle.bim_text.proofs.Fronts.{drop_past}
+use Rattle.bim_text.specs.Texts.{Row, sequence_len, row_of, escape_row, high_row, wide_row, is_code, is_wide, is_shifted, is_page, is_hexadecimal, rows_within, rows, cleaned, is_plain, is_clean, text_of_spelling}
+use Rattle.p21_lexer.specs.Spelling.{run}
 
 -- each row is of one byte at least, and within the bytes
 
@@ -31,36 +30,36 @@ Fits bs r = (1 ≤ r.size) × (r.size ≤ length bs)
 
 code_fits : (bs : List ℕ) → is_code bs ≡ true → 5 ≤ length bs
 unfolding is_code
-code_fits bs t = hexadecimal_at bs 4 (and_right _ _ t)
+code_fits bs t = hexadecimal_at bs 4 (and_parts _ _ t).1
 
 shifted_fits : (bs : List ℕ) → is_shifted bs ≡ true → 4 ≤ length bs
 unfolding is_shifted
 shifted_fits bs t =
-    let u = and_left (get_or bs 1 0 == 83 && get_or bs 2 0 == 92 && nat_le 32 (get_or bs 3 0)) (nat_le (get_or bs 3 0) 126) t in
-    let v = and_right (get_or bs 1 0 == 83 && get_or bs 2 0 == 92) (nat_le 32 (get_or bs 3 0)) u in
+    let u = (and_parts (get_or bs 1 0 == 83 && get_or bs 2 0 == 92 && nat_le 32 (get_or bs 3 0)) (nat_le (get_or bs 3 0) 126) t).0 in
+    let v = (and_parts (get_or bs 1 0 == 83 && get_or bs 2 0 == 92) (nat_le 32 (get_or bs 3 0)) u).1 in
     place bs 3 (omega (arith, leb-true 32 (get_or bs 3 0) v))
 
 page_fits : (bs : List ℕ) → is_page bs ≡ true → 4 ≤ length bs
 unfolding is_page
-page_fits bs t = is_at bs 3 92 (omega arith) (and_right _ _ t)
+page_fits bs t = is_at bs 3 92 (omega arith) (and_parts _ _ t).1
 
 wide_fits : (bs : List ℕ) (mark width : ℕ) → is_wide mark width bs ≡ true → Fits bs (wide_row width bs)
 unfolding is_wide wide_row
-wide_fits bs mark width t = (omega arith, omega (arith, is_at bs (run is_hexadecimal (drop 4 bs) + 7) 92 (omega arith) (and_right _ _ (and_right _ _ t))))
+wide_fits bs mark width t = (omega arith, omega (arith, is_at bs (run is_hexadecimal (drop 4 bs) + 7) 92 (omega arith) (and_parts _ _ (and_parts _ _ t).1).1))
 
 escape_fits : (bs : List ℕ) → 0 < length bs → Fits bs (escape_row bs)
 unfolding escape_row
-escape_fits bs some = elim (tells (get_or bs 1 0 == 92)) [
+escape_fits bs some = elim (cases_Bool (get_or bs 1 0 == 92)) [
   | inl t ↦ rw t (omega arith, is_at bs 1 92 (omega arith) t)
-  | inr t ↦ rw t (elim (tells (is_code bs)) [
+  | inr t ↦ rw t (elim (cases_Bool (is_code bs)) [
     | inl u ↦ rw u (omega arith, code_fits bs u)
-    | inr u ↦ rw u (elim (tells (is_wide 50 4 bs)) [
+    | inr u ↦ rw u (elim (cases_Bool (is_wide 50 4 bs)) [
       | inl v ↦ rw v (wide_fits bs 50 4 v)
-      | inr v ↦ rw v (elim (tells (is_wide 52 8 bs)) [
+      | inr v ↦ rw v (elim (cases_Bool (is_wide 52 8 bs)) [
         | inl w ↦ rw w (wide_fits bs 52 8 w)
-        | inr w ↦ rw w (elim (tells (is_shifted bs)) [
+        | inr w ↦ rw w (elim (cases_Bool (is_shifted bs)) [
           | inl x ↦ rw x (omega arith, shifted_fits bs x)
-          | inr x ↦ rw x (elim (tells (is_page bs)) [
+          | inr x ↦ rw x (elim (cases_Bool (is_page bs)) [
             | inl y ↦ rw y (omega arith, page_fits bs y)
             | inr y ↦ rw y (omega arith, some)
           ])
@@ -72,22 +71,22 @@ escape_fits bs some = elim (tells (get_or bs 1 0 == 92)) [
 
 high_fits : (bs : List ℕ) → 0 < length bs → Fits bs (high_row bs)
 unfolding high_row
-high_fits bs some = elim (tells (nat_le (sequence_len (get_or bs 0 0)) (length bs) && is_utf8 (take (sequence_len (get_or bs 0 0)) bs))) [
-  | inl t ↦ rw t (sequence_some (get_or bs 0 0), leb-true (sequence_len (get_or bs 0 0)) (length bs) (and_left _ _ t))
+high_fits bs some = elim (cases_Bool (nat_le (sequence_len (get_or bs 0 0)) (length bs) && is_utf8 (take (sequence_len (get_or bs 0 0)) bs))) [
+  | inl t ↦ rw t (sequence_some (get_or bs 0 0), leb-true (sequence_len (get_or bs 0 0)) (length bs) (and_parts _ _ t).0)
   | inr t ↦ rw t (omega arith, some)
 ]
   where
     sequence_some : (b : ℕ) → 1 ≤ sequence_len b
-    sequence_some b = elim (tells (nat_lt b 224)) [
+    sequence_some b = elim (cases_Bool (nat_lt b 224)) [
       | inl t ↦ rw t (omega arith)
-      | inr t ↦ rw t (elim (tells (nat_lt b 240)) [ inl u ↦ rw u (omega arith) | inr u ↦ rw u (omega arith) ])
+      | inr t ↦ rw t (elim (cases_Bool (nat_lt b 240)) [ inl u ↦ rw u (omega arith) | inr u ↦ rw u (omega arith) ])
     ]
 
 pub row_fits : (bs : List ℕ) → 0 < length bs → Fits bs (row_of bs)
 unfolding row_of
-row_fits bs some = elim (tells (get_or bs 0 0 == 92)) [
+row_fits bs some = elim (cases_Bool (get_or bs 0 0 == 92)) [
   | inl t ↦ rw t (escape_fits bs some)
-  | inr t ↦ rw t (elim (tells (nat_lt (get_or bs 0 0) 128)) [
+  | inr t ↦ rw t (elim (cases_Bool (nat_lt (get_or bs 0 0) 128)) [
     | inl u ↦ rw u (omega arith, some)
     | inr u ↦ rw u (high_fits bs some)
   ])
@@ -121,30 +120,26 @@ rows_step (b ∷ bs) some =
 
 -- bytes that stand for themselves
 
-not_true : (b : Bool) → not b ≡ true → b ≡ false
-not_true true h = absurd (cc)
-not_true false h = refl
-
 plain_row : (b : ℕ) (bs : List ℕ) → is_plain b ≡ true → row_of (b ∷ bs) ≡ record { gives = b ∷ []; size = 1 }
 unfolding row_of
 plain_row b bs t =
-    let u = not_true (b == 92) (and_right (nat_le 32 b && nat_lt b 128 && not (b == 39)) (not (b == 92)) t) in
-    let v = and_left (nat_le 32 b && nat_lt b 128 && not (b == 39)) (not (b == 92)) t in
-    let w = and_left (nat_le 32 b && nat_lt b 128) (not (b == 39)) v in
-    let x = and_right (nat_le 32 b) (nat_lt b 128) w in
+    let u = not-true (b == 92) (and_parts (nat_le 32 b && nat_lt b 128 && not (b == 39)) (not (b == 92)) t).1 in
+    let v = (and_parts (nat_le 32 b && nat_lt b 128 && not (b == 39)) (not (b == 92)) t).0 in
+    let w = (and_parts (nat_le 32 b && nat_lt b 128) (not (b == 39)) v).0 in
+    let x = (and_parts (nat_le 32 b) (nat_lt b 128) w).1 in
     rw (u, x) refl
 
 plain_low : (b : ℕ) → is_plain b ≡ true → b < 128
 plain_low b t =
-    let v = and_left (nat_le 32 b && nat_lt b 128 && not (b == 39)) (not (b == 92)) t in
-    let w = and_left (nat_le 32 b && nat_lt b 128) (not (b == 39)) v in
-    ltb-true b 128 (and_right (nat_le 32 b) (nat_lt b 128) w)
+    let v = (and_parts (nat_le 32 b && nat_lt b 128 && not (b == 39)) (not (b == 92)) t).0 in
+    let w = (and_parts (nat_le 32 b && nat_lt b 128) (not (b == 39)) v).0 in
+    ltb-true b 128 (and_parts (nat_le 32 b) (nat_lt b 128) w).1
 
 pub plain_clean : (b : ℕ) → is_plain b ≡ true → is_clean b ≡ true
 plain_clean b t =
-    let v = and_left (nat_le 32 b && nat_lt b 128 && not (b == 39)) (not (b == 92)) t in
-    let w = and_left (nat_le 32 b && nat_lt b 128) (not (b == 39)) v in
-    rw (and_left (nat_le 32 b) (nat_lt b 128) w, and_right (nat_le 32 b && nat_lt b 128) (not (b == 39)) v) refl
+    let v = (and_parts (nat_le 32 b && nat_lt b 128 && not (b == 39)) (not (b == 92)) t).0 in
+    let w = (and_parts (nat_le 32 b && nat_lt b 128) (not (b == 39)) v).0 in
+    rw ((and_parts (nat_le 32 b) (nat_lt b 128) w).0, (and_parts (nat_le 32 b && nat_lt b 128) (not (b == 39)) v).1) refl
 
 plain_first : (b : ℕ) (bs : List ℕ) → is_plain b ≡ true → rows (b ∷ bs) ≡ b ∷ rows bs
 plain_first b bs t =
@@ -154,7 +149,7 @@ plain_first b bs t =
 plain_rows : (bs : List ℕ) (k : ℕ) → k ≤ run is_plain bs → rows bs ≡ take k bs ++ rows (drop k bs)
 plain_rows bs zero h = refl
 plain_rows [] (suc k) h = absurd (omega (arith, h))
-plain_rows (b ∷ bs) (suc k) h = elim (tells (is_plain b)) [
+plain_rows (b ∷ bs) (suc k) h = elim (cases_Bool (is_plain b)) [
   | inl t ↦ (let h2 : suc k ≤ run is_plain bs + 1 = rw t at h in
       plain_first b bs t ∙ ap (λ (l : List ℕ). b ∷ l) (plain_rows bs k (omega (arith, h2))))
   | inr t ↦ (let h2 : suc k ≤ 0 = rw t at h in absurd (omega (arith, h2)))
@@ -163,7 +158,7 @@ plain_rows (b ∷ bs) (suc k) h = elim (tells (is_plain b)) [
 plain_ascii : (bs : List ℕ) (k : ℕ) → k ≤ run is_plain bs → IsAscii (take k bs)
 plain_ascii bs zero h i = omega arith
 plain_ascii [] (suc k) h i = absurd (omega (arith, h))
-plain_ascii (b ∷ bs) (suc k) h i = elim (tells (is_plain b)) [
+plain_ascii (b ∷ bs) (suc k) h i = elim (cases_Bool (is_plain b)) [
   | inl t ↦ (let h2 : suc k ≤ run is_plain bs + 1 = rw t at h in ascii_cons b (take k bs) (plain_low b t) (plain_ascii bs k (omega (arith, h2))) i)
   | inr t ↦ (let h2 : suc k ≤ 0 = rw t at h in absurd (omega (arith, h2)))
 ]
@@ -212,7 +207,7 @@ row_room bs at n lt e =
     omega (arith, f, (row_fits (drop at bs) (some_left bs at lt)).1, length-drop at bs)
 
 pub rows_end : (bs : List ℕ) (at : ℕ) → length bs ≤ at → rows (drop at bs) ≡ []
-rows_end bs at h = ap rows (drop_past bs at h) ∙ rows_nil
+rows_end bs at h = ap rows (drop_all at bs h) ∙ rows_nil
 
 pub ruleset all = (plain_part, plain_utf8, row_part, row_later, row_within, rows_end, append_assoc, append-nil)
 
@@ -220,7 +215,7 @@ pub ruleset all = (plain_part, plain_utf8, row_part, row_later, row_within, rows
 
 all_run : (bs : List ℕ) → list_all is_plain bs ≡ true → length bs ≤ run is_plain bs
 all_run [] h = omega arith
-all_run (b ∷ bs) h = rw (and_left (is_plain b) _ h) (omega (arith, all_run bs (and_right (is_plain b) _ h)))
+all_run (b ∷ bs) h = rw ((and_parts (is_plain b) _ h).0) (omega (arith, all_run bs (and_parts (is_plain b) _ h).1))
 
 pub rows_plain : (bs : List ℕ) → list_all is_plain bs ≡ true → rows bs ≡ bs
 rows_plain bs h =
@@ -234,17 +229,17 @@ utf8_plain bs h =
 pub cleaned_clean : (bs : List ℕ) → list_all is_clean bs ≡ true → cleaned bs ≡ bs
 cleaned_clean [] h = cleaned_nil
 cleaned_clean (b ∷ bs) h =
-    let t = and_left (is_clean b) _ h in
-    let low = leb-true 32 b (and_left (nat_le 32 b) (not (b == 39)) t) in
-    let other = not_true (b == 39) (and_right (nat_le 32 b) (not (b == 39)) t) in
-    cleaned_kept b bs (λ e _ _. absurd (apart b e other)) low ∙ ap (λ (l : List ℕ). b ∷ l) (cleaned_clean bs (and_right (is_clean b) _ h))
+    let t = (and_parts (is_clean b) _ h).0 in
+    let low = leb-true 32 b (and_parts (nat_le 32 b) (not (b == 39)) t).0 in
+    let other = not-true (b == 39) (and_parts (nat_le 32 b) (not (b == 39)) t).1 in
+    cleaned_kept b bs (λ e _ _. absurd (apart b e other)) low ∙ ap (λ (l : List ℕ). b ∷ l) (cleaned_clean bs (and_parts (is_clean b) _ h).1)
   where
     apart : (b : ℕ) → b ≡ 39 → (b == 39) ≡ false → ⊥
     apart b e h = grind (arith, nat_tests)
 
 pub plain_cleaned : (bs : List ℕ) → list_all is_plain bs ≡ true → list_all is_clean bs ≡ true
 plain_cleaned [] h = refl
-plain_cleaned (b ∷ bs) h = rw (plain_clean b (and_left (is_plain b) _ h)) (plain_cleaned bs (and_right (is_plain b) _ h))
+plain_cleaned (b ∷ bs) h = rw (plain_clean b (and_parts (is_plain b) _ h).0) (plain_cleaned bs (and_parts (is_plain b) _ h).1)
 
 pub text_plain : (bs : List ℕ) → list_all is_plain bs ≡ true → text_of_spelling bs ≡ bs
 unfolding text_of_spelling

@@ -1,10 +1,8 @@
 -- Cleaned texts.
-use Rattle.std.proofs.Common.{◌≡◌, ℕ, zero, suc, ◌+◌, ◌-◌, ◌<◌, ◌≤◌, ◌==◌, ◌&&◌, not, nat_le, List, [], ◌∷◌, ◌++◌, length, get_or, take, drop, filter, Bool, true, false, refl, sym, ap, ◌∙◌, add-one, arith, append_assoc, drop-cons, inl, inr, ◌⊎◌}
-use Rattle.std.proofs.lemmas.Bool.{le-leb, lt-leb, eqb-true}
-use Rattle.std.proofs.lemmas.List.{append-nil, length-drop, get_or-drop}
+use Rattle.std.proofs.Common.{◌≡◌, ℕ, suc, ◌+◌, ◌-◌, ◌<◌, ◌≤◌, ◌==◌, ◌&&◌, List, [], ◌∷◌, length, get_or, drop, refl, sym, ap, ◌∙◌, add-one, arith, append_assoc, drop-cons, inl, inr}
+use Rattle.std.proofs.lemmas.Bool.{le-leb, lt-leb, eqb-true, cases_Bool, and_parts}
+use Rattle.std.proofs.lemmas.List.{append-nil, length-drop, get_or-drop, drop_all}
 use Rattle.bim_text.specs.Texts.{unpaired, cleaned}
-use Rattle.bim_text.proofs.Truths.{tells, and_left, and_right}
-use Rattle.bim_text.proofs.Fronts.{drop_past}
 
 pub cleaned_nil : cleaned [] ≡ []
 unfolding cleaned
@@ -17,8 +15,8 @@ cleaned_pair bs = refl
 
 single_unpaired : (b : ℕ) (bs : List ℕ) → ((b ≡ 39) → (0 < length bs) → (get_or bs 0 0 ≡ 39) → ⊥) → unpaired (b ∷ bs) ≡ b ∷ unpaired bs
 single_unpaired b [] h = refl
-single_unpaired b (c ∷ bs) h = elim (tells (b == 39 && c == 39)) [
-  | inl t ↦ absurd (h (eqb-true b 39 (and_left (b == 39) (c == 39) t)) (omega arith) (eqb-true c 39 (and_right (b == 39) (c == 39) t)))
+single_unpaired b (c ∷ bs) h = elim (cases_Bool (b == 39 && c == 39)) [
+  | inl t ↦ absurd (h (eqb-true b 39 (and_parts (b == 39) (c == 39) t).0) (omega arith) (eqb-true c 39 (and_parts (b == 39) (c == 39) t).1))
   | inr t ↦ rw t refl
 ]
 
@@ -58,7 +56,7 @@ clean_dropped bs i lt low =
     ap cleaned e ∙ cleaned_dropped (get_or bs i 0) (drop (i + 1) bs) low
 
 pub clean_past : (bs : List ℕ) (i : ℕ) → length bs ≤ i → cleaned (drop i bs) ≡ []
-clean_past bs i h = ap cleaned (drop_past bs i h) ∙ cleaned_nil
+clean_past bs i h = ap cleaned (drop_all i bs h) ∙ cleaned_nil
 
 pub ruleset cleanings = (clean_pair, clean_kept, clean_dropped)
 

@@ -1,16 +1,11 @@
 -- The digits at the front of bytes, and the number that digits write.
-use Rattle.std.proofs.Common.{◌≡◌, ℕ, ◌+◌, ◌-◌, ◌*◌, ◌<◌, ◌≤◌, List, [], ◌∷◌, length, get_or, drop, true, false, suc, zero, refl, add-one, arith, drop-cons, Some, None}
+use Rattle.std.proofs.Common.{◌≡◌, ℕ, ◌+◌, ◌-◌, ◌*◌, ◌<◌, ◌≤◌, List, [], ◌∷◌, length, get_or, drop, true, false, refl, add-one, arith, drop-cons, Some, None}
 use Rattle.std.specs.List.{list_all}
 use Rattle.std.proofs.lemmas.Bool.{ne_eqb}
+use Rattle.std.proofs.lemmas.List.{drop_all}
 use Rattle.bim_text.specs.Numbers.{Unsigned, Plus, Minus, sign_bytes}
-use Rattle.bim_text.specs.Numbers.{is_digit, value_after}
+use Rattle.p21_lexer.specs.Spelling.{is_digit, value_after}
 use Rattle.bim_text.specs.Scanning.{front, sign_at, fraction_at, exponent_at}
-
-pub drop_past : (bs : List ℕ) (i : ℕ) → length bs ≤ i → drop i bs ≡ []
-drop_past [] zero h = refl
-drop_past [] (suc i) h = refl
-drop_past (b ∷ bs) zero h = absurd (omega arith)
-drop_past (b ∷ bs) (suc i) h = drop_past bs i (omega arith)
 
 pub front_step : (bs : List ℕ) (i : ℕ) → i < length bs → is_digit (get_or bs i 0) ≡ true → front (drop i bs) ≡ get_or bs i 0 ∷ front (drop (i + 1) bs)
 front_step bs i lt h = rw (add-one i, drop-cons bs i 0, h) refl
@@ -19,7 +14,7 @@ pub front_stop : (bs : List ℕ) (i : ℕ) → i < length bs → is_digit (get_o
 front_stop bs i lt h = rw (drop-cons bs i 0, h) refl
 
 pub front_past : (bs : List ℕ) (i : ℕ) → length bs ≤ i → front (drop i bs) ≡ []
-front_past bs i h = rw (drop_past bs i h) refl
+front_past bs i h = rw (drop_all i bs h) refl
 
 pub ruleset fronts = (front_step, front_stop, front_past)
 
@@ -32,7 +27,7 @@ pub value_step : (n : ℕ) (bs : List ℕ) (i : ℕ) → i < length bs → value
 value_step n bs i lt = rw (add-one i, drop-cons bs i 0) refl
 
 pub value_past : (n : ℕ) (bs : List ℕ) (i : ℕ) → length bs ≤ i → value_after n (drop i bs) ≡ n
-value_past n bs i h = rw (drop_past bs i h) refl
+value_past n bs i h = rw (drop_all i bs h) refl
 
 pub digits_step : (bs : List ℕ) (i : ℕ) → i < length bs → is_digit (get_or bs i 0) ≡ true → list_all is_digit (drop i bs) ≡ list_all is_digit (drop (i + 1) bs)
 digits_step bs i lt h = rw (add-one i, drop-cons bs i 0, h) refl
@@ -41,7 +36,7 @@ pub digits_stop : (bs : List ℕ) (i : ℕ) → i < length bs → is_digit (get_
 digits_stop bs i lt h = rw (drop-cons bs i 0, h) refl
 
 pub digits_past : (bs : List ℕ) (i : ℕ) → length bs ≤ i → list_all is_digit (drop i bs) ≡ true
-digits_past bs i h = rw (drop_past bs i h) refl
+digits_past bs i h = rw (drop_all i bs h) refl
 
 pub ruleset writings = (value_grows, value_step, value_past, digits_step, digits_stop, digits_past)
 
@@ -57,7 +52,7 @@ pub sign_other : (bs : List ℕ) (i : ℕ) → i < length bs → (get_or bs i 0 
 sign_other bs i lt h k = let a = ne_eqb _ _ h in let b = ne_eqb _ _ k in rw (drop-cons bs i 0, a, b) refl
 
 pub sign_past : (bs : List ℕ) (i : ℕ) → length bs ≤ i → sign_at (drop i bs) ≡ Unsigned
-sign_past bs i h = rw (drop_past bs i h) refl
+sign_past bs i h = rw (drop_all i bs h) refl
 
 pub ruleset signs = (sign_plus, sign_minus, sign_other, sign_past)
 
@@ -68,7 +63,7 @@ pub point_other : (bs : List ℕ) (i : ℕ) → i < length bs → (get_or bs i 0
 point_other bs i lt h = let a = ne_eqb _ _ h in rw (drop-cons bs i 0, a) refl
 
 pub point_past : (bs : List ℕ) (i : ℕ) → length bs ≤ i → fraction_at (drop i bs) ≡ None
-point_past bs i h = rw (drop_past bs i h) refl
+point_past bs i h = rw (drop_all i bs h) refl
 
 pub ruleset points = (point_step, point_other, point_past)
 
@@ -80,6 +75,6 @@ pub exponent_step : (bs : List ℕ) (i : ℕ) → i < length bs → exponent_at 
 exponent_step bs i lt = rw (add-one i, drop-cons bs i 0) refl
 
 pub exponent_past : (bs : List ℕ) (i : ℕ) → length bs ≤ i → exponent_at (drop i bs) ≡ None
-exponent_past bs i h = rw (drop_past bs i h) refl
+exponent_past bs i h = rw (drop_all i bs h) refl
 
 pub ruleset exponents = (exponent_step, exponent_past)

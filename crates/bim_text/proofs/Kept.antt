@@ -1,14 +1,15 @@
 -- What is kept of digits says what they write, and is there exactly where at most 34 are significant.
 use Rattle.std.proofs.Common.{◌≡◌, ℕ, ◌+◌, ◌-◌, ◌*◌, ◌%◌, ◌^◌, ◌<◌, ◌≤◌, ◌==◌, ◌⊎◌, inl, inr, List, [], ◌∷◌, ◌++◌, length, true, false, nat_lt, refl, ap, add-one, arith, Option, Some, None, option_and_then, lt-ltb, le-ltb}
 use Rattle.std.proofs.Math.Nat.{pow-suc, pow-le-pow_right}
-use Rattle.std.proofs.lemmas.Bool.{eqb-true, ltb-true, ltb-false}
+use Rattle.std.proofs.lemmas.Bool.{eqb-true, ltb-true, ltb-false, cases_Bool, and_parts}
 use Rattle.std.proofs.lemmas.Bool.Decides.{nat_tests}
 use Rattle.std.proofs.lemmas.List.{append-nil}
 use Rattle.std.proofs.lemmas.List.Folds.{list_all-append}
 use Rattle.bim_text.specs.declared.digits.Digits.{Digits}
-use Rattle.bim_text.specs.Numbers.{is_digit, value_after, AreDigits, from_first, significant}
+use Rattle.bim_text.specs.Numbers.{AreDigits, from_first, significant}
+use Rattle.p21_lexer.specs.Spelling.{is_digit, value_after}
 use Rattle.bim_text.specs.Scanning.{kept_zero, kept_digit, kept_step, kept_after}
-use Rattle.bim_text.proofs.Truths.{tells, and_left, and_right, digit_low, digit_high}
+use Rattle.bim_text.proofs.Truths.{digit_low, digit_high}
 use Rattle.bim_text.proofs.Significant.{value_snoc, significant_digit, significant_zero, significant_grows, snoc_cons, value_low, value_high}
 
 pub record Describes (ds : List ℕ) (k : Digits) : Type 0 where
@@ -116,9 +117,9 @@ Stepped ds k b (Some next) = Describes (ds ++ b ∷ []) next
 
 stepped : (ds : List ℕ) (k : Digits) (b : ℕ) → Describes ds k → is_digit b ≡ true → Stepped ds k b (kept_step k b)
 unfolding Stepped
-stepped ds k b d h = elim (tells (b == 48)) [
+stepped ds k b d h = elim (cases_Bool (b == 48)) [
   | inl z ↦ (let e = eqb-true _ _ z in rw (z, e) (describes_zero ds k d))
-  | inr z ↦ rw z (elim (tells (nat_lt k.all (10 ^ 33))) [
+  | inr z ↦ rw z (elim (cases_Bool (nat_lt k.all (10 ^ 33))) [
     | inl t ↦ rw t (describes_digit ds k b d h z (ltb-true _ _ t))
     | inr t ↦ rw t (omega (arith, significant_digit ds b z, many_first ds d.digits (all_high ds k d (ltb-false _ _ t))))
   ])
@@ -140,5 +141,5 @@ unfolding Kept
 kept_all [] ds k d all = rw (append-nil ds) d
 kept_all (b ∷ bs) ds k d all =
     kept_more ds bs b (kept_step k b)
-    (λ next s. rw (← snoc_cons ds bs b) (kept_all bs (ds ++ b ∷ []) next s (and_right (is_digit b) _ all)))
-    k (stepped ds k b d (and_left (is_digit b) _ all))
+    (λ next s. rw (← snoc_cons ds bs b) (kept_all bs (ds ++ b ∷ []) next s (and_parts (is_digit b) _ all).1))
+    k (stepped ds k b d (and_parts (is_digit b) _ all).0)

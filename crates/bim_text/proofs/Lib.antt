@@ -6,7 +6,6 @@ pub mod Parts
 pub mod Powers
 pub mod Quotients
 pub mod Reading
-pub mod Runs
 pub mod RowLemmas
 pub mod Cleaning
 pub mod AllRows

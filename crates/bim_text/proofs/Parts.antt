@@ -1,19 +1,19 @@
 -- Bytes are their parts, and a number has these parts alone.
 use Rattle.std.proofs.Common.{◌≡◌, ℕ, ◌<◌, ◌==◌, ◌⊎◌, inl, inr, List, [], ◌∷◌, ◌++◌, length, true, false, refl, ap, ◌∙◌, arith, Option, Some, None}
 use Rattle.std.proofs.Math.Seq.{drop-append_seam}
-use Rattle.std.proofs.lemmas.Bool.{eqb-true}
+use Rattle.std.proofs.lemmas.Bool.{eqb-true, cases_Bool, and_parts}
 use Rattle.std.proofs.lemmas.Bool.Decides.{nat_tests}
-use Rattle.bim_text.specs.Numbers.{Sign, Unsigned, Plus, Minus, Exponent, Spelling, sign_bytes, fraction_bytes, exponent_bytes, bytes_of, is_digit, AreDigits, fraction_digits, IsExponent, IsNumber}
+use Rattle.bim_text.specs.Numbers.{Sign, Unsigned, Plus, Minus, Exponent, Spelling, sign_bytes, fraction_bytes, exponent_bytes, bytes_of, AreDigits, fraction_digits, IsExponent, IsNumber}
+use Rattle.p21_lexer.specs.Spelling.{is_digit}
 use Rattle.bim_text.specs.Scanning.{front, sign_at, fraction_at, exponent_at, unsigned, behind_front, behind_fraction, parts}
-use Rattle.bim_text.proofs.Truths.{tells, and_left, and_right}
 
 -- The parts are the bytes.
 
 sign_whole : (bs : List ℕ) → bs ≡ sign_bytes (sign_at bs) ++ unsigned bs
 sign_whole [] = refl
-sign_whole (b ∷ bs) = elim (tells (b == 43)) [
+sign_whole (b ∷ bs) = elim (cases_Bool (b == 43)) [
   | inl k ↦ (let e = eqb-true _ _ k in rw (k, e) refl)
-  | inr k ↦ rw k (elim (tells (b == 45)) [
+  | inr k ↦ rw k (elim (cases_Bool (b == 45)) [
     | inl m ↦ (let e = eqb-true _ _ m in rw (m, e) refl)
     | inr m ↦ rw m refl
   ])
@@ -21,28 +21,28 @@ sign_whole (b ∷ bs) = elim (tells (b == 43)) [
 
 front_whole : (bs : List ℕ) → bs ≡ front bs ++ behind_front bs
 front_whole [] = refl
-front_whole (b ∷ bs) = elim (tells (is_digit b)) [
+front_whole (b ∷ bs) = elim (cases_Bool (is_digit b)) [
   | inl k ↦ rw k (ap (λ (l : List ℕ). b ∷ l) (front_whole bs))
   | inr k ↦ rw k refl
 ]
 
 pub front_digits : (bs : List ℕ) → AreDigits (front bs)
 front_digits [] = refl
-front_digits (b ∷ bs) = elim (tells (is_digit b)) [
+front_digits (b ∷ bs) = elim (cases_Bool (is_digit b)) [
   | inl k ↦ rw (k, k) (front_digits bs)
   | inr k ↦ rw k refl
 ]
 
 fraction_whole : (bs : List ℕ) → bs ≡ fraction_bytes (fraction_at bs) ++ behind_fraction bs
 fraction_whole [] = refl
-fraction_whole (b ∷ bs) = elim (tells (b == 46)) [
+fraction_whole (b ∷ bs) = elim (cases_Bool (b == 46)) [
   | inl k ↦ (let e = eqb-true _ _ k in rw (k, e) (ap (λ (l : List ℕ). 46 ∷ l) (front_whole bs)))
   | inr k ↦ rw k refl
 ]
 
 pub fraction_are_digits : (bs : List ℕ) → AreDigits (fraction_digits (fraction_at bs))
 fraction_are_digits [] = refl
-fraction_are_digits (b ∷ bs) = elim (tells (b == 46)) [
+fraction_are_digits (b ∷ bs) = elim (cases_Bool (b == 46)) [
   | inl k ↦ rw k (front_digits bs)
   | inr k ↦ rw k refl
 ]
@@ -61,27 +61,27 @@ parts_whole bs =
 -- A number has these parts alone.
 
 no_plus : (b : ℕ) → is_digit b ≡ true → (b == 43) ≡ false
-no_plus b h = elim (tells (b == 43)) [ inl k ↦ grind (arith, nat_tests) | inr k ↦ k ]
+no_plus b h = elim (cases_Bool (b == 43)) [ inl k ↦ grind (arith, nat_tests) | inr k ↦ k ]
 
 no_minus : (b : ℕ) → is_digit b ≡ true → (b == 45) ≡ false
-no_minus b h = elim (tells (b == 45)) [ inl k ↦ grind (arith, nat_tests) | inr k ↦ k ]
+no_minus b h = elim (cases_Bool (b == 45)) [ inl k ↦ grind (arith, nat_tests) | inr k ↦ k ]
 
 -- before digits
 sign_before : (s : Sign) (ds rest : List ℕ) → AreDigits ds → 0 < length ds → sign_at (sign_bytes s ++ (ds ++ rest)) ≡ s
 sign_before s [] rest all lt = absurd (omega arith)
-sign_before Unsigned (d ∷ ds) rest all lt = let h = and_left (is_digit d) _ all in rw (no_plus d h, no_minus d h) refl
+sign_before Unsigned (d ∷ ds) rest all lt = let h = (and_parts (is_digit d) _ all).0 in rw (no_plus d h, no_minus d h) refl
 sign_before Plus (d ∷ ds) rest all lt = refl
 sign_before Minus (d ∷ ds) rest all lt = refl
 
 sign_before_all : (s : Sign) (ds : List ℕ) → AreDigits ds → 0 < length ds → sign_at (sign_bytes s ++ ds) ≡ s
 sign_before_all s [] all lt = absurd (omega arith)
-sign_before_all Unsigned (d ∷ ds) all lt = let h = and_left (is_digit d) _ all in rw (no_plus d h, no_minus d h) refl
+sign_before_all Unsigned (d ∷ ds) all lt = let h = (and_parts (is_digit d) _ all).0 in rw (no_plus d h, no_minus d h) refl
 sign_before_all Plus (d ∷ ds) all lt = refl
 sign_before_all Minus (d ∷ ds) all lt = refl
 
 front_before : (ds rest : List ℕ) → AreDigits ds → front rest ≡ [] → front (ds ++ rest) ≡ ds
 front_before [] rest all stop = stop
-front_before (d ∷ ds) rest all stop = rw (and_left (is_digit d) _ all) (ap (λ (l : List ℕ). d ∷ l) (front_before ds rest (and_right (is_digit d) _ all) stop))
+front_before (d ∷ ds) rest all stop = rw ((and_parts (is_digit d) _ all).0) (ap (λ (l : List ℕ). d ∷ l) (front_before ds rest (and_parts (is_digit d) _ all).1 stop))
 
 mark_stops : (b : ℕ) → ((b ≡ 69) ⊎ (b ≡ 101)) → (is_digit b ≡ false) × ((b == 46) ≡ false)
 mark_stops b (inl e) = rw e (refl, refl)

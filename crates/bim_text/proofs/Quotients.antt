@@ -8,7 +8,7 @@ use Rattle.std.proofs.lemmas.Cmp.{ranked}
 use Rattle.std.proofs.lemmas.Nat.{div-add-mod'}
 use Rattle.std.proofs.Math.Nat.{pow-le-pow_right, mul-le-mul_left, one-le-pow}
 
-times : (k a b : ℕ) → a ≤ b → a * k ≤ b * k
+pub times : (k a b : ℕ) → a ≤ b → a * k ≤ b * k
 times k a b h = omega (arith, mul-le-mul_left k h)
 
 pub power_some : (z : ℕ) → 0 < 10 ^ z

@@ -1,6 +1,7 @@
 -- What the steps of the reader say of the number that bytes spell.
-use Rattle.std.proofs.Common.{◌≡◌, ℕ, ◌+◌, ◌*◌, ◌^◌, ◌<◌, ◌≤◌, List, [], length, drop, Bool, refl, sym, ap, subst, ◌∙◌, arith, Option, Some, None, IfNone, ℤ, pos, negsuc, ◌-ℤ◌, ◌≤ℤ◌}
+use Rattle.std.proofs.Common.{◌≡◌, ℕ, ◌+◌, ◌*◌, ◌^◌, ◌<◌, ◌≤◌, List, [], length, drop, Bool, refl, sym, ap, subst, ◌∙◌, arith, Option, Some, None, IfNone, ℤ, pos, ◌-ℤ◌, ◌≤ℤ◌, neg_ℤ}
 use Rattle.std.proofs.lemmas.List.{drop-drop}
+use Rattle.bim_text.specs.declared.limits.TheConstants.{MOST_BYTES, MOST_EXPONENT}
 use Rattle.bim_text.specs.declared.digits.Digits.{Digits}
 use Rattle.bim_text.specs.declared.decimal.Decimal.{Decimal}
 use Rattle.bim_text.specs.Values.{signed, SameValue}
@@ -66,9 +67,6 @@ digits_kept bs k l e f =
 
 -- refusals
 
-pub too_long : (bs : List ℕ) → 33554432 < length bs → (s : Spelling) → IsRead s bs → ⊥
-too_long bs h s r = omega (arith, h, r.short)
-
 pub no_whole : (bs : List ℕ) (a : ℕ) → a ≡ 0 + length (sign_bytes (sign_at bs)) → None ≡ kept_after nothing (front (drop a bs)) → (s : Spelling) → IsRead s bs → ⊥
 no_whole bs a e f s r =
     let p = read_parts bs s r in
@@ -90,7 +88,7 @@ no_fraction bs a b k e f g h s r =
     omega (arith, many, p.few)
 
 pub no_exponent : (bs : List ℕ) (a b c : ℕ) → a ≡ 0 + length (sign_bytes (sign_at bs)) → b ≡ a + length (front (drop a bs)) → c ≡ b + length (fraction_bytes (fraction_at (drop b bs)))
-    → (IsExponent (exponent_at (drop c bs)) → negsuc 399 ≤ℤ exponent_of (exponent_at (drop c bs)) → exponent_of (exponent_at (drop c bs)) ≤ℤ pos 400 → ⊥) → (s : Spelling) → IsRead s bs → ⊥
+    → (IsExponent (exponent_at (drop c bs)) → neg_ℤ (pos MOST_EXPONENT) ≤ℤ exponent_of (exponent_at (drop c bs)) → exponent_of (exponent_at (drop c bs)) ≤ℤ pos MOST_EXPONENT → ⊥) → (s : Spelling) → IsRead s bs → ⊥
 no_exponent bs a b c e f g h s r =
     let p = read_parts bs s r in
     let q = at_exponent bs a b c e f g in
@@ -98,10 +96,10 @@ no_exponent bs a b c e f g h s r =
 
 -- the number that is read
 
-pub read_is : (bs : List ℕ) (a b c : ℕ) (k l : Digits) → length bs ≤ 33554432
+pub read_is : (bs : List ℕ) (a b c : ℕ) (k l : Digits) → length bs ≤ MOST_BYTES
     → a ≡ 0 + length (sign_bytes (sign_at bs)) → b ≡ a + length (front (drop a bs)) → (b ≡ a → ⊥) → c ≡ b + length (fraction_bytes (fraction_at (drop b bs)))
     → Some k ≡ kept_after nothing (front (drop a bs)) → Some l ≡ kept_after k (fraction_digits (fraction_at (drop b bs)))
-    → IsExponent (exponent_at (drop c bs)) → negsuc 399 ≤ℤ exponent_of (exponent_at (drop c bs)) → exponent_of (exponent_at (drop c bs)) ≤ℤ pos 400
+    → IsExponent (exponent_at (drop c bs)) → neg_ℤ (pos MOST_EXPONENT) ≤ℤ exponent_of (exponent_at (drop c bs)) → exponent_of (exponent_at (drop c bs)) ≤ℤ pos MOST_EXPONENT
     → Describes (digits_of (parts bs)) l × IsRead (parts bs) bs
 read_is bs a b c k l short e f n g x y is low high =
     let w = at_whole bs a e in

@@ -1,13 +1,12 @@
 -- What rows give and how many bytes they are.
-use Rattle.std.proofs.Common.{◌≡◌, ℕ, zero, suc, ◌+◌, ◌-◌, ◌*◌, ◌/◌, ◌%◌, ◌<◌, ◌≤◌, List, [], ◌∷◌, ◌++◌, length, get_or, take, drop, Bool, true, false, refl, sym, ap, ◌∙◌, add-one, arith, append_assoc, inl, inr}
+use Rattle.std.proofs.Common.{◌≡◌, ℕ, zero, suc, ◌+◌, ◌-◌, ◌*◌, ◌/◌, ◌<◌, ◌≤◌, List, [], ◌++◌, length, get_or, take, false, refl, arith, append_assoc, inl, inr}
 use Rattle.std.specs.Prelude.{encode_utf8}
 use Rattle.std.specs.Str.{IsUtf8, is_utf8}
-use Rattle.std.proofs.lemmas.Bool.{le-leb, lt-leb}
+use Rattle.std.proofs.lemmas.Bool.{le-leb, lt-leb, cases_Bool}
 use Rattle.std.proofs.lemmas.Nat.{div-add-mod'}
 use Rattle.std.proofs.lemmas.Str.{IsUtf8-from_is_utf8, is_utf8-from_IsUtf8}
 use Rattle.std.proofs.lemmas.List.{append-nil}
 use Rattle.bim_text.specs.Texts.{groups, group, character, sequence_len, high_row}
-use Rattle.bim_text.proofs.Truths.{tells}
 
 -- groups
 
@@ -37,7 +36,7 @@ high_whole bs n e le h =
     rw (← e, l, t) refl
 
 not_utf8 : (bs : List ℕ) → (IsUtf8 bs → ⊥) → is_utf8 bs ≡ false
-not_utf8 bs h = elim (tells (is_utf8 bs)) [ inl t ↦ absurd (h (IsUtf8-from_is_utf8 bs t)) | inr t ↦ t ]
+not_utf8 bs h = elim (cases_Bool (is_utf8 bs)) [ inl t ↦ absurd (h (IsUtf8-from_is_utf8 bs t)) | inr t ↦ t ]
 
 pub high_cut : (bs : List ℕ) (n : ℕ) → n ≡ sequence_len (get_or bs 0 0) → n ≤ length bs → (IsUtf8 (take n bs) → ⊥) → high_row bs ≡ record { gives = encode_utf8 (get_or bs 0 0); size = 1 }
 unfolding high_row

@@ -1,11 +1,13 @@
 -- How many significant digits there are, and how great the number is that they write.
 use Rattle.std.proofs.Common.{◌≡◌, ℕ, suc, ◌+◌, ◌-◌, ◌*◌, ◌^◌, ◌<◌, ◌≤◌, ◌==◌, ◌⊎◌, inl, inr, List, [], ◌∷◌, ◌++◌, length, reverse, false, refl, ap, arith}
 use Rattle.std.proofs.Math.Nat.{pow-suc, mul-le-mul_left}
-use Rattle.std.proofs.lemmas.Bool.{eqb-true}
+use Rattle.std.proofs.lemmas.Bool.{eqb-true, cases_Bool, and_parts}
 use Rattle.std.proofs.lemmas.Bool.Decides.{nat_tests}
 use Rattle.std.proofs.lemmas.List.{reverse-append, length-reverse, append-nil}
-use Rattle.bim_text.specs.Numbers.{is_digit, value_after, AreDigits, from_first, significant}
-use Rattle.bim_text.proofs.Truths.{tells, and_left, and_right, digit_low, digit_high}
+use Rattle.bim_text.specs.Numbers.{AreDigits, from_first, significant}
+use Rattle.p21_lexer.specs.Spelling.{is_digit, value_after}
+use Rattle.bim_text.proofs.Quotients.{times}
+use Rattle.bim_text.proofs.Truths.{digit_low, digit_high}
 
 -- one more digit
 
@@ -15,14 +17,14 @@ value_snoc n (d ∷ ds) b = value_snoc (n * 10 + (d - 48)) ds b
 
 pub first_digit : (ds : List ℕ) (b : ℕ) → (b == 48) ≡ false → from_first (ds ++ b ∷ []) ≡ from_first ds ++ b ∷ []
 first_digit [] b h = rw h refl
-first_digit (d ∷ ds) b h = elim (tells (d == 48)) [
+first_digit (d ∷ ds) b h = elim (cases_Bool (d == 48)) [
   | inl k ↦ rw k (first_digit ds b h)
   | inr k ↦ rw k refl
 ]
 
 first_zero : (ds : List ℕ) → ((from_first (ds ++ 48 ∷ []) ≡ []) × (from_first ds ≡ [])) ⊎ (from_first (ds ++ 48 ∷ []) ≡ from_first ds ++ 48 ∷ [])
 first_zero [] = inl (refl, refl)
-first_zero (d ∷ ds) = elim (tells (d == 48)) [
+first_zero (d ∷ ds) = elim (cases_Bool (d == 48)) [
   | inl k ↦ rw k (first_zero ds)
   | inr k ↦ rw k (inr refl)
 ]
@@ -38,7 +40,7 @@ significant_zero ds = elim (first_zero ds) [
 
 length_first : (ds : List ℕ) → length (from_first ds) ≤ length ds
 length_first [] = omega arith
-length_first (d ∷ ds) = elim (tells (d == 48)) [
+length_first (d ∷ ds) = elim (cases_Bool (d == 48)) [
   | inl k ↦ rw k (omega (arith, length_first ds))
   | inr k ↦ rw k (omega arith)
 ]
@@ -47,7 +49,7 @@ pub significant_most : (ds : List ℕ) → significant ds ≤ length (from_first
 significant_most ds = omega (arith, length_first (reverse (from_first ds)), length-reverse (from_first ds))
 
 significant_next : (ds : List ℕ) (b : ℕ) → significant ds ≤ significant (ds ++ b ∷ [])
-significant_next ds b = elim (tells (b == 48)) [
+significant_next ds b = elim (cases_Bool (b == 48)) [
   | inl k ↦ (let e : b ≡ 48 = eqb-true _ _ k in rw (e, significant_zero ds) (omega arith))
   | inr k ↦ omega (arith, significant_digit ds b k, significant_most ds)
 ]
@@ -73,13 +75,10 @@ low_after n (d ∷ ds) =
 high_after : (n : ℕ) (ds : List ℕ) → AreDigits ds → value_after n ds + 1 ≤ (n + 1) * 10 ^ length ds
 high_after n [] all = omega arith
 high_after n (d ∷ ds) all =
-    let more = high_after (n * 10 + (d - 48)) ds (and_right (is_digit d) _ all) in
-    let top = digit_high d (and_left (is_digit d) _ all) in
+    let more = high_after (n * 10 + (d - 48)) ds (and_parts (is_digit d) _ all).1 in
+    let top = digit_high d (and_parts (is_digit d) _ all).0 in
     let up : (n * 10 + (d - 48) + 1) * 10 ^ length ds ≤ (n + 1) * 10 * 10 ^ length ds = times (10 ^ length ds) (n * 10 + (d - 48) + 1) ((n + 1) * 10) (omega arith) in
     rw (pow-suc 10 (length ds)) (omega (arith, more, up))
-  where
-    times : (k a b : ℕ) → a ≤ b → a * k ≤ b * k
-    times k a b h = omega (arith, mul-le-mul_left k h)
 
 from_zero : (n : ℕ) (ds : List ℕ) → n ≡ 0 → value_after n ds ≡ value_after 0 ds
 from_zero n ds e = ap (λ (x : ℕ). value_after x ds) e
@@ -97,12 +96,12 @@ first_low d ds low k =
 
 pub value_low : (ds : List ℕ) → AreDigits ds → 0 < length (from_first ds) → 10 ^ (length (from_first ds) - 1) ≤ value_after 0 ds
 value_low [] all lt = absurd (omega arith)
-value_low (d ∷ ds) all lt = elim (tells (d == 48)) [
+value_low (d ∷ ds) all lt = elim (cases_Bool (d == 48)) [
   | inl k ↦ (let e = eqb-true _ _ k in
       let z = from_zero (0 * 10 + (d - 48)) ds (omega arith) in
       let lt2 : 0 < length (from_first ds) = rw k at lt in
-      rw (k, z) (value_low ds (and_right (is_digit d) _ all) lt2))
-  | inr k ↦ rw k (first_low d ds (digit_low d (and_left (is_digit d) _ all)) k)
+      rw (k, z) (value_low ds (and_parts (is_digit d) _ all).1 lt2))
+  | inr k ↦ rw k (first_low d ds (digit_low d (and_parts (is_digit d) _ all).0) k)
 ]
 
 first_high : (d : ℕ) (ds : List ℕ) → d ≤ 57 → AreDigits ds → value_after (0 * 10 + (d - 48)) ds < 10 ^ suc (length ds)
@@ -112,9 +111,9 @@ first_high d ds top all =
 
 pub value_high : (ds : List ℕ) → AreDigits ds → value_after 0 ds < 10 ^ length (from_first ds)
 value_high [] all = omega arith
-value_high (d ∷ ds) all = elim (tells (d == 48)) [
+value_high (d ∷ ds) all = elim (cases_Bool (d == 48)) [
   | inl k ↦ (let e = eqb-true _ _ k in
       let z = from_zero (0 * 10 + (d - 48)) ds (omega arith) in
-      rw (k, z) (value_high ds (and_right (is_digit d) _ all)))
-  | inr k ↦ rw k (first_high d ds (digit_high d (and_left (is_digit d) _ all)) (and_right (is_digit d) _ all))
+      rw (k, z) (value_high ds (and_parts (is_digit d) _ all).1))
+  | inr k ↦ rw k (first_high d ds (digit_high d (and_parts (is_digit d) _ all).0) (and_parts (is_digit d) _ all).1)
 ]

@@ -1,7 +1,9 @@
 -- Numbers as they are spelled (ISO 10303-21, section 6, integers and reals): an optional sign, digits, optionally a point and digits,
 -- optionally an exponent. Digits may lack behind the point, the point may lack before an exponent, and its E has either case.
-use Rattle.std.specs.Prelude.{◌≡◌, ℕ, ◌+◌, ◌-◌, ◌*◌, ◌<◌, ◌≤◌, ◌==◌, ◌&&◌, nat_le, Bool, true, false, if◌then◌else◌, ℤ, pos, ◌-ℤ◌, ◌≤ℤ◌, neg_ℤ, List, [], ◌∷◌, ◌++◌, length, reverse, Option, Some, None, ◌⊎◌}
+use Rattle.std.specs.Prelude.{◌≡◌, ℕ, ◌+◌, ◌-◌, ◌<◌, ◌≤◌, ◌==◌, Bool, true, false, if◌then◌else◌, ℤ, pos, ◌-ℤ◌, ◌≤ℤ◌, neg_ℤ, List, [], ◌∷◌, ◌++◌, length, reverse, Option, Some, None, ◌⊎◌}
 use Rattle.std.specs.List.{list_all}
+use Rattle.p21_lexer.specs.Spelling.{is_digit, value_after}
+use Rattle.bim_text.specs.declared.limits.TheConstants.{MOST_BYTES, MOST_DIGITS, MOST_EXPONENT}
 use Rattle.bim_text.specs.Values.{Scaled, signed}
 
 -- A spelling by its parts.
@@ -40,9 +42,6 @@ bytes_of s = sign_bytes s.sign ++ (s.whole ++ (fraction_bytes s.fraction ++ expo
 
 -- Which spellings are right: those of digits, of which there is one before the point and one in an exponent.
 
-abbrev pub is_digit : ℕ → Bool
-is_digit b = nat_le 48 b && nat_le b 57
-
 abbrev pub AreDigits : List ℕ → Type 0
 AreDigits bs = list_all is_digit bs ≡ true
 
@@ -64,11 +63,6 @@ pub record IsNumber (s : Spelling) (text : List ℕ) : Type 0 where
   pub exponent : IsExponent s.exponent
 
 -- What a spelling writes.
-
--- the number that decimal digits write, after those that write n
-abbrev pub value_after : ℕ → List ℕ → ℕ
-value_after n [] = n
-value_after n (b ∷ bs) = value_after (n * 10 + (b - 48)) bs
 
 abbrev pub is_minus : Sign → Bool
 is_minus Minus = true
@@ -99,11 +93,11 @@ from_first (b ∷ bs) = if b == 48 then from_first bs else b ∷ bs
 abbrev pub significant : List ℕ → ℕ
 significant bs = length (from_first (reverse (from_first bs)))
 
--- the bytes are a number of this spelling that is read: at most 33,554,432 bytes, 34 significant digits, and an exponent
--- from -400 to 400
+-- the bytes are a number of this spelling that is read: there aren't too many bytes nor digits that count, and the exponent isn't too far
+-- from zero
 pub record IsRead (s : Spelling) (text : List ℕ) : Type 0 where
   pub number : IsNumber s text
-  pub short : length text ≤ 33554432
-  pub few : significant (digits_of s) ≤ 34
-  pub low : neg_ℤ (pos 400) ≤ℤ exponent_of s.exponent
-  pub high : exponent_of s.exponent ≤ℤ pos 400
+  pub short : length text ≤ MOST_BYTES
+  pub few : significant (digits_of s) ≤ MOST_DIGITS
+  pub low : neg_ℤ (pos MOST_EXPONENT) ≤ℤ exponent_of s.exponent
+  pub high : exponent_of s.exponent ≤ℤ pos MOST_EXPONENT

@@ -1,7 +1,9 @@
 -- What the functions of the reader compute, from the left. No public contract cites it.
 use Rattle.std.specs.Prelude.{ℕ, ◌+◌, ◌-◌, ◌*◌, ◌^◌, ◌==◌, nat_lt, if◌then◌else◌, List, [], ◌∷◌, length, drop, Option, Some, None, option_and_then}
+use Rattle.bim_text.specs.declared.limits.TheConstants.{MOST_DIGITS}
 use Rattle.bim_text.specs.declared.digits.Digits.{Digits}
-use Rattle.bim_text.specs.Numbers.{Sign, Unsigned, Plus, Minus, Exponent, Spelling, is_digit, sign_bytes, fraction_bytes}
+use Rattle.bim_text.specs.Numbers.{Sign, Unsigned, Plus, Minus, Exponent, Spelling, sign_bytes, fraction_bytes}
+use Rattle.p21_lexer.specs.Spelling.{is_digit}
 
 -- the digits at the front
 abbrev pub front : List ℕ → List ℕ
@@ -47,7 +49,7 @@ parts bs = record {
 -- One more digit: a zero is counted and, where there is room, put behind the others; another digit needs room.
 abbrev pub kept_zero : Digits → Digits
 kept_zero k = record {
-  all = if nat_lt k.all (10 ^ 33) then k.all * 10 else k.all;
+  all = if nat_lt k.all (10 ^ (MOST_DIGITS - 1)) then k.all * 10 else k.all;
   significand = k.significand;
   zeros = k.zeros + 1;
 }
@@ -56,7 +58,7 @@ abbrev pub kept_digit : Digits → ℕ → Digits
 kept_digit k b = record { all = k.all * 10 + (b - 48); significand = k.all * 10 + (b - 48); zeros = 0 }
 
 abbrev pub kept_step : Digits → ℕ → Option Digits
-kept_step k b = if b == 48 then Some (kept_zero k) else (if nat_lt k.all (10 ^ 33) then Some (kept_digit k b) else None)
+kept_step k b = if b == 48 then Some (kept_zero k) else (if nat_lt k.all (10 ^ (MOST_DIGITS - 1)) then Some (kept_digit k b) else None)
 
 abbrev pub kept_after : Digits → List ℕ → Option Digits
 kept_after k [] = Some k

@@ -4,6 +4,7 @@ use Rattle.std.specs.Prelude.{ℕ, zero, suc, ◌+◌, ◌*◌, ◌/◌, ◌%◌
 use Rattle.std.specs.Char.{digit_value}
 use Rattle.std.specs.Str.{is_utf8}
 use lib.Utf8.{scalar}
+use Rattle.p21_lexer.specs.Spelling.{run}
 
 -- Two apostrophes in a row, paired from the left, stand for one; then control bytes go.
 
@@ -40,11 +41,6 @@ eight bs at = four bs at * 65536 + four bs (at + 4)
 -- the number of a group of that many digits, four or eight
 unfoldable pub group : ℕ → List ℕ → ℕ → ℕ
 group width bs at = if width == 4 then four bs at else eight bs at
-
--- how many bytes at the front are all such
-abbrev pub run : (ℕ → Bool) → List ℕ → ℕ
-run p [] = 0
-run p (b ∷ bs) = if p b then run p bs + 1 else 0
 
 -- What may stand at the front of cleaned bytes: the characters that it means, in UTF-8, and how many bytes it is. A place past the
 -- end holds 0.

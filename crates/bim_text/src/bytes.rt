@@ -2,7 +2,8 @@
 ghost use Rattle.std.specs.Prelude.{◌≡◌, ◌+◌, ◌*◌, ◌^◌, ◌<◌, ◌≤◌, ◌⊎◌, slice_index, drop, length};
 ghost use Rattle.std.specs.List.{list_all};
 ghost use Rattle.bim_model.specs.Guids.{is_guid_char as guid_char};
-ghost use Rattle.bim_text.specs.Texts.{is_hexadecimal, nibble, two, four, eight, group, run};
+ghost use Rattle.bim_text.specs.Texts.{is_hexadecimal, nibble, two, four, group};
+ghost use Rattle.p21_lexer.specs.Spelling.{run};
 
 /// The byte at a place, 0 past the end.
 pub fn byte_at(bytes: &[u8], at: usize) -> u8
@@ -63,7 +64,7 @@ pub fn group_digits(bytes: &[u8], at: usize, width: usize) -> u32
 }
 
 /// How many hexadecimal digits stand from a place on.
-#[tactic(auto, using(crate::proofs::Runs::runs))]
+#[tactic(auto, using(p21_lexer::proofs::RunLemmas::runs))]
 pub fn count_hexadecimals(bytes: &[u8], from: usize) -> usize
     ensures count { result ≡ run is_hexadecimal (drop from bytes.now) }
     ensures within { result ≤ length bytes.now }

@@ -1,13 +1,12 @@
 //! Decimals: their exact values, without floats.
 ghost use Rattle.std.specs.Prelude.{◌≡◌, ◌≢◌, ◌^◌, ◌%◌, ◌<◌, pos, false};
+ghost use Rattle.bim_text.specs.declared.limits.TheConstants.{MOST_DIGITS};
 
 use crate::digits::{Digits, scan};
+use crate::limits::MOST_BYTES;
 use crate::order::order_raised;
 use crate::spelling::{is_minus_at, scan_exponent, scan_fraction, sign_end};
 use std::cmp::Ordering;
-
-/// The greatest number of bytes that are read.
-const MOST_BYTES: usize = 33_554_432;
 
 /// An exact decimal number: `digits` times ten to `exp`, or the negative of that. Each value has one form: the digits don't end in
 /// 0 unless they are 0, and zero is positive and has the exponent 0.
@@ -19,7 +18,7 @@ pub struct Decimal {
     pub digits: u128,
     /// The power of ten.
     pub exp: i32,
-    ghost bounded: { digits < 10 ^ 34 },
+    ghost bounded: { digits < 10 ^ MOST_DIGITS },
     ghost stripped: { digits ≢ 0 → digits % 10 ≢ 0 },
     ghost zero_exp: { digits ≡ 0 → exp ≡ pos 0 },
     ghost zero_sign: { digits ≡ 0 → negative ≡ false },
@@ -30,6 +29,7 @@ impl Decimal {
     ghost use Rattle.bim_text.specs.Values.{signed, SameValue, raised, size_order};
     ghost use Rattle.bim_text.specs.Numbers.{Spelling, IsRead};
     ghost use Rattle.bim_text.specs.Decimals.{Reads, value_of};
+    ghost use Rattle.bim_text.specs.declared.limits.TheConstants.{MOST_BYTES, MOST_DIGITS, MOST_EXPONENT};
 
     /// The number that the bytes spell (ISO 10303-21, section 6). There is none for other bytes, and none for a spelling that is too
     /// much for a model: more than 33,554,432 bytes, 34 digits that count, or a power of ten beyond 400 either way. Takes no memory.
@@ -74,11 +74,11 @@ impl Decimal {
 
     /// The decimal of digits times ten to a power.
     fn of(negative: bool, digits: Digits, power: i32) -> Decimal
-        requires bounded { digits.significand < 10 ^ 34 }
+        requires bounded { digits.significand < 10 ^ MOST_DIGITS }
         requires stripped { 0 < digits.significand → 0 < digits.significand % 10 }
         requires low { negsuc 99999999 ≤ℤ power }
-        requires high { power ≤ℤ pos 400 }
-        requires zeros { digits.zeros ≤ 33554432 }
+        requires high { power ≤ℤ pos MOST_EXPONENT }
+        requires zeros { digits.zeros ≤ MOST_BYTES }
         ensures { SameValue (value_of result) (record { number = signed negative (digits.significand * 10 ^ digits.zeros); power = power }) }
     {
         if digits.significand == 0 {

@@ -1,12 +1,16 @@
 //! Decimal digits, read one after another.
-ghost use Rattle.std.specs.Prelude.{◌≡◌, ◌+◌, ◌-◌, ◌^◌, ◌<◌, ◌≤◌, IsTrue, ◌↔◌, Some, option_map, IfSome, IfNone, length, drop, List, ℕ, true};
-ghost use Rattle.bim_text.specs.Numbers.{is_digit, value_after, AreDigits};
+ghost use Rattle.std.specs.Prelude.{◌≡◌, ◌+◌, ◌-◌, ◌^◌, ◌<◌, ◌≤◌, Some, option_map, IfSome, IfNone, length, drop, ℕ, true};
+ghost use Rattle.bim_text.specs.Numbers.{AreDigits};
+ghost use Rattle.p21_lexer.specs.Spelling.{is_digit, value_after};
 ghost use Rattle.bim_text.specs.Scanning.{front, kept_step, kept_after};
+ghost use Rattle.bim_text.specs.declared.limits.TheConstants.{MOST_BYTES, MOST_DIGITS, MOST_EXPONENT};
+
+use crate::limits::MOST_EXPONENT;
 
 /// What is kept of digits.
 #[derive(Clone, Copy)]
 pub struct Digits {
-    /// All of them as one number, as long as it has at most 34 digits.
+    /// All of them as one number, as long as it doesn't have too many digits.
     pub all: u128,
     /// The number that they write up to the last that isn't 0.
     pub significand: u128,
@@ -14,7 +18,7 @@ pub struct Digits {
     pub zeros: u32,
 }
 
-/// The least number of 34 digits.
+/// The least number of as many digits as may count.
 const FULL: u128 = 1_000_000_000_000_000_000_000_000_000_000_000;
 
 /// Digits, and where they end.
@@ -38,13 +42,13 @@ impl Digits {
         zeros: 0,
     };
 
-    /// One more digit. None where there are over 34 from the first to the last that isn't 0.
+    /// One more digit. None where there are too many from the first to the last that isn't 0.
     fn with(self, digit: u8) -> Option<Digits>
         requires digit { is_digit digit ≡ true }
         requires room { self.zeros + 1 < 2 ^ 32 }
-        requires fits { self.all < 10 ^ 34 }
+        requires fits { self.all < 10 ^ MOST_DIGITS }
         ensures step { result ≡ kept_step self digit }
-        ensures fits { IfSome result (λ next. next.all < 10 ^ 34) }
+        ensures fits { IfSome result (λ next. next.all < 10 ^ MOST_DIGITS) }
         ensures zeros { IfSome result (λ next. next.zeros ≤ self.zeros + 1) }
     {
         if digit == b'0' {
@@ -75,13 +79,13 @@ impl Digits {
 #[tactic(auto, using(crate::proofs::Fronts::fronts))]
 pub fn scan(text: &[u8], from: usize, before: Digits) -> Option<Scanned>
     requires place { from ≤ length text.now }
-    requires short { length text.now ≤ 33554432 }
+    requires short { length text.now ≤ MOST_BYTES }
     requires zeros { before.zeros ≤ from }
-    requires fits { before.all < 10 ^ 34 }
+    requires fits { before.all < 10 ^ MOST_DIGITS }
     ensures kept { option_map (λ s. s.digits) result ≡ kept_after before (front (drop from text.now)) }
     ensures end { IfSome result (λ s. s.end ≡ from + length (front (drop from text.now))) }
     ensures within { IfSome result (λ s. s.end ≤ length text.now) }
-    ensures fits { IfSome result (λ s. s.digits.all < 10 ^ 34) }
+    ensures fits { IfSome result (λ s. s.digits.all < 10 ^ MOST_DIGITS) }
     ensures zeros { IfSome result (λ s. s.digits.zeros ≤ s.end) }
 {
     let mut digits = before;
@@ -93,13 +97,13 @@ pub fn scan(text: &[u8], from: usize, before: Digits) -> Option<Scanned>
     Some(Scanned { digits, end: at })
 }
 
-/// The number that digits write. None where there are none or other bytes, or where it is over 400.
+/// The number that digits write. None where there are none or other bytes, or where it is beyond the greatest exponent.
 #[tactic(auto, using(crate::proofs::Fronts::writings))]
-pub fn up_to_400(digits: &[u8]) -> Option<u32>
+pub fn exponent_size(digits: &[u8]) -> Option<u32>
     ensures some { IfSome result (λ n. (0 < length digits.now) × AreDigits digits.now) }
     ensures value { IfSome result (λ n. n ≡ value_after 0 digits.now) }
-    ensures small { IfSome result (λ n. n ≤ 400) }
-    ensures none { IfNone result (0 < length digits.now → AreDigits digits.now → value_after 0 digits.now ≤ 400 → ⊥) }
+    ensures small { IfSome result (λ n. n ≤ MOST_EXPONENT) }
+    ensures none { IfNone result (0 < length digits.now → AreDigits digits.now → value_after 0 digits.now ≤ MOST_EXPONENT → ⊥) }
 {
     if digits.is_empty() {
         return None;
@@ -110,7 +114,7 @@ pub fn up_to_400(digits: &[u8]) -> Option<u32>
             return None;
         }
         value = value * 10 + (*digit - b'0') as u32;
-        if value > 400 {
+        if value > MOST_EXPONENT {
             return None;
         }
     }

@@ -1,6 +1,7 @@
 //! Which row stands at the front of a spelled text, read without memory: the same tests as on cleaned bytes.
-ghost use Rattle.std.specs.Prelude.{◌≡◌, ◌+◌, ◌*◌, ◌^◌, ◌<◌, ◌≤◌, ◌⊎◌, IsTrue, slice_index, drop, length};
-ghost use Rattle.bim_text.specs.Texts.{cleaned, two, four, group, is_code, is_wide, is_shifted, is_page, is_hexadecimal, run};
+ghost use Rattle.std.specs.Prelude.{◌≡◌, ◌+◌, ◌*◌, ◌^◌, ◌<◌, ◌⊎◌, IsTrue, slice_index, drop};
+ghost use Rattle.bim_text.specs.Texts.{cleaned, two, four, group, is_code, is_wide, is_shifted, is_page, is_hexadecimal};
+ghost use Rattle.p21_lexer.specs.Spelling.{run};
 
 use crate::bytes::{is_hexadecimal, nibble};
 use crate::cursor::{count_kept_hexadecimals, kept_at, skip};

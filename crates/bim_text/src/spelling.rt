@@ -1,9 +1,10 @@
 //! The parts of a number as it is spelled (ISO 10303-21, section 6).
-ghost use Rattle.std.specs.Prelude.{◌≡◌, ◌+◌, ◌^◌, ◌<◌, ◌≤◌, ◌≤ℤ◌, pos, negsuc, option_map, IfSome, IfNone, length, drop};
+ghost use Rattle.std.specs.Prelude.{◌≡◌, ◌+◌, ◌^◌, ◌<◌, ◌≤◌, ◌≤ℤ◌, pos, neg_ℤ, option_map, IfSome, IfNone, length, drop};
 ghost use Rattle.bim_text.specs.Numbers.{sign_bytes, is_minus, fraction_bytes, fraction_digits, IsExponent, exponent_of};
 ghost use Rattle.bim_text.specs.Scanning.{sign_at, fraction_at, exponent_at, kept_after};
+ghost use Rattle.bim_text.specs.declared.limits.TheConstants.{MOST_BYTES, MOST_DIGITS, MOST_EXPONENT};
 
-use crate::digits::{Digits, Scanned, scan, up_to_400};
+use crate::digits::{Digits, Scanned, exponent_size, scan};
 
 /// The end of a sign, or the place itself where none stands.
 #[tactic(auto, using(crate::proofs::Fronts::signs))]
@@ -40,9 +41,9 @@ pub struct Fraction {
 #[tactic(auto, using(crate::proofs::Fronts::points))]
 pub fn scan_fraction(text: &[u8], whole: Scanned) -> Option<Fraction>
     requires place { whole.end ≤ length text.now }
-    requires short { length text.now ≤ 33554432 }
+    requires short { length text.now ≤ MOST_BYTES }
     requires zeros { whole.digits.zeros ≤ whole.end }
-    requires fits { whole.digits.all < 10 ^ 34 }
+    requires fits { whole.digits.all < 10 ^ MOST_DIGITS }
     ensures kept { option_map (λ f. f.digits) result ≡ kept_after whole.digits (fraction_digits (fraction_at (drop whole.end text.now))) }
     ensures count { IfSome result (λ f. f.count ≡ length (fraction_digits (fraction_at (drop whole.end text.now)))) }
     ensures end { IfSome result (λ f. f.end ≡ whole.end + length (fraction_bytes (fraction_at (drop whole.end text.now)))) }
@@ -67,16 +68,16 @@ pub fn scan_fraction(text: &[u8], whole: Scanned) -> Option<Fraction>
     }
 }
 
-/// The exponent that all bytes from a place on are, 0 where there are none. None where they are none, or where it is outside -400
-/// to 400.
+/// The exponent that all bytes from a place on are, 0 where there are none. None where they are none, or where it is beyond the greatest
+/// one, of either sign.
 #[tactic(auto, using(crate::proofs::Fronts::exponents))]
 pub fn scan_exponent(text: &[u8], from: usize) -> Option<i32>
     requires { from ≤ length text.now }
     ensures is { IfSome result (λ n. IsExponent (exponent_at (drop from text.now))) }
     ensures value { IfSome result (λ n. n ≡ exponent_of (exponent_at (drop from text.now))) }
-    ensures low { IfSome result (λ n. negsuc 399 ≤ℤ n) }
-    ensures high { IfSome result (λ n. n ≤ℤ pos 400) }
-    ensures none { IfNone result (IsExponent (exponent_at (drop from text.now)) → negsuc 399 ≤ℤ exponent_of (exponent_at (drop from text.now)) → exponent_of (exponent_at (drop from text.now)) ≤ℤ pos 400 → ⊥) }
+    ensures low { IfSome result (λ n. neg_ℤ (pos MOST_EXPONENT) ≤ℤ n) }
+    ensures high { IfSome result (λ n. n ≤ℤ pos MOST_EXPONENT) }
+    ensures none { IfNone result (IsExponent (exponent_at (drop from text.now)) → neg_ℤ (pos MOST_EXPONENT) ≤ℤ exponent_of (exponent_at (drop from text.now)) → exponent_of (exponent_at (drop from text.now)) ≤ℤ pos MOST_EXPONENT → ⊥) }
 {
     if from == text.len() {
         return Some(0);
@@ -85,7 +86,7 @@ pub fn scan_exponent(text: &[u8], from: usize) -> Option<i32>
         return None;
     }
     let digits = sign_end(text, from + 1);
-    let size = up_to_400(&text[digits..])? as i32;
+    let size = exponent_size(&text[digits..])? as i32;
     if is_minus_at(text, from + 1) {
         Some(-size)
     } else {

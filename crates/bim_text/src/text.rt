@@ -1,7 +1,8 @@
 //! Texts as they are spelled in exchange files (ISO 10303-21, section 6.4.3).
-ghost use Rattle.std.specs.Prelude.{◌≡◌, ◌+◌, ◌++◌, ◌^◌, ◌<◌, ◌≤◌, IfOk, OnOk, ◌∷◌, slice_index, drop, take, length, string_bytes};
+ghost use Rattle.std.specs.Prelude.{◌≡◌, ◌+◌, ◌++◌, ◌^◌, ◌<◌, ◌≤◌, IfOk, OnOk, ◌∷◌, slice_index, drop, length, string_bytes};
 ghost use Rattle.std.specs.List.{list_all};
-ghost use Rattle.bim_text.specs.Texts.{cleaned, rows, row_of, run, is_plain, is_clean, text_of_spelling};
+ghost use Rattle.bim_text.specs.Texts.{cleaned, rows, row_of, is_plain, is_clean, text_of_spelling};
+ghost use Rattle.p21_lexer.specs.Spelling.{run};
 
 use crate::rows::push_row;
 use bim_model::Text;
@@ -22,7 +23,7 @@ fn is_clean(byte: u8) -> bool
 }
 
 /// The end of the bytes from a place on that stand for themselves.
-#[tactic(auto, using(crate::proofs::Runs::runs))]
+#[tactic(auto, using(p21_lexer::proofs::RunLemmas::runs))]
 fn plain_end(bytes: &[u8], from: usize) -> usize
     requires { from ≤ length bytes.now }
     ensures run { result ≡ from + run is_plain (drop from bytes.now) }

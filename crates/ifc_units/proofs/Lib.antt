@@ -5,5 +5,4 @@ pub mod Firsts
 pub mod LengthFacts
 pub mod PointFacts
 pub mod InstanceFacts
-pub mod Scans
 pub mod UnitFacts

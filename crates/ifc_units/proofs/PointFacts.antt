@@ -7,7 +7,7 @@ use Rattle.bim_model.specs.declared.geometry.Point.{Point}
 use Rattle.bim_model.specs.declared.upload.Mode.{Mode}
 use Rattle.bim_model.specs.Models.{farthest, IsInReach}
 use Rattle.p21_reader.specs.declared.value.Value21.{Value21}
-use Rattle.ifc_schema.specs.Values.{items_of}
+use Rattle.ifc_instances.specs.Values.{items_of}
 use Rattle.ifc_units.specs.declared.scale.Scale.{Scale}
 use Rattle.ifc_units.specs.declared.fault.GridFault.{GridFault}
 use Rattle.ifc_units.specs.declared.fault.LengthError.{LengthError}
@@ -18,7 +18,7 @@ use Rattle.ifc_units.proofs.Firsts.{never_refused, one_first, one_row, fails_her
 use Rattle.ifc_units.specs.Faults.{fault_in}
 
 -- points are equal by their coordinates
-same_point : (p q : Point) → p.x ≡ q.x → p.y ≡ q.y → p.z ≡ q.z → p ≡ q
+pub same_point : (p q : Point) → p.x ≡ q.x → p.y ≡ q.y → p.z ≡ q.z → p ≡ q
 same_point p q e f g = let r : Point = record { x = q.x; y = q.y; z = q.z } in let h : record { x = p.x; y = p.y; z = p.z } ≡ r = rw (e, f, g) refl in h
 
 abbrev pub coordinates : Point → List ℤ

@@ -1,13 +1,12 @@
 -- Sizes on the grid.
 use Rattle.std.proofs.Common.{◌≡◌, ℕ, ◌+◌, ◌-◌, ◌*◌, ◌/◌, ◌%◌, ◌^◌, ◌<◌, ◌≤◌, ◌⊎◌, inl, inr, arith}
 use Rattle.std.proofs.lemmas.Nat.{div-add-mod'}
-use Rattle.std.proofs.Math.Nat.{mul-le-mul_left, pow-le-pow_right, one-le-pow}
+use Rattle.std.proofs.Math.Nat.{mul-le-mul_left, pow-le-pow_right}
 use Rattle.bim_model.specs.declared.upload.Mode.{Mode}
 use Rattle.bim_model.specs.declared.upload.Mode.TheVariants.{Exact, Snap}
+use Rattle.bim_text.proofs.Quotients.{times, power_some}
+use Rattle.ifc_units.specs.declared.sizes.TheConstants.{UNITS, MOST}
 use Rattle.ifc_units.specs.Sizes.{distance, IsSize}
-
-times : (k a b : ℕ) → a ≤ b → a * k ≤ b * k
-times k a b h = omega (arith, mul-le-mul_left k h)
 
 -- at the size below and at the one above
 at_whole : (n d : ℕ) → distance n (n / d * d) ≡ n % d
@@ -24,20 +23,20 @@ from_above : (n d g : ℕ) → 0 < d → n / d < g → d - n % d ≤ distance n 
 from_above n d g h lt = omega (arith, div-add-mod' n d, times d (n / d + 1) g (omega (arith, lt)))
 
 -- nearest
-pub snap_whole : (n d : ℕ) → 0 < d → n % d < d - n % d → IsSize Snap 1 n d (n / d)
+pub snap_whole : (n d : ℕ) → 0 < d → n % d < d - n % d → IsSize Snap UNITS n d (n / d)
 snap_whole n d h lt = let e = at_whole n d in record { near = omega (arith, e); away = λ k. absurd (omega (arith, e, k)) }
 
-pub snap_next : (n d : ℕ) → 0 < d → d - n % d ≤ n % d → IsSize Snap 1 n d (n / d + 1)
+pub snap_next : (n d : ℕ) → 0 < d → d - n % d ≤ n % d → IsSize Snap UNITS n d (n / d + 1)
 snap_next n d h le = let e = at_next n d h in record { near = omega (arith, e); away = λ k. omega (arith, div-add-mod' n d) }
 
 -- close
-pub exact_whole : (n d : ℕ) → n % d < (1 * d + 999) / 1000 → IsSize Exact 1 n d (n / d)
+pub exact_whole : (n d : ℕ) → n % d < (UNITS * d + 999) / 1000 → IsSize Exact UNITS n d (n / d)
 exact_whole n d lt = omega (arith, at_whole n d)
 
-pub exact_next : (n d : ℕ) → 0 < d → d - n % d < (1 * d + 999) / 1000 → IsSize Exact 1 n d (n / d + 1)
+pub exact_next : (n d : ℕ) → 0 < d → d - n % d < (UNITS * d + 999) / 1000 → IsSize Exact UNITS n d (n / d + 1)
 exact_next n d h lt = omega (arith, at_next n d h)
 
-pub exact_none : (n d : ℕ) → 0 < d → (1 * d + 999) / 1000 ≤ n % d → (1 * d + 999) / 1000 ≤ d - n % d → (g : ℕ) → IsSize Exact 1 n d g → ⊥
+pub exact_none : (n d : ℕ) → 0 < d → (UNITS * d + 999) / 1000 ≤ n % d → (UNITS * d + 999) / 1000 ≤ d - n % d → (g : ℕ) → IsSize Exact UNITS n d g → ⊥
 exact_none n d h low high g close = elim (split g (n / d)) [
   | inl le ↦ omega (arith, from_below n d g le)
   | inr lt ↦ omega (arith, from_above n d g h lt)
@@ -50,14 +49,11 @@ pub ruleset roundings = (snap_whole, snap_next, exact_whole, exact_next, exact_n
 
 -- powers of ten
 
-pub power_some : (z : ℕ) → 0 < 10 ^ z
-power_some z = one-le-pow z 10 (omega arith)
-
 pub power_most : (z : ℕ) → z ≤ 37 → 10 ^ z ≤ 10 ^ 37
 power_most z h = pow-le-pow_right {n = 10} (omega arith) {i = z} {j = 37} h
 
 -- behind so many places nothing is left
-pub far_size : (mode : Mode) (n z : ℕ) → n < 10 ^ 34 → 37 < z → IsSize mode 1 (1 * n) (10 ^ z) 0
+pub far_size : (mode : Mode) (n z : ℕ) → n < 10 ^ 34 → 37 < z → IsSize mode UNITS (UNITS * n) (10 ^ z) 0
 far_size Exact n z small far =
     let up : 10 ^ 38 ≤ 10 ^ z = pow-le-pow_right {n = 10} (omega arith) {i = 38} {j = z} far in
     omega (arith, up)
@@ -69,19 +65,19 @@ pub ruleset part_sizes = (power_some, power_most, far_size)
 
 -- whole sizes
 
-pub many_digits : (n z : ℕ) → 800000 < n → 800000 < 1 * (n * 10 ^ z)
+pub many_digits : (n z : ℕ) → MOST < n → MOST < UNITS * (n * 10 ^ z)
 many_digits n z h = omega (arith, mul-le-mul_left n (power_some z))
 
-pub many_zeros : (n z : ℕ) → (n ≡ 0 → ⊥) → 7 < z → 800000 < 1 * (n * 10 ^ z)
+pub many_zeros : (n z : ℕ) → (n ≡ 0 → ⊥) → 7 < z → MOST < UNITS * (n * 10 ^ z)
 many_zeros n z h far =
     let up : 10 ^ 8 ≤ 10 ^ z = pow-le-pow_right {n = 10} (omega arith) {i = 8} {j = z} far in
     let some : 1 ≤ n = grind arith in
     omega (arith, up, times (10 ^ z) 1 n some)
 
-pub few_zeros : (n z : ℕ) → n ≤ 800000 → z ≤ 7 → n * 10 ^ z ≤ 8000000000000
+pub few_zeros : (n z : ℕ) → n ≤ MOST → z ≤ 7 → n * 10 ^ z ≤ MOST * 10 ^ 7
 few_zeros n z h near =
     let up : 10 ^ z ≤ 10 ^ 7 = pow-le-pow_right {n = 10} (omega arith) {i = z} {j = 7} near in
-    omega (arith, mul-le-mul_left n up, times (10 ^ 7) n 800000 h)
+    omega (arith, mul-le-mul_left n up, times (10 ^ 7) n MOST h)
 
 pub few_power : (z : ℕ) → z ≤ 7 → 10 ^ z ≤ 10 ^ 7
 few_power z near = pow-le-pow_right {n = 10} (omega arith) {i = z} {j = 7} near

@@ -7,18 +7,10 @@ use Rattle.std.proofs.Math.Nat.{mul-le-mul_left}
 use Rattle.bim_model.specs.declared.upload.Mode.{Mode}
 use Rattle.bim_model.specs.declared.upload.Mode.TheVariants.{Exact, Snap}
 use Rattle.bim_text.specs.Values.{signed, above, below}
+use Rattle.bim_text.proofs.Powers.{signed_times, signed_size}
+use Rattle.ifc_units.specs.declared.sizes.TheConstants.{UNITS, MOST}
 use Rattle.ifc_units.specs.Grid.{gap, IsGridNumber}
 use Rattle.ifc_units.specs.Sizes.{distance, IsSize, IsSizeOf}
-
-signed_times : (b : Bool) (m k : ℕ) → signed b m *ℤ pos k ≡ signed b (m * k)
-signed_times false m k = refl
-signed_times true zero k = let e : zero * k ≡ zero = omega arith in rw e refl
-signed_times true (suc m) k = negsuc-*ℤ-pos m k
-
-pub signed_size : (b : Bool) (m : ℕ) → unsigned_abs (signed b m) ≡ m
-signed_size false m = refl
-signed_size true zero = refl
-signed_size true (suc m) = refl
 
 -- the difference of two numbers of one sign, and of two signs
 same_sign : (b : Bool) (m n : ℕ) → unsigned_abs (signed b m -ℤ signed b n) ≡ distance m n
@@ -82,46 +74,46 @@ grid_size u b m p g few none h = elim (signs b g) [
 
 -- the size of a whole number of millimetres, and of a part
 
-whole_grid : (mode : Mode) (n : ℕ) → IsSize mode 1 n 1 n
+whole_grid : (mode : Mode) (n : ℕ) → IsSize mode UNITS n 1 n
 whole_grid Exact n = omega arith
 whole_grid Snap n = record { near = omega arith; away = λ k. absurd (omega (arith, k)) }
 
-pub whole_is : (mode : Mode) (m z g : ℕ) (p : ℤ) → p ≡ pos z → g ≡ 1 * (m * 10 ^ z) → IsSizeOf mode p m g
+pub whole_is : (mode : Mode) (m z g : ℕ) (p : ℤ) → p ≡ pos z → g ≡ UNITS * (m * 10 ^ z) → IsSizeOf mode p m g
 unfolding IsSizeOf
-whole_is mode m z g p e k = rw (e, k) (whole_grid mode (1 * (m * 10 ^ z)))
+whole_is mode m z g p e k = rw (e, k) (whole_grid mode (UNITS * (m * 10 ^ z)))
 
 below_is : (p : ℤ) (z : ℕ) → p +ℤ pos z ≡ pos 0 → (above p ≡ 0) × (below p ≡ z)
 below_is (pos n) z e = (omega (arith, ints, e), omega (arith, ints, e))
 below_is (negsuc n) z e = (refl, omega (arith, ints, e))
 
-part_places : (m : ℕ) (p : ℤ) → above p ≡ 0 → 1 * m ≡ 1 * (m * 10 ^ above p)
+part_places : (m : ℕ) (p : ℤ) → above p ≡ 0 → UNITS * m ≡ UNITS * (m * 10 ^ above p)
 part_places m p a = rw a (omega arith)
 
-pub part_is : (mode : Mode) (m z g : ℕ) (p : ℤ) → p +ℤ pos z ≡ pos 0 → IsSize mode 1 (1 * m) (10 ^ z) g → IsSizeOf mode p m g
+pub part_is : (mode : Mode) (m z g : ℕ) (p : ℤ) → p +ℤ pos z ≡ pos 0 → IsSize mode UNITS (UNITS * m) (10 ^ z) g → IsSizeOf mode p m g
 unfolding IsSizeOf
 part_is mode m z g p e k =
     let a = below_is p z e in
-    let one = subst (λ (n : ℕ). IsSize mode 1 n (10 ^ z) g) (part_places m p a.0) k in
-    subst (λ (n : ℕ). IsSize mode 1 (1 * (m * 10 ^ above p)) (10 ^ n) g) (sym a.1) one
+    let one = subst (λ (n : ℕ). IsSize mode UNITS n (10 ^ z) g) (part_places m p a.0) k in
+    subst (λ (n : ℕ). IsSize mode UNITS (UNITS * (m * 10 ^ above p)) (10 ^ n) g) (sym a.1) one
 
-pub part_of : (mode : Mode) (m z g : ℕ) (p : ℤ) → p +ℤ pos z ≡ pos 0 → IsSizeOf mode p m g → IsSize mode 1 (1 * m) (10 ^ z) g
+pub part_of : (mode : Mode) (m z g : ℕ) (p : ℤ) → p +ℤ pos z ≡ pos 0 → IsSizeOf mode p m g → IsSize mode UNITS (UNITS * m) (10 ^ z) g
 unfolding IsSizeOf
 part_of mode m z g p e k =
     let a = below_is p z e in
-    let one = subst (λ (n : ℕ). IsSize mode 1 (1 * (m * 10 ^ above p)) (10 ^ n) g) a.1 k in
-    subst (λ (n : ℕ). IsSize mode 1 n (10 ^ z) g) (sym (part_places m p a.0)) one
+    let one = subst (λ (n : ℕ). IsSize mode UNITS (UNITS * (m * 10 ^ above p)) (10 ^ n) g) a.1 k in
+    subst (λ (n : ℕ). IsSize mode UNITS n (10 ^ z) g) (sym (part_places m p a.0)) one
 
 -- with the length's sign
 
-pub grid_ok : (mode : Mode) (b : Bool) (m g : ℕ) (p r : ℤ) → IsSizeOf mode p m g → r ≡ signed b g → IsGridNumber mode 1 (record { number = signed b m; power = p }) r
+pub grid_ok : (mode : Mode) (b : Bool) (m g : ℕ) (p r : ℤ) → IsSizeOf mode p m g → r ≡ signed b g → IsGridNumber mode UNITS (record { number = signed b m; power = p }) r
 unfolding IsSizeOf
-grid_ok mode b m g p r h e = subst (λ (x : ℤ). IsGridNumber mode 1 (record { number = signed b m; power = p }) x) (sym e) (signed_grid mode 1 b m g p h)
+grid_ok mode b m g p r h e = subst (λ (x : ℤ). IsGridNumber mode UNITS (record { number = signed b m; power = p }) x) (sym e) (signed_grid mode UNITS b m g p h)
 
-pub grid_off : (mode : Mode) (b : Bool) (m : ℕ) (p : ℤ) → mode ≡ Exact → ((n : ℕ) → IsSizeOf mode p m n → ⊥) → (g : ℤ) → IsGridNumber mode 1 (record { number = signed b m; power = p }) g → ⊥
+pub grid_off : (mode : Mode) (b : Bool) (m : ℕ) (p : ℤ) → mode ≡ Exact → ((n : ℕ) → IsSizeOf mode p m n → ⊥) → (g : ℤ) → IsGridNumber mode UNITS (record { number = signed b m; power = p }) g → ⊥
 unfolding IsSizeOf
-grid_off Exact b m p e none g h = grid_size 1 b m p g (omega arith) none h
+grid_off Exact b m p e none g h = grid_size UNITS b m p g (omega arith) none h
 grid_off Snap b m p e none g h = absurd (cc)
 
-pub grid_far : (mode : Mode) (b : Bool) (m : ℕ) (p : ℤ) → (g : ℕ) × IsSizeOf mode p m g × (800000 < g) → (g : ℤ) × IsGridNumber mode 1 (record { number = signed b m; power = p }) g × (800000 < unsigned_abs g)
+pub grid_far : (mode : Mode) (b : Bool) (m : ℕ) (p : ℤ) → (g : ℕ) × IsSizeOf mode p m g × (MOST < g) → (g : ℤ) × IsGridNumber mode UNITS (record { number = signed b m; power = p }) g × (MOST < unsigned_abs g)
 unfolding IsSizeOf
-grid_far mode b m p (g, h, far) = (signed b g, signed_grid mode 1 b m g p h, rw (signed_size b g) far)
+grid_far mode b m p (g, h, far) = (signed b g, signed_grid mode UNITS b m g p h, rw (signed_size b g) far)

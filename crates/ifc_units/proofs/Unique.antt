@@ -3,14 +3,12 @@ use Rattle.std.proofs.Common.{◌≡◌, ℕ, zero, suc, ◌+◌, ◌*◌, ◌<�
 use Rattle.std.specs.Prelude.{unsigned_abs}
 use Rattle.std.proofs.Math.IntN.{negsuc-*ℤ-pos}
 use Rattle.std.proofs.lemmas.Int.{ints, by_lt_z, unsigned_abs-mul}
-use Rattle.std.proofs.Math.Nat.{mul-le-mul_left, one-le-pow}
+use Rattle.std.proofs.Math.Nat.{one-le-pow}
 use Rattle.bim_model.specs.declared.upload.Mode.{Mode}
 use Rattle.bim_model.specs.declared.upload.Mode.TheVariants.{Exact, Snap}
 use Rattle.bim_text.specs.Values.{Scaled, below, numerator, denominator}
+use Rattle.bim_text.proofs.Quotients.{times}
 use Rattle.ifc_units.specs.Grid.{IsGridNumber}
-
-times : (k a b : ℕ) → a ≤ b → a * k ≤ b * k
-times k a b h = omega (arith, mul-le-mul_left k h)
 
 -- products keep the order
 apart : (g h : ℤ) (d : ℕ) → g <ℤ h → (g *ℤ pos d +ℤ pos d) ≤ℤ (h *ℤ pos d)

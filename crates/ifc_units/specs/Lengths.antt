@@ -1,17 +1,17 @@
 -- The lengths and points that values of a file are on the grid (IFC4 ADD2 TC1, IfcCartesianPoint, IfcCartesianPointList3D).
-use Rattle.std.specs.Prelude.{◌≡◌, ℕ, ◌*◌, ◌<◌, ◌≤◌, ◌⊎◌, true, ℤ, unsigned_abs, List, [], ◌∷◌, Some, MatchOption}
+use Rattle.std.specs.Prelude.{◌≡◌, ℕ, ◌<◌, ◌≤◌, ◌⊎◌, true, ℤ, unsigned_abs, List, [], ◌∷◌, Some, MatchOption}
 use Rattle.std.specs.List.{slice_get, AllZip}
 use Rattle.bim_model.specs.declared.geometry.Point.{Point}
-use Rattle.bim_model.specs.declared.geometry.TheConstants.{PER_MM}
+use Rattle.bim_model.specs.declared.geometry.TheConstants.{PER_MM, FARTHEST}
 use Rattle.bim_model.specs.declared.upload.Mode.{Mode}
 use Rattle.bim_text.specs.declared.decimal.Decimal.{Decimal}
 use Rattle.bim_text.specs.Values.{Scaled}
 use Rattle.bim_text.specs.Decimals.{Reads}
 use Rattle.p21_reader.specs.declared.value.Value21.{Value21}
 use Rattle.p21_reader.specs.declared.value.Instance.{Instance}
-use Rattle.ifc_schema.specs.declared.entity.Entity.TheVariants as entity
-use Rattle.ifc_schema.specs.Values.{number_of, items_of}
-use Rattle.ifc_schema.specs.Looking.{is_a}
+use Rattle.ifc_instances.specs.declared.entity.Entity.TheVariants as entity
+use Rattle.ifc_instances.specs.Values.{number_of, items_of}
+use Rattle.ifc_instances.specs.Looking.{is_a}
 use Rattle.ifc_units.specs.declared.scale.Scale.{Scale}
 use Rattle.ifc_units.specs.declared.fault.GridFault.{GridFault}
 use Rattle.ifc_units.specs.declared.fault.GridFault.TheVariants.{OffGrid, TooFar}
@@ -25,7 +25,7 @@ units = unsigned_abs PER_MM
 
 -- 800 metres, in grid numbers
 abbrev pub reach : ℕ
-reach = 800000 * units
+reach = unsigned_abs FARTHEST
 
 -- Of a number.
 

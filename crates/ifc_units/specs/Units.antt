@@ -2,7 +2,6 @@
 -- looked at, also of instances that lack their own form.
 use Rattle.std.specs.Prelude.{◌≡◌, ◌≢◌, ℕ, ◌≤◌, ◌&&◌, Bool, true, if◌then◌else◌, ℤ, pos, negsuc, codes, List, [], ◌∷◌, Option, Some, None, option_and_then, option_map, All, Any}
 use Rattle.std.specs.List.{slice_get, filter, find}
-use Rattle.std.specs.Option.{unwrap_or}
 use Rattle.std.specs.Str.{bytes_eq}
 use Rattle.bim_model.specs.declared.upload.UploadFault.{UploadFault}
 use Rattle.bim_model.specs.declared.upload.UploadFault.TheVariants.{LengthUnit}
@@ -11,10 +10,10 @@ use Rattle.p21_reader.specs.declared.value.Value21.TheOpen.{Value21-F}
 use Rattle.p21_reader.specs.declared.value.Value21.TheOpen as layer
 use Rattle.p21_reader.specs.declared.value.Value21.TheViews.{out-Value21}
 use Rattle.p21_reader.specs.declared.value.Instance.{Instance}
-use Rattle.ifc_schema.specs.declared.entity.Entity.TheVariants as entity
-use Rattle.ifc_schema.specs.Bodies.{some_passes}
-use Rattle.ifc_schema.specs.Looking.{look, is_a}
-use Rattle.ifc_schema.specs.Values.{reference_of, items_of, is_absent}
+use Rattle.ifc_instances.specs.declared.entity.Entity.TheVariants as entity
+use Rattle.ifc_instances.specs.Attributes.{listed, target_at}
+use Rattle.ifc_instances.specs.Looking.{look, is_a, some_passes}
+use Rattle.ifc_instances.specs.Values.{reference_of, is_absent}
 use Rattle.ifc_units.specs.declared.scale.Scale.{Scale}
 
 -- What values say.
@@ -30,14 +29,6 @@ enumeration_of v = enumeration_in (out-Value21 v)
 -- an attribute is the enumeration of those letters
 abbrev pub says : List ℕ → Instance → ℕ → Bool
 says word i at = some_passes (λ letters. bytes_eq letters word) (option_and_then enumeration_of (slice_get i.values at))
-
--- the items of the list that is the attribute of that number, or none
-abbrev pub listed : Instance → ℕ → List Value21
-listed i at = unwrap_or (option_and_then items_of (slice_get i.values at)) []
-
--- the instance that the attribute of that number refers to
-abbrev pub referred : List Instance → Instance → ℕ → Option Instance
-referred world i at = option_and_then (look world) (option_and_then reference_of (slice_get i.values at))
 
 -- Of a unit.
 
@@ -79,7 +70,7 @@ kept_if test (Some i) = if test i then Some i else None
 
 -- the assignment of units of a project
 abbrev pub assignment_of : List Instance → Instance → Option Instance
-assignment_of world project = kept_if (is_a entity.UnitAssignment) (referred world project 8)
+assignment_of world project = kept_if (is_a entity.UnitAssignment) (target_at world project 8)
 
 -- a value refers to that instance, and this is a unit of length
 pub record RefersToUnit (world : List Instance) (id : ℕ) (v : Value21) : Type 0 where

@@ -5,7 +5,7 @@
 pub enum GridFault {
     /// It lies between two.
     OffGrid,
-    /// It is beyond 800,000 mm.
+    /// It is beyond 800 metres.
     TooFar,
 }
 

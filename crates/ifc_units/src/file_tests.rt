@@ -1,7 +1,7 @@
 //! Length units and points of small files.
 use crate::{GridFault, LengthError, Scale, fault_of_points, length, length_unit, point, points};
 use bim_model::{Mode, Point, UploadFault};
-use ifc_schema::items_of;
+use ifc_instances::items_of;
 use p21_reader::{Exchange, Value21, read};
 use std::alloc::Global;
 use std::test::Fail;

@@ -1,22 +1,23 @@
 //! Lengths on the grid.
-ghost use Rattle.std.specs.Prelude.{◌≡◌, ℕ, ◌*◌, ◌<◌, ◌≤◌, ℤ, ◌+ℤ◌, unsigned_abs, IfOk, IfErr, Err};
+ghost use Rattle.std.specs.Prelude.{◌≡◌, ℕ, ◌<◌, ◌≤◌, ℤ, ◌+ℤ◌, unsigned_abs, IfOk, IfErr, Err};
 ghost use Rattle.bim_text.specs.Values.{signed};
 ghost use Rattle.ifc_units.specs.Grid.{IsGridNumber, length_of};
+ghost use Rattle.ifc_units.specs.Lengths.{units, reach};
 ghost use Rattle.ifc_units.specs.Sizes.{IsSizeOf};
 
 use crate::fault::GridFault;
 use crate::scale::Scale;
 use crate::sizes::{MOST, part_size, whole_size};
-use bim_model::{Mode, PER_MM};
+use bim_model::Mode;
 use bim_text::Decimal;
 
 /// The grid number of a length. Exact mode wants one less than a thousandth of a millimetre away, snap mode rounds, and a half away
 /// from zero. Takes no memory.
 pub fn to_grid(number: Decimal, scale: Scale, mode: Mode) -> Result<i32, GridFault>
-    ensures ok { IfOk result (λ g. IsGridNumber mode (unsigned_abs PER_MM) (length_of number scale) g) }
-    ensures within { IfOk result (λ g. unsigned_abs g ≤ 800000 * unsigned_abs PER_MM) }
-    ensures off_grid { result ≡ Err GridFault.OffGrid → (g : ℤ) → IsGridNumber mode (unsigned_abs PER_MM) (length_of number scale) g → ⊥ }
-    ensures too_far { result ≡ Err GridFault.TooFar → (g : ℤ) × IsGridNumber mode (unsigned_abs PER_MM) (length_of number scale) g × (800000 * unsigned_abs PER_MM < unsigned_abs g) }
+    ensures ok { IfOk result (λ g. IsGridNumber mode units (length_of number scale) g) }
+    ensures within { IfOk result (λ g. unsigned_abs g ≤ reach) }
+    ensures off_grid { result ≡ Err GridFault.OffGrid → (g : ℤ) → IsGridNumber mode units (length_of number scale) g → ⊥ }
+    ensures too_far { result ≡ Err GridFault.TooFar → (g : ℤ) × IsGridNumber mode units (length_of number scale) g × (reach < unsigned_abs g) }
 {
     match size_of(number, scale, mode) {
         Ok(size) => Ok(with_sign(number.negative, size)),

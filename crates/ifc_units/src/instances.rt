@@ -3,12 +3,11 @@ ghost use Rattle.std.specs.Prelude.{MatchOption};
 ghost use Rattle.ifc_units.specs.declared.fault.GridFault.{GridFault};
 ghost use Rattle.ifc_units.specs.Lengths.{PointRefused, ListRefused, InstanceRefused};
 
-use crate::attributes::attribute;
 use crate::fault::GridFault;
 use crate::lengths::{point, points_fault};
 use crate::scale::Scale;
 use bim_model::Mode;
-use ifc_schema::{Entity, is_a, items_of};
+use ifc_instances::{Entity, attribute, is_a, items_of};
 use p21_reader::{Instance, Value21};
 
 // The fault of a value that is to be a point.

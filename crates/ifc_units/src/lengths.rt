@@ -11,7 +11,7 @@ use crate::grid::to_grid;
 use crate::scale::Scale;
 use bim_model::{Mode, Point};
 use bim_text::Decimal;
-use ifc_schema::{items_of, number_of};
+use ifc_instances::{items_of, number_of};
 use p21_reader::Value21;
 use std::alloc::{AllocError, Global};
 

@@ -1,7 +1,6 @@
 //! The length unit of a building model and the grid that its lengths are brought to (IFC4 ADD2 TC1).
 #![tactic(auto)]
 
-mod attributes;
 mod fault;
 mod grid;
 mod instances;

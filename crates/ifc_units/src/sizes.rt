@@ -2,13 +2,13 @@
 ghost use Rattle.std.specs.Prelude.{◌≡◌, ℕ, ◌+◌, ◌*◌, ◌^◌, ◌<◌, ◌≤◌, IfSome, IfNone};
 ghost use Rattle.ifc_units.specs.Sizes.{IsSize};
 
-use bim_model::{Mode, PER_MM};
+use bim_model::{FARTHEST, Mode, PER_MM};
 
 /// Grid numbers in a millimetre.
 pub const UNITS: u128 = PER_MM as u128;
 
-/// The greatest size of a grid number: 800,000 millimetres.
-pub const MOST: u128 = 800_000 * UNITS;
+/// The greatest size of a grid number.
+pub const MOST: u128 = FARTHEST as u128;
 
 /// The size for a fraction of a grid number, by its numerator and its denominator. None where it lies between two.
 #[tactic(auto, using(crate::proofs::Rounding::roundings))]

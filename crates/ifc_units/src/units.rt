@@ -3,15 +3,14 @@ ghost use Rattle.std.specs.Prelude.{◌≡◌, ◌∷◌, [], ℕ, ℤ, Some, An
 ghost use Rattle.std.specs.Bool.{MatchBool};
 ghost use Rattle.bim_model.specs.declared.upload.UploadFault.{UploadFault};
 ghost use Rattle.p21_reader.specs.declared.value.Instance.{Instance};
-ghost use Rattle.ifc_schema.specs.declared.entity.Entity.TheVariants.{Project};
-ghost use Rattle.ifc_schema.specs.Looking.{look, is_a};
+ghost use Rattle.ifc_instances.specs.declared.entity.Entity.TheVariants.{Project};
+ghost use Rattle.ifc_instances.specs.Looking.{is_a};
 ghost use Rattle.ifc_units.specs.declared.scale.Scale.{Scale};
-ghost use Rattle.ifc_units.specs.Units.{enumeration_of, says, listed, referred, is_length_unit, prefix_power, power_with, unit_power, projects, assignment_of, RefersToUnit, IsUnitAmong, IsOnly, RefersToOther, AssignsPower, IsLengthUnit, IsLeastNumber, LengthUnitFault};
+ghost use Rattle.ifc_units.specs.Units.{enumeration_of, says, is_length_unit, prefix_power, power_with, unit_power, projects, assignment_of, RefersToUnit, IsUnitAmong, IsOnly, RefersToOther, AssignsPower, IsLengthUnit, IsLeastNumber, LengthUnitFault};
 
-use crate::attributes::attribute;
 use crate::scale::Scale;
 use bim_model::UploadFault;
-use ifc_schema::{Entity, is_a, is_absent, items_of, place_of, reference_of};
+use ifc_instances::{Entity, attribute, is_a, is_absent, listed, look, reference_of, target_at};
 use p21_reader::{Exchange, Instance, Value21};
 
 // The letters of an enumeration.
@@ -35,36 +34,6 @@ fn says(word: &str, instance: &Instance, at: usize) -> bool
         Some(letters) => letters == word,
         None => false,
     }
-}
-
-// The items of the list that is the attribute of that number; none where there is no list.
-fn listed(instance: &Instance, at: usize) -> &[Value21]
-    ensures { result.now ≡ listed instance.now at }
-{
-    let Some(value) = attribute(instance, at) else {
-        return &[];
-    };
-    match items_of(value) {
-        Some(items) => items,
-        None => &[],
-    }
-}
-
-// The instance of that number.
-fn fetch(exchange: &Exchange, id: u64) -> Option<&Instance>
-    ensures { option_copied result ≡ look exchange.now id }
-{
-    let at = place_of(exchange, id)?;
-    Some(&exchange.instances()[at])
-}
-
-// The instance that the attribute of that number refers to.
-fn referred<'a>(exchange: &'a Exchange, instance: &Instance, at: usize) -> Option<&'a Instance>
-    ensures { option_copied result ≡ referred exchange.now instance.now at }
-{
-    let value = attribute(instance, at)?;
-    let id = reference_of(value)?;
-    fetch(exchange, id)
 }
 
 #[tactic(auto, unfolding(crate::specs::Units::is_length_unit))]
@@ -176,7 +145,7 @@ fn least_project(exchange: &Exchange) -> u64
 fn assignment_of<'a>(exchange: &'a Exchange, project: &Instance) -> Option<&'a Instance>
     ensures { option_copied result ≡ assignment_of exchange.now project.now }
 {
-    let assignment = referred(exchange, project, 8)?;
+    let assignment = target_at(exchange, project, 8)?;
     if is_a(Entity::UnitAssignment, assignment) {
         Some(assignment)
     } else {
@@ -192,7 +161,7 @@ fn unit_named(exchange: &Exchange, value: &Value21) -> Option<u64>
     let Some(id) = reference_of(value) else {
         return None;
     };
-    let Some(unit) = fetch(exchange, id) else {
+    let Some(unit) = look(exchange, id) else {
         return None;
     };
     if is_length_unit(unit) { Some(id) } else { None }
@@ -222,7 +191,7 @@ fn names_other(exchange: &Exchange, value: &Value21, id: u64) -> bool
 }
 
 // Whether a unit of length of another number is among the items.
-#[tactic(auto, using(crate::proofs::Scans::scans))]
+#[tactic(auto, using(ifc_instances::proofs::Scans::scans))]
 fn has_other(exchange: &Exchange, items: &[Value21], id: u64) -> bool
     ensures { MatchBool result (Any (RefersToOther exchange.now id) items.now) (Any (RefersToOther exchange.now id) items.now → ⊥) }
 {
@@ -256,7 +225,7 @@ fn assigned_power(exchange: &Exchange, assignment: &Instance) -> Option<i32>
     let Some(id) = only_unit(exchange, listed(assignment, 0)) else {
         return None;
     };
-    let Some(unit) = fetch(exchange, id) else {
+    let Some(unit) = look(exchange, id) else {
         return None;
     };
     unit_power(unit)

@@ -4,7 +4,8 @@ ghost use Rattle.std.specs.Bool.{MatchBool};
 ghost use Rattle.bim_model.specs.Boxes.{corners_of};
 ghost use Rattle.bim_model.specs.Models.{IsInReach};
 ghost use Rattle.p21_reader.specs.declared.value.Instance.{Instance};
-ghost use Rattle.placement.specs.Frames.{IsFrame, AreWithin, step, most};
+ghost use Rattle.placement.specs.Frames.{IsFrame, AreWithin, most};
+ghost use Rattle.ifc_units.specs.Lengths.{reach};
 ghost use Rattle.faceset.specs.Sets.{Joined};
 ghost use Rattle.ifc_instances.specs.Attributes.{led_to};
 ghost use Rattle.model_build.specs.Items.{items_of, item_count, body_items, bodies};
@@ -70,7 +71,7 @@ fn add_sets(
 /// The triangle carried by a frame.
 fn carry(frame: &Frame, triangle: &Triangle) -> Triangle
     requires frame { IsFrame frame.now }
-    requires near { AreWithin step frame.now.offset }
+    requires near { AreWithin reach frame.now.offset }
     requires reach { All IsInReach (corners_of (triangle.now ∷ [])) }
     ensures { result ≡ moved frame.now triangle.now }
 {
@@ -84,7 +85,7 @@ fn carry(frame: &Frame, triangle: &Triangle) -> Triangle
 /// Adds triangles that are carried by a frame.
 fn add_carried(frame: &Frame, own: &[Triangle], out: &mut Vec<Triangle>) -> Result<(), AllocError>
     requires frame { IsFrame frame.now }
-    requires near { AreWithin step frame.now.offset }
+    requires near { AreWithin reach frame.now.offset }
     requires reach { All IsInReach (corners_of own.now) }
     ensures { OnOk result (out.new.items ≡ out.old.items ++ map (moved frame.now) own.now) }
 {

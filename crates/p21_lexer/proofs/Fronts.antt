@@ -1,11 +1,11 @@
-use Rattle.std.proofs.Common.{◌≡◌, ℕ, ◌+◌, ◌-◌, ◌*◌, ◌≤◌, ◌==◌, ◌&&◌, inl, inr, List, [], ◌∷◌, ◌++◌, length, take, drop, Bool, true, false, not, nat_le, refl, sym, ap, subst, ◌∙◌, add-one, arith, Option, Some, None, option_map, append_assoc}
-use Rattle.std.proofs.lemmas.Bool.{eqb-true, leb-true, le-leb}
+use Rattle.std.proofs.Common.{◌≡◌, ℕ, ◌+◌, ◌-◌, ◌*◌, ◌≤◌, ◌==◌, ◌&&◌, inl, inr, List, [], ◌∷◌, ◌++◌, length, take, drop, Bool, true, false, nat_le, refl, sym, ap, subst, ◌∙◌, add-one, arith, Option, Some, None, option_map, append_assoc}
+use Rattle.std.proofs.lemmas.Bool.{eqb-true, leb-true, le-leb, cases_Bool, and_from, not-true, and_parts}
 use Rattle.std.proofs.lemmas.Bool.Decides.{nat_tests}
 use Rattle.std.proofs.lemmas.List.{take-append-drop, length-take-le, length-append}
 use Rattle.std.proofs.Math.Seq.{drop-append_seam}
-use Rattle.p21_lexer.proofs.Gapping.{tells, and_left, and_right}
-use Rattle.p21_lexer.specs.Scanning.{run, one, plain_word_span, word_span, is_bang, closed_span, name_run, text_span, or_first}
-use Rattle.p21_lexer.specs.Spelling.{is_digit, is_letter, is_word_byte, AreAll, IsWord, IsOptionalBang, value_after, most_name, is_doubled}
+use Rattle.p21_lexer.specs.Scanning.{one, plain_word_span, word_span, is_bang, closed_span, name_run, text_span, or_first}
+use Rattle.p21_lexer.specs.Spelling.{run, is_digit, is_letter, is_word_byte, AreAll, IsWord, value_after, is_doubled}
+use Rattle.p21_lexer.specs.declared.limits.TheConstants.{GREATEST_NAME}
 
 -- the first n bytes are such a front
 pub record Begins (P : List ℕ → Type 0) (bs : List ℕ) (n : ℕ) : Type 0 where
@@ -21,25 +21,22 @@ pub record Reaches (o : Option ℕ) (m : ℕ) : Type 0 where
   pub some : o ≡ Some n
   pub far : m ≤ n
 
-pub and_both : (a b : Bool) → a ≡ true → b ≡ true → a && b ≡ true
-and_both a b h k = rw (h, k) refl
-
 pub run_over : (p : ℕ → Bool) (d x : List ℕ) → AreAll p d → run p (d ++ x) ≡ length d + run p x
 run_over p [] x h = omega arith
 run_over p (b ∷ d) x h =
-    let step = run_over p d x (and_right (p b) _ h) in
-    rw (and_left (p b) _ h) (omega (arith, step))
+    let step = run_over p d x (and_parts (p b) _ h).1 in
+    rw ((and_parts (p b) _ h).0) (omega (arith, step))
 
 pub run_all : (p : ℕ → Bool) (bs : List ℕ) → AreAll p (take (run p bs) bs)
 run_all p [] = refl
-run_all p (b ∷ bs) = elim (tells (p b)) [
+run_all p (b ∷ bs) = elim (cases_Bool (p b)) [
   | inl h ↦ rw (h, add-one (run p bs), h) (run_all p bs)
   | inr h ↦ rw h refl
 ]
 
 pub run_size : (p : ℕ → Bool) (bs : List ℕ) → run p bs ≤ length bs
 run_size p [] = omega arith
-run_size p (b ∷ bs) = elim (tells (p b)) [
+run_size p (b ∷ bs) = elim (cases_Bool (p b)) [
   | inl h ↦ rw h (let k = run_size p bs in omega (arith, k))
   | inr h ↦ rw h (omega arith)
 ]
@@ -56,7 +53,7 @@ run_front p bs = record {
 -- Words.
 
 letter_no_bang : (b : ℕ) → is_letter b ≡ true → is_bang b ≡ false
-letter_no_bang b h = elim (tells (is_bang b)) [
+letter_no_bang b h = elim (cases_Bool (is_bang b)) [
   | inl k ↦ (let e : b ≡ 33 = eqb-true _ _ k in let h2 = rw e at h in cc)
   | inr k ↦ k
 ]
@@ -82,7 +79,7 @@ word_most front rest w = elim w.is_bang [
 
 plain_word : (bs : List ℕ) (n : ℕ) → plain_word_span bs ≡ Some n → Begins IsWord bs n
 plain_word [] n h = cc
-plain_word (b ∷ bs) n h = elim (tells (is_letter b)) [
+plain_word (b ∷ bs) n h = elim (cases_Bool (is_letter b)) [
   | inl k ↦ (let h2 = rw k at h in
       let e : run is_word_byte bs + 1 ≡ n = cc in
       let r = run_front is_word_byte bs in
@@ -96,16 +93,13 @@ plain_word (b ∷ bs) n h = elim (tells (is_letter b)) [
   | inr k ↦ (let h2 = rw k at h in cc)
 ]
 
-after_bang : (bs : List ℕ) (b n : ℕ) → b ≡ 33 → Begins IsWord bs n → IsOptionalBang (b ∷ [])
-after_bang bs b n e w = inr (ap (λ x. x ∷ []) e)
-
 pub some_of : (k n : ℕ) (o : Option ℕ) → option_map (λ m. k + m) o ≡ Some n → (m : ℕ) × (o ≡ Some m) × (n ≡ k + m)
 some_of k n None h = cc
 some_of k n (Some m) h = (m, refl, (let e : k + m ≡ n = cc in sym e))
 
 bang_word : (b : ℕ) (bs : List ℕ) (m : ℕ) → b ≡ 33 → plain_word_span bs ≡ Some m → Begins IsWord (b ∷ bs) (1 + m)
 bang_word b [] m e h = cc
-bang_word b (c ∷ bs) m e h = elim (tells (is_letter c)) [
+bang_word b (c ∷ bs) m e h = elim (cases_Bool (is_letter c)) [
   | inl k ↦ (let h2 = rw k at h in
       let e2 : run is_word_byte bs + 1 ≡ m = cc in
       let r = run_front is_word_byte bs in
@@ -122,7 +116,7 @@ bang_word b (c ∷ bs) m e h = elim (tells (is_letter c)) [
 pub word_is : (bs : List ℕ) (n : ℕ) → word_span bs ≡ Some n → Begins IsWord bs n
 unfolding word_span
 word_is [] n h = cc
-word_is (b ∷ bs) n h = elim (tells (is_bang b)) [
+word_is (b ∷ bs) n h = elim (cases_Bool (is_bang b)) [
   | inl k ↦ (let h2 = rw k at h in
       let got = some_of 1 n (plain_word_span bs) h2 in
       rw got.2 (bang_word b bs got.0 (eqb-true _ _ k) got.1))
@@ -146,7 +140,7 @@ closed_most p close d rest out all =
 
 one_is : (close : ℕ) (bs : List ℕ) → one (λ b. b == close) bs == 1 ≡ true → bs ≡ close ∷ drop 1 bs
 one_is close [] h = cc
-one_is close (b ∷ bs) h = elim (tells (b == close)) [
+one_is close (b ∷ bs) h = elim (cases_Bool (b == close)) [
   | inl k ↦ ap (λ x. x ∷ bs) (eqb-true b close k)
   | inr k ↦ (let h2 = rw k at h in cc)
 ]
@@ -157,7 +151,7 @@ Closed p close bs = (d : List ℕ) × (bs ≡ d ++ close ∷ []) × AreAll p d
 
 pub closed_is : (p : ℕ → Bool) (close : ℕ) (bs : List ℕ) (n : ℕ) → closed_span p close bs ≡ Some n → Begins (Closed p close) bs n
 unfolding run_front
-closed_is p close bs n h = elim (tells (one (λ b. b == close) (drop (run p bs) bs) == 1)) [
+closed_is p close bs n h = elim (cases_Bool (one (λ b. b == close) (drop (run p bs) bs) == 1)) [
   | inl k ↦ (let h2 = rw k at h in
       let e : run p bs + 1 ≡ n = cc in
       let r = run_front p bs in
@@ -180,24 +174,24 @@ value_grows : (v : ℕ) (d : List ℕ) → v ≤ value_after v d
 value_grows v [] = omega arith
 value_grows v (b ∷ d) = let g = value_grows (v * 10 + (b - 48)) d in omega (arith, g)
 
-pub name_over : (v : ℕ) (d x : List ℕ) → AreAll is_digit d → value_after v d ≤ most_name → length d ≤ name_run v (d ++ x)
+pub name_over : (v : ℕ) (d x : List ℕ) → AreAll is_digit d → value_after v d ≤ GREATEST_NAME → length d ≤ name_run v (d ++ x)
 name_over v [] x h k = omega arith
 name_over v (b ∷ d) x h k =
-    let le : v * 10 + (b - 48) ≤ most_name = (let g = value_grows (v * 10 + (b - 48)) d in omega (arith, g, k)) in
-    let step = name_over (v * 10 + (b - 48)) d x (and_right (is_digit b) _ h) k in
-    rw (and_left (is_digit b) _ h, le-leb _ _ le) (omega (arith, step))
+    let le : v * 10 + (b - 48) ≤ GREATEST_NAME = (let g = value_grows (v * 10 + (b - 48)) d in omega (arith, g, k)) in
+    let step = name_over (v * 10 + (b - 48)) d x (and_parts (is_digit b) _ h).1 k in
+    rw ((and_parts (is_digit b) _ h).0, le-leb _ _ le) (omega (arith, step))
 
-pub name_front : (v : ℕ) (bs : List ℕ) → v ≤ most_name → Begins (λ d. AreAll is_digit d × (value_after v d ≤ most_name)) bs (name_run v bs)
+pub name_front : (v : ℕ) (bs : List ℕ) → v ≤ GREATEST_NAME → Begins (λ d. AreAll is_digit d × (value_after v d ≤ GREATEST_NAME)) bs (name_run v bs)
 name_front v [] le = record { front = []; rest = []; whole = refl; size = refl; is = (refl, le) }
-name_front v (b ∷ bs) le = elim (tells (is_digit b && nat_le (v * 10 + (b - 48)) most_name)) [
-  | inl k ↦ (let small : v * 10 + (b - 48) ≤ most_name = leb-true _ _ (and_right (is_digit b) _ k) in
+name_front v (b ∷ bs) le = elim (cases_Bool (is_digit b && nat_le (v * 10 + (b - 48)) GREATEST_NAME)) [
+  | inl k ↦ (let small : v * 10 + (b - 48) ≤ GREATEST_NAME = leb-true _ _ (and_parts (is_digit b) _ k).1 in
       let r = name_front (v * 10 + (b - 48)) bs small in
       rw k (record {
         front = b ∷ r.front;
         rest = r.rest;
         whole = ap (λ x. b ∷ x) r.whole;
         size = omega (arith, r.size);
-        is = (and_both (is_digit b) _ (and_left (is_digit b) _ k) r.is.0, r.is.1);
+        is = (and_from (is_digit b) _ (and_parts (is_digit b) _ k).0 r.is.0, r.is.1);
       }))
   | inr k ↦ rw k (record { front = []; rest = b ∷ bs; whole = refl; size = refl; is = (refl, le) })
 ]
@@ -208,24 +202,20 @@ or_first_far : (o : Option ℕ) → Reaches (or_first o) 1
 or_first_far None = record { n = 1; some = refl; far = omega arith }
 or_first_far (Some m) = record { n = m + 2; some = refl; far = omega arith }
 
-not_true : (b : Bool) → not b ≡ true → b ≡ false
-not_true true h = cc
-not_true false h = refl
-
 pub text_most : (inner rest : List ℕ) → is_doubled inner ≡ true → Reaches (text_span (inner ++ 39 ∷ rest)) (length inner + 1)
 text_most [] [] h = record { n = 1; some = refl; far = omega arith }
-text_most [] (c ∷ rest) h = elim (tells (c == 39)) [
+text_most [] (c ∷ rest) h = elim (cases_Bool (c == 39)) [
   | inl k ↦ rw k (or_first_far (text_span rest))
   | inr k ↦ rw k (record { n = 1; some = refl; far = omega arith })
 ]
 text_most (b ∷ []) rest h =
     let r = text_most [] rest refl in
-    let out : b == 39 ≡ false = not_true _ h in
+    let out : b == 39 ≡ false = not-true _ h in
     rw (out, r.some) (record { n = r.n + 1; some = refl; far = omega (arith, r.far) })
-text_most (b ∷ c ∷ bs) rest h = elim (tells (b == 39)) [
+text_most (b ∷ c ∷ bs) rest h = elim (cases_Bool (b == 39)) [
   | inl k ↦ (let h2 = rw k at h in
-      let r = text_most bs rest (and_right (c == 39) _ h2) in
-      rw (k, and_left (c == 39) _ h2, r.some) (record { n = r.n + 2; some = refl; far = omega (arith, r.far) }))
+      let r = text_most bs rest (and_parts (c == 39) _ h2).1 in
+      rw (k, (and_parts (c == 39) _ h2).0, r.some) (record { n = r.n + 2; some = refl; far = omega (arith, r.far) }))
   | inr k ↦ (let h2 = rw k at h in
       let r = text_most (c ∷ bs) rest h2 in
       rw (k, r.some) (record { n = r.n + 1; some = refl; far = omega (arith, r.far) }))
@@ -271,12 +261,12 @@ plus_one n (Some m) h = (m, refl, (let e : m + 1 ≡ n = cc in sym e))
 
 pub text_is : (bs : List ℕ) (n : ℕ) → text_span bs ≡ Some n → Begins Inside bs n
 text_is [] n h = cc
-text_is (b ∷ []) n h = elim (tells (b == 39)) [
+text_is (b ∷ []) n h = elim (cases_Bool (b == 39)) [
   | inl k ↦ (let h2 = rw k at h in let e : 1 ≡ n = cc in subst (Begins Inside (b ∷ [])) e (inside_close b [] k))
   | inr k ↦ (let h2 = rw k at h in cc)
 ]
-text_is (b ∷ c ∷ bs) n h = elim (tells (b == 39)) [
-  | inl k ↦ (let h2 = rw k at h in elim (tells (c == 39)) [
+text_is (b ∷ c ∷ bs) n h = elim (cases_Bool (b == 39)) [
+  | inl k ↦ (let h2 = rw k at h in elim (cases_Bool (c == 39)) [
     | inl m ↦ (let h3 = rw m at h2 in inside_pair b c bs n k m (text_span bs) refl h3 (λ x e. text_is bs x e))
     | inr m ↦ (let h3 = rw m at h2 in let e : 1 ≡ n = cc in subst (Begins Inside (b ∷ c ∷ bs)) e (inside_close b (c ∷ bs) k))
   ])

@@ -1,18 +1,15 @@
 use Rattle.std.proofs.Common.{◌≡◌, ℕ, ◌+◌, ◌≤◌, ◌==◌, ◌&&◌, ◌⊎◌, inl, inr, List, [], ◌∷◌, ◌++◌, length, drop, Bool, true, false, refl, sym, ap, subst, ◌∙◌, add-one, arith, Option, Some, None, option_map, append_assoc}
-use Rattle.std.proofs.lemmas.Bool.{eqb-true}
+use Rattle.std.proofs.lemmas.Bool.{eqb-true, cases_Bool, and_parts}
 use Rattle.std.proofs.lemmas.List.{drop-drop}
 use Rattle.p21_lexer.proofs.RunLemmas.{opens_past}
-use Rattle.p21_lexer.specs.Scanning.{run, comment_span, opens as opens_of}
+use Rattle.p21_lexer.specs.Scanning.{comment_span, opens as opens_of}
+use Rattle.p21_lexer.specs.Spelling.{run}
 use Rattle.p21_lexer.specs.Gaps.{is_blank, IsBlank, IsComment, IsPiece, Passes, IsStop, has_close}
 
 -- bs begins with blanks and whole comments, and then the rest
 pub record Gap (bs rest : List ℕ) : Type 0 where
   pub pieces : List (List ℕ)
   pub passed : Passes pieces bs rest
-
-pub tells : (b : Bool) → (b ≡ true) ⊎ (b ≡ false)
-tells true = inl refl
-tells false = inr refl
 
 pub no_gap : (bs : List ℕ) → Gap bs bs
 no_gap bs = record { pieces = []; passed = refl }
@@ -32,7 +29,7 @@ blank b h = inl (record { byte = b; whole = refl; blank = h })
 
 pub gap_blanks : (bs : List ℕ) → Gap bs (drop (run is_blank bs) bs)
 gap_blanks [] = no_gap []
-gap_blanks (b ∷ bs) = elim (tells (is_blank b)) [
+gap_blanks (b ∷ bs) = elim (cases_Bool (is_blank b)) [
   | inl h ↦ rw (h, add-one (run is_blank bs)) (gap_append (b ∷ bs) bs (drop (run is_blank bs) bs) (gap_piece (b ∷ []) bs (blank b h)) (gap_blanks bs))
   | inr h ↦ rw h (no_gap _)
 ]
@@ -46,14 +43,6 @@ pub record Closes (bs rest : List ℕ) : Type 0 where
 pub and_false : (b : Bool) → b && false ≡ false
 and_false true = refl
 and_false false = refl
-
-pub and_left : (a b : Bool) → a && b ≡ true → a ≡ true
-and_left true b h = refl
-and_left false b h = cc
-
-pub and_right : (a b : Bool) → a && b ≡ true → b ≡ true
-and_right true b h = h
-and_right false b h = cc
 
 closes_on : (b c : ℕ) (bs rest inner : List ℕ) → (b == 42) && (c == 47) ≡ false → c ∷ bs ≡ inner ++ 42 ∷ 47 ∷ rest → has_close (inner ++ 42 ∷ []) ≡ false → Closes (b ∷ c ∷ bs) rest
 closes_on b c bs rest [] h e k = record { inner = b ∷ []; whole = ap (λ x. b ∷ x) e; first = rw (and_false (b == 42)) refl }
@@ -79,11 +68,11 @@ closes_here b c bs h k = record { inner = []; whole = rw (h, k) refl; first = re
 pub comment_closes : (bs : List ℕ) (n : ℕ) → comment_span bs ≡ Some n → Closes bs (drop n bs)
 comment_closes [] n h = cc
 comment_closes (b ∷ []) n h = cc
-comment_closes (b ∷ c ∷ bs) n h = elim (tells ((b == 42) && (c == 47))) [
+comment_closes (b ∷ c ∷ bs) n h = elim (cases_Bool ((b == 42) && (c == 47))) [
   | inl t ↦ (let h2 = rw t at h in
       let e : 2 ≡ n = cc in
       let P : ℕ → Type 0 = λ m. Closes (b ∷ c ∷ bs) (drop m (b ∷ c ∷ bs)) in
-      subst P e (closes_here b c bs (eqb-true _ _ (and_left _ _ t)) (eqb-true _ _ (and_right _ _ t))))
+      subst P e (closes_here b c bs (eqb-true _ _ (and_parts _ _ t).0) (eqb-true _ _ (and_parts _ _ t).1)))
   | inr f ↦ (let h2 = rw f at h in
       let got = some_is n _ h2 in
       rw (got.2, add-one got.0) (more_closes b c bs _ f (comment_closes (c ∷ bs) got.0 got.1)))
@@ -92,7 +81,7 @@ comment_closes (b ∷ c ∷ bs) n h = elim (tells ((b == 42) && (c == 47))) [
 pub comment_found_in : (inner rest : List ℕ) → comment_span (inner ++ 42 ∷ 47 ∷ rest) ≡ None → ⊥
 comment_found_in [] rest h = cc
 comment_found_in (a ∷ []) rest h = let h2 = rw (and_false (a == 42)) at h in cc
-comment_found_in (a ∷ b ∷ bs) rest h = elim (tells ((a == 42) && (b == 47))) [
+comment_found_in (a ∷ b ∷ bs) rest h = elim (cases_Bool ((a == 42) && (b == 47))) [
   | inl t ↦ (let h2 = rw t at h in cc)
   | inr f ↦ comment_found_in (b ∷ bs) rest (none_is _ (rw f at h))
 ]
@@ -123,7 +112,7 @@ opens_length bs i h = elim (short_or bs i) [ inl k ↦ absurd (let e = opens_pas
 
 run_rest : (p : ℕ → Bool) (bs : List ℕ) → run p (drop (run p bs) bs) ≡ 0
 run_rest p [] = refl
-run_rest p (b ∷ bs) = elim (tells (p b)) [
+run_rest p (b ∷ bs) = elim (cases_Bool (p b)) [
   | inl h ↦ rw (h, add-one (run p bs)) (run_rest p bs)
   | inr h ↦ rw (h, h) refl
 ]
@@ -138,8 +127,8 @@ opened : (bs : List ℕ) → opens_of bs ≡ true → bs ≡ 47 ∷ 42 ∷ drop 
 opened [] h = cc
 opened (b ∷ []) h = cc
 opened (b ∷ c ∷ bs) h =
-    let e : b ≡ 47 = eqb-true _ _ (and_left _ _ h) in
-    let f : c ≡ 42 = eqb-true _ _ (and_right _ _ h) in
+    let e : b ≡ 47 = eqb-true _ _ (and_parts _ _ h).0 in
+    let f : c ≡ 42 = eqb-true _ _ (and_parts _ _ h).1 in
     cc
 
 comment_gap_of : (bs : List ℕ) (n : ℕ) → opens_of bs ≡ true → comment_span (drop 2 bs) ≡ Some n → Gap bs (drop n (drop 2 bs))
@@ -175,9 +164,3 @@ pub stop_open : (bs : List ℕ) (at : ℕ) → run is_blank (drop at bs) ≡ 0 �
 stop_open bs at h k = stop_at (drop at bs) h (λ x e.
     let n : comment_span (drop 2 (drop at bs)) ≡ None = rw (drop-drop 2 at bs) (none_at (at + 2) _ k) in
     rw e at n)
-
-opens_is : (bs x : List ℕ) → opens_of bs ≡ false → bs ≡ 47 ∷ 42 ∷ x → ⊥
-opens_is bs x h e = let h2 = rw e at h in cc
-
-pub stop_shut : (bs : List ℕ) → run is_blank bs ≡ 0 → opens_of bs ≡ false → IsStop bs
-stop_shut bs h k = stop_at bs h (λ x e. absurd (opens_is bs x k e))

@@ -1,21 +1,20 @@
 use Rattle.std.proofs.Common.{◌≡◌, ℕ, ◌+◌, ◌<◌, ◌≤◌, inl, inr, List, [], ◌∷◌, ◌++◌, length, drop, true, false, nat_lt, refl, sym, ap, ◌∙◌, arith, Option, Some, None, option_map, append_assoc}
-use Rattle.std.proofs.lemmas.Bool.{ltb-true, eqb-true, lt-ltb}
+use Rattle.std.proofs.lemmas.Bool.{ltb-true, eqb-true, lt-ltb, cases_Bool, and_parts}
 use Rattle.std.proofs.lemmas.Bool.Decides.{nat_tests}
 use Rattle.std.proofs.lemmas.List.{length-append, drop-drop}
 use Rattle.std.proofs.Math.Seq.{drop-append_seam}
-use Rattle.p21_lexer.proofs.Gapping.{tells, and_left}
 use Rattle.p21_lexer.proofs.Fronts.{Begins, Reaches, run_over, run_front}
-use Rattle.p21_lexer.specs.Scanning.{run, one, is_point, signed_span, fraction_span, exponent_span, number_span, or_zero, with_fraction, with_exponent}
-use Rattle.p21_lexer.specs.Spelling.{is_digit, is_sign, is_exponent_mark, AreAll, AreSome, IsOptionalSign, IsSigned, IsFraction, IsExponent, IsNumber}
+use Rattle.p21_lexer.specs.Scanning.{one, is_point, signed_span, fraction_span, exponent_span, number_span, or_zero, with_fraction, with_exponent}
+use Rattle.p21_lexer.specs.Spelling.{run, is_digit, is_sign, is_exponent_mark, AreAll, AreSome, IsOptionalSign, IsSigned, IsFraction, IsExponent, IsNumber}
 
 sign_no_digit : (b : ℕ) → is_digit b ≡ true → is_sign b ≡ false
-sign_no_digit b h = elim (tells (is_sign b)) [ inl k ↦ grind (arith, nat_tests) | inr k ↦ k ]
+sign_no_digit b h = elim (cases_Bool (is_sign b)) [ inl k ↦ grind (arith, nat_tests) | inr k ↦ k ]
 
 mark_no_digit : (b : ℕ) → is_exponent_mark b ≡ true → is_digit b ≡ false
-mark_no_digit b h = elim (tells (is_digit b)) [ inl k ↦ grind (arith, nat_tests) | inr k ↦ k ]
+mark_no_digit b h = elim (cases_Bool (is_digit b)) [ inl k ↦ grind (arith, nat_tests) | inr k ↦ k ]
 
 mark_no_point : (b : ℕ) → is_exponent_mark b ≡ true → is_point b ≡ false
-mark_no_point b h = elim (tells (is_point b)) [ inl k ↦ grind (arith, nat_tests) | inr k ↦ k ]
+mark_no_point b h = elim (cases_Bool (is_point b)) [ inl k ↦ grind (arith, nat_tests) | inr k ↦ k ]
 
 signed_some : (bs : List ℕ) (a r : ℕ) → one is_sign bs ≡ a → run is_digit (drop a bs) ≡ r → 0 < r → signed_span bs ≡ Some (a + r)
 unfolding signed_span
@@ -27,7 +26,7 @@ signed_more : (sign digits x : List ℕ) → IsOptionalSign sign → AreSome is_
 signed_more [] [] x s d = absurd (omega (arith, d.1))
 signed_more [] (b ∷ ds) x s d =
     let r = run_over is_digit (b ∷ ds) x d.0 in
-    let none : one is_sign (b ∷ (ds ++ x)) ≡ 0 = rw (sign_no_digit b (and_left (is_digit b) _ d.0)) refl in
+    let none : one is_sign (b ∷ (ds ++ x)) ≡ 0 = rw (sign_no_digit b (and_parts (is_digit b) _ d.0).0) refl in
     signed_some (b ∷ (ds ++ x)) 0 _ none r (omega arith)
 signed_more (c ∷ []) digits x s d =
     let r = run_over is_digit digits x d.0 in
@@ -44,10 +43,6 @@ signed_most front x s =
 exponent_most : (e : ℕ) (s rest : List ℕ) → is_exponent_mark e ≡ true → IsSigned s → length s + 1 ≤ exponent_span (e ∷ (s ++ rest))
 unfolding exponent_span
 exponent_most e s rest m is = rw (m, signed_most s rest is) (omega arith)
-
--- what follows the first digits: how far the fraction and the exponent reach
-tail_far : (bs : List ℕ) (n : ℕ) → ℕ
-tail_far bs n = with_exponent bs (with_fraction bs n)
 
 number_from : (bs : List ℕ) (n : ℕ) → signed_span bs ≡ Some n → number_span bs ≡ Some (with_exponent bs (with_fraction bs n))
 unfolding number_span
@@ -122,8 +117,8 @@ begins_drop P bs n r =
 signed_is : (bs : List ℕ) (n : ℕ) → signed_span bs ≡ Some n → Begins IsSigned bs n
 unfolding signed_span
 signed_is [] n h = cc
-signed_is (b ∷ bs) n h = elim (tells (is_sign b)) [
-  | inl k ↦ (let h2 = rw k at h in elim (tells (nat_lt 0 (run is_digit bs))) [
+signed_is (b ∷ bs) n h = elim (cases_Bool (is_sign b)) [
+  | inl k ↦ (let h2 = rw k at h in elim (cases_Bool (nat_lt 0 (run is_digit bs))) [
     | inl t ↦ (let h3 = rw t at h2 in
         let e : 1 + run is_digit bs ≡ n = cc in
         let lt = ltb-true 0 (run is_digit bs) t in
@@ -137,7 +132,7 @@ signed_is (b ∷ bs) n h = elim (tells (is_sign b)) [
         })
     | inr t ↦ (let h3 = rw t at h2 in cc)
   ])
-  | inr k ↦ (let h2 = rw k at h in elim (tells (nat_lt 0 (run is_digit (b ∷ bs)))) [
+  | inr k ↦ (let h2 = rw k at h in elim (cases_Bool (nat_lt 0 (run is_digit (b ∷ bs)))) [
     | inl t ↦ (let h3 = rw t at h2 in
         let e : 0 + run is_digit (b ∷ bs) ≡ n = cc in
         let lt = ltb-true 0 (run is_digit (b ∷ bs)) t in
@@ -156,7 +151,7 @@ signed_is (b ∷ bs) n h = elim (tells (is_sign b)) [
 fraction_is : (bs : List ℕ) → Begins IsFraction bs (fraction_span bs)
 unfolding fraction_span
 fraction_is [] = record { front = []; rest = []; whole = refl; size = refl; is = tt }
-fraction_is (b ∷ bs) = elim (tells (is_point b)) [
+fraction_is (b ∷ bs) = elim (cases_Bool (is_point b)) [
   | inl k ↦ rw k (let r = run_front is_digit bs in record {
     front = b ∷ r.front;
     rest = r.rest;
@@ -176,7 +171,7 @@ exponent_with b bs (Some n) k e =
 exponent_is : (bs : List ℕ) → Begins IsExponent bs (exponent_span bs)
 unfolding exponent_span
 exponent_is [] = record { front = []; rest = []; whole = refl; size = refl; is = tt }
-exponent_is (b ∷ bs) = elim (tells (is_exponent_mark b)) [
+exponent_is (b ∷ bs) = elim (cases_Bool (is_exponent_mark b)) [
   | inl k ↦ rw k (exponent_with b bs (signed_span bs) k refl)
   | inr k ↦ rw k (record { front = []; rest = b ∷ bs; whole = refl; size = refl; is = tt })
 ]

@@ -1,4 +1,5 @@
 use Rattle.std.proofs.Common.{◌≡◌, ℕ, ◌+◌, ◌-◌, ◌<◌, ◌≤◌, ◌==◌, ◌&&◌, inl, inr, List, [], ◌∷◌, ◌++◌, length, take, drop, false, suc, refl, sym, ap, subst, ◌∙◌, arith, Option, Some, None, Result, Ok, Err, append_assoc, length-drop}
+use Rattle.std.proofs.lemmas.Bool.{cases_Bool}
 use Rattle.p21_lexer.specs.declared.token.TokenKind.{TokenKind}
 use Rattle.p21_lexer.specs.declared.token.Token.{Token}
 use Rattle.p21_lexer.specs.declared.token.LexFault.{LexFault}
@@ -8,14 +9,14 @@ use Rattle.p21_lexer.specs.Scanning.{comment_span}
 use Rattle.p21_lexer.specs.Gaps.{has_close, IsBlank, IsComment, IsPiece, Passes, IsStop}
 use Rattle.p21_lexer.specs.Cutting.{IsFirst, StopsAt, CutsFrom, Tokens}
 use Rattle.p21_lexer.specs.Kinds.{kind_of}
-use Rattle.p21_lexer.proofs.Gapping.{tells, and_false}
+use Rattle.p21_lexer.proofs.Gapping.{and_false}
 use Rattle.p21_lexer.proofs.Tokens.{headed}
 
 -- a comment's inside tells its length
 close_at : (inner rest : List ℕ) → has_close (inner ++ 42 ∷ []) ≡ false → comment_span (inner ++ 42 ∷ 47 ∷ rest) ≡ Some (length inner + 2)
 close_at [] rest h = refl
 close_at (a ∷ []) rest h = rw (and_false (a == 42)) refl
-close_at (a ∷ b ∷ bs) rest h = elim (tells ((a == 42) && (b == 47))) [
+close_at (a ∷ b ∷ bs) rest h = elim (cases_Bool ((a == 42) && (b == 47))) [
   | inl t ↦ (let h2 = rw t at h in cc)
   | inr f ↦ (let h2 = rw f at h in let e = close_at (b ∷ bs) rest h2 in rw (f, e) (ap Some (omega arith)))
 ]

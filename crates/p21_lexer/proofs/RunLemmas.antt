@@ -1,14 +1,9 @@
-use Rattle.std.proofs.Common.{◌≡◌, ℕ, ◌+◌, ◌-◌, ◌*◌, ◌<◌, ◌≤◌, ◌==◌, ◌&&◌, ◌⊎◌, inl, inr, List, [], ◌∷◌, length, get_or, drop, Bool, true, false, nat_le, suc, zero, refl, sym, ap, add-one, arith, drop-cons, Option, Some, None, option_map}
+use Rattle.std.proofs.Common.{◌≡◌, ℕ, ◌+◌, ◌-◌, ◌*◌, ◌<◌, ◌≤◌, ◌==◌, ◌&&◌, ◌⊎◌, inl, inr, List, [], ◌∷◌, length, get_or, drop, Bool, true, false, nat_le, suc, refl, sym, ap, add-one, arith, drop-cons, Option, Some, None, option_map}
 use Rattle.std.proofs.lemmas.Bool.{ne_eqb, le-leb, lt-leb}
-use Rattle.std.proofs.lemmas.List.{drop-drop}
-use Rattle.p21_lexer.specs.Scanning.{run, one, comment_span, name_run, text_span, later, or_first, opens as opens_of}
-use Rattle.p21_lexer.specs.Spelling.{is_digit, most_name}
-
-pub drop_past : (bs : List ℕ) (i : ℕ) → length bs ≤ i → drop i bs ≡ []
-drop_past [] zero h = refl
-drop_past [] (suc i) h = refl
-drop_past (b ∷ bs) zero h = absurd (omega arith)
-drop_past (b ∷ bs) (suc i) h = drop_past bs i (omega arith)
+use Rattle.std.proofs.lemmas.List.{drop-drop, drop_all}
+use Rattle.p21_lexer.specs.Scanning.{one, comment_span, name_run, text_span, later, or_first, opens as opens_of}
+use Rattle.p21_lexer.specs.Spelling.{run, is_digit}
+use Rattle.p21_lexer.specs.declared.limits.TheConstants.{GREATEST_NAME}
 
 pub run_step : (p : ℕ → Bool) (bs : List ℕ) (i : ℕ) → i < length bs → p (get_or bs i 0) ≡ true → run p (drop i bs) ≡ run p (drop (i + 1) bs) + 1
 run_step p bs i lt h = rw (add-one i, drop-cons bs i 0, h) refl
@@ -17,7 +12,7 @@ pub run_stop : (p : ℕ → Bool) (bs : List ℕ) (i : ℕ) → i < length bs �
 run_stop p bs i lt h = rw (drop-cons bs i 0, h) refl
 
 pub run_past : (p : ℕ → Bool) (bs : List ℕ) (i : ℕ) → length bs ≤ i → run p (drop i bs) ≡ 0
-run_past p bs i h = rw (drop_past bs i h) refl
+run_past p bs i h = rw (drop_all i bs h) refl
 
 pub one_step : (p : ℕ → Bool) (bs : List ℕ) (i : ℕ) → i < length bs → p (get_or bs i 0) ≡ true → one p (drop i bs) ≡ 1
 one_step p bs i lt h = rw (drop-cons bs i 0, h) refl
@@ -26,7 +21,9 @@ pub one_stop : (p : ℕ → Bool) (bs : List ℕ) (i : ℕ) → i < length bs �
 one_stop p bs i lt h = rw (drop-cons bs i 0, h) refl
 
 pub one_past : (p : ℕ → Bool) (bs : List ℕ) (i : ℕ) → length bs ≤ i → one p (drop i bs) ≡ 0
-one_past p bs i h = rw (drop_past bs i h) refl
+one_past p bs i h = rw (drop_all i bs h) refl
+
+pub ruleset runs = (run_step, run_stop, run_past)
 
 pub ruleset heads = (run_step, run_stop, run_past, one_step, one_stop, one_past)
 
@@ -43,7 +40,7 @@ pub last_at : (bs : List ℕ) (i : ℕ) → i + 1 ≡ length bs → drop i bs �
 last_at bs i lt =
     let one : i < length bs = omega arith in
     let past : length bs ≤ suc i = omega arith in
-    rw (drop-cons bs i 0, drop_past bs (suc i) past) refl
+    rw (drop-cons bs i 0, drop_all (suc i) bs past) refl
 
 two_or_one : (bs : List ℕ) (i : ℕ) → i < length bs → (i + 1 < length bs) ⊎ (i + 1 ≡ length bs)
 two_or_one bs i lt = grind arith
@@ -52,7 +49,7 @@ past_or_last : (bs : List ℕ) (i : ℕ) → length bs ≤ i + 1 → (length bs 
 past_or_last bs i h = grind arith
 
 ends : (bs : List ℕ) (i : ℕ) → length bs ≤ i + 1 → (drop i bs ≡ []) ⊎ (drop i bs ≡ get_or bs i 0 ∷ [])
-ends bs i h = elim (past_or_last bs i h) [ inl k ↦ inl (drop_past bs i k) | inr k ↦ inr (last_at bs i k) ]
+ends bs i h = elim (past_or_last bs i h) [ inl k ↦ inl (drop_all i bs k) | inr k ↦ inr (last_at bs i k) ]
 
 and_false : (b : Bool) → b && false ≡ false
 and_false true = refl
@@ -92,29 +89,26 @@ pub ruleset comments = (comment_found, comment_past)
 
 -- Names.
 
-pub name_step : (v : ℕ) (bs : List ℕ) (i : ℕ) → i < length bs → is_digit (get_or bs i 0) ≡ true → v * 10 + (get_or bs i 0 - 48) ≤ most_name
+pub name_step : (v : ℕ) (bs : List ℕ) (i : ℕ) → i < length bs → is_digit (get_or bs i 0) ≡ true → v * 10 + (get_or bs i 0 - 48) ≤ GREATEST_NAME
     → name_run v (drop i bs) ≡ name_run (v * 10 + (get_or bs i 0 - 48)) (drop (i + 1) bs) + 1
 name_step v bs i lt h k =
-    let t : nat_le (v * 10 + (get_or bs i 0 - 48)) most_name ≡ true = le-leb _ _ k in
+    let t : nat_le (v * 10 + (get_or bs i 0 - 48)) GREATEST_NAME ≡ true = le-leb _ _ k in
     rw (add-one i, drop-cons bs i 0, h, t) refl
 
 pub name_stop : (v : ℕ) (bs : List ℕ) (i : ℕ) → i < length bs → is_digit (get_or bs i 0) ≡ false → name_run v (drop i bs) ≡ 0
 name_stop v bs i lt h = rw (drop-cons bs i 0, h) refl
 
-pub name_large : (v : ℕ) (bs : List ℕ) (i : ℕ) → i < length bs → most_name < v * 10 + (get_or bs i 0 - 48) → name_run v (drop i bs) ≡ 0
+pub name_large : (v : ℕ) (bs : List ℕ) (i : ℕ) → i < length bs → GREATEST_NAME < v * 10 + (get_or bs i 0 - 48) → name_run v (drop i bs) ≡ 0
 name_large v bs i lt k =
-    let t : nat_le (v * 10 + (get_or bs i 0 - 48)) most_name ≡ false = lt-leb _ _ k in
+    let t : nat_le (v * 10 + (get_or bs i 0 - 48)) GREATEST_NAME ≡ false = lt-leb _ _ k in
     rw (drop-cons bs i 0, t, and_false) refl
 
 pub name_past : (v : ℕ) (bs : List ℕ) (i : ℕ) → length bs ≤ i → name_run v (drop i bs) ≡ 0
-name_past v bs i h = rw (drop_past bs i h) refl
+name_past v bs i h = rw (drop_all i bs h) refl
 
 pub ruleset names = (name_step, name_stop, name_large, name_past)
 
 -- Texts.
-
-text_pair : (b c : ℕ) (bs : List ℕ) → b == 39 ≡ false → text_span (b ∷ c ∷ bs) ≡ option_map (λ n. n + 1) (text_span (c ∷ bs))
-text_pair b c bs h = rw h refl
 
 text_plain_step : (bs : List ℕ) (i : ℕ) → i < length bs → (get_or bs i 0 ≡ 39 → ⊥)
     → text_span (drop i bs) ≡ option_map (λ n. n + 1) (text_span (drop (i + 1) bs))
@@ -122,7 +116,7 @@ text_plain_step bs i lt h =
     let t : get_or bs i 0 == 39 ≡ false = ne_eqb _ _ h in
     elim (two_or_one bs i lt) [
       | inl k ↦ rw (two_at bs i k, drop_head bs i k, t) refl
-      | inr k ↦ (let past : length bs ≤ i + 1 = omega arith in rw (last_at bs i k, drop_past bs (i + 1) past, t) refl)
+      | inr k ↦ (let past : length bs ≤ i + 1 = omega arith in rw (last_at bs i k, drop_all (i + 1) bs past, t) refl)
     ]
 
 pub text_plain : (bs : List ℕ) (i : ℕ) (found : Option ℕ) → i < length bs → (get_or bs i 0 ≡ 39 → ⊥)
@@ -137,19 +131,7 @@ pub text_double : (bs : List ℕ) (i : ℕ) (found : Option ℕ) → i + 1 < len
     → later (option_map (λ n. i + n) (text_span (drop i bs))) found ≡ later (option_map (λ n. (i + 2) + n) (text_span (drop (i + 2) bs))) (Some (i + 1))
 text_double bs i found lt h k = rw (two_at bs i lt, h, k) (doubled i _ found)
 
-pub text_close : (bs : List ℕ) (i : ℕ) → i + 1 < length bs → get_or bs i 0 ≡ 39 → (get_or bs (i + 1) 0 ≡ 39 → ⊥) → text_span (drop i bs) ≡ Some 1
-text_close bs i lt h k =
-    let t : get_or bs (i + 1) 0 == 39 ≡ false = ne_eqb _ _ k in
-    rw (two_at bs i lt, h, t) refl
-
-pub text_last : (bs : List ℕ) (i : ℕ) → i + 1 ≡ length bs → get_or bs i 0 ≡ 39 → text_span (drop i bs) ≡ Some 1
-text_last bs i e h = rw (last_at bs i e, h) refl
-
-pub text_past : (bs : List ℕ) (i : ℕ) → length bs ≤ i → text_span (drop i bs) ≡ None
-text_past bs i h = rw (drop_past bs i h) refl
-
 -- Comments open.
-
 pub opens_yes : (bs : List ℕ) (i : ℕ) → i + 1 < length bs → get_or bs i 0 ≡ 47 → get_or bs (i + 1) 0 ≡ 42 → opens_of (drop i bs) ≡ true
 opens_yes bs i lt h k = rw (two_at bs i lt, h, k) refl
 

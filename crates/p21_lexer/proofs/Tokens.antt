@@ -1,34 +1,35 @@
 use Rattle.std.proofs.Common.{◌≡◌, ℕ, ◌+◌, ◌-◌, ◌<◌, ◌≤◌, ◌==◌, ◌||◌, inl, inr, List, [], ◌∷◌, ◌++◌, length, get_or, take, drop, Bool, true, false, nat_lt, suc, refl, sym, ap, subst, ◌∙◌, arith, drop-cons, Option, Some, None, option_map, append_assoc}
-use Rattle.std.proofs.lemmas.Bool.{ltb-true, eqb-true, lt-ltb}
+use Rattle.std.proofs.lemmas.Bool.{ltb-true, eqb-true, lt-ltb, cases_Bool, and_parts}
 use Rattle.std.proofs.lemmas.Bool.Decides.{nat_tests}
 use Rattle.std.proofs.lemmas.List.{take-append-drop, length-take-le, length-append}
 use Rattle.std.proofs.Math.Seq.{take-append_seam}
 use Rattle.p21_lexer.specs.declared.token.TokenKind.{TokenKind}
 use Rattle.p21_lexer.specs.declared.token.TokenKind.TheVariants as kinds
 use Rattle.p21_lexer.specs.Kinds.{kind_of, span}
-use Rattle.p21_lexer.specs.Spelling.{Spells, IsWord, IsName, IsNumber, IsText, IsEnumeration, IsBits, is_single, is_digit, is_sign, is_letter, is_letter_or_digit, is_hexadecimal, IsOptionalSign, AreSome, AreAll, value_after, most_name}
-use Rattle.p21_lexer.specs.Scanning.{name_span, text_span, enumeration_span, bits_span, name_run, run, one}
+use Rattle.p21_lexer.specs.Spelling.{Spells, IsWord, IsName, IsNumber, IsText, IsEnumeration, IsBits, is_single, is_digit, is_sign, is_letter, is_letter_or_digit, is_hexadecimal, IsOptionalSign, AreSome, AreAll, value_after, run}
+use Rattle.p21_lexer.specs.declared.limits.TheConstants.{GREATEST_NAME}
+use Rattle.p21_lexer.specs.Scanning.{name_span, text_span, enumeration_span, bits_span, name_run, one}
 use Rattle.p21_lexer.specs.Cutting.{IsFirst, HasNone}
-use Rattle.p21_lexer.proofs.Gapping.{tells, and_left, and_right, found_at, none_at}
+use Rattle.p21_lexer.proofs.Gapping.{found_at, none_at}
 use Rattle.p21_lexer.proofs.Fronts.{Begins, Reaches, word_most, word_is, closed_most, closed_is, name_over, name_front, text_most, text_is, plus_one, run_over}
 use Rattle.p21_lexer.proofs.Numbers.{number_most, number_is}
 
 -- The first byte tells the kind.
 
 letter_no_single : (b : ℕ) → is_letter b ≡ true → is_single b ≡ false
-letter_no_single b h = elim (tells (is_single b)) [ inl k ↦ grind (arith, nat_tests) | inr k ↦ k ]
+letter_no_single b h = elim (cases_Bool (is_single b)) [ inl k ↦ grind (arith, nat_tests) | inr k ↦ k ]
 
 letter_no_number : (b : ℕ) → is_letter b ≡ true → (is_digit b || is_sign b) ≡ false
-letter_no_number b h = elim (tells ((is_digit b || is_sign b))) [ inl k ↦ grind (arith, nat_tests) | inr k ↦ k ]
+letter_no_number b h = elim (cases_Bool ((is_digit b || is_sign b))) [ inl k ↦ grind (arith, nat_tests) | inr k ↦ k ]
 
 letter_no_hash : (b : ℕ) → is_letter b ≡ true → (b == 35) ≡ false
-letter_no_hash b h = elim (tells ((b == 35))) [ inl k ↦ grind (arith, nat_tests) | inr k ↦ k ]
+letter_no_hash b h = elim (cases_Bool ((b == 35))) [ inl k ↦ grind (arith, nat_tests) | inr k ↦ k ]
 
 digit_no_single : (b : ℕ) → is_digit b ≡ true → is_single b ≡ false
-digit_no_single b h = elim (tells (is_single b)) [ inl k ↦ grind (arith, nat_tests) | inr k ↦ k ]
+digit_no_single b h = elim (cases_Bool (is_single b)) [ inl k ↦ grind (arith, nat_tests) | inr k ↦ k ]
 
 sign_no_single : (b : ℕ) → is_sign b ≡ true → is_single b ≡ false
-sign_no_single b h = elim (tells (is_single b)) [ inl k ↦ grind (arith, nat_tests) | inr k ↦ k ]
+sign_no_single b h = elim (cases_Bool (is_single b)) [ inl k ↦ grind (arith, nat_tests) | inr k ↦ k ]
 
 pub kind_letter : (b : ℕ) → is_letter b ≡ true → kind_of b ≡ Some kinds.Word
 kind_letter b h = rw (letter_no_single b h, letter_no_number b h, letter_no_hash b h, h) refl
@@ -61,7 +62,7 @@ word_headed front w = elim w.is_bang [
 
 signed_headed : (sign digits x : List ℕ) → IsOptionalSign sign → AreSome is_digit digits → Headed kinds.Number ((sign ++ digits) ++ x)
 signed_headed [] [] x s d = absurd (omega (arith, d.1))
-signed_headed [] (b ∷ ds) x s d = record { head = b; tail = ds ++ x; whole = refl; kind = kind_digit b (and_left (is_digit b) _ d.0) }
+signed_headed [] (b ∷ ds) x s d = record { head = b; tail = ds ++ x; whole = refl; kind = kind_digit b (and_parts (is_digit b) _ d.0).0 }
 signed_headed (c ∷ []) ds x s d = record { head = c; tail = ds ++ x; whole = refl; kind = kind_sign c s }
 signed_headed (c ∷ e ∷ more) ds x s d = absurd s
 
@@ -84,7 +85,7 @@ headed kinds.Single front w = record { head = w.byte; tail = []; whole = w.whole
 behind_some : (o : Option ℕ) (m : ℕ) → Reaches o m → Reaches (option_map (λ n. n + 1) o) (m + 1)
 behind_some o m r = rw r.some (record { n = r.n + 1; some = refl; far = omega (arith, r.far) })
 
-name_reaches : (digits rest : List ℕ) → AreSome is_digit digits → value_after 0 digits ≤ most_name → Reaches (name_span (digits ++ rest)) (length digits)
+name_reaches : (digits rest : List ℕ) → AreSome is_digit digits → value_after 0 digits ≤ GREATEST_NAME → Reaches (name_span (digits ++ rest)) (length digits)
 name_reaches digits rest d le =
     let far = name_over 0 digits rest d.0 le in
     let t : nat_lt 0 (name_run 0 (digits ++ rest)) ≡ true = lt-ltb 0 _ (omega (arith, far, d.1)) in
@@ -139,19 +140,19 @@ head_is : (b : ℕ) (k other : TokenKind) → Some k ≡ Some other → HeadOf o
 head_is b k other h w = let e : other ≡ k = cc in subst (λ (x : TokenKind). HeadOf x b) e w
 
 head_of : (b : ℕ) (k : TokenKind) → Some k ≡ kind_of b → HeadOf k b
-head_of b k h = elim (tells (is_single b)) [
+head_of b k h = elim (cases_Bool (is_single b)) [
   | inl t ↦ head_is b k kinds.Single (rw t at h) t
-  | inr t ↦ (let h2 = rw t at h in elim (tells (is_digit b || is_sign b)) [
+  | inr t ↦ (let h2 = rw t at h in elim (cases_Bool (is_digit b || is_sign b)) [
     | inl u ↦ head_is b k kinds.Number (rw u at h2) tt
-    | inr u ↦ (let h3 = rw u at h2 in elim (tells (b == 35)) [
+    | inr u ↦ (let h3 = rw u at h2 in elim (cases_Bool (b == 35)) [
       | inl v ↦ head_is b k kinds.Name (rw v at h3) (eqb-true _ _ v)
-      | inr v ↦ (let h4 = rw v at h3 in elim (tells (is_letter b || b == 33)) [
+      | inr v ↦ (let h4 = rw v at h3 in elim (cases_Bool (is_letter b || b == 33)) [
         | inl x ↦ head_is b k kinds.Word (rw x at h4) tt
-        | inr x ↦ (let h5 = rw x at h4 in elim (tells (b == 39)) [
+        | inr x ↦ (let h5 = rw x at h4 in elim (cases_Bool (b == 39)) [
           | inl y ↦ head_is b k kinds.Words (rw y at h5) (eqb-true _ _ y)
-          | inr y ↦ (let h6 = rw y at h5 in elim (tells (b == 46)) [
+          | inr y ↦ (let h6 = rw y at h5 in elim (cases_Bool (b == 46)) [
             | inl z ↦ head_is b k kinds.Enumeration (rw z at h6) (eqb-true _ _ z)
-            | inr z ↦ (let h7 = rw z at h6 in elim (tells (b == 34)) [
+            | inr z ↦ (let h7 = rw z at h6 in elim (cases_Bool (b == 34)) [
               | inl q ↦ head_is b k kinds.Bits (rw q at h7) (eqb-true _ _ q)
               | inr q ↦ (let h8 = rw q at h7 in cc)
             ])
@@ -163,7 +164,7 @@ head_of b k h = elim (tells (is_single b)) [
 ]
 
 name_spelled : (b : ℕ) (bs : List ℕ) (m : ℕ) → b ≡ 35 → name_span bs ≡ Some m → Begins IsName (b ∷ bs) (m + 1)
-name_spelled b bs m e h = elim (tells (nat_lt 0 (name_run 0 bs))) [
+name_spelled b bs m e h = elim (cases_Bool (nat_lt 0 (name_run 0 bs))) [
   | inl t ↦ (let h2 = rw t at h in
       let f : name_run 0 bs ≡ m = cc in
       let lt = ltb-true 0 (name_run 0 bs) t in
@@ -185,17 +186,17 @@ text_spelled b bs m e h =
     record { front = b ∷ r.front; rest = r.rest; whole = ap (λ x. b ∷ x) r.whole; size = omega (arith, r.size); is = record { inner = r.is.0; whole = w; doubled = r.is.2 } }
 
 one_true : (c : ℕ) (bs : List ℕ) → one is_letter (c ∷ bs) == 1 ≡ true → is_letter c ≡ true
-one_true c bs h = elim (tells (is_letter c)) [ inl k ↦ k | inr k ↦ (let h2 = rw k at h in cc) ]
+one_true c bs h = elim (cases_Bool (is_letter c)) [ inl k ↦ k | inr k ↦ (let h2 = rw k at h in cc) ]
 
 enumeration_word : (b : ℕ) (bs d front rest : List ℕ) → b ≡ 46 → one is_letter bs == 1 ≡ true → bs ≡ front ++ rest → front ≡ d ++ 46 ∷ [] → AreAll is_letter_or_digit d → IsEnumeration (b ∷ front)
 enumeration_word b bs [] front rest e h w f all = absurd (let g : bs ≡ 46 ∷ rest = w ∙ ap (λ x. x ++ rest) f in let h2 = rw g at h in cc)
 enumeration_word b bs (c ∷ d) front rest e h w f all =
     let g : bs ≡ c ∷ ((d ++ 46 ∷ []) ++ rest) = w ∙ ap (λ x. x ++ rest) f in
-    record { first = c; others = d; whole = ap (λ x. x ∷ front) e ∙ ap (λ x. 46 ∷ x) f; is_first = one_true c ((d ++ 46 ∷ []) ++ rest) (rw g at h); are_others = and_right (is_letter_or_digit c) _ all }
+    record { first = c; others = d; whole = ap (λ x. x ∷ front) e ∙ ap (λ x. 46 ∷ x) f; is_first = one_true c ((d ++ 46 ∷ []) ++ rest) (rw g at h); are_others = (and_parts (is_letter_or_digit c) _ all).1 }
 
 enumeration_spelled : (b : ℕ) (bs : List ℕ) (m : ℕ) → b ≡ 46 → enumeration_span bs ≡ Some m → Begins IsEnumeration (b ∷ bs) (m + 1)
 unfolding enumeration_span
-enumeration_spelled b bs m e h = elim (tells (one is_letter bs == 1)) [
+enumeration_spelled b bs m e h = elim (cases_Bool (one is_letter bs == 1)) [
   | inl t ↦ (let r = closed_is is_letter_or_digit 46 bs m (rw t at h) in
       record { front = b ∷ r.front; rest = r.rest; whole = ap (λ x. b ∷ x) r.whole; size = omega (arith, r.size); is = enumeration_word b bs r.is.0 r.front r.rest e t r.whole r.is.1 r.is.2 })
   | inr t ↦ (let h2 = rw t at h in cc)
@@ -210,7 +211,7 @@ bits_some bs d front rest lt w f all =
 
 bits_spelled : (b : ℕ) (bs : List ℕ) (m : ℕ) → b ≡ 34 → bits_span bs ≡ Some m → Begins IsBits (b ∷ bs) (m + 1)
 unfolding bits_span
-bits_spelled b bs m e h = elim (tells (nat_lt 0 (run is_hexadecimal bs))) [
+bits_spelled b bs m e h = elim (cases_Bool (nat_lt 0 (run is_hexadecimal bs))) [
   | inl t ↦ (let r = closed_is is_hexadecimal 34 bs m (rw t at h) in
       record {
         front = b ∷ r.front;

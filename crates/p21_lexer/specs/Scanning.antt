@@ -1,15 +1,8 @@
-use Rattle.std.specs.Prelude.{ℕ, ◌+◌, ◌-◌, ◌*◌, List, [], ◌∷◌, drop, Bool, false, ◌&&◌, ◌==◌, not, nat_le, nat_lt, if◌then◌else◌, Option, Some, None, option_map}
-use Rattle.p21_lexer.specs.Spelling.{is_digit, is_letter, is_word_byte, is_letter_or_digit, is_hexadecimal, is_sign, is_exponent_mark, most_name}
+use Rattle.std.specs.Prelude.{ℕ, ◌+◌, ◌-◌, ◌*◌, List, [], ◌∷◌, drop, Bool, false, ◌&&◌, ◌==◌, nat_le, nat_lt, if◌then◌else◌, Option, Some, None, option_map}
+use Rattle.p21_lexer.specs.declared.limits.TheConstants.{GREATEST_NAME}
+use Rattle.p21_lexer.specs.Spelling.{is_digit, is_letter, is_word_byte, is_letter_or_digit, is_hexadecimal, is_sign, is_exponent_mark, run}
 
 -- How long the longest fronts are, as functions: what the code computes. No public contract cites it.
-
-abbrev pub plain : ℕ → Bool
-plain b = not (b == 39)
-
--- how many bytes at the front are all such
-abbrev pub run : (ℕ → Bool) → List ℕ → ℕ
-run p [] = 0
-run p (b ∷ bs) = if p b then run p bs + 1 else 0
 
 -- how many of the bytes at the front are such, at most one
 abbrev pub one : (ℕ → Bool) → List ℕ → ℕ
@@ -71,7 +64,7 @@ number_span bs = option_map (λ n. with_exponent bs (with_fraction bs n)) (signe
 -- how many digits keep the value small enough, after those that spell v
 abbrev pub name_run : ℕ → List ℕ → ℕ
 name_run v [] = 0
-name_run v (b ∷ bs) = if is_digit b && nat_le (v * 10 + (b - 48)) most_name then name_run (v * 10 + (b - 48)) bs + 1 else 0
+name_run v (b ∷ bs) = if is_digit b && nat_le (v * 10 + (b - 48)) GREATEST_NAME then name_run (v * 10 + (b - 48)) bs + 1 else 0
 
 -- two apostrophes may close after the first, where nothing closes later
 abbrev pub or_first : Option ℕ → Option ℕ

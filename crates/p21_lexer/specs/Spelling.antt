@@ -1,5 +1,6 @@
 use Rattle.std.specs.Prelude.{◌≡◌, ℕ, ◌+◌, ◌-◌, ◌*◌, ◌<◌, ◌≤◌, List, [], ◌∷◌, ◌++◌, length, Bool, true, ◌&&◌, ◌||◌, ◌==◌, nat_le, not, if◌then◌else◌, ◌⊎◌}
 use Rattle.std.specs.List.{list_all}
+use Rattle.p21_lexer.specs.declared.limits.TheConstants.{GREATEST_NAME}
 use Rattle.p21_lexer.specs.declared.token.TokenKind.{TokenKind}
 use Rattle.p21_lexer.specs.declared.token.TokenKind.TheVariants as kinds
 
@@ -33,6 +34,11 @@ is_sign b = b == 43 || b == 45
 abbrev pub is_single : ℕ → Bool
 is_single b = b == 40 || b == 41 || b == 44 || b == 59 || b == 61 || b == 36 || b == 42
 
+-- how many bytes at the front are all such
+abbrev pub run : (ℕ → Bool) → List ℕ → ℕ
+run p [] = 0
+run p (b ∷ bs) = if p b then run p bs + 1 else 0
+
 -- Spellings of the seven kinds of tokens. Each is a relation on the token's bytes alone.
 
 -- zero or more of these bytes
@@ -61,15 +67,12 @@ abbrev pub value_after : ℕ → List ℕ → ℕ
 value_after n [] = n
 value_after n (b ∷ bs) = value_after (n * 10 + (b - 48)) bs
 
-abbrev pub most_name : ℕ
-most_name = 9223372036854775807
-
--- a number sign and digits, whose value is below 2 ^ 63
+-- a number sign and digits, whose value is at most the greatest number of names
 pub record IsName (bs : List ℕ) : Type 0 where
   pub digits : List ℕ
   pub whole : bs ≡ 35 ∷ digits
   pub are_digits : AreSome is_digit digits
-  pub bound : value_after 0 digits ≤ most_name
+  pub bound : value_after 0 digits ≤ GREATEST_NAME
 
 abbrev pub IsOptionalSign : List ℕ → Type 0
 IsOptionalSign [] = Unit {0}

@@ -9,6 +9,7 @@ mod cutting;
 mod gaps;
 mod laws;
 mod lexer;
+mod limits;
 mod runs;
 mod spelling;
 #[cfg(test)]
@@ -18,4 +19,5 @@ mod token;
 pub use cutting::cut;
 pub use laws::one_cut;
 pub use lexer::Lexer;
+pub use limits::GREATEST_NAME;
 pub use token::{LexFault, Token, TokenKind};

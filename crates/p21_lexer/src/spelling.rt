@@ -2,6 +2,7 @@ ghost use Rattle.std.specs.Prelude.{◌≡◌, ◌+◌, ◌≤◌, length, drop,
 ghost use Rattle.p21_lexer.specs.Scanning.{word_span, enumeration_span, bits_span, fraction_span, exponent_span, signed_span, number_span, name_span, name_run, text_span};
 
 use crate::class::{is_digit, is_letter, is_sign};
+use crate::limits::GREATEST_NAME;
 use crate::runs::{
     counts_one, digits_end, enumeration_bytes_end, hexadecimals_end, word_bytes_end,
 };
@@ -21,7 +22,7 @@ pub fn word_end(bytes: &[u8], from: usize) -> Option<usize>
     }
 }
 
-/// The end of the digits from `from` on that keep a name's value below 2 ^ 63.
+/// The end of the digits from `from` on that keep a name's value within its bound.
 #[tactic(auto, using(crate::proofs::RunLemmas::names))]
 fn name_digits_end(bytes: &[u8], from: usize) -> usize
     requires { from ≤ length bytes.now }
@@ -32,7 +33,7 @@ fn name_digits_end(bytes: &[u8], from: usize) -> usize
     let mut value: u64 = 0;
     while at < bytes.len() && is_digit(bytes[at]) {
         let digit = (bytes[at] - b'0') as u64;
-        if value > (9_223_372_036_854_775_807 - digit) / 10 {
+        if value > (GREATEST_NAME - digit) / 10 {
             return at;
         }
         value = value * 10 + digit;

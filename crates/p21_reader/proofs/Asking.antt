@@ -1,7 +1,8 @@
-use Rattle.std.proofs.Common.{◌≡◌, ℕ, ◌⊎◌, inl, inr, Bool, true, false, ◌==◌, List, [], ◌∷◌, ◌++◌, map, codes, slice_range, Option, Some, None, Result, Ok, Err, refl, sym, ap, subst, ◌∙◌}
+use Rattle.std.proofs.Common.{◌≡◌, ℕ, inl, inr, Bool, true, false, ◌==◌, List, [], ◌∷◌, map, codes, slice_range, Option, Some, None, Result, Ok, Err, refl, sym, ap, subst, ◌∙◌}
 use Rattle.std.specs.Prelude.{IsTrue, ◌↔◌, IfNone, IfSome, IfOk}
 use Rattle.std.specs.Str.{bytes_eq}
 use Rattle.std.specs.Char.{to_ascii_uppercase}
+use Rattle.std.proofs.lemmas.Bool.{cases_Bool}
 use Rattle.p21_lexer.specs.declared.token.Token.{Token}
 use Rattle.p21_lexer.specs.declared.token.TokenKind.{TokenKind}
 use Rattle.p21_lexer.specs.declared.token.TokenKind.TheVariants as tokens
@@ -15,7 +16,7 @@ use Rattle.p21_reader.specs.declared.piece.Kind.TheVariants as kinds
 use Rattle.p21_reader.specs.declared.piece.Piece.{Piece}
 use Rattle.p21_reader.specs.Grammar.{Inside, T, Word, Iso, Semi}
 use Rattle.p21_reader.specs.Machine.{run}
-use Rattle.p21_reader.specs.Lexemes.{Lexeme, Absence, Derivation, Opening, Closing, Separator, Ending, Assigning, NumberOf, WordsOf, EnumerationOf, BitsOf, KeywordOf, ReferenceTo, says, single_says, lexeme_of, class_of, classes, Cuts}
+use Rattle.p21_reader.specs.Lexemes.{Lexeme, Opening, Closing, Ending, WordsOf, KeywordOf, says, single_says, lexeme_of, class_of, classes, Cuts}
 use Rattle.p21_reader.specs.Reading.{Goes, NoToken, IsPiece, IsSign, sign_says, kind_of}
 use Rattle.p21_reader.specs.Schema.{Statement, IsIfc4}
 use Rattle.p21_reader.specs.Heading.{OnlyText, OnlyIfc4}
@@ -47,30 +48,26 @@ not_sign w bytes at p s h i n t k l =
 pub not_word : (bytes : List ℕ) (at : ℕ) (p t : Token) → CutsFrom bytes at (Ok (Some p)) → CutsFrom bytes at (Ok (Some t)) → class_of (lexeme_of bytes t) ≡ class_of (lexeme_of bytes p)
 not_word bytes at p t h k = let e : t ≡ p = one_token bytes at t p k h in ap (λ (u : Token). class_of (lexeme_of bytes u)) e
 
-tells : (b : Bool) → (b ≡ true) ⊎ (b ≡ false)
-tells true = inl refl
-tells false = inr refl
-
 abbrev is_text : Lexeme → Bool
 is_text (WordsOf bs) = true
 is_text _ = false
 
 single_text : (b : ℕ) → is_text (single_says b) ≡ false
-single_text b = elim (tells (b == 40)) [
+single_text b = elim (cases_Bool (b == 40)) [
   | inl k ↦ rw k refl
   | inr k ↦
-      elim (tells (b == 41)) [
+      elim (cases_Bool (b == 41)) [
         | inl l ↦ rw (k, l) refl
         | inr l ↦
-            elim (tells (b == 44)) [
+            elim (cases_Bool (b == 44)) [
               | inl m ↦ rw (k, l, m) refl
               | inr m ↦
-                  elim (tells (b == 59)) [
+                  elim (cases_Bool (b == 59)) [
                     | inl n ↦ rw (k, l, m, n) refl
                     | inr n ↦
-                        elim (tells (b == 61)) [
+                        elim (cases_Bool (b == 61)) [
                           | inl o ↦ rw (k, l, m, n, o) refl
-                          | inr o ↦ elim (tells (b == 42)) [ inl p ↦ rw (k, l, m, n, o, p) refl | inr p ↦ rw (k, l, m, n, o, p) refl ]
+                          | inr o ↦ elim (cases_Bool (b == 42)) [ inl p ↦ rw (k, l, m, n, o, p) refl | inr p ↦ rw (k, l, m, n, o, p) refl ]
                         ]
                   ]
             ]

@@ -1,19 +1,20 @@
-use Rattle.std.proofs.Common.{◌≡◌, ℕ, List, [], ◌∷◌, ◌++◌, Some, None, Result, Ok, Err, refl, sym, ap, ◌∙◌}
+use Rattle.std.proofs.Common.{◌≡◌, ℕ, List, [], ◌∷◌, ◌++◌, Some, None, Result, Ok, Err, refl, sym, ap, ◌∙◌, ◌-◌}
 use Rattle.p21_lexer.specs.declared.token.Token.{Token}
 use Rattle.p21_lexer.specs.Cutting.{CutsFrom}
+use Rattle.p21_reader.specs.declared.limits.TheConstants.{MOST_DEPTH}
 use Rattle.p21_reader.specs.declared.fault.ReadFault.{ReadFault}
 use Rattle.p21_reader.specs.declared.piece.Kind.{Kind}
 use Rattle.p21_reader.specs.declared.piece.Kind.TheVariants as kinds
 use Rattle.p21_reader.specs.declared.value.Value21.{Value21}
 use Rattle.p21_reader.specs.declared.instance.Made.{Made}
-use Rattle.p21_reader.specs.Grammar.{Class, Open, Close, Semi, Equals, Word, Sign, T, AnyWord, Body, Ones, Inside, Derives}
+use Rattle.p21_reader.specs.Grammar.{Class, Open, Semi, Equals, Word, Sign, T, AnyWord, Body, Ones, Inside, Derives}
 use Rattle.p21_reader.specs.Machine.{run, next}
 use Rattle.p21_reader.specs.Lexemes.{Lexeme, lexeme_of, class_of, Opening, Closing, Ending, Assigning, KeywordOf, ReferenceTo}
 use Rattle.p21_reader.specs.Printing.{print_all}
 use Rattle.p21_reader.specs.Reading.{Goes, Fails, kind_of, classes}
-use Rattle.p21_reader.specs.Instances.{MakesBody, Passes, StartsBody, MakesInstance}
+use Rattle.p21_reader.specs.Instances.{Passes, StartsBody, MakesInstance}
 use Rattle.p21_reader.proofs.Viable.{sound}
-use Rattle.p21_reader.proofs.Steps.{goes_here, goes_one, goes_trans, goes_under, fails_after, fails_under, fails_past}
+use Rattle.p21_reader.proofs.Steps.{goes_one, goes_trans, goes_under, fails_after, fails_under}
 
 -- an opening parenthesis, and values
 pub opens_goes : (d : ℕ) (bytes : List ℕ) (at opened end : ℕ) (ls : List Lexeme) → Goes (T Open ∷ []) [] bytes at opened (Opening ∷ []) → Goes (Inside (Some d) ∷ []) [] bytes opened end ls
@@ -33,25 +34,14 @@ plain_is l w vs old new found h e f g =
 
 -- Complex instances.
 
-abbrev many : List Sign
-many = T Open ∷ Inside (Some 30) ∷ []
-
 -- so many keywords are passed over
 pub record Round (bytes : List ℕ) (from at : ℕ) : Type 0 where
   pub said : List Lexeme
   pub goes : Goes (Ones ∷ []) (Ones ∷ []) bytes from at said
 
-pub round_none : (bytes : List ℕ) (at : ℕ) → Round bytes at at
-round_none bytes at = record { said = []; goes = goes_here (Ones ∷ []) bytes at }
-
-class_ones_word : (c : Class) → kind_of c ≡ kinds.Word → next Ones c ≡ Some (T Open ∷ Inside (Some 30) ∷ Ones ∷ [])
+class_ones_word : (c : Class) → kind_of c ≡ kinds.Word → next Ones c ≡ Some (T Open ∷ Inside (Some (MOST_DEPTH - 2)) ∷ Ones ∷ [])
 class_ones_word (Word m) h = refl
 class_ones_word c h = cc
-
-class_ones_no : (c : Class) → (kind_of c ≡ kinds.Close → ⊥) → (kind_of c ≡ kinds.Word → ⊥) → next Ones c ≡ None
-class_ones_no Close a b = absurd (a refl)
-class_ones_no (Word m) a b = absurd (b refl)
-class_ones_no c a b = refl
 
 class_any : (c : Class) → kind_of c ≡ kinds.Word → next AnyWord c ≡ Some []
 class_any (Word m) h = refl
@@ -61,24 +51,12 @@ class_any_no : (c : Class) → (kind_of c ≡ kinds.Word → ⊥) → next AnyWo
 class_any_no (Word m) h = absurd (h refl)
 class_any_no c h = refl
 
-class_body_word : (c : Class) → kind_of c ≡ kinds.Word → next Body c ≡ Some (T Open ∷ Inside (Some 31) ∷ [])
-class_body_word (Word m) h = refl
-class_body_word c h = cc
-
-class_body_open : (c : Class) → kind_of c ≡ kinds.Open → next Body c ≡ Some (AnyWord ∷ T Open ∷ Inside (Some 30) ∷ Ones ∷ [])
+class_body_open : (c : Class) → kind_of c ≡ kinds.Open → next Body c ≡ Some (AnyWord ∷ T Open ∷ Inside (Some (MOST_DEPTH - 2)) ∷ Ones ∷ [])
 class_body_open Open h = refl
 class_body_open c h = cc
 
-class_body_no : (c : Class) → (kind_of c ≡ kinds.Word → ⊥) → (kind_of c ≡ kinds.Open → ⊥) → next Body c ≡ None
-class_body_no (Word m) a b = absurd (a refl)
-class_body_no Open a b = absurd (b refl)
-class_body_no c a b = refl
-
-pub ones_word : (l : Lexeme) → kinds.Word ≡ kind_of (class_of l) → next Ones (class_of l) ≡ Some (T Open ∷ Inside (Some 30) ∷ Ones ∷ [])
+pub ones_word : (l : Lexeme) → kinds.Word ≡ kind_of (class_of l) → next Ones (class_of l) ≡ Some (T Open ∷ Inside (Some (MOST_DEPTH - 2)) ∷ Ones ∷ [])
 ones_word l h = class_ones_word (class_of l) (sym h)
-
-pub ones_no : (l : Lexeme) (k : Kind) → k ≡ kind_of (class_of l) → (k ≡ kinds.Close → ⊥) → (k ≡ kinds.Word → ⊥) → next Ones (class_of l) ≡ None
-ones_no l k e a b = class_ones_no (class_of l) (λ h. a (e ∙ h)) (λ h. b (e ∙ h))
 
 pub any_word : (l : Lexeme) → kinds.Word ≡ kind_of (class_of l) → next AnyWord (class_of l) ≡ Some []
 any_word l h = class_any (class_of l) (sym h)
@@ -86,14 +64,8 @@ any_word l h = class_any (class_of l) (sym h)
 pub any_no : (l : Lexeme) (k : Kind) → k ≡ kind_of (class_of l) → (k ≡ kinds.Word → ⊥) → next AnyWord (class_of l) ≡ None
 any_no l k e a = class_any_no (class_of l) (λ h. a (e ∙ h))
 
-pub body_word : (l : Lexeme) → kinds.Word ≡ kind_of (class_of l) → next Body (class_of l) ≡ Some (T Open ∷ Inside (Some 31) ∷ [])
-body_word l h = class_body_word (class_of l) (sym h)
-
-pub body_open : (l : Lexeme) → kinds.Open ≡ kind_of (class_of l) → next Body (class_of l) ≡ Some (AnyWord ∷ T Open ∷ Inside (Some 30) ∷ Ones ∷ [])
+pub body_open : (l : Lexeme) → kinds.Open ≡ kind_of (class_of l) → next Body (class_of l) ≡ Some (AnyWord ∷ T Open ∷ Inside (Some (MOST_DEPTH - 2)) ∷ Ones ∷ [])
 body_open l h = class_body_open (class_of l) (sym h)
-
-pub body_no : (l : Lexeme) (k : Kind) → k ≡ kind_of (class_of l) → (k ≡ kinds.Word → ⊥) → (k ≡ kinds.Open → ⊥) → next Body (class_of l) ≡ None
-body_no l k e a b = class_body_no (class_of l) (λ h. a (e ∙ h)) (λ h. b (e ∙ h))
 
 pub round_close : (bytes : List ℕ) (from at : ℕ) (t : Token) → Round bytes from at → CutsFrom bytes at (Ok (Some t)) → lexeme_of bytes t ≡ Closing → Passes (Ones ∷ []) bytes from (Ok t.end)
 round_close bytes from at t r h l =
@@ -102,62 +74,57 @@ round_close bytes from at t r h l =
 pub round_fails : (bytes : List ℕ) (from at : ℕ) (f : ReadFault) → Round bytes from at → Fails (Ones ∷ []) bytes at f → Fails (Ones ∷ []) bytes from f
 round_fails bytes from at f r k = fails_after (Ones ∷ []) (Ones ∷ []) bytes from at r.said f r.goes k
 
-pub round_step : (bytes : List ℕ) (from at end : ℕ) (t : Token) → Round bytes from at → CutsFrom bytes at (Ok (Some t)) → next Ones (class_of (lexeme_of bytes t)) ≡ Some (T Open ∷ Inside (Some 30) ∷ Ones ∷ [])
-    → Passes (T Open ∷ Inside (Some 30) ∷ []) bytes t.end (Ok end) → Round bytes from end
+pub round_step : (bytes : List ℕ) (from at end : ℕ) (t : Token) → Round bytes from at → CutsFrom bytes at (Ok (Some t)) → next Ones (class_of (lexeme_of bytes t)) ≡ Some (T Open ∷ Inside (Some (MOST_DEPTH - 2)) ∷ Ones ∷ [])
+    → Passes (T Open ∷ Inside (Some (MOST_DEPTH - 2)) ∷ []) bytes t.end (Ok end) → Round bytes from end
 round_step bytes from at end t r h n p =
-    let one = goes_one Ones (T Open ∷ Inside (Some 30) ∷ Ones ∷ []) bytes at t h n in
-    let two = goes_under (T Open ∷ Inside (Some 30) ∷ []) [] (Ones ∷ []) bytes t.end end p.0 p.1 in
-    let both = goes_trans (Ones ∷ []) (T Open ∷ Inside (Some 30) ∷ Ones ∷ []) (Ones ∷ []) bytes at t.end end (lexeme_of bytes t ∷ []) p.0 one two in
+    let one = goes_one Ones (T Open ∷ Inside (Some (MOST_DEPTH - 2)) ∷ Ones ∷ []) bytes at t h n in
+    let two = goes_under (T Open ∷ Inside (Some (MOST_DEPTH - 2)) ∷ []) [] (Ones ∷ []) bytes t.end end p.0 p.1 in
+    let both = goes_trans (Ones ∷ []) (T Open ∷ Inside (Some (MOST_DEPTH - 2)) ∷ Ones ∷ []) (Ones ∷ []) bytes at t.end end (lexeme_of bytes t ∷ []) p.0 one two in
     record { said = r.said ++ lexeme_of bytes t ∷ p.0; goes = goes_trans (Ones ∷ []) (Ones ∷ []) (Ones ∷ []) bytes from at end r.said (lexeme_of bytes t ∷ p.0) r.goes both }
 
-pub round_one : (bytes : List ℕ) (at : ℕ) (t : Token) (f : ReadFault) → CutsFrom bytes at (Ok (Some t)) → next Ones (class_of (lexeme_of bytes t)) ≡ Some (T Open ∷ Inside (Some 30) ∷ Ones ∷ [])
-    → Passes (T Open ∷ Inside (Some 30) ∷ []) bytes t.end (Err f) → Fails (Ones ∷ []) bytes at f
+pub round_one : (bytes : List ℕ) (at : ℕ) (t : Token) (f : ReadFault) → CutsFrom bytes at (Ok (Some t)) → next Ones (class_of (lexeme_of bytes t)) ≡ Some (T Open ∷ Inside (Some (MOST_DEPTH - 2)) ∷ Ones ∷ [])
+    → Passes (T Open ∷ Inside (Some (MOST_DEPTH - 2)) ∷ []) bytes t.end (Err f) → Fails (Ones ∷ []) bytes at f
 round_one bytes at t f h n p =
-    fails_after (Ones ∷ []) (T Open ∷ Inside (Some 30) ∷ Ones ∷ []) bytes at t.end (lexeme_of bytes t ∷ []) f (goes_one Ones (T Open ∷ Inside (Some 30) ∷ Ones ∷ []) bytes at t h n)
-    (fails_under (T Open ∷ Inside (Some 30) ∷ []) (Ones ∷ []) bytes t.end f p)
+    fails_after (Ones ∷ []) (T Open ∷ Inside (Some (MOST_DEPTH - 2)) ∷ Ones ∷ []) bytes at t.end (lexeme_of bytes t ∷ []) f (goes_one Ones (T Open ∷ Inside (Some (MOST_DEPTH - 2)) ∷ Ones ∷ []) bytes at t h n)
+    (fails_under (T Open ∷ Inside (Some (MOST_DEPTH - 2)) ∷ []) (Ones ∷ []) bytes t.end f p)
 
 any_goes : (bytes : List ℕ) (at : ℕ) (t : Token) → CutsFrom bytes at (Ok (Some t)) → next AnyWord (class_of (lexeme_of bytes t)) ≡ Some []
-    → Goes (AnyWord ∷ T Open ∷ Inside (Some 30) ∷ Ones ∷ []) (T Open ∷ Inside (Some 30) ∷ Ones ∷ []) bytes at t.end (lexeme_of bytes t ∷ [])
-any_goes bytes at t h n = goes_under (AnyWord ∷ []) [] (T Open ∷ Inside (Some 30) ∷ Ones ∷ []) bytes at t.end (lexeme_of bytes t ∷ []) (goes_one AnyWord [] bytes at t h n)
+    → Goes (AnyWord ∷ T Open ∷ Inside (Some (MOST_DEPTH - 2)) ∷ Ones ∷ []) (T Open ∷ Inside (Some (MOST_DEPTH - 2)) ∷ Ones ∷ []) bytes at t.end (lexeme_of bytes t ∷ [])
+any_goes bytes at t h n = goes_under (AnyWord ∷ []) [] (T Open ∷ Inside (Some (MOST_DEPTH - 2)) ∷ Ones ∷ []) bytes at t.end (lexeme_of bytes t ∷ []) (goes_one AnyWord [] bytes at t h n)
 
-first_goes : (bytes : List ℕ) (at mid : ℕ) (t : Token) (p : Passes (T Open ∷ Inside (Some 30) ∷ []) bytes t.end (Ok mid)) → CutsFrom bytes at (Ok (Some t)) → next AnyWord (class_of (lexeme_of bytes t)) ≡ Some []
-    → Goes (AnyWord ∷ T Open ∷ Inside (Some 30) ∷ Ones ∷ []) (Ones ∷ []) bytes at mid (lexeme_of bytes t ∷ p.0)
+first_goes : (bytes : List ℕ) (at mid : ℕ) (t : Token) (p : Passes (T Open ∷ Inside (Some (MOST_DEPTH - 2)) ∷ []) bytes t.end (Ok mid)) → CutsFrom bytes at (Ok (Some t)) → next AnyWord (class_of (lexeme_of bytes t)) ≡ Some []
+    → Goes (AnyWord ∷ T Open ∷ Inside (Some (MOST_DEPTH - 2)) ∷ Ones ∷ []) (Ones ∷ []) bytes at mid (lexeme_of bytes t ∷ p.0)
 first_goes bytes at mid t p h n =
-    goes_trans (AnyWord ∷ T Open ∷ Inside (Some 30) ∷ Ones ∷ []) (T Open ∷ Inside (Some 30) ∷ Ones ∷ []) (Ones ∷ []) bytes at t.end mid (lexeme_of bytes t ∷ []) p.0 (any_goes bytes at t h n)
-    (goes_under (T Open ∷ Inside (Some 30) ∷ []) [] (Ones ∷ []) bytes t.end mid p.0 p.1)
+    goes_trans (AnyWord ∷ T Open ∷ Inside (Some (MOST_DEPTH - 2)) ∷ Ones ∷ []) (T Open ∷ Inside (Some (MOST_DEPTH - 2)) ∷ Ones ∷ []) (Ones ∷ []) bytes at t.end mid (lexeme_of bytes t ∷ []) p.0 (any_goes bytes at t h n)
+    (goes_under (T Open ∷ Inside (Some (MOST_DEPTH - 2)) ∷ []) [] (Ones ∷ []) bytes t.end mid p.0 p.1)
 
 pub complex_one : (bytes : List ℕ) (at : ℕ) (t : Token) (f : ReadFault) → CutsFrom bytes at (Ok (Some t)) → next AnyWord (class_of (lexeme_of bytes t)) ≡ Some []
-    → Passes (T Open ∷ Inside (Some 30) ∷ []) bytes t.end (Err f) → Fails (AnyWord ∷ T Open ∷ Inside (Some 30) ∷ Ones ∷ []) bytes at f
+    → Passes (T Open ∷ Inside (Some (MOST_DEPTH - 2)) ∷ []) bytes t.end (Err f) → Fails (AnyWord ∷ T Open ∷ Inside (Some (MOST_DEPTH - 2)) ∷ Ones ∷ []) bytes at f
 complex_one bytes at t f h n p =
-    fails_after (AnyWord ∷ T Open ∷ Inside (Some 30) ∷ Ones ∷ []) (T Open ∷ Inside (Some 30) ∷ Ones ∷ []) bytes at t.end (lexeme_of bytes t ∷ []) f (any_goes bytes at t h n)
-    (fails_under (T Open ∷ Inside (Some 30) ∷ []) (Ones ∷ []) bytes t.end f p)
+    fails_after (AnyWord ∷ T Open ∷ Inside (Some (MOST_DEPTH - 2)) ∷ Ones ∷ []) (T Open ∷ Inside (Some (MOST_DEPTH - 2)) ∷ Ones ∷ []) bytes at t.end (lexeme_of bytes t ∷ []) f (any_goes bytes at t h n)
+    (fails_under (T Open ∷ Inside (Some (MOST_DEPTH - 2)) ∷ []) (Ones ∷ []) bytes t.end f p)
 
 pub complex_passes : (bytes : List ℕ) (at mid : ℕ) (t : Token) (r : Result ℕ ReadFault) → CutsFrom bytes at (Ok (Some t)) → next AnyWord (class_of (lexeme_of bytes t)) ≡ Some []
-    → Passes (T Open ∷ Inside (Some 30) ∷ []) bytes t.end (Ok mid) → Passes (Ones ∷ []) bytes mid r → Passes (AnyWord ∷ T Open ∷ Inside (Some 30) ∷ Ones ∷ []) bytes at r
+    → Passes (T Open ∷ Inside (Some (MOST_DEPTH - 2)) ∷ []) bytes t.end (Ok mid) → Passes (Ones ∷ []) bytes mid r → Passes (AnyWord ∷ T Open ∷ Inside (Some (MOST_DEPTH - 2)) ∷ Ones ∷ []) bytes at r
 complex_passes bytes at mid t (Ok end) h n p q =
-    ((lexeme_of bytes t ∷ p.0) ++ q.0, goes_trans (AnyWord ∷ T Open ∷ Inside (Some 30) ∷ Ones ∷ []) (Ones ∷ []) [] bytes at mid end (lexeme_of bytes t ∷ p.0) q.0 (first_goes bytes at mid t p h n) q.1)
+    ((lexeme_of bytes t ∷ p.0) ++ q.0, goes_trans (AnyWord ∷ T Open ∷ Inside (Some (MOST_DEPTH - 2)) ∷ Ones ∷ []) (Ones ∷ []) [] bytes at mid end (lexeme_of bytes t ∷ p.0) q.0 (first_goes bytes at mid t p h n) q.1)
 complex_passes bytes at mid t (Err f) h n p q =
-    fails_after (AnyWord ∷ T Open ∷ Inside (Some 30) ∷ Ones ∷ []) (Ones ∷ []) bytes at mid (lexeme_of bytes t ∷ p.0) f (first_goes bytes at mid t p h n) q
+    fails_after (AnyWord ∷ T Open ∷ Inside (Some (MOST_DEPTH - 2)) ∷ Ones ∷ []) (Ones ∷ []) bytes at mid (lexeme_of bytes t ∷ p.0) f (first_goes bytes at mid t p h n) q
 
 -- What stands between the equals sign and the semicolon.
-
-pub body_plain : (id : ℕ) (bytes : List ℕ) (t : Token) (r : Result Made ReadFault) → next Body (class_of (lexeme_of bytes t)) ≡ Some (T Open ∷ Inside (Some 31) ∷ [])
-    → MakesBody id (T Open ∷ Inside (Some 31) ∷ []) (lexeme_of bytes t) bytes t.end r → StartsBody id bytes t r
-body_plain id bytes t (Ok made) n m = (m.0, T Open ∷ Inside (Some 31) ∷ [], m.1.0, n, m.1.1, m.1.2)
-body_plain id bytes t (Err f) n m = fails_past Body (T Open ∷ Inside (Some 31) ∷ []) bytes t f n m
 
 body_derives : (l : Lexeme) (σ : List Sign) (ls : List Lexeme) → next Body (class_of l) ≡ Some σ → run (σ ++ []) (classes ls) ≡ Some [] → Derives (Body ∷ []) (classes (l ∷ ls))
 body_derives l σ ls n h = sound (Body ∷ []) (classes (l ∷ ls)) (rw n h)
 
 pub body_complex : (id : ℕ) (bytes : List ℕ) (t : Token) (made : Made) → made.instance.id ≡ id → made.instance.keyword ≡ None → made.instance.values ≡ [] → lexeme_of bytes t ≡ Opening
-    → next Body (class_of (lexeme_of bytes t)) ≡ Some (AnyWord ∷ T Open ∷ Inside (Some 30) ∷ Ones ∷ []) → Passes (AnyWord ∷ T Open ∷ Inside (Some 30) ∷ Ones ∷ []) bytes t.end (Ok made.end)
+    → next Body (class_of (lexeme_of bytes t)) ≡ Some (AnyWord ∷ T Open ∷ Inside (Some (MOST_DEPTH - 2)) ∷ Ones ∷ []) → Passes (AnyWord ∷ T Open ∷ Inside (Some (MOST_DEPTH - 2)) ∷ Ones ∷ []) bytes t.end (Ok made.end)
     → StartsBody id bytes t (Ok made)
 body_complex id bytes t made i k v l n p = (
   i,
-  AnyWord ∷ T Open ∷ Inside (Some 30) ∷ Ones ∷ [],
+  AnyWord ∷ T Open ∷ Inside (Some (MOST_DEPTH - 2)) ∷ Ones ∷ [],
   p.0,
   n,
-  rw k (v, p.0, ap (λ x. x ∷ p.0) l, body_derives (lexeme_of bytes t) (AnyWord ∷ T Open ∷ Inside (Some 30) ∷ Ones ∷ []) p.0 n (p.1.leads [])),
+  rw k (v, p.0, ap (λ x. x ∷ p.0) l, body_derives (lexeme_of bytes t) (AnyWord ∷ T Open ∷ Inside (Some (MOST_DEPTH - 2)) ∷ Ones ∷ []) p.0 n (p.1.leads [])),
   p.1,
 )
 

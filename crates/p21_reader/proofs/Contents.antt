@@ -1,19 +1,16 @@
-use Rattle.std.proofs.Common.{◌≡◌, ℕ, ◌+◌, ◌-◌, ◌*◌, ◌<◌, ◌≤◌, ◌==◌, ◌⊎◌, inl, inr, Bool, true, false, List, [], ◌∷◌, ◌++◌, length, get_or, map, drop, zero, suc, add-one, arith, refl, sym, ap, subst, ◌∙◌, drop-cons, slice_range, length-append, ◌&&◌}
+use Rattle.std.proofs.Common.{◌≡◌, ℕ, ◌+◌, ◌-◌, ◌*◌, ◌<◌, ◌≤◌, ◌==◌, inl, inr, Bool, true, List, [], ◌∷◌, ◌++◌, length, get_or, map, drop, zero, suc, add-one, arith, refl, sym, ap, subst, ◌∙◌, drop-cons, slice_range}
 use Rattle.std.proofs.lemmas.Bool.Decides.{nat_tests}
 use Rattle.std.specs.Str.{IsAscii}
 use Rattle.std.specs.Char.{to_ascii_uppercase}
-use Rattle.std.proofs.Math.Seq.{take-append_seam}
+use Rattle.std.proofs.lemmas.Bool.{cases_Bool, and_parts}
 use Rattle.p21_lexer.specs.declared.token.TokenKind.{TokenKind}
 use Rattle.p21_lexer.specs.declared.token.TokenKind.TheVariants as tokens
-use Rattle.p21_lexer.specs.Spelling.{Spells, IsWord, value_after, most_name, is_letter, is_letter_or_digit, is_word_byte, AreAll}
+use Rattle.p21_lexer.specs.Spelling.{Spells, IsWord, value_after, is_letter, is_word_byte, AreAll}
+use Rattle.p21_lexer.specs.declared.limits.TheConstants.{GREATEST_NAME}
 use Rattle.p21_reader.specs.declared.piece.Kind.TheVariants as kinds
-use Rattle.p21_reader.specs.Lexemes.{ReferenceTo, KeywordOf, says, class_of, single_says, inner}
+use Rattle.p21_reader.specs.Lexemes.{KeywordOf, says, class_of, single_says}
 use Rattle.p21_reader.specs.Reading.{kind_of}
 use Rattle.p21_reader.proofs.Seen.{head_of}
-
-tells : (b : Bool) → (b ≡ true) ⊎ (b ≡ false)
-tells true = inl refl
-tells false = inr refl
 
 -- Numbers.
 
@@ -33,22 +30,22 @@ digit_bound v most ds i d h k =
 -- Kinds.
 
 single_is : (b : ℕ) → (kind_of (class_of (single_says b)) ≡ kinds.Name → ⊥) × (kind_of (class_of (single_says b)) ≡ kinds.Word → ⊥)
-single_is b = elim (tells (b == 40)) [
+single_is b = elim (cases_Bool (b == 40)) [
   | inl k ↦ rw k ((λ h. cc), (λ h. cc))
   | inr k ↦
-      elim (tells (b == 41)) [
+      elim (cases_Bool (b == 41)) [
         | inl l ↦ rw (k, l) ((λ h. cc), (λ h. cc))
         | inr l ↦
-            elim (tells (b == 44)) [
+            elim (cases_Bool (b == 44)) [
               | inl m ↦ rw (k, l, m) ((λ h. cc), (λ h. cc))
               | inr m ↦
-                  elim (tells (b == 59)) [
+                  elim (cases_Bool (b == 59)) [
                     | inl n ↦ rw (k, l, m, n) ((λ h. cc), (λ h. cc))
                     | inr n ↦
-                        elim (tells (b == 61)) [
+                        elim (cases_Bool (b == 61)) [
                           | inl o ↦ rw (k, l, m, n, o) ((λ h. cc), (λ h. cc))
                           | inr o ↦
-                              elim (tells (b == 42)) [ inl p ↦ rw (k, l, m, n, o, p) ((λ h. cc), (λ h. cc)) | inr p ↦ rw (k, l, m, n, o, p) ((λ h. cc), (λ h. cc)) ]
+                              elim (cases_Bool (b == 42)) [ inl p ↦ rw (k, l, m, n, o, p) ((λ h. cc), (λ h. cc)) | inr p ↦ rw (k, l, m, n, o, p) ((λ h. cc), (λ h. cc)) ]
                         ]
                   ]
             ]
@@ -70,7 +67,7 @@ word_kind k bs h = cc
 pub tail_of : (bs : List ℕ) (a b : ℕ) → a < b → b ≤ length bs → drop 1 (slice_range bs a b) ≡ slice_range bs (a + 1) b
 tail_of bs a b h k = let e : b - (a + 1) ≡ b - suc a = omega arith in rw (add-one a) (ap (λ x. drop 1 x) (head_of bs a b 0 h k))
 
-pub name_bound : (k : TokenKind) (bs : List ℕ) → Spells k bs → k ≡ tokens.Name → value_after 0 (drop 1 bs) ≤ most_name
+pub name_bound : (k : TokenKind) (bs : List ℕ) → Spells k bs → k ≡ tokens.Name → value_after 0 (drop 1 bs) ≤ GREATEST_NAME
 name_bound tokens.Name bs w h = rw w.whole w.bound
 name_bound k bs w h = cc
 
@@ -91,20 +88,9 @@ below_byte b h = grind (arith, nat_tests)
 below_letter : (b : ℕ) → is_letter b ≡ true → b < 128
 below_letter b h = grind (arith, nat_tests)
 
-below_part : (b : ℕ) → is_letter_or_digit b ≡ true → b < 128
-below_part b h = grind (arith, nat_tests)
-
-and_left : (a b : Bool) → a && b ≡ true → a ≡ true
-and_left true b h = refl
-and_left false b h = cc
-
-and_right : (a b : Bool) → a && b ≡ true → b ≡ true
-and_right true b h = h
-and_right false b h = cc
-
 below_all : (p : ℕ → Bool) (bs : List ℕ) → ((b : ℕ) → p b ≡ true → b < 128) → AreAll p bs → AreBelow bs
 below_all p [] f h = tt
-below_all p (b ∷ bs) f h = (f b (and_left (p b) _ h), below_all p bs f (and_right (p b) _ h))
+below_all p (b ∷ bs) f h = (f b (and_parts (p b) _ h).0, below_all p bs f (and_parts (p b) _ h).1)
 
 upper_below : (b : ℕ) → b < 128 → to_ascii_uppercase b < 128
 upper_below b h = grind (arith, nat_tests)
@@ -127,35 +113,6 @@ word_below bs w =
 pub keyword_ascii : (k : TokenKind) (bs : List ℕ) → Spells k bs → k ≡ tokens.Word → IsAscii (map to_ascii_uppercase bs)
 keyword_ascii tokens.Word bs w h = below_ascii (map to_ascii_uppercase bs) (uppers_below bs (word_below bs w))
 keyword_ascii k bs w h = cc
-
-pub inner_is : (bs x : List ℕ) (a b : ℕ) → bs ≡ a ∷ (x ++ b ∷ []) → inner bs ≡ x
-inner_is bs x a b e =
-    let n : length bs - 1 - 1 ≡ length x = (let l = ap length e in omega (arith, l, length-append x (b ∷ []))) in
-    rw n (rw e (take-append_seam x (b ∷ [])))
-
-pub closed_size : (bs x : List ℕ) (a b : ℕ) → bs ≡ a ∷ (x ++ b ∷ []) → 2 ≤ length bs
-closed_size bs x a b e = let l = ap length e in omega (arith, l, length-append x (b ∷ []))
-
--- a kind with marks around
-abbrev pub IsClosed : TokenKind → Type 0
-IsClosed tokens.Words = Unit {0}
-IsClosed tokens.Enumeration = Unit {0}
-IsClosed tokens.Bits = Unit {0}
-IsClosed _ = ⊥
-
-pub closed_long : (k : TokenKind) (bs : List ℕ) → IsClosed k → Spells k bs → 2 ≤ length bs
-closed_long tokens.Words bs c w = closed_size bs w.inner 39 39 w.whole
-closed_long tokens.Enumeration bs c w = closed_size bs (w.first ∷ w.others) 46 46 w.whole
-closed_long tokens.Bits bs c w = closed_size bs w.digits 34 34 w.whole
-closed_long k bs c w = absurd c
-
-pub enumeration_ascii : (k : TokenKind) (bs : List ℕ) → Spells k bs → k ≡ tokens.Enumeration → IsAscii (inner bs)
-enumeration_ascii tokens.Enumeration bs w h =
-    below_ascii (inner bs) (along (inner bs) (w.first ∷ w.others) (inner_is bs (w.first ∷ w.others) 46 46 w.whole) (below_letter w.first w.is_first, below_all is_letter_or_digit w.others below_part w.are_others))
-enumeration_ascii k bs w h = cc
-
-pub name_says : (k : TokenKind) (bs : List ℕ) → k ≡ tokens.Name → ReferenceTo (value_after 0 (drop 1 bs)) ≡ says k bs
-name_says k bs h = rw h refl
 
 pub keyword_says : (k : TokenKind) (bs : List ℕ) → k ≡ tokens.Word → KeywordOf (map to_ascii_uppercase bs) ≡ says k bs
 keyword_says k bs h = rw h refl

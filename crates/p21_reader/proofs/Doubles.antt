@@ -1,5 +1,5 @@
-use Rattle.std.proofs.Common.{◌≡◌, ℕ, ◌+◌, ◌-◌, ◌<◌, ◌≤◌, ◌==◌, ◌⊎◌, inl, inr, zero, suc, add-one, List, [], ◌∷◌, length, get_or, drop, map, Option, Some, None, Bool, true, false, cond, nat_lt, sum_by, arith, refl, sym, ap, subst, ◌∙◌, drop-cons}
-use Rattle.std.proofs.lemmas.Bool.{eqb-true}
+use Rattle.std.proofs.Common.{◌≡◌, ℕ, ◌+◌, ◌-◌, ◌<◌, ◌≤◌, ◌==◌, ◌⊎◌, inl, inr, zero, suc, add-one, List, [], ◌∷◌, length, get_or, drop, map, Option, Some, None, true, false, cond, nat_lt, arith, refl, sym, ap, subst, ◌∙◌, drop-cons}
+use Rattle.std.proofs.lemmas.Bool.{eqb-true, cases_Bool}
 use Rattle.std.proofs.lemmas.Bool.Decides.{nat_tests}
 use Rattle.std.proofs.lemmas.List.Sums.{sum_by-cons}
 use Rattle.std.proofs.lemmas.List.Sorted.{IsNonDecreasingBy-from_sort}
@@ -7,16 +7,12 @@ use Rattle.std.specs.Ordering.{nat_cmp, is_lt}
 use Rattle.std.specs.Cmp.{nat_cmp_is}
 use Rattle.std.specs.List.{AllByRecursion}
 use Rattle.std.specs.List.Sorted.{IsSortedByKey, IsNonDecreasingBy, IsStrictlySortedBy}
-use Rattle.std.specs.declared.cmp.Ordering.TheVariants.{Less, Equal, Greater}
+use Rattle.std.specs.declared.cmp.Ordering.TheVariants.{Less, Greater}
 use Rattle.p21_reader.specs.declared.value.Instance.{Instance}
 use Rattle.p21_reader.specs.Counting.{times}
 use Rattle.p21_reader.specs.Uploads.{IsLeastDouble, Rises}
 
 -- Instances sorted by their numbers, and the first number that two of them have.
-
-tells : (b : Bool) → (b ≡ true) ⊎ (b ≡ false)
-tells true = inl refl
-tells false = inr refl
 
 not_equal : (a b : ℕ) → (a == b) ≡ false → a ≡ b → ⊥
 not_equal a b h e = grind (arith, nat_tests)
@@ -25,18 +21,18 @@ is_equal : (a b : ℕ) → a ≡ b → (a == b) ≡ true
 is_equal a b e = grind (arith, nat_tests)
 
 is_unequal : (a b : ℕ) → (a ≡ b → ⊥) → (a == b) ≡ false
-is_unequal a b n = elim (tells (a == b)) [ inl t ↦ absurd (n (eqb-true a b t)) | inr f ↦ f ]
+is_unequal a b n = elim (cases_Bool (a == b)) [ inl t ↦ absurd (n (eqb-true a b t)) | inr f ↦ f ]
 
 pub equal_or : (a b : ℕ) → (a ≡ b) ⊎ (a ≡ b → ⊥)
-equal_or a b = elim (tells (a == b)) [ inl t ↦ inl (eqb-true a b t) | inr f ↦ inr (not_equal a b f) ]
+equal_or a b = elim (cases_Bool (a == b)) [ inl t ↦ inl (eqb-true a b t) | inr f ↦ inr (not_equal a b f) ]
 
 pub less : (a b : ℕ) → a < b → nat_cmp a b ≡ Less
 less a b h = sym (nat_cmp_is a b Less h)
 
 pub less_is : (a b : ℕ) → nat_cmp a b ≡ Less → a < b
-less_is a b h = elim (tells (nat_lt a b)) [
+less_is a b h = elim (cases_Bool (nat_lt a b)) [
   | inl t ↦ grind (arith, nat_tests)
-  | inr f ↦ (let k = rw f at h in elim (tells (a == b)) [ inl t ↦ (let l = rw t at k in cc) | inr g ↦ (let l = rw g at k in cc) ])
+  | inr f ↦ (let k = rw f at h in elim (cases_Bool (a == b)) [ inl t ↦ (let l = rw t at k in cc) | inr g ↦ (let l = rw g at k in cc) ])
 ]
 
 -- no number is less than the one before it
@@ -79,12 +75,12 @@ two_there id i j xs e f = omega (arith, times_same id i (j ∷ xs) e, times_same
 pub double_least : (xs : List Instance) (id : ℕ) → Climbs xs → first_double xs ≡ Some id → IsLeastDouble id xs
 double_least [] id h e = cc
 double_least (i ∷ []) id h e = cc
-double_least (i ∷ j ∷ more) id h e = elim (tells (i.id == j.id)) [
+double_least (i ∷ j ∷ more) id h e = elim (cases_Bool (i.id == j.id)) [
   | inl t ↦ (let same : i.id ≡ j.id = eqb-true i.id j.id t in let f = rw t at e in let g : j.id ≡ id = cc in
       (two_there id i j more (same ∙ g) g, λ other lt. omega (arith, below other i (j ∷ more) h (omega (arith, lt, same, g)))))
   | inr u ↦ (let f = rw u at e in let r = double_least (j ∷ more) id h.1 f in (
     omega (arith, r.0, times_cons id i (j ∷ more)),
-    λ other lt. elim (tells (i.id == other)) [
+    λ other lt. elim (cases_Bool (i.id == other)) [
       | inl t ↦ (let same : i.id ≡ other = eqb-true i.id other t in
           omega (arith, times_same other i (j ∷ more) same, below other j more h.1 (let n = not_equal i.id j.id u in omega (arith, same, n, h.0))))
       | inr v ↦ omega (arith, times_other other i (j ∷ more) (not_equal i.id other v), r.1 other lt)
@@ -101,23 +97,15 @@ pub rises : (xs : List Instance) → Climbs xs → first_double xs ≡ None → 
 unfolding IsStrictlySortedBy
 rises [] h e = tt
 rises (i ∷ []) h e = (tt, tt)
-rises (i ∷ j ∷ more) h e = elim (tells (i.id == j.id)) [
+rises (i ∷ j ∷ more) h e = elim (cases_Bool (i.id == j.id)) [
   | inl t ↦ (let f = rw t at e in cc)
   | inr u ↦ (let f = rw u at e in let r = rises (j ∷ more) h.1 f in let lt : i.id < j.id = (let n = not_equal i.id j.id u in omega (arith, n, h.0)) in
       ((less i.id j.id lt, above i.id (map (λ (x : Instance). x.id) more) j.id lt r.0), r))
 ]
 
--- one step along
-step_at : (xs : List Instance) (k at : ℕ) (d : Instance) → at ≡ suc k → at < length xs → ((get_or xs k d).id ≡ (get_or xs at d).id → ⊥) → first_double (drop k xs) ≡ first_double (drop at xs)
-step_at xs k at d e = (let P : ℕ → Type 0 = λ a. a < length xs → ((get_or xs k d).id ≡ (get_or xs a d).id → ⊥) → first_double (drop k xs) ≡ first_double (drop a xs) in
-    subst P (sym e) (λ lt n. rw (drop-cons xs k d (omega (arith, lt)), drop-cons xs (suc k) d lt, is_unequal (get_or xs k d).id (get_or xs (suc k) d).id n) refl))
-
 here_at : (xs : List Instance) (k at : ℕ) (d : Instance) → at ≡ suc k → at < length xs → (get_or xs k d).id ≡ (get_or xs at d).id → first_double (drop k xs) ≡ Some (get_or xs at d).id
 here_at xs k at d e = (let P : ℕ → Type 0 = λ a. a < length xs → (get_or xs k d).id ≡ (get_or xs a d).id → first_double (drop k xs) ≡ Some (get_or xs a d).id in
     subst P (sym e) (λ lt n. rw (drop-cons xs k d (omega (arith, lt)), drop-cons xs (suc k) d lt, is_equal (get_or xs k d).id (get_or xs (suc k) d).id n) refl))
-
-pub double_step : (xs : List Instance) (at : ℕ) (d : Instance) → 1 ≤ at → at < length xs → ((get_or xs (at - 1) d).id ≡ (get_or xs at d).id → ⊥) → first_double (drop (at - 1) xs) ≡ first_double (drop at xs)
-double_step xs at d h lt n = step_at xs (at - 1) at d (omega (arith, h)) lt n
 
 pub double_here : (xs : List Instance) (at : ℕ) (d : Instance) → 1 ≤ at → at < length xs → (get_or xs (at - 1) d).id ≡ (get_or xs at d).id → first_double (drop (at - 1) xs) ≡ Some (get_or xs at d).id
 double_here xs at d h lt n = here_at xs (at - 1) at d (omega (arith, h)) lt n

@@ -1,4 +1,4 @@
-use Rattle.std.proofs.Common.{◌≡◌, ℕ, ◌⊎◌, inl, inr, List, [], ◌∷◌, ◌++◌, Option, Some, None, Result, Ok, Err, refl, sym, ap, subst, ◌∙◌, append_assoc}
+use Rattle.std.proofs.Common.{◌≡◌, ℕ, inl, inr, List, [], ◌∷◌, ◌++◌, Option, Some, None, Result, Ok, Err, refl, sym, ap, subst, ◌∙◌, append_assoc}
 use Rattle.std.specs.Prelude.{IsSome}
 use Rattle.p21_lexer.specs.declared.token.Token.{Token}
 use Rattle.p21_lexer.specs.declared.token.LexFault.{LexFault}
@@ -7,21 +7,20 @@ use Rattle.p21_lexer.proofs.OneCut.{one_answer}
 use Rattle.p21_lexer.specs.Cutting.{CutsFrom, start_of}
 use Rattle.p21_reader.specs.declared.fault.ReadFault.{ReadFault}
 use Rattle.p21_reader.specs.declared.fault.ReadFault.TheVariants as faults
-use Rattle.p21_reader.specs.declared.piece.Kind.{Kind}
 use Rattle.p21_reader.specs.declared.piece.Kind.TheVariants as kinds
 use Rattle.p21_reader.specs.declared.value.Instance.{Instance}
 use Rattle.p21_reader.specs.declared.instance.Made.{Made}
 use Rattle.p21_reader.specs.Grammar.{Class, Name, Semi, Equals, Word, EndSec, EndIso, Sign, T, Body, Statements, Iso, Header, Instances, IsViable, file}
 use Rattle.p21_reader.specs.Machine.{run, next, bind}
 use Rattle.p21_reader.specs.Lexemes.{Lexeme, lexeme_of, class_of, Ending}
-use Rattle.p21_reader.specs.Reading.{Cuts, classes, Goes, Stops, Fails, kind_of, IsStuck, Expects}
+use Rattle.p21_reader.specs.Reading.{Cuts, classes, Goes, Fails, kind_of, Expects}
 use Rattle.p21_reader.specs.Heading.{ReadsHeader}
 use Rattle.p21_reader.specs.declared.header.Head.{Head}
 use Rattle.p21_reader.specs.Uploads.{BeginsAt, Judges}
 use Rattle.p21_reader.specs.Instances.{SpellsInstance, SpellsAll, MakesInstance}
-use Rattle.p21_reader.specs.Files.{SpellsFile, HoldsFile, Reaches, FaultAt, ReadsClosing, ReadsWord, ReadsSection}
+use Rattle.p21_reader.specs.Files.{Reaches, FaultAt, ReadsClosing, ReadsWord, ReadsSection}
 use Rattle.p21_reader.proofs.Viable.{run_append, sound, viable_iff, file_iff}
-use Rattle.p21_reader.proofs.Steps.{classes_append, goes_here, goes_one, goes_trans, goes_under, fails_after, fails_under, after_fails, fails_past}
+use Rattle.p21_reader.proofs.Steps.{classes_append, goes_one, goes_trans, goes_under, fails_after, fails_under, after_fails, fails_past}
 
 -- Instances one after another.
 
@@ -39,23 +38,12 @@ pub record Many (bytes : List ℕ) (from at : ℕ) (found : List Instance) : Typ
   pub spelled : SpellsAll found said
   pub goes : Goes (Instances ∷ []) (Instances ∷ []) bytes from at said
 
-pub many_none : (bytes : List ℕ) (at : ℕ) (found : List Instance) → found ≡ [] → Many bytes at at found
-many_none bytes at found e = record { said = []; spelled = rw e refl; goes = goes_here (Instances ∷ []) bytes at }
-
 class_name : (c : Class) → kind_of c ≡ kinds.Name → next Instances c ≡ Some (T Equals ∷ Body ∷ T Semi ∷ Instances ∷ [])
 class_name Name h = refl
 class_name c h = cc
 
 pub instances_name : (l : Lexeme) → kinds.Name ≡ kind_of (class_of l) → next Instances (class_of l) ≡ Some (T Equals ∷ Body ∷ T Semi ∷ Instances ∷ [])
 instances_name l h = class_name (class_of l) (sym h)
-
-class_no : (c : Class) → (kind_of c ≡ kinds.Name → ⊥) → (kind_of c ≡ kinds.Word → ⊥) → next Instances c ≡ None
-class_no Name a b = absurd (a refl)
-class_no (Word m) a b = absurd (b refl)
-class_no c a b = refl
-
-pub instances_no : (l : Lexeme) (k : Kind) → k ≡ kind_of (class_of l) → (k ≡ kinds.Name → ⊥) → (k ≡ kinds.Word → ⊥) → next Instances (class_of l) ≡ None
-instances_no l k e a b = class_no (class_of l) (λ h. a (e ∙ h)) (λ h. b (e ∙ h))
 
 pub many_step : (bytes : List ℕ) (from at : ℕ) (t : Token) (found now : List Instance) (made : Made) → Many bytes from at found → CutsFrom bytes at (Ok (Some t)) → next Instances (class_of (lexeme_of bytes t)) ≡ Some (T Equals ∷ Body ∷ T Semi ∷ Instances ∷ [])
     → MakesInstance (lexeme_of bytes t) bytes t.end (Ok made) → now ≡ found ++ made.instance ∷ [] → Many bytes from made.end now
@@ -89,14 +77,6 @@ many_closed bytes from at t found (Ok end) m h c =
 many_closed bytes from at t found (Err f) m h c = many_fails bytes from at found f m (after_fails Instances [] bytes at t f h c)
 
 -- The end.
-
-pub closing_no : (c : Class) → kind_of c ≡ kinds.Word → (c ≡ Word EndSec → ⊥) → next Instances c ≡ None
-closing_no (Word EndSec) h a = absurd (a refl)
-closing_no (Word m) h a = refl
-closing_no c h a = cc
-
-abbrev rest_of : List Sign
-rest_of = T Semi ∷ T (Word EndIso) ∷ T Semi ∷ []
 
 pub instances_end : (l : Lexeme) → class_of l ≡ Word EndSec → next Instances (class_of l) ≡ Some (T Semi ∷ T (Word EndIso) ∷ T Semi ∷ [])
 instances_end l e = ap (λ x. next Instances x) e

@@ -1,5 +1,5 @@
-use Rattle.std.proofs.Common.{◌≡◌, ℕ, ◌<◌, ◌≤◌, ◌==◌, ◌⊎◌, inl, inr, List, length, get_or, arith, refl, Bool, true, false, nat_lt, Ok, Err}
-use Rattle.std.proofs.lemmas.Bool.{eqb-true}
+use Rattle.std.proofs.Common.{◌≡◌, ℕ, ◌<◌, ◌≤◌, ◌==◌, ◌⊎◌, inl, inr, List, length, get_or, arith, nat_lt, Ok, Err}
+use Rattle.std.proofs.lemmas.Bool.{eqb-true, cases_Bool}
 use Rattle.std.proofs.lemmas.Bool.Decides.{nat_tests}
 use Rattle.std.proofs.lemmas.List.Sorted.{searchable_from_sorted}
 use Rattle.std.proofs.lemmas.Cmp.{nat_cmp_total}
@@ -10,29 +10,25 @@ use Rattle.std.specs.List.Sorted.{IsBinarySearchResult, IsSortedByKey}
 before : (k n : ℕ) → (k < n) ⊎ (n ≤ k)
 before k n = grind arith
 
-tells : (b : Bool) → (b ≡ true) ⊎ (b ≡ false)
-tells true = inl refl
-tells false = inr refl
-
 equal : (a b : ℕ) → nat_cmp a b ≡ Equal → a ≡ b
-equal a b h = elim (tells (nat_lt a b)) [
+equal a b h = elim (cases_Bool (nat_lt a b)) [
   | inl t ↦ (let k = rw t at h in cc)
-  | inr f ↦ (let k = rw f at h in elim (tells (a == b)) [
+  | inr f ↦ (let k = rw f at h in elim (cases_Bool (a == b)) [
     | inl t ↦ eqb-true a b t
     | inr g ↦ (let l = rw g at k in cc)
   ])
 ]
 
 less : (a b : ℕ) → nat_cmp a b ≡ Less → a ≡ b → ⊥
-less a b h e = elim (tells (nat_lt a b)) [
+less a b h e = elim (cases_Bool (nat_lt a b)) [
   | inl t ↦ grind (arith, nat_tests)
-  | inr f ↦ (let k = rw f at h in elim (tells (a == b)) [ inl t ↦ (let l = rw t at k in cc) | inr g ↦ (let l = rw g at k in cc) ])
+  | inr f ↦ (let k = rw f at h in elim (cases_Bool (a == b)) [ inl t ↦ (let l = rw t at k in cc) | inr g ↦ (let l = rw g at k in cc) ])
 ]
 
 greater : (a b : ℕ) → nat_cmp a b ≡ Greater → a ≡ b → ⊥
-greater a b h e = elim (tells (nat_lt a b)) [
+greater a b h e = elim (cases_Bool (nat_lt a b)) [
   | inl t ↦ (let k = rw t at h in cc)
-  | inr f ↦ (let k = rw f at h in elim (tells (a == b)) [ inl t ↦ (let l = rw t at k in cc) | inr g ↦ grind (arith, nat_tests) ])
+  | inr f ↦ (let k = rw f at h in elim (cases_Bool (a == b)) [ inl t ↦ (let l = rw t at k in cc) | inr g ↦ grind (arith, nat_tests) ])
 ]
 
 -- a search by a key that finds no place finds no element of that key

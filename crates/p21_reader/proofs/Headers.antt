@@ -1,4 +1,4 @@
-use Rattle.std.proofs.Common.{◌≡◌, ℕ, inl, inr, List, [], ◌∷◌, ◌++◌, Some, None, Ok, refl, sym, ap, subst, ◌∙◌, append_assoc}
+use Rattle.std.proofs.Common.{◌≡◌, ℕ, inl, inr, List, [], ◌∷◌, ◌++◌, Some, None, Ok, refl, sym, ap, ◌∙◌, append_assoc}
 use Rattle.p21_lexer.specs.declared.token.Token.{Token}
 use Rattle.p21_lexer.specs.Cutting.{CutsFrom}
 use Rattle.p21_reader.specs.declared.fault.ReadFault.{ReadFault}
@@ -7,7 +7,7 @@ use Rattle.p21_reader.specs.Grammar.{Sign, Inside}
 use Rattle.p21_reader.specs.Lexemes.{Lexeme, lexeme_of, class_of}
 use Rattle.p21_reader.specs.Reading.{Goes, Fails}
 use Rattle.p21_reader.specs.Heading.{sign_of, signs_of, Follows, FollowsNot}
-use Rattle.p21_reader.proofs.Steps.{goes_here, goes_one, goes_trans, goes_under, fails_after, fails_refused}
+use Rattle.p21_reader.proofs.Steps.{goes_one, goes_trans, goes_under, fails_after, fails_refused}
 
 append_nil : {A : Type 0} (xs : List A) → xs ++ [] ≡ xs
 append_nil [] = refl
@@ -24,9 +24,6 @@ signs_append (v ∷ vs) ws = ap (λ x. x ++ sign_of v ∷ []) (signs_append vs w
 pub record Heads (bytes : List ℕ) (from at : ℕ) (wants : List Want) : Type 0 where
   pub said : List Lexeme
   pub goes : Goes nest (signs_of wants) bytes from at said
-
-pub heads_none : (bytes : List ℕ) (at : ℕ) (wants : List Want) → signs_of wants ≡ nest → Heads bytes at at wants
-heads_none bytes at wants e = record { said = []; goes = rw e (goes_here nest bytes at) }
 
 popped : (old left : List Want) (want : Want) → old ≡ left ++ want ∷ [] → signs_of old ≡ sign_of want ∷ signs_of left
 popped old left want e = ap signs_of e ∙ signs_append left (want ∷ [])
@@ -51,8 +48,3 @@ follow_fail s σ bytes at t f h k = elim k [
   | inl e ↦ rw e tt
   | inr e ↦ rw e.0 (fails_refused s σ bytes at t.start t h e.1 refl)
 ]
-
-pub heads_done : (bytes : List ℕ) (from at : ℕ) (wants : List Want) → Heads bytes from at wants → wants ≡ [] → (ls : List Lexeme) × Goes nest [] bytes from at ls
-heads_done bytes from at wants h e =
-    let g : Goes nest [] bytes from at h.said = (let P : List Want → Type 0 = λ x. Goes nest (signs_of x) bytes from at h.said in subst P e h.goes) in
-    (h.said, g)

@@ -10,11 +10,9 @@ pub mod Lists
 pub mod Marks
 pub mod OneAnswer
 pub mod OneReading
-pub mod Prints
 pub mod Seen
 pub mod Sizes
 pub mod Statements
 pub mod Steps
 pub mod Strict
 pub mod Viable
-pub mod Words

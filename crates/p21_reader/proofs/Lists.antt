@@ -1,4 +1,4 @@
-use Rattle.std.proofs.Common.{◌≡◌, ℕ, ◌-◌, ◌⊎◌, inl, inr, List, [], ◌∷◌, ◌++◌, map, Option, Some, None, option_map, Result, Ok, Err, zero, suc, arith, refl, sym, ap, ◌∙◌, append_assoc}
+use Rattle.std.proofs.Common.{◌≡◌, ℕ, ◌-◌, inl, inr, List, [], ◌∷◌, ◌++◌, map, Option, Some, option_map, Result, Ok, Err, arith, refl, sym, ap, ◌∙◌, append_assoc}
 use Rattle.p21_lexer.specs.declared.token.Token.{Token}
 use Rattle.p21_lexer.specs.Cutting.{CutsFrom}
 use Rattle.p21_reader.specs.declared.fault.ReadFault.{ReadFault}
@@ -6,13 +6,13 @@ use Rattle.p21_reader.specs.declared.fault.ReadFault.TheVariants as faults
 use Rattle.p21_reader.specs.declared.piece.Kind.{Kind}
 use Rattle.p21_reader.specs.declared.piece.Kind.TheVariants as kinds
 use Rattle.p21_reader.specs.declared.value.Value21.{Value21}
-use Rattle.p21_reader.specs.Grammar.{Class, Simple, Name, Open, Close, Comma, Word, Sign, T, Value, Inside, After, down}
+use Rattle.p21_reader.specs.Grammar.{Class, Open, Close, T, Value, Inside, After}
 use Rattle.p21_reader.specs.Machine.{next, next_value}
 use Rattle.p21_reader.specs.Lexemes.{Lexeme, lexeme_of, class_of, Opening, Closing, Separator}
 use Rattle.p21_reader.specs.Printing.{print, behind}
-use Rattle.p21_reader.specs.Reading.{Goes, Fails, StopsAfter, FailsAfter, ReadsValue, PushesValue, PushesMade, PushesInside, PushesMore, kind_of, IsSign, sign_says}
+use Rattle.p21_reader.specs.Reading.{Goes, Fails, StopsAfter, FailsAfter, ReadsValue, PushesInside, PushesMore, kind_of, IsSign, sign_says}
 use Rattle.p21_reader.proofs.Seen.{sign_said}
-use Rattle.p21_reader.proofs.Steps.{goes_here, goes_one, goes_trans, goes_under, stops_under, fails_after, fails_under, after_fails, fails_past}
+use Rattle.p21_reader.proofs.Steps.{goes_one, goes_trans, goes_under, stops_under, fails_after, fails_under, after_fails}
 
 -- so many values of a list stand behind its first one
 pub record Behind (d : Option ℕ) (bytes : List ℕ) (from at : ℕ) (old now : List Value21) : Type 0 where
@@ -23,9 +23,6 @@ pub record Behind (d : Option ℕ) (bytes : List ℕ) (from at : ℕ) (old now :
 append_nil : {A : Type 0} (xs : List A) → xs ++ [] ≡ xs
 append_nil [] = refl
 append_nil (x ∷ xs) = ap (λ y. x ∷ y) (append_nil xs)
-
-pub behind_none : (d : Option ℕ) (bytes : List ℕ) (at : ℕ) (old : List Value21) → Behind d bytes at at old old
-behind_none d bytes at old = record { values = []; stack = sym (append_nil old); goes = goes_here (After d ∷ []) bytes at }
 
 behind_more : (vs : List Value21) (v : Value21) → behind (map print (vs ++ v ∷ [])) ≡ behind (map print vs) ++ Separator ∷ print v
 behind_more [] v = ap (λ x. Separator ∷ x) (append_nil (print v))
@@ -115,65 +112,6 @@ pub inside_close : (d : ℕ) (bytes : List ℕ) (at : ℕ) (close : Token) (old 
 inside_close d bytes at close old h l = ([], sym (append_nil old), rw l at (goes_one (Inside (Some d)) [] bytes at close h (rw l refl)))
 
 -- A value.
-
-pub value_made : (d : ℕ) (σ : List Sign) (bytes : List ℕ) (t : Token) (old new : List Value21) (r : Result ℕ ReadFault) → next (Value (Some d)) (class_of (lexeme_of bytes t)) ≡ Some σ
-    → PushesMade σ (lexeme_of bytes t) bytes t.end old new r → PushesValue d bytes t old new r
-value_made d σ bytes t old new (Ok end) n m = (m.0, m.1, record { wanted = σ; rest = m.2; begins = n; goes = m.4; spelled = m.3 })
-value_made d σ bytes t old new (Err f) n m = fails_past (Value (Some d)) σ bytes t f n m
-
-down_of : (d : ℕ) → (d ≡ 0 → ⊥) → down (Some d) ≡ Some (Some (d - 1))
-down_of zero h = absurd (h refl)
-down_of (suc n) h = let e : n ≡ suc n - 1 = omega arith in ap (λ (m : ℕ). Some (Some m)) e
-
-pub next_open : (d : ℕ) → (d ≡ 0 → ⊥) → next (Value (Some d)) Open ≡ Some (Inside (Some (d - 1)) ∷ [])
-next_open d h = rw (down_of d h) refl
-
-class_word : (c : Class) → kind_of c ≡ kinds.Word → (d : ℕ) → (d ≡ 0 → ⊥) → next (Value (Some d)) c ≡ Some (T Open ∷ Value (Some (d - 1)) ∷ T Close ∷ [])
-class_word (Word m) e d h = rw (down_of d h) refl
-class_word c e d h = cc
-
-pub next_word : (l : Lexeme) (d : ℕ) → kinds.Word ≡ kind_of (class_of l) → (d ≡ 0 → ⊥) → next (Value (Some d)) (class_of l) ≡ Some (T Open ∷ Value (Some (d - 1)) ∷ T Close ∷ [])
-next_word l d e h = class_word (class_of l) (sym e) d h
-
-class_deep : (c : Class) (d : ℕ) → (kind_of c ≡ kinds.Word) ⊎ (kind_of c ≡ kinds.Open) → d ≡ 0 → next (Value (Some d)) c ≡ None
-class_deep (Word m) d e h = rw h refl
-class_deep Open d e h = rw h refl
-class_deep c d e h = elim e [ inl k ↦ cc | inr k ↦ cc ]
-
-pub word_deep : (l : Lexeme) (d : ℕ) → kinds.Word ≡ kind_of (class_of l) → d ≡ 0 → next (Value (Some d)) (class_of l) ≡ None
-word_deep l d e h = class_deep (class_of l) d (inl (sym e)) h
-
-pub open_deep : (l : Lexeme) (d : ℕ) → kinds.Open ≡ kind_of (class_of l) → d ≡ 0 → next (Value (Some d)) (class_of l) ≡ None
-open_deep l d e h = class_deep (class_of l) d (inr (sym e)) h
-
-class_no : (c : Class) (d : Option ℕ) → (kind_of c ≡ kinds.Simple → ⊥) → (kind_of c ≡ kinds.Name → ⊥) → (kind_of c ≡ kinds.Open → ⊥) → (kind_of c ≡ kinds.Word → ⊥) → next (Value d) c ≡ None
-class_no Simple d a b o w = absurd (a refl)
-class_no Name d a b o w = absurd (b refl)
-class_no Open d a b o w = absurd (o refl)
-class_no (Word m) d a b o w = absurd (w refl)
-class_no c d a b o w = refl
-
-pub value_no : (l : Lexeme) (k : Kind) (d : Option ℕ) → k ≡ kind_of (class_of l) → (k ≡ kinds.Simple → ⊥) → (k ≡ kinds.Name → ⊥) → (k ≡ kinds.Open → ⊥) → (k ≡ kinds.Word → ⊥) → next (Value d) (class_of l) ≡ None
-value_no l k d e a b o w = class_no (class_of l) d (λ h. a (e ∙ h)) (λ h. b (e ∙ h)) (λ h. o (e ∙ h)) (λ h. w (e ∙ h))
-
-class_plain : (c : Class) (d : Option ℕ) → (kind_of c ≡ kinds.Simple) ⊎ (kind_of c ≡ kinds.Name) → next (Value d) c ≡ Some []
-class_plain Simple d e = refl
-class_plain Name d e = refl
-class_plain c d e = elim e [ inl k ↦ cc | inr k ↦ cc ]
-
-pub simple_value : (l : Lexeme) (d : Option ℕ) → kinds.Simple ≡ kind_of (class_of l) → next (Value d) (class_of l) ≡ Some []
-simple_value l d e = class_plain (class_of l) d (inl (sym e))
-
-pub name_value : (l : Lexeme) (d : Option ℕ) → kinds.Name ≡ kind_of (class_of l) → next (Value d) (class_of l) ≡ Some []
-name_value l d e = class_plain (class_of l) d (inr (sym e))
-
-class_after : (c : Class) (d : Option ℕ) → (kind_of c ≡ kinds.Close → ⊥) → (kind_of c ≡ kinds.Comma → ⊥) → next (After d) c ≡ None
-class_after Close d a b = absurd (a refl)
-class_after Comma d a b = absurd (b refl)
-class_after c d a b = refl
-
-pub after_no : (l : Lexeme) (k : Kind) (d : Option ℕ) → k ≡ kind_of (class_of l) → (k ≡ kinds.Close → ⊥) → (k ≡ kinds.Comma → ⊥) → next (After d) (class_of l) ≡ None
-after_no l k d e a b = class_after (class_of l) d (λ h. a (e ∙ h)) (λ h. b (e ∙ h))
 
 pub said : (l : Lexeme) (k : Kind) → IsSign k → k ≡ kind_of (class_of l) → l ≡ sign_says k
 said l k s e = sign_said k l s (sym e)

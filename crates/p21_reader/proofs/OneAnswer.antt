@@ -1,4 +1,4 @@
-use Rattle.std.proofs.Common.{◌≡◌, ℕ, ◌+◌, ◌<◌, ◌≤◌, ◌==◌, ◌⊎◌, inl, inr, cond, sum_by, IsPermutation, List, [], ◌∷◌, ◌++◌, map, length, Some, None, Result, Ok, Err, arith, refl, sym, ap, subst, ◌∙◌, append_assoc}
+use Rattle.std.proofs.Common.{◌≡◌, ℕ, ◌+◌, ◌==◌, inl, inr, cond, sum_by, IsPermutation, List, [], ◌∷◌, ◌++◌, map, length, Some, None, Ok, Err, arith, refl, sym, ap, subst, ◌∙◌, append_assoc}
 use Rattle.std.proofs.lemmas.List.Sorted.{length_permutation, sum_by-IsPermutation, IsPermutation-map, IsPermutation-trans, IsPermutation-sym}
 use Rattle.std.proofs.lemmas.List.Sums.{sum_by-cons}
 use Rattle.bim_model.specs.declared.upload.UploadFault.{UploadFault}
@@ -16,10 +16,10 @@ use Rattle.p21_reader.specs.Schema.{Statement, NamesIfc4}
 use Rattle.p21_reader.specs.Counting.{size, values_of, times}
 use Rattle.p21_reader.specs.Saying.{content, contents, saying}
 use Rattle.p21_reader.specs.Files.{HoldsFile, Reaches, NoneThere, WrongThere}
-use Rattle.p21_reader.specs.Uploads.{BeginsPart21, IsUpload, IsIfc4Upload, IsLeastDouble, Rises, SpellsExchange, HasFault, most_bytes, most_instances, most_values}
+use Rattle.p21_reader.specs.Uploads.{BeginsPart21, IsUpload, IsIfc4Upload, IsLeastDouble, SpellsExchange, HasFault}
 use Rattle.p21_reader.proofs.Viable.{run_append, file_iff}
 use Rattle.p21_reader.proofs.Steps.{classes_append}
-use Rattle.p21_reader.proofs.FileLemmas.{one_token, Fronts, longer, shorter, fronts}
+use Rattle.p21_reader.proofs.FileLemmas.{one_token, longer, shorter, fronts}
 use Rattle.p21_reader.proofs.OneReading.{one_header, one_reading}
 use Rattle.p21_reader.proofs.Sizes.{sized_all, sizes_are}
 use Rattle.p21_reader.proofs.Strict.{strict_from, same_strict, rises_once, trichotomy}
@@ -200,9 +200,6 @@ same_values (i ∷ a) (j ∷ b) h =
     let n : contents (map content i.values) ≡ contents (map content j.values) = ap (λ x. x.2) s in
     let m : sum_by size i.values ≡ sum_by size j.values = sizes_are i.values ∙ ap sized_all n ∙ sym (sizes_are j.values) in
     sum_by-cons (λ (x : Instance). sum_by size x.values) i a ∙ ap (λ x. x + values_of a) m ∙ ap (λ x. sum_by size j.values + x) (same_values a b e) ∙ sym (sum_by-cons (λ (x : Instance). sum_by size x.values) j b)
-
-holds_of : (bytes : List ℕ) (found : List Instance) (h : IsIfc4Upload bytes found) → HoldsFile bytes h.0 found
-holds_of bytes found h = h.1.1
 
 pub one_found : (bytes : List ℕ) (a b : List Instance) → IsIfc4Upload bytes a → IsIfc4Upload bytes b → map saying a ≡ map saying b
 one_found bytes a b h k = one_reading bytes h.0 k.0 a b h.1.1 k.1.1

@@ -10,13 +10,13 @@ use Rattle.p21_reader.specs.declared.piece.Kind.{Kind}
 use Rattle.p21_reader.specs.declared.piece.Kind.TheVariants as kinds
 use Rattle.p21_reader.specs.declared.schema.Schema.{Schema}
 use Rattle.p21_reader.specs.declared.schema.Schema.TheVariants as said
-use Rattle.p21_reader.specs.Grammar.{Class, Mark, Word, Iso, Header, Data, EndSec, EndIso, Other, Open, Close, Semi, Sign, T, Statements, AfterEnd, Inside, Derives}
+use Rattle.p21_reader.specs.Grammar.{Class, Mark, Word, Iso, Header, Data, EndSec, EndIso, Other, Open, Semi, Sign, T, Statements, AfterEnd, Inside, Derives}
 use Rattle.p21_reader.specs.Machine.{run, next}
 use Rattle.p21_reader.specs.Lexemes.{Lexeme, Opening, Closing, Ending, WordsOf, KeywordOf, lexeme_of, class_of, classes, Cuts}
 use Rattle.p21_reader.specs.Reading.{Goes, Fails, NoToken, Expects, IsPiece, kind_of}
 use Rattle.p21_reader.specs.Instances.{Passes}
 use Rattle.p21_reader.specs.Files.{ReadsWord}
-use Rattle.p21_reader.specs.Schema.{Statement, SpellsStatement, SpellsStatements, schemas, NamesIfc4, IsIfc4}
+use Rattle.p21_reader.specs.Schema.{Statement, SpellsStatement, SpellsStatements, schemas, NamesIfc4}
 use Rattle.p21_reader.specs.Heading.{OnlyText, OnlyIfc4, IsStatementAt, SaysSchema, ReadsData, ReadsPart, ReadsStatements, ReadsHeader}
 use Rattle.p21_reader.specs.declared.fault.ReadFault.TheVariants as faults
 use Rattle.p21_reader.specs.declared.header.Part.TheVariants as parts
@@ -24,7 +24,7 @@ use Rattle.p21_reader.specs.declared.header.Head.{Head}
 use Rattle.p21_reader.specs.declared.piece.Piece.{Piece}
 use Rattle.p21_reader.proofs.Seen.{sign_said}
 use Rattle.p21_reader.proofs.Viable.{complete, sound}
-use Rattle.p21_reader.proofs.Steps.{goes_one, goes_trans, goes_under, goes_here, fails_after, fails_under, fails_none, fails_refused, cuts_on}
+use Rattle.p21_reader.proofs.Steps.{goes_one, goes_trans, goes_under, fails_after, fails_under, fails_none, fails_refused, cuts_on}
 use Rattle.p21_reader.proofs.OneReading.{one_list}
 
 -- A word and a semicolon.
@@ -259,9 +259,6 @@ pub record Stated (bytes : List ℕ) (from at : ℕ) (schema : Schema) : Type 0 
   pub goes : Goes (Statements ∷ []) (Statements ∷ []) bytes from at middle
   pub says : SaysSchema schema statements
 
-pub stated_none : (bytes : List ℕ) (at : ℕ) → Stated bytes at at said.Unnamed
-stated_none bytes at = record { statements = []; middle = []; spelled = refl; goes = goes_here (Statements ∷ []) bytes at; says = refl }
-
 pub stated_more : (bytes : List ℕ) (from at inside end : ℕ) (old new : Schema) (w : Piece) (h : Stated bytes from at old) → ReadsPart bytes at (Ok (parts.Statement w inside end))
     → ((before : List Statement) (s : Statement) → IsStatementAt bytes w.token inside s → SaysSchema old before → SaysSchema new (before ++ s ∷ [])) → Stated bytes from end new
 stated_more bytes from at inside end old new w h p j = record {
@@ -274,9 +271,6 @@ stated_more bytes from at inside end old new w h p j = record {
 
 pub stated_fails : (bytes : List ℕ) (from at : ℕ) (schema : Schema) (f : ReadFault) → Stated bytes from at schema → Fails (Statements ∷ []) bytes at f → Fails (Statements ∷ []) bytes from f
 stated_fails bytes from at schema f h k = fails_after (Statements ∷ []) (Statements ∷ []) bytes from at h.middle f h.goes k
-
-named_all : (ss : List Statement) → NamesIfc4 (ss ++ []) → NamesIfc4 ss
-named_all ss h = subst NamesIfc4 (append_nil ss) h
 
 unnamed : (ss : List Statement) → schemas ss ≡ [] → NamesIfc4 ss → ⊥
 unnamed ss e n = let f : [] ≡ (Opening ∷ WordsOf n.0 ∷ Closing ∷ Closing ∷ []) ∷ [] = sym e ∙ n.1 in cc

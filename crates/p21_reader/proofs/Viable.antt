@@ -1,5 +1,6 @@
-use Rattle.std.proofs.Common.{◌≡◌, ℕ, List, [], ◌∷◌, ◌++◌, Option, Some, None, option_map, Bool, true, false, cond, refl, sym, ap, subst, ◌∙◌, append_assoc}
+use Rattle.std.proofs.Common.{◌≡◌, ℕ, List, [], ◌∷◌, ◌++◌, Option, Some, None, option_map, Bool, true, false, cond, refl, sym, ap, subst, ◌∙◌, append_assoc, ◌-◌}
 use Rattle.std.specs.Prelude.{IsSome, ◌↔◌}
+use Rattle.p21_reader.specs.declared.limits.TheConstants.{MOST_DEPTH}
 use Rattle.p21_reader.specs.Grammar.{Mark, Iso, Header, Data, EndSec, EndIso, Other, Class, Simple, Name, Open, Close, Comma, Semi, Equals, Word, Sign, T, AnyWord, Statements, AfterEnd, Instances, Body, Ones, Value, Inside, After, down, file, Rule, simple, name, list, typed, empty, first, last, more, statement, ending, again, content, instance, finish, plain, complex, closed, one, Derives, done, token, word, rule, IsFile, IsViable, IsPlainMark}
 use Rattle.p21_reader.specs.Machine.{same, same_mark, bind, deeper, next, next_value, step, run}
 
@@ -213,7 +214,7 @@ ending_of AnyWord α xs h = (Word Other ∷ xs, word Other h)
 ending_of Statements α xs h = (_, rule Statements _ ending (token (Word EndSec) (rule AfterEnd _ content (token Semi (token (Word Data) (token Semi h))))))
 ending_of AfterEnd α xs h = (_, rule AfterEnd _ content (token Semi (token (Word Data) (token Semi h))))
 ending_of Instances α xs h = (_, rule Instances _ finish (token (Word EndSec) (token Semi (token (Word EndIso) (token Semi h)))))
-ending_of Body α xs h = (_, rule Body _ plain (word Other (token Open (rule (Inside (Some 31)) _ (empty (Some 31)) (token Close h)))))
+ending_of Body α xs h = (_, rule Body _ plain (word Other (token Open (rule (Inside (Some (MOST_DEPTH - 1))) _ (empty (Some (MOST_DEPTH - 1))) (token Close h)))))
 ending_of Ones α xs h = (_, rule Ones _ closed (token Close h))
 ending_of (Value d) α xs h = (_, rule (Value d) _ (simple d) (token Simple h))
 ending_of (Inside d) α xs h = (_, rule (Inside d) _ (empty d) (token Close h))

@@ -1,7 +1,8 @@
-use Rattle.std.specs.Prelude.{◌≡◌, ℕ, List, [], ◌∷◌, ◌++◌, Option, Some, None, zero, suc}
+use Rattle.std.specs.Prelude.{◌≡◌, ℕ, List, [], ◌∷◌, ◌++◌, Option, Some, None, zero, suc, ◌-◌}
+use Rattle.p21_reader.specs.declared.limits.TheConstants.{MOST_DEPTH}
 
--- The grammar of a file (ISO 10303-21, sections 5 and 7 to 11), as rules on what it sees of the tokens. Parentheses of an instance nest at
--- most 32 deep, those of the header without limit. A file may have one DATA section.
+-- The grammar of a file (ISO 10303-21, sections 5 and 7 to 11), as rules on what it sees of the tokens. Parentheses of an instance nest
+-- up to a depth, those of the header without limit. A file may have one DATA section.
 
 -- The words that the grammar names; each other word is Other.
 pub data Mark : Type 0 where
@@ -50,10 +51,10 @@ pub data Rule : Sign → List Sign → Type 0 where
   instance : Rule Instances (T Name ∷ T Equals ∷ Body ∷ T Semi ∷ Instances ∷ [])
   finish : Rule Instances (T (Word EndSec) ∷ T Semi ∷ T (Word EndIso) ∷ T Semi ∷ [])
   -- word ( values ), or several of these in parentheses
-  plain : Rule Body (AnyWord ∷ T Open ∷ Inside (Some 31) ∷ [])
-  complex : Rule Body (T Open ∷ AnyWord ∷ T Open ∷ Inside (Some 30) ∷ Ones ∷ [])
+  plain : Rule Body (AnyWord ∷ T Open ∷ Inside (Some (MOST_DEPTH - 1)) ∷ [])
+  complex : Rule Body (T Open ∷ AnyWord ∷ T Open ∷ Inside (Some (MOST_DEPTH - 2)) ∷ Ones ∷ [])
   closed : Rule Ones (T Close ∷ [])
-  one : Rule Ones (AnyWord ∷ T Open ∷ Inside (Some 30) ∷ Ones ∷ [])
+  one : Rule Ones (AnyWord ∷ T Open ∷ Inside (Some (MOST_DEPTH - 2)) ∷ Ones ∷ [])
 
 -- The tokens that signs stand for, by the rules.
 pub data Derives : List Sign → List Class → Type 0 where
@@ -62,11 +63,7 @@ pub data Derives : List Sign → List Class → Type 0 where
   word : {α : List Sign} {ts : List Class} (m : Mark) → Derives α ts → Derives (AnyWord ∷ α) (Word m ∷ ts)
   rule : {α : List Sign} {ts : List Class} (s : Sign) (r : List Sign) → Rule s r → Derives (r ++ α) ts → Derives (s ∷ α) ts
 
--- up to and with the semicolon behind DATA
-abbrev pub header : List Sign
-header = T (Word Iso) ∷ T Semi ∷ T (Word Header) ∷ T Semi ∷ Statements ∷ []
-
--- the header, and then the instances up to and with the last semicolon
+-- the header, up to and with the semicolon behind DATA, and then the instances, up to and with the last semicolon
 abbrev pub file : List Sign
 file = T (Word Iso) ∷ T Semi ∷ T (Word Header) ∷ T Semi ∷ Statements ∷ Instances ∷ []
 

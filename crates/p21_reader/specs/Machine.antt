@@ -1,4 +1,5 @@
-use Rattle.std.specs.Prelude.{ℕ, List, [], ◌∷◌, ◌++◌, Option, Some, None, option_map, Bool, true, false, cond}
+use Rattle.std.specs.Prelude.{ℕ, List, [], ◌∷◌, ◌++◌, Option, Some, None, option_map, Bool, true, false, cond, ◌-◌}
+use Rattle.p21_reader.specs.declared.limits.TheConstants.{MOST_DEPTH}
 use Rattle.p21_reader.specs.Grammar.{Mark, Iso, Header, Data, EndSec, EndIso, Other, Class, Simple, Name, Open, Close, Comma, Semi, Equals, Word, Sign, T, AnyWord, Statements, AfterEnd, Instances, Body, Ones, Value, Inside, After, down}
 
 -- What is wanted next, as a table: what the code follows. Public contracts speak of the rules alone.
@@ -53,11 +54,11 @@ next AfterEnd _ = None
 next Instances Name = Some (T Equals ∷ Body ∷ T Semi ∷ Instances ∷ [])
 next Instances (Word EndSec) = Some (T Semi ∷ T (Word EndIso) ∷ T Semi ∷ [])
 next Instances _ = None
-next Body (Word m) = Some (T Open ∷ Inside (Some 31) ∷ [])
-next Body Open = Some (AnyWord ∷ T Open ∷ Inside (Some 30) ∷ Ones ∷ [])
+next Body (Word m) = Some (T Open ∷ Inside (Some (MOST_DEPTH - 1)) ∷ [])
+next Body Open = Some (AnyWord ∷ T Open ∷ Inside (Some (MOST_DEPTH - 2)) ∷ Ones ∷ [])
 next Body _ = None
 next Ones Close = Some []
-next Ones (Word m) = Some (T Open ∷ Inside (Some 30) ∷ Ones ∷ [])
+next Ones (Word m) = Some (T Open ∷ Inside (Some (MOST_DEPTH - 2)) ∷ Ones ∷ [])
 next Ones _ = None
 next (Value d) x = next_value d x
 next (Inside d) Close = Some []

@@ -7,6 +7,8 @@ use Rattle.bim_model.specs.declared.upload.BuildError.{BuildError}
 use Rattle.bim_model.specs.declared.upload.BuildError.TheVariants as errors
 use Rattle.bim_model.specs.declared.upload.Many.TheVariants as many
 use Rattle.p21_lexer.specs.Cutting.{start_of}
+use Rattle.p21_reader.specs.declared.limits.TheConstants.{MOST_INSTANCES, MOST_VALUES}
+use Rattle.bim_text.specs.declared.limits.TheConstants.{MOST_BYTES}
 use Rattle.p21_reader.specs.declared.value.Instance.{Instance}
 use Rattle.p21_reader.specs.Grammar.{Iso, Semi, Word, T}
 use Rattle.p21_reader.specs.Lexemes.{Lexeme, Cuts, classes}
@@ -17,22 +19,13 @@ use Rattle.p21_reader.specs.Files.{HoldsFile, NoneThere, WrongThere}
 
 -- What an upload's bytes spell, and the first fault that they have.
 
-abbrev pub most_bytes : ℕ
-most_bytes = 33554432
-
-abbrev pub most_instances : ℕ
-most_instances = 1000000
-
-abbrev pub most_values : ℕ
-most_values = 8000000
-
 -- the first two tokens are the word ISO-10303-21 and a semicolon
 abbrev pub BeginsPart21 : List ℕ → Type 0
 BeginsPart21 bytes = (ls : List Lexeme) × (end : ℕ) × Cuts bytes (start_of bytes) ls end × (classes ls ≡ Word Iso ∷ Semi ∷ [])
 
 -- so many bytes at most, and the first tokens are a file with these statements in its header and these instances, in their order
 abbrev pub IsUpload : List ℕ → List Statement → List Instance → Type 0
-IsUpload bytes statements found = (length bytes ≤ most_bytes) × HoldsFile bytes statements found
+IsUpload bytes statements found = (length bytes ≤ MOST_BYTES) × HoldsFile bytes statements found
 
 -- the same, and the header names IFC4
 abbrev pub IsIfc4Upload : List ℕ → List Instance → Type 0
@@ -50,19 +43,19 @@ Rises instances = IsStrictlySortedBy nat_cmp (map (λ i. i.id) instances)
 -- names IFC4.
 abbrev pub SpellsExchange : List ℕ → List Instance → Type 0
 SpellsExchange bytes instances =
-    (found : List Instance) × IsIfc4Upload bytes found × IsPermutation found instances × (length instances ≤ most_instances) × (values_of instances ≤ most_values) × Rises instances
+    (found : List Instance) × IsIfc4Upload bytes found × IsPermutation found instances × (length instances ≤ MOST_INSTANCES) × (values_of instances ≤ MOST_VALUES) × Rises instances
 
 -- The bytes have this fault, and none of an earlier stage. The faults that aren't a reader's are none of theirs.
 abbrev pub HasFault : List ℕ → UploadFault → Type 0
-HasFault bytes (faults.TooMany many.Bytes) = most_bytes < length bytes
-HasFault bytes faults.NotPart21 = (length bytes ≤ most_bytes) × (BeginsPart21 bytes → ⊥)
-HasFault bytes (faults.BadToken p) = (length bytes ≤ most_bytes) × BeginsPart21 bytes × NoneThere bytes p
-HasFault bytes (faults.BadStatement p) = (length bytes ≤ most_bytes) × BeginsPart21 bytes × WrongThere bytes p
+HasFault bytes (faults.TooMany many.Bytes) = MOST_BYTES < length bytes
+HasFault bytes faults.NotPart21 = (length bytes ≤ MOST_BYTES) × (BeginsPart21 bytes → ⊥)
+HasFault bytes (faults.BadToken p) = (length bytes ≤ MOST_BYTES) × BeginsPart21 bytes × NoneThere bytes p
+HasFault bytes (faults.BadStatement p) = (length bytes ≤ MOST_BYTES) × BeginsPart21 bytes × WrongThere bytes p
 HasFault bytes faults.WrongSchema = (statements : List Statement) × (found : List Instance) × IsUpload bytes statements found × (NamesIfc4 statements → ⊥)
-HasFault bytes (faults.TooMany many.Instances) = (found : List Instance) × IsIfc4Upload bytes found × (most_instances < length found)
-HasFault bytes (faults.TooMany many.Values) = (found : List Instance) × IsIfc4Upload bytes found × (length found ≤ most_instances) × (most_values < values_of found)
+HasFault bytes (faults.TooMany many.Instances) = (found : List Instance) × IsIfc4Upload bytes found × (MOST_INSTANCES < length found)
+HasFault bytes (faults.TooMany many.Values) = (found : List Instance) × IsIfc4Upload bytes found × (length found ≤ MOST_INSTANCES) × (MOST_VALUES < values_of found)
 HasFault bytes (faults.DoubleId id) =
-    (found : List Instance) × IsIfc4Upload bytes found × (length found ≤ most_instances) × (values_of found ≤ most_values) × IsLeastDouble id found
+    (found : List Instance) × IsIfc4Upload bytes found × (length found ≤ MOST_INSTANCES) × (values_of found ≤ MOST_VALUES) × IsLeastDouble id found
 HasFault _ _ = ⊥
 
 -- want of memory is free
@@ -73,8 +66,8 @@ IsCause bytes errors.Memory = Unit {0}
 -- What the functions answer.
 
 abbrev pub IsTooMany : List Instance → UploadFault → Type 0
-IsTooMany found (faults.TooMany many.Instances) = most_instances < length found
-IsTooMany found (faults.TooMany many.Values) = (length found ≤ most_instances) × (most_values < values_of found)
+IsTooMany found (faults.TooMany many.Instances) = MOST_INSTANCES < length found
+IsTooMany found (faults.TooMany many.Values) = (length found ≤ MOST_INSTANCES) × (MOST_VALUES < values_of found)
 IsTooMany _ _ = ⊥
 
 -- a file with these instances, and whether its header names IFC4

@@ -1,24 +1,19 @@
 ghost use Rattle.std.specs.Prelude.{◌≡◌, ◌⊎◌, ◌≤◌, List, IfOk, IfErr, length};
 ghost use Rattle.p21_reader.specs.Counting.{values_of};
-ghost use Rattle.p21_reader.specs.Uploads.{SpellsExchange, IsIfc4Upload, IsCause, IsTooMany, most_bytes, most_instances, most_values};
+ghost use Rattle.p21_reader.specs.Uploads.{SpellsExchange, IsIfc4Upload, IsCause, IsTooMany};
+ghost use Rattle.p21_reader.specs.declared.limits.TheConstants.{MOST_VALUES, MOST_INSTANCES};
+ghost use Rattle.bim_text.specs.declared.limits.TheConstants.{MOST_BYTES};
 ghost use Rattle.p21_reader.specs.declared.value.Instance.{Instance};
 
 use crate::counting::count_values;
 use crate::double::least_double;
 use crate::file::{begin, read_file};
+use crate::limits::{MOST_INSTANCES, MOST_VALUES};
 use crate::value::Instance;
 use bim_model::{BuildError, Many, UploadFault};
+use bim_text::MOST_BYTES;
 use std::alloc::Global;
 use std::marker::Model;
-
-/// The bytes that an upload may have.
-const MOST_BYTES: usize = 33_554_432;
-
-/// The instances that it may have.
-const MOST_INSTANCES: usize = 1_000_000;
-
-/// The values that these may have.
-const MOST_VALUES: u64 = 8_000_000;
 
 /// The instances of a file's DATA section: at most 1,000,000 with at most 8,000,000 values. Contracts see it as their list, which rises
 /// by their numbers.
@@ -30,7 +25,8 @@ pub struct Exchange {
 impl Model for Exchange {
     ghost use Rattle.std.specs.Prelude.{List, ◌≤◌, length};
     ghost use Rattle.p21_reader.specs.Counting.{values_of};
-    ghost use Rattle.p21_reader.specs.Uploads.{Rises, most_instances, most_values};
+    ghost use Rattle.p21_reader.specs.Uploads.{Rises};
+    ghost use Rattle.p21_reader.specs.declared.limits.TheConstants.{MOST_INSTANCES, MOST_VALUES};
     ghost use Rattle.p21_reader.specs.declared.value.Instance.{Instance};
     ghost use Rattle.p21_reader.specs.contracts.value.Value21 as value;
     ghost use Rattle.std.specs.Coded.{codes};
@@ -41,14 +37,14 @@ impl Model for Exchange {
 
     ghost view = { λ e. e.instances.items };
 
-    ghost invariant = { λ e. Rises e.instances.items × (length e.instances.items ≤ most_instances) × (values_of e.instances.items ≤ most_values) };
+    ghost invariant = { λ e. Rises e.instances.items × (length e.instances.items ≤ MOST_INSTANCES) × (values_of e.instances.items ≤ MOST_VALUES) };
 }
 
 /// The instances, where there aren't too many of them nor of their values.
 fn within_limits(instances: Vec<Instance>) -> Result<Vec<Instance>, UploadFault>
     ensures same { IfOk result (λ kept. kept.items ≡ instances.items) }
-    ensures instances { IfOk result (λ kept. length kept.items ≤ most_instances) }
-    ensures values { IfOk result (λ kept. values_of kept.items ≤ most_values) }
+    ensures instances { IfOk result (λ kept. length kept.items ≤ MOST_INSTANCES) }
+    ensures values { IfOk result (λ kept. values_of kept.items ≤ MOST_VALUES) }
     ensures fault { IfErr result (λ fault. IsTooMany instances.items fault) }
 {
     if instances.len() > MOST_INSTANCES {
@@ -84,7 +80,7 @@ pub fn read(alloc: Global, bytes: &[u8]) -> Result<Exchange, BuildError>
 
 /// The instances of a file that isn't too long, in its order.
 fn ifc4_instances(alloc: Global, bytes: &[u8]) -> Result<Vec<Instance>, BuildError>
-    requires { length bytes.now ≤ most_bytes }
+    requires { length bytes.now ≤ MOST_BYTES }
     ensures found { IfOk result (λ found. IsIfc4Upload bytes.now found.items) }
     ensures fault { IfErr result (λ error. IsCause bytes.now error) }
 {
@@ -104,14 +100,15 @@ fn ifc4_instances(alloc: Global, bytes: &[u8]) -> Result<Vec<Instance>, BuildErr
 impl Exchange {
     ghost use Rattle.std.specs.Prelude.{◌≡◌, ◌≢◌, ◌≤◌, IfSome, IfNone, All, Contains, length};
     ghost use Rattle.p21_reader.specs.Counting.{values_of};
-    ghost use Rattle.p21_reader.specs.Uploads.{Rises, most_instances, most_values};
+    ghost use Rattle.p21_reader.specs.Uploads.{Rises};
+    ghost use Rattle.p21_reader.specs.declared.limits.TheConstants.{MOST_INSTANCES, MOST_VALUES};
 
     /// All instances, strictly rising by their numbers.
     pub fn instances(&self) -> &[Instance]
         ensures same { result.now ≡ self.now }
         ensures rises { Rises result.now }
-        ensures count { length result.now ≤ most_instances }
-        ensures values { values_of result.now ≤ most_values }
+        ensures count { length result.now ≤ MOST_INSTANCES }
+        ensures values { values_of result.now ≤ MOST_VALUES }
     {
         self.instances.as_slice()
     }

@@ -1,10 +1,12 @@
-ghost use Rattle.std.specs.Prelude.{◌≡◌, ◌≤◌, ◌∷◌, [], length, Some, IfOk, OnOk};
-ghost use Rattle.p21_reader.specs.Grammar.{T, Open, Inside, AnyWord, Ones, Body};
-ghost use Rattle.p21_reader.specs.Lexemes.{lexeme_of, Opening};
+ghost use Rattle.std.specs.Prelude.{◌≡◌, ◌≤◌, ◌∷◌, [], length, Some, IfOk, OnOk, ◌-◌};
+ghost use Rattle.p21_reader.specs.declared.limits.TheConstants.{MOST_DEPTH};
+ghost use Rattle.p21_reader.specs.Grammar.{T, Open, Inside, AnyWord, Ones};
+ghost use Rattle.p21_reader.specs.Lexemes.{lexeme_of};
 ghost use Rattle.p21_reader.specs.Reading.{IsPiece};
 ghost use Rattle.p21_reader.specs.Instances.{MakesBody, Passes, StartsBody, MakesInstance};
 
 use crate::fault::ReadFault;
+use crate::limits::MOST_DEPTH;
 use crate::piece::{Kind, Piece, expect, refused, take};
 use crate::simple::{keyword_of, name_of};
 use crate::value::{Instance, Value21};
@@ -30,12 +32,12 @@ fn plain_body(
     requires piece { IsPiece bytes.now word }
     requires word { word.kind ≡ Kind.Word }
     requires empty { stack.old.items ≡ [] }
-    ensures made { MakesBody id (T Open ∷ Inside (Some 31) ∷ []) (lexeme_of bytes.now word.token) bytes.now word.token.end result }
+    ensures made { MakesBody id (T Open ∷ Inside (Some (MOST_DEPTH - 1)) ∷ []) (lexeme_of bytes.now word.token) bytes.now word.token.end result }
     ensures empty { OnOk result (stack.new.items ≡ []) }
     ensures within { IfOk result (λ made. made.end ≤ length bytes.now) }
 {
     let open = expect(bytes, word.token.end, Kind::Open)?;
-    let end = values(alloc, bytes, open, 31, stack)?;
+    let end = values(alloc, bytes, open, MOST_DEPTH - 1, stack)?;
     let keyword = keyword_of(alloc, bytes, word)?;
     let found = stack.split_off(0)?;
     Ok(Made {
@@ -51,13 +53,13 @@ fn plain_body(
 /// Passes over the values of one keyword of a complex instance, from behind the keyword.
 fn one(alloc: Global, bytes: &[u8], at: usize, stack: &mut Vec<Value21>) -> Result<usize, ReadFault>
     requires { at ≤ length bytes.now }
-    ensures passes { Passes (T Open ∷ Inside (Some 30) ∷ []) bytes.now at result }
+    ensures passes { Passes (T Open ∷ Inside (Some (MOST_DEPTH - 2)) ∷ []) bytes.now at result }
     ensures empty { OnOk result (stack.new.items ≡ []) }
     ensures on { IfOk result (λ end. at ≤ end) }
     ensures within { IfOk result (λ end. end ≤ length bytes.now) }
 {
     let open = expect(bytes, at, Kind::Open)?;
-    let end = values(alloc, bytes, open, 30, stack)?;
+    let end = values(alloc, bytes, open, MOST_DEPTH - 2, stack)?;
     stack.clear();
     Ok(end)
 }
@@ -94,7 +96,7 @@ fn complex(
     stack: &mut Vec<Value21>,
 ) -> Result<usize, ReadFault>
     requires { at ≤ length bytes.now }
-    ensures passes { Passes (AnyWord ∷ T Open ∷ Inside (Some 30) ∷ Ones ∷ []) bytes.now at result }
+    ensures passes { Passes (AnyWord ∷ T Open ∷ Inside (Some (MOST_DEPTH - 2)) ∷ Ones ∷ []) bytes.now at result }
     ensures empty { OnOk result (stack.new.items ≡ []) }
     ensures within { IfOk result (λ end. end ≤ length bytes.now) }
 {

@@ -10,6 +10,7 @@ mod file;
 mod header;
 mod instance;
 mod law;
+mod limits;
 mod nested;
 mod piece;
 mod schema;
@@ -23,4 +24,5 @@ mod word;
 
 pub use exchange::{Exchange, read};
 pub use law::{files_have_one_reading, table_is_grammar, uploads_have_one_answer};
+pub use limits::{MOST_DEPTH, MOST_INSTANCES, MOST_VALUES};
 pub use value::{Instance, Value21};

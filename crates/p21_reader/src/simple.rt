@@ -1,7 +1,8 @@
 ghost use Rattle.std.specs.Prelude.{◌≡◌, ◌≤◌, ◌∷◌, [], IfOk, length, map};
 ghost use Rattle.std.specs.Str.{IsAscii};
 ghost use Rattle.std.specs.Char.{to_ascii_uppercase};
-ghost use Rattle.p21_lexer.specs.Spelling.{value_after, most_name};
+ghost use Rattle.p21_lexer.specs.Spelling.{value_after};
+ghost use Rattle.p21_lexer.specs.declared.limits.TheConstants.{GREATEST_NAME};
 ghost use Rattle.p21_reader.specs.Lexemes.{inner as inner_of, lexeme_of, class_of, single_says, ReferenceTo, KeywordOf};
 ghost use Rattle.p21_reader.specs.Printing.{print};
 ghost use Rattle.p21_reader.specs.Reading.{IsPiece, IsPlain, kind_of};
@@ -14,7 +15,7 @@ use std::alloc::{AllocError, Global};
 
 /// The number that decimal digits spell.
 fn number_of(digits: &[u8]) -> u64
-    requires { value_after 0 digits.now ≤ most_name }
+    requires { value_after 0 digits.now ≤ GREATEST_NAME }
     ensures { result ≡ value_after 0 digits.now }
 {
     let mut value: u64 = 0;

@@ -3,14 +3,12 @@ use Rattle.std.proofs.Common.{◌≡◌, ℕ, ◌<◌, ◌≤◌, ◌⊎◌, inl
 use Rattle.std.specs.List.Sorted.{IsNonDecreasing}
 use Rattle.std.proofs.lemmas.List.{get_or_default}
 use Rattle.std.proofs.lemmas.List.Sorted.{Contains-permutation, IsPermutation-sym}
+use Rattle.std.proofs.lemmas.Bool.{cases_lt}
 use Rattle.p21_reader.specs.declared.value.Instance.{Instance}
 use Rattle.placement.specs.declared.walk.Walk.{Walk}
 use Rattle.placement.specs.Chains.{Ends, IsLeastLoop, AreChains}
 use Rattle.placement.specs.Walks.{Settled, AllReached}
 use Rattle.placement.proofs.Visiting.{order_ends}
-
-below_or : (k n : ℕ) → (k < n) ⊎ (n ≤ k)
-below_or k n = grind arith
 
 pub all_named : (named copied sorted : List ℕ) (id : ℕ) → copied ≡ named → IsPermutation copied sorted → Contains sorted id → Contains named id
 all_named named copied sorted id e p c = subst (λ (xs : List ℕ). Contains xs id) e (Contains-permutation sorted copied id (IsPermutation-sym copied sorted p) c)
@@ -30,7 +28,7 @@ least world named copied sorted at e p up lt before none = record {
   least = λ lower c less.
       let there = all_sorted named copied sorted lower e p c in
       let same : get_or sorted there.0 0 ≡ lower = get_or_default sorted there.0 0 lower there.1 ∙ there.2 in
-      elim (below_or there.0 at) [
+      elim (cases_lt there.0 at) [
         | inl first ↦ subst (λ n. Ends world n) same (before there.0 first)
         | inr later ↦ absurd (let rises : get_or sorted at 0 ≤ get_or sorted there.0 0 = up at there.0 0 later there.1 in omega (arith, rises, same, less))
       ];

@@ -3,6 +3,7 @@ use Rattle.std.proofs.Common.{◌≡◌, false, ◌≢◌, ℕ, ◌<◌, ℤ, po
 use Rattle.std.proofs.lemmas.Bool.Decides.{nat_tests}
 use Rattle.exact_arith.proofs.Ring.{ring, at, lit, ◌⊕◌, ◌⊗◌}
 use Rattle.bim_model.specs.declared.geometry.Point.{Point}
+use Rattle.ifc_units.proofs.PointFacts.{same_point}
 use Rattle.placement.specs.declared.axis.Axis.{Axis}
 use Rattle.placement.specs.declared.frame.Offset.{Offset}
 use Rattle.placement.specs.declared.frame.Frame.{Frame}
@@ -38,10 +39,6 @@ pub last_direction : (f : Frame) (k : ℕ) → IsFrame f → k < 3 → f.x.direc
 last_direction f k h l m n =
     let a = h.x in let b = h.y in let c = h.z in let d = h.x_y in let e = h.x_z in let g = h.y_z in
     omega arith
-
--- points are equal by their coordinates
-pub same_point : (p q : Point) → p.x ≡ q.x → p.y ≡ q.y → p.z ≡ q.z → p ≡ q
-same_point p q e f g = let r : Point = record { x = q.x; y = q.y; z = q.z } in let h : record { x = p.x; y = p.y; z = p.z } ≡ r = rw (e, f, g) refl in h
 
 still : (a b c : ℤ) → (pos 0 +ℤ (a *ℤ pos 1 +ℤ b *ℤ pos 0 +ℤ c *ℤ pos 0) ≡ a) × (pos 0 +ℤ (a *ℤ pos 0 +ℤ b *ℤ pos 1 +ℤ c *ℤ pos 0) ≡ b) × (pos 0 +ℤ (a *ℤ pos 0 +ℤ b *ℤ pos 0 +ℤ c *ℤ pos 1) ≡ c)
 still a b c =

@@ -7,7 +7,8 @@ use Rattle.p21_reader.specs.declared.value.Instance.{Instance}
 use Rattle.ifc_units.specs.declared.scale.Scale.{Scale}
 use Rattle.placement.specs.declared.frame.Offset.{Offset}
 use Rattle.placement.specs.declared.frame.Frame.{Frame}
-use Rattle.placement.specs.Frames.{IsFrame, AreWithin, most, step}
+use Rattle.placement.specs.Frames.{IsFrame, AreWithin, most}
+use Rattle.ifc_units.specs.Lengths.{reach}
 use Rattle.placement.specs.Chains.{parent_of, ParentsFirst}
 use Rattle.placement.specs.Placed.{OwnFrame, IsComposed, outermost, within, IsPlaced, AreFrames, StandsOn, AllWithin, AllPlaced, Composed, Puts}
 use Rattle.placement.proofs.Walking.{same_or}
@@ -23,15 +24,15 @@ wider a b l le w =
       z = record { low = omega (arith, ints); high = omega (arith, ints) };
     }
 
-pub composed_none : (world : List Instance) (s : Scale) (mode : Mode) (frames : ℕ → Option Frame) (id : ℕ) (own : Frame) → parent_of world id ≡ Some None → OwnFrame world s mode id own → IsFrame own → AreWithin step own.offset
+pub composed_none : (world : List Instance) (s : Scale) (mode : Mode) (frames : ℕ → Option Frame) (id : ℕ) (own : Frame) → parent_of world id ≡ Some None → OwnFrame world s mode id own → IsFrame own → AreWithin reach own.offset
     → Composed world s mode frames id own
 composed_none world s mode frames id own e o h n = record {
   frame_of = outermost id own e o;
   is_frame = h;
-  near = λ bound all. wider step (bound + step) own.offset (omega arith) n;
+  near = λ bound all. wider reach (bound + reach) own.offset (omega arith) n;
 }
 
-pub composed_some : (world : List Instance) (s : Scale) (mode : Mode) (frames : ℕ → Option Frame) (id parent : ℕ) (own outer f : Frame) → parent_of world id ≡ Some (Some parent) → OwnFrame world s mode id own → AreWithin step own.offset
+pub composed_some : (world : List Instance) (s : Scale) (mode : Mode) (frames : ℕ → Option Frame) (id parent : ℕ) (own outer f : Frame) → parent_of world id ≡ Some (Some parent) → OwnFrame world s mode id own → AreWithin reach own.offset
     → frames parent ≡ Some outer → AllPlaced world s mode frames → IsFrame f → IsComposed outer own f → ((a b : ℕ) → AreWithin a outer.offset → AreWithin b own.offset → AreWithin (a + b) f.offset)
     → Composed world s mode frames id f
 composed_some world s mode frames id parent own outer f e o n g placed h c w =
@@ -39,7 +40,7 @@ composed_some world s mode frames id parent own outer f e o n g placed h c w =
     record {
       frame_of = within id parent own outer f e o p.frame_of c;
       is_frame = h;
-      near = λ bound all. w bound step (all parent outer g) n;
+      near = λ bound all. w bound reach (all parent outer g) n;
     }
 
 -- One more.
@@ -78,8 +79,8 @@ still_there old new id f p other h = elim (same_or other id) [
   | inr n ↦ (h.0, p.others other n ∙ h.1)
 ]
 
-pub placed_one : (world : List Instance) (s : Scale) (mode : Mode) (frames : ℕ → Option Frame) (id : ℕ) (f : Frame) (bound : ℕ) → AllWithin bound frames → bound + step ≤ most → Composed world s mode frames id f → IsPlaced world s mode id f
-placed_one world s mode frames id f bound all le c = record { frame_of = c.frame_of; is_frame = c.is_frame; near = wider (bound + step) most f.offset le (c.near bound all) }
+pub placed_one : (world : List Instance) (s : Scale) (mode : Mode) (frames : ℕ → Option Frame) (id : ℕ) (f : Frame) (bound : ℕ) → AllWithin bound frames → bound + reach ≤ most → Composed world s mode frames id f → IsPlaced world s mode id f
+placed_one world s mode frames id f bound all le c = record { frame_of = c.frame_of; is_frame = c.is_frame; near = wider (bound + reach) most f.offset le (c.near bound all) }
 
 -- All.
 

@@ -1,5 +1,5 @@
 -- Axes that lie along the grid's aren't oblique.
-use Rattle.std.proofs.Common.{◌≡◌, ◌==◌, ◌||◌, ℕ, ℤ, pos, negsuc, Bool, true, if◌then◌else◌, List, Option, Some, None, IfSome, MatchOption, refl, sym, ap, ◌∙◌, subst}
+use Rattle.std.proofs.Common.{◌≡◌, ◌==◌, ◌||◌, ℕ, ℤ, pos, negsuc, Bool, if◌then◌else◌, List, Option, Some, None, IfSome, MatchOption, refl, ap, ◌∙◌, subst}
 use Rattle.std.specs.List.{slice_get}
 use Rattle.std.specs.Ordering.{is_lt}
 use Rattle.bim_text.specs.declared.decimal.Decimal.{Decimal}
@@ -7,11 +7,9 @@ use Rattle.bim_text.specs.Values.{Scaled, signed, raised, size_order}
 use Rattle.bim_text.specs.Decimals.{Reads, value_of}
 use Rattle.bim_text.proofs.Unique.{one_decimal}
 use Rattle.p21_reader.specs.declared.value.Value21.{Value21}
-use Rattle.p21_reader.specs.declared.value.Value21.TheOpen.{Value21-F}
-use Rattle.p21_reader.specs.declared.value.Value21.TheOpen as layer
-use Rattle.p21_reader.specs.declared.value.Value21.TheViews.{out-Value21}
 use Rattle.p21_reader.specs.declared.value.Instance.{Instance}
-use Rattle.ifc_schema.specs.Values.{reference_in, absent_in, reference_of, is_absent}
+use Rattle.ifc_instances.specs.Values.{reference_of}
+use Rattle.ifc_instances.proofs.ValueLemmas.{one, refers_absent}
 use Rattle.placement.specs.declared.axis.Axis.{Axis}
 use Rattle.placement.specs.declared.axes.Axes.{Axes}
 use Rattle.placement.specs.declared.direction.Direction.{Direction}
@@ -23,9 +21,6 @@ scaled b m p = record { number = signed b m; power = p }
 
 abbrev pub vector : ℤ → ℤ → ℤ → Vector
 vector a b c = record { x = a; y = b; z = c }
-
-one : {X : Type 0} (o : Option X) (a b : X) → o ≡ Some a → o ≡ Some b → a ≡ b
-one o a b e f = let g : Some a ≡ Some b = sym e ∙ f in cc
 
 -- Two decimals of one value, and with one sign.
 
@@ -86,20 +81,6 @@ same_direction world id d e r s =
 pub record GiveSame (d e : Option Direction) : Type 0 where
   pub first : first_direction d ≡ first_direction e
   pub second : (z : Axis) → second_direction z d ≡ second_direction z e
-
-never_both : {A : Type 0} (v : Value21-F Value21) (to : ℕ) → absent_in v ≡ true → reference_in v ≡ Some to → A
-never_both layer.Absent to a e = absurd (cc)
-never_both layer.Derived to a e = absurd (cc)
-never_both (layer.Number _) to a e = absurd (cc)
-never_both (layer.Words _) to a e = absurd (cc)
-never_both (layer.Enumeration _) to a e = absurd (cc)
-never_both (layer.Bits _) to a e = absurd (cc)
-never_both (layer.Reference _) to a e = absurd (cc)
-never_both (layer.List _) to a e = absurd (cc)
-never_both (layer.Typed _ _) to a e = absurd (cc)
-
-pub refers_absent : {A : Type 0} (v : Value21) (to : ℕ) → is_absent v ≡ true → reference_of v ≡ Some to → A
-refers_absent v to a e = never_both (out-Value21 v) to a e
 
 pub same_directs : (world : List Instance) (v : Value21) (d e : Option Direction) → Directs world v d → Directs world v e → GiveSame d e
 same_directs world v None None r s = record { first = refl; second = λ z. refl }

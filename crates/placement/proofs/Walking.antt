@@ -3,18 +3,16 @@ use Rattle.std.proofs.Common.{◌≡◌, ◌≢◌, ℕ, ◌+◌, ◌<◌, ◌�
 use Rattle.std.proofs.lemmas.Bool.Decides.{nat_tests}
 use Rattle.std.proofs.lemmas.List.{get_or-set_same, get_or-set_other, get_or_default, get_or_append_left, get_or_push, get_or_past, length_push, length-set, take-append-le, take_at}
 use Rattle.std.proofs.lemmas.List.Sums.{sum_by-set}
+use Rattle.std.proofs.lemmas.Bool.{cases_lt}
 use Rattle.p21_reader.specs.declared.value.Instance.{Instance}
-use Rattle.ifc_schema.specs.Looking.{look}
-use Rattle.ifc_schema.specs.Places.{IsPlaceOf}
-use Rattle.ifc_schema.proofs.PlaceLemmas.{some_instance}
+use Rattle.ifc_instances.specs.Looking.{look}
+use Rattle.ifc_instances.specs.Places.{IsPlaceOf}
+use Rattle.ifc_instances.proofs.PlaceLemmas.{some_instance}
 use Rattle.placement.specs.Chains.{parent_in, parent_of, Ends, here, above, StandsIn, ParentsFirst}
 use Rattle.placement.specs.Walks.{rank_at, is_new, Ranked, Climbs, Climbed, Outcome}
 
 pub same_or : (k n : ℕ) → (k ≡ n) ⊎ (k ≢ n)
 same_or k n = grind arith
-
-below_or : (k n : ℕ) → (k < n) ⊎ (n ≤ k)
-below_or k n = grind arith
 
 some_same : {X : Type 0} (a b : X) → Some a ≡ Some b → a ≡ b
 some_same a b e = cc
@@ -80,7 +78,7 @@ met_one world ranks met id at r p e =
 -- Climbing.
 
 next_push : (met : List ℕ) (current p k : ℕ) → k ≤ length met → get_or (met ++ current ∷ []) k p ≡ get_or met k current
-next_push met current p k le = elim (below_or k (length met)) [
+next_push met current p k le = elim (cases_lt k (length met)) [
   | inl lt ↦ get_or_append_left met (current ∷ []) p k lt ∙ get_or_default met k p current lt
   | inr ge ↦ (let e : length met ≡ k = omega arith in get_or_push met current p k e ∙ sym (get_or_past met k current ge))
 ]
@@ -92,7 +90,7 @@ climbs_on world met start current p id c e =
     record {
       begun = omega arith;
       first = next_push met current p start c.begun ∙ c.first;
-      stands = λ k le lt. elim (below_or k (length met)) [
+      stands = λ k le lt. elim (cases_lt k (length met)) [
         | inl in_old ↦ (let le2 : k + 1 ≤ length met = omega arith in
             ap (parent_of world) (get_or_append_left met (current ∷ []) 0 k in_old) ∙ c.stands k le in_old ∙ ap (λ n. Some (Some n)) (sym (next_push met current p (k + 1) le2)))
         | inr ge ↦ (let k_is : length met ≡ k = omega arith in let past : length (met ++ current ∷ []) ≤ k + 1 = omega arith in
@@ -112,7 +110,7 @@ climbed_top world met start current id c e =
         next = λ k le lt. (let in_old : k < length met = omega arith in let le2 : k + 1 ≤ length met = omega arith in
             ap (parent_of world) (get_or_append_left met (current ∷ []) 0 k in_old) ∙ c.stands k le in_old ∙ ap (λ n. Some (Some n)) (sym (next_push met current 0 (k + 1) le2)));
       };
-      rests = λ k le lt. elim (below_or k (length met)) [
+      rests = λ k le lt. elim (cases_lt k (length met)) [
         | inl in_old ↦ (let le2 : k + 1 ≤ length met = omega arith in
             inr (
               k + 1,
@@ -130,7 +128,7 @@ climbed_known world met start current id rank c lt e =
     let b = c.begun in
     let lr : rank < length met = omega arith in
     record {
-      found = elim (below_or start (length met)) [
+      found = elim (cases_lt start (length met)) [
         | inl l ↦ (start, l, get_or_default met start id current l ∙ c.first)
         | inr ge ↦ (rank, lr, get_or_default met rank id 0 lr ∙ e ∙ sym (get_or_past met start current ge) ∙ c.first)
       ];
@@ -138,7 +136,7 @@ climbed_known world met start current id rank c lt e =
         first = λ l. get_or_default met start 0 current l ∙ c.first;
         next = λ k le l. (let lk : k < length met = omega arith in c.stands k le lk ∙ ap (λ n. Some (Some n)) (get_or_default met (k + 1) current 0 l));
       };
-      rests = λ k le lk. elim (below_or (k + 1) (length met)) [
+      rests = λ k le lk. elim (cases_lt (k + 1) (length met)) [
         | inl l ↦ inr (k + 1, l, inr refl, c.stands k le lk ∙ ap (λ n. Some (Some n)) (get_or_default met (k + 1) current 0 l))
         | inr ge ↦ inr (rank, lr, inl lt, c.stands k le lk ∙ ap (λ n. Some (Some n)) (get_or_past met (k + 1) current ge ∙ sym e))
       ];
@@ -150,14 +148,14 @@ climb_out : (world : List Instance) (met : List ℕ) (start current id : ℕ) �
 climb_out world met start current id c _ (here x e) k le lt w = never_both (parent_of world x) (get_or met (k + 1) current) e (ap (parent_of world) (sym w) ∙ c.stands k le lt)
 climb_out world met start current id c _ (above x p e up) k le lt w =
     let same : p ≡ get_or met (k + 1) current = twice _ _ (sym e ∙ ap (parent_of world) (sym w) ∙ c.stands k le lt) in
-    elim (below_or (k + 1) (length met)) [
+    elim (cases_lt (k + 1) (length met)) [
       | inl l ↦ climb_out world met start current id c p up (k + 1) (omega arith) l (get_or_default met (k + 1) 0 current l ∙ sym same)
       | inr ge ↦ subst (λ n. Ends world n) (same ∙ get_or_past met (k + 1) current ge) up
     ]
 
 -- where the way from the current one never ends, that from the first never does
 pub stuck : (world : List Instance) (met : List ℕ) (start current id : ℕ) → Climbs world met start current id → (Ends world current → ⊥) → Ends world id → ⊥
-stuck world met start current id c none e = elim (below_or start (length met)) [
+stuck world met start current id c none e = elim (cases_lt start (length met)) [
   | inl l ↦ none (climb_out world met start current id c id e start (omega arith) l (get_or_default met start 0 current l ∙ c.first))
   | inr ge ↦ none (subst (λ n. Ends world n) (sym c.first ∙ get_or_past met start current ge) e)
 ]
@@ -171,7 +169,7 @@ round : (world : List Instance) (met : List ℕ) (start current id rank : ℕ) �
 round world met start current id rank c lr rl f _ (here x e) k le lt w = never_both (parent_of world x) (get_or met (k + 1) current) e (ap (parent_of world) (sym w) ∙ c.stands k le lt)
 round world met start current id rank c lr rl f _ (above x p e up) k le lt w =
     let same : p ≡ get_or met (k + 1) current = twice _ _ (sym e ∙ ap (parent_of world) (sym w) ∙ c.stands k le lt) in
-    elim (below_or (k + 1) (length met)) [
+    elim (cases_lt (k + 1) (length met)) [
       | inl l ↦ round world met start current id rank c lr rl f p up (k + 1) (omega arith) l (get_or_default met (k + 1) 0 current l ∙ sym same)
       | inr ge ↦ round world met start current id rank c lr rl f p up rank lr rl (f ∙ sym (get_or_past met (k + 1) current ge) ∙ sym same)
     ]
@@ -195,7 +193,7 @@ outcome world met start current id rank c lt e = by_test (nat_lt rank start) ref
 pub first_push : (world : List Instance) (ids : List ℕ) (x : ℕ) → ParentsFirst world ids → StandsIn world ids x → ParentsFirst world (ids ++ x ∷ [])
 first_push world ids x h s k d lt =
     let l = length_push ids x in
-    elim (below_or k (length ids)) [
+    elim (cases_lt k (length ids)) [
       | inl in_old ↦ (
           let le : k ≤ length ids = omega arith in
           let front : take k (ids ++ x ∷ []) ≡ take k ids = take-append-le k ids (x ∷ []) le in

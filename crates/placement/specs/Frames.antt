@@ -65,7 +65,3 @@ pub record IsNear (n : ℤ) : Type 0 where
 -- 10^15
 abbrev pub most : ℕ
 most = 1000000000000000
-
--- 800 metres, the farthest that one placement moves its object
-abbrev pub step : ℕ
-step = 800000

@@ -5,7 +5,8 @@ use Rattle.bim_model.specs.declared.geometry.Point.{Point}
 use Rattle.bim_model.specs.declared.upload.Mode.{Mode}
 use Rattle.p21_reader.specs.declared.value.Value21.{Value21}
 use Rattle.p21_reader.specs.declared.value.Instance.{Instance}
-use Rattle.ifc_schema.specs.Looking.{look}
+use Rattle.ifc_instances.specs.Attributes.{value_at, referred_at}
+use Rattle.ifc_instances.specs.Looking.{look}
 use Rattle.ifc_units.specs.declared.scale.Scale.{Scale}
 use Rattle.ifc_units.specs.Lengths.{IsPoint}
 use Rattle.placement.specs.declared.axis.Axis.{Axis}
@@ -15,7 +16,6 @@ use Rattle.placement.specs.declared.direction.Vector.{Vector}
 use Rattle.placement.specs.declared.frame.Frame.{Frame}
 use Rattle.placement.specs.Frames.{lengths_of, frame_at}
 use Rattle.placement.specs.Directions.{Directs, LiesAlong, cleaned, cross, unit, without, first_direction, second_direction}
-use Rattle.placement.specs.Placed.{value_at, referred_at}
 
 -- What a file says.
 

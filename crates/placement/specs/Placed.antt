@@ -1,6 +1,5 @@
 -- Where the placements of a file lie (IFC4 ADD2 TC1, IfcLocalPlacement, IfcAxis2Placement3D).
-use Rattle.std.specs.Prelude.{◌≡◌, ◌≢◌, ℕ, ◌+◌, ◌⊎◌, List, Option, Some, None, option_and_then, Contains}
-use Rattle.std.specs.List.{slice_get}
+use Rattle.std.specs.Prelude.{◌≡◌, ◌≢◌, ℕ, ◌+◌, ◌⊎◌, List, Option, Some, None, Contains}
 use Rattle.std.specs.Map.{lookup}
 use Rattle.std.specs.Ordering.{nat_cmp}
 use Rattle.std.specs.BTreeMap.{is_at}
@@ -8,23 +7,14 @@ use Rattle.bim_model.specs.declared.geometry.Point.{Point}
 use Rattle.bim_model.specs.declared.upload.Mode.{Mode}
 use Rattle.p21_reader.specs.declared.value.Value21.{Value21}
 use Rattle.p21_reader.specs.declared.value.Instance.{Instance}
-use Rattle.ifc_schema.specs.Values.{reference_of}
-use Rattle.ifc_schema.specs.Looking.{look}
+use Rattle.ifc_instances.specs.Attributes.{value_at, referred_at}
 use Rattle.ifc_units.specs.declared.scale.Scale.{Scale}
-use Rattle.ifc_units.specs.Lengths.{IsPoint}
+use Rattle.ifc_units.specs.Lengths.{IsPoint, reach}
 use Rattle.placement.specs.declared.axes.Axes.{Axes}
 use Rattle.placement.specs.declared.frame.Frame.{Frame}
-use Rattle.placement.specs.Frames.{carried, lengths_of, frame_at, IsFrame, AreWithin, most, step}
+use Rattle.placement.specs.Frames.{carried, lengths_of, frame_at, IsFrame, AreWithin, most}
 use Rattle.placement.specs.Directions.{HasAxes}
 use Rattle.placement.specs.Chains.{parent_of}
-
--- an attribute of the instance of that number; attributes count from 0
-abbrev pub value_at : List Instance → ℕ → ℕ → Option Value21
-value_at world id at = option_and_then (λ i. slice_get i.values at) (look world id)
-
--- the number of the instance that the attribute refers to
-abbrev pub referred_at : List Instance → ℕ → ℕ → Option ℕ
-referred_at world id at = option_and_then reference_of (value_at world id at)
 
 -- The location of the axis placement of that number: its attribute 0 refers to an instance whose attribute 0 is the point.
 pub record IsLocation (world : List Instance) (scale : Scale) (mode : Mode) (id : ℕ) (p : Point) : Type 0 where
@@ -96,7 +86,7 @@ AllPlaced world scale mode frames = (id : ℕ) (f : Frame) → frames id ≡ Som
 pub record Composed (world : List Instance) (scale : Scale) (mode : Mode) (frames : ℕ → Option Frame) (id : ℕ) (f : Frame) : Type 0 where
   pub frame_of : FrameOf world scale mode id f
   pub is_frame : IsFrame f
-  pub near : (bound : ℕ) → AllWithin bound frames → AreWithin (bound + step) f.offset
+  pub near : (bound : ℕ) → AllWithin bound frames → AreWithin (bound + reach) f.offset
 
 -- one more frame
 pub record Puts (old new : ℕ → Option Frame) (id : ℕ) (f : Frame) : Type 0 where

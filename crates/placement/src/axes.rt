@@ -1,6 +1,5 @@
 //! The axes of axis placements.
 ghost use Rattle.std.specs.Prelude.{◌≡◌, ◌≢◌, ◌+◌, ◌<◌, ℕ, Option, IfSome, IfNone, MatchOption};
-ghost use Rattle.p21_reader.specs.declared.value.Value21.{Value21};
 ghost use Rattle.placement.specs.declared.direction.Direction.{Direction};
 ghost use Rattle.placement.specs.declared.frame.Offset.{Offset};
 ghost use Rattle.placement.specs.Frames.{sign_of, frame_at, IsFrame};
@@ -8,8 +7,8 @@ ghost use Rattle.placement.specs.Directions.{Directs, Directions, HasDirections,
 
 use crate::axis::Axis;
 use crate::direction::{Direction, Vector};
-use crate::read::{direction_of, fetch};
-use ifc_schema::{is_absent, reference_of};
+use crate::read::direction_of;
+use ifc_instances::{attribute, is_absent, look, reference_of};
 use p21_reader::{Exchange, Value21};
 
 /// Three axes along those of the grid.
@@ -44,9 +43,9 @@ fn given_by(exchange: &Exchange, id: u64) -> Option<Given>
     ensures some { IfSome result (λ g. Directions exchange.now id g.axis g.reference) }
     ensures none { IfNone result (HasDirections exchange.now id → ⊥) }
 {
-    let instance = fetch(exchange, id)?;
-    let first = instance.values.as_slice().get(1)?;
-    let second = instance.values.as_slice().get(2)?;
+    let instance = look(exchange, id)?;
+    let first = attribute(instance, 1)?;
+    let second = attribute(instance, 2)?;
     Some(Given {
         axis: directed(exchange, first)?,
         reference: directed(exchange, second)?,

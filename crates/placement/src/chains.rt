@@ -16,18 +16,18 @@ pub struct Chains {
 
 impl Model for Chains {
     ghost use Rattle.std.specs.Prelude.{List, ℕ, length, ◌≤◌};
-    ghost use Rattle.p21_reader.specs.Uploads.{most_instances};
+    ghost use Rattle.p21_reader.specs.declared.limits.TheConstants.{MOST_INSTANCES};
 
     ghost Value = { List ℕ };
 
     ghost view = { λ c. c.order.items };
 
-    ghost invariant = { λ c. length c.order.items ≤ most_instances };
+    ghost invariant = { λ c. length c.order.items ≤ MOST_INSTANCES };
 }
 
 impl Chains {
+    ghost use Rattle.p21_reader.specs.declared.limits.TheConstants.{MOST_INSTANCES};
     ghost use Rattle.std.specs.Prelude.{◌≡◌, ◌≤◌, length};
-    ghost use Rattle.p21_reader.specs.Uploads.{most_instances};
 
     /// The placements that are named and all in which they stand (IFC4 ADD2 TC1, IfcLocalPlacement). A fault is `PlacementLoop`, with the
     /// least of those named whose chain never ends.
@@ -49,7 +49,7 @@ impl Chains {
     /// The numbers of the placements.
     pub fn ids(&self) -> &[u64]
         ensures same { result.now ≡ self.now }
-        ensures few { length self.now ≤ most_instances }
+        ensures few { length self.now ≤ MOST_INSTANCES }
     {
         self.order.as_slice()
     }

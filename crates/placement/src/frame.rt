@@ -1,14 +1,12 @@
 //! Frames along the grid.
-ghost use Rattle.std.specs.Prelude.{◌≡◌, ℕ, ◌+◌, ◌<◌, ◌≤◌, ◌+ℤ◌, ◌*ℤ◌, MatchOption, IsTrue, ◌↔◌};
+ghost use Rattle.std.specs.Prelude.{◌≡◌, ℕ, ◌+◌, ◌<◌, ◌+ℤ◌, ◌*ℤ◌, MatchOption, IsTrue, ◌↔◌};
 ghost use Rattle.bim_model.specs.declared.geometry.Point.{Point};
 ghost use Rattle.bim_model.specs.Models.{IsInReach};
-ghost use Rattle.placement.specs.Frames.{along, component, carried, IsFrame, IsWithin, AreWithin, IsNear, lengths_of, point_at, most, step};
+ghost use Rattle.placement.specs.Frames.{along, component, carried, IsFrame, IsWithin, AreWithin, IsNear, lengths_of, point_at, most};
+ghost use Rattle.ifc_units.specs.Lengths.{reach};
 
 use crate::axis::Axis;
-use bim_model::{PER_MM, Point};
-
-/// How far a point may lie from zero on each axis: 800 metres.
-const FARTHEST: i64 = 800_000 * PER_MM as i64;
+use bim_model::{FARTHEST, Point};
 
 /// Three lengths in grid numbers.
 #[derive(Clone, Copy, Debug, PartialEq, Eq)]
@@ -81,7 +79,7 @@ impl Frame {
     /// Where a point of the object lies, wherever that is.
     pub fn carry(&self, point: Point) -> Point
         requires frame { IsFrame self.now }
-        requires within { AreWithin step self.now.offset }
+        requires within { AreWithin reach self.now.offset }
         requires reach { IsInReach point }
         ensures { result ≡ carried self.now point }
     {
@@ -171,7 +169,7 @@ fn in_reach(at: Offset) -> Option<Point>
 
 /// The point at three coordinates, none of which is beyond 1,600 metres.
 fn short_point(at: Offset) -> Point
-    requires { AreWithin (step + step) at }
+    requires { AreWithin (reach + reach) at }
     ensures { result ≡ point_at at }
 {
     Point {
@@ -184,5 +182,6 @@ fn short_point(at: Offset) -> Point
 fn is_near(length: i64) -> bool
     ensures { IsTrue result ↔ IsNear length }
 {
-    -FARTHEST <= length && length <= FARTHEST
+    let farthest = FARTHEST as i64;
+    -farthest <= length && length <= farthest
 }

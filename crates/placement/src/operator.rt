@@ -4,7 +4,8 @@ ghost use Rattle.bim_model.specs.declared.geometry.Point.{Point};
 ghost use Rattle.placement.specs.declared.direction.Direction.{Direction};
 ghost use Rattle.placement.specs.declared.frame.Frame.{Frame};
 ghost use Rattle.placement.specs.declared.frame.Offset.{Offset};
-ghost use Rattle.placement.specs.Frames.{along, frame_at, IsFrame, AreWithin, step};
+ghost use Rattle.placement.specs.Frames.{along, frame_at, IsFrame, AreWithin};
+ghost use Rattle.ifc_units.specs.Lengths.{reach};
 ghost use Rattle.placement.specs.Directions.{LiesAlong, unit};
 ghost use Rattle.placement.specs.Operators.{MayDirect, OperatorDirections, HasOperatorDirections, GiveOperatorAxes, HasOperatorAxes, ObliqueOperator, third_direction, IsOrigin, OperatorFrame};
 
@@ -12,9 +13,8 @@ use crate::axes::{Axes, across, directed, first_direction, lies_along, second_di
 use crate::axis::Axis;
 use crate::direction::{Direction, Vector};
 use crate::frame::{Frame, lengths_of};
-use crate::own::{referred_at, value_at};
-use crate::read::fetch;
 use bim_model::{Mode, Point};
+use ifc_instances::{attribute, look, referred_at, value_at};
 use ifc_units::{Scale, point};
 use p21_reader::{Exchange, Instance};
 
@@ -31,7 +31,7 @@ struct Given {
 pub fn operator_frame(exchange: &Exchange, id: u64, scale: Scale, mode: Mode) -> Option<Frame>
     ensures frame { MatchOption result ((f : Frame) → OperatorFrame exchange.now scale mode id f → ⊥) (OperatorFrame exchange.now scale mode id) }
     ensures is_frame { IfSome result IsFrame }
-    ensures near { IfSome result (λ f. AreWithin step f.offset) }
+    ensures near { IfSome result (λ f. AreWithin reach f.offset) }
 {
     let axes = operator_axes(exchange, id)?;
     let origin = origin_of(exchange, id, scale, mode)?;
@@ -73,7 +73,7 @@ fn given_by(exchange: &Exchange, id: u64) -> Option<Given>
     ensures some { IfSome result (λ g. OperatorDirections exchange.now id g.axis1 g.axis2 g.axis3) }
     ensures none { IfNone result (HasOperatorDirections exchange.now id → ⊥) }
 {
-    let operator = fetch(exchange, id)?;
+    let operator = look(exchange, id)?;
     Some(Given {
         axis1: named_at(exchange, operator, 0)?,
         axis2: named_at(exchange, operator, 1)?,
@@ -86,7 +86,7 @@ fn named_at(exchange: &Exchange, operator: &Instance, at: usize) -> Option<Optio
     ensures some { IfSome result (MayDirect exchange.now (slice_get operator.now.values at)) }
     ensures none { IfNone result ((d : Option Direction) → MayDirect exchange.now (slice_get operator.now.values at) d → ⊥) }
 {
-    match operator.values.as_slice().get(at) {
+    match attribute(operator, at) {
         Some(value) => directed(exchange, value),
         None => Some(None),
     }

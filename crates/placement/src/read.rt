@@ -1,14 +1,13 @@
 //! What a file says of points and directions.
-ghost use Rattle.std.specs.Prelude.{◌≡◌, ℕ, Option, IfSome, IfNone, option_copied, option_map};
+ghost use Rattle.std.specs.Prelude.{◌≡◌, ℕ, IfSome, IfNone, option_map};
 ghost use Rattle.p21_reader.specs.declared.value.Value21.{Value21};
-ghost use Rattle.ifc_schema.specs.Looking.{look};
-ghost use Rattle.placement.specs.Directions.{IsDirection, Directs, Directions, all_three, three_numbers, coordinates, numbers_of};
+ghost use Rattle.placement.specs.Directions.{IsDirection, three_numbers, coordinates, numbers_of};
 ghost use Rattle.placement.specs.Seen.{spelled_of};
 ghost use Rattle.placement.specs.declared.direction.Direction.{Direction};
 
 use crate::direction::Direction;
 use bim_text::Decimal;
-use ifc_schema::{is_absent, items_of, number_of, place_of, reference_of};
+use ifc_instances::{attribute, items_of, look, number_of};
 use p21_reader::{Exchange, Instance, Value21};
 
 /// The spelled numbers of a point or a direction.
@@ -19,26 +18,18 @@ pub struct Numbers<'a> {
     pub z: &'a [u8],
 }
 
-/// The instance of that number.
-pub fn fetch(exchange: &Exchange, id: u64) -> Option<&Instance>
-    ensures { option_copied result ≡ look exchange.now id }
-{
-    let at = place_of(exchange, id)?;
-    Some(&exchange.instances()[at])
-}
-
 /// The numbers of the point or the direction of that number.
 pub fn numbers_of(exchange: &Exchange, id: u64) -> Option<Numbers<'_>>
     ensures { option_map spelled_of result ≡ numbers_of exchange.now id }
 {
-    let instance = fetch(exchange, id)?;
+    let instance = look(exchange, id)?;
     coordinates(instance)
 }
 
 fn coordinates(instance: &Instance) -> Option<Numbers<'_>>
     ensures { option_map spelled_of result ≡ coordinates instance.now }
 {
-    let value = instance.values.as_slice().get(0)?;
+    let value = attribute(instance, 0)?;
     let items = items_of(value)?;
     three_numbers(items)
 }

@@ -1,11 +1,11 @@
 //! Chains of placements are walked up, each part once.
 ghost use Rattle.std.specs.Prelude.{◌≡◌, ◌+◌, ◌<◌, ◌≤◌, ◌^◌, ◌++◌, ◌∷◌, ◌⊎◌, [], ℕ, List, Option, Some, None, IfSome, IfNone, IfOk, OnOk, Contains, length, slice_index, slice_set, replicate};
 ghost use Rattle.p21_reader.specs.declared.value.Instance.{Instance};
-ghost use Rattle.p21_reader.specs.Uploads.{most_instances};
+ghost use Rattle.p21_reader.specs.declared.limits.TheConstants.{MOST_INSTANCES};
 ghost use Rattle.placement.specs.Chains.{parent_in, parent_of, named_by};
 ghost use Rattle.placement.specs.Walks.{Ranked, Outcome, Rest, Settling, Settled, Visited, StandsAt, IsFrom};
 
-use ifc_schema::{is_absent, place_of, reference_of};
+use ifc_instances::{attribute, is_absent, place_of, reference_of};
 use p21_reader::{Exchange, Instance, Value21};
 use std::alloc::{AllocError, Global};
 
@@ -40,7 +40,7 @@ pub fn standing_of(exchange: &Exchange, id: u64) -> Option<Standing>
 fn parent_in(placement: &Instance) -> Option<Option<u64>>
     ensures { result ≡ parent_in placement.now }
 {
-    named_by(placement.values.as_slice().get(0)?)
+    named_by(attribute(placement, 0)?)
 }
 
 fn named_by(value: &Value21) -> Option<Option<u64>>
@@ -84,7 +84,7 @@ impl Walk {
     /// Walks up from a placement, to one that was met before or stands in none. False where this never ends.
     fn climb(&mut self, exchange: &Exchange, id: u64) -> Result<bool, AllocError>
         requires ranked { Ranked exchange.now self.old.ranks.items self.old.met.items }
-        requires few { length exchange.now ≤ most_instances }
+        requires few { length exchange.now ≤ MOST_INSTANCES }
         ensures ranked { OnOk result (Ranked exchange.now self.new.ranks.items self.new.met.items) }
         ensures order { self.new.order.items ≡ self.old.order.items }
         ensures longer { OnOk result (length self.old.met.items ≤ length self.new.met.items) }
@@ -129,7 +129,7 @@ impl Walk {
     /// Walks up from a placement, and puts what is met into the order. False where its chain never ends.
     pub fn visit(&mut self, exchange: &Exchange, id: u64) -> Result<bool, AllocError>
         requires settled { Settled exchange.now self.old }
-        requires few { length exchange.now ≤ most_instances }
+        requires few { length exchange.now ≤ MOST_INSTANCES }
         ensures { IfOk result (Visited exchange.now self.old self.new id) }
     {
         let start = self.met.len();

@@ -1,5 +1,6 @@
 use Rattle.std.proofs.Common.{◌≡◌, ◌+◌, ◌-◌, ◌≤◌, ◌⊎◌, length, drop}
-use Rattle.bim_text.specs.Texts.{run, is_hexadecimal}
+use Rattle.bim_text.specs.Texts.{is_hexadecimal}
+use Rattle.p21_lexer.specs.Spelling.{run}
 use Rattle.bim_text.proofs.bytes.count_hexadecimals.Given as goal
 
 abbrev pub invariant-loop-at : goal.invariant-loop-at

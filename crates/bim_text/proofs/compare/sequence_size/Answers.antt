@@ -1,15 +1,14 @@
 use Rattle.std.proofs.Common.{◌≡◌, ℕ, ◌-◌, ◌≤◌, length, get_or, nat_lt, inl, inr, sym, ap, ◌∙◌, subst, arith}
 use Rattle.std.specs.Str.{IsUtf8}
-use Rattle.std.proofs.lemmas.Bool.{ltb-true}
+use Rattle.std.proofs.lemmas.Bool.{ltb-true, cases_Bool}
 use Rattle.bim_text.specs.Texts.{cleaned, sequence_len}
-use Rattle.bim_text.proofs.Truths.{tells}
 use Rattle.bim_text.proofs.RowLemmas.{high_whole}
 use Rattle.bim_text.proofs.compare.sequence_size.Goals as goal
 
 at_most_four : (b : ℕ) → sequence_len b ≤ 4
-at_most_four b = elim (tells (nat_lt b 224)) [
+at_most_four b = elim (cases_Bool (nat_lt b 224)) [
   | inl t ↦ rw t (omega arith)
-  | inr t ↦ rw t (elim (tells (nat_lt b 240)) [ inl u ↦ rw u (omega arith) | inr u ↦ rw u (omega arith) ])
+  | inr t ↦ rw t (elim (cases_Bool (nat_lt b 240)) [ inl u ↦ rw u (omega arith) | inr u ↦ rw u (omega arith) ])
 ]
 
 pub returns-in-Ok-clause-some : goal.returns-in-Ok-clause-some

@@ -1,5 +1,6 @@
 use Rattle.std.proofs.Common.{◌≡◌, ◌+◌, ◌-◌, ◌≤◌, length, drop}
-use Rattle.bim_text.specs.Texts.{run, is_plain}
+use Rattle.bim_text.specs.Texts.{is_plain}
+use Rattle.p21_lexer.specs.Spelling.{run}
 use Rattle.bim_text.proofs.text.plain_end.Given as goal
 
 abbrev pub invariant-loop-at : goal.invariant-loop-at

@@ -1,6 +1,7 @@
 use Rattle.std.proofs.Common.{◌≡◌, ℕ, ◌*◌, ◌^◌, ◌≤◌, pos, ◌+ℤ◌, refl, sym, subst, arith, Result, Ok, Err, IfOk, IfErr}
 use Rattle.ifc_units.specs.declared.fault.GridFault.{GridFault}
 use Rattle.ifc_units.specs.declared.fault.GridFault.TheVariants.{TooFar}
+use Rattle.ifc_units.specs.declared.sizes.TheConstants.{UNITS, MOST}
 use Rattle.ifc_units.specs.Sizes.{IsSizeOf}
 use Rattle.std.proofs.lemmas.Int.{ints}
 use Rattle.ifc_units.proofs.Signs.{whole_is, part_is, part_of}
@@ -16,7 +17,7 @@ pub returns-in-None-clause-too_far : goal.returns-in-None-clause-too_far
 returns-in-None-clause-too_far c =
     let p = c.args.number.exp +ℤ c.args.scale.power in
     let e : p ≡ pos c.unsigned_abs-places.result = omega (arith, ints, c.unsigned_abs-places.ensures.value) in
-    λ _. (1 * (c.args.number.digits * 10 ^ c.unsigned_abs-places.result), whole_is c.args.mode c.args.number.digits c.unsigned_abs-places.result _ p e refl, c.in-None.ensures.none)
+    λ _. (UNITS * (c.args.number.digits * 10 ^ c.unsigned_abs-places.result), whole_is c.args.mode c.args.number.digits c.unsigned_abs-places.result _ p e refl, c.in-None.ensures.none)
 
 if_ok : {A E : Type 0} {P Q : A → Type 0} (r : Result A E) → ((x : A) → P x → Q x) → IfOk r P → IfOk r Q
 if_ok (Ok x) f h = f x h
@@ -31,7 +32,7 @@ returns-in-Some-part_size-clause-ok c =
     let p = c.args.number.exp +ℤ c.args.scale.power in
     let e : p +ℤ pos c.unsigned_abs-places.result ≡ pos 0 = omega (arith, ints, c.unsigned_abs-places.ensures.value) in
     let s = part_is c.args.mode c.args.number.digits c.unsigned_abs-places.result c.in-Some-part_size.size p e c.in-Some-part_size.ensures.size in
-    if_ok {P = λ (g : ℕ). g ≡ c.in-Some-part_size.size × g ≤ 800000} {Q = λ (g : ℕ). IsSizeOf c.args.mode p c.args.number.digits g} c.near.result
+    if_ok {P = λ (g : ℕ). g ≡ c.in-Some-part_size.size × g ≤ MOST} {Q = λ (g : ℕ). IsSizeOf c.args.mode p c.args.number.digits g} c.near.result
     (λ g h. subst (λ (x : ℕ). IsSizeOf c.args.mode p c.args.number.digits x) (sym h.0) s) c.near.ensures.ok
 
 pub returns-in-Some-part_size-clause-too_far : goal.returns-in-Some-part_size-clause-too_far

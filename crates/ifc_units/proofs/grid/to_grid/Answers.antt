@@ -2,7 +2,8 @@ use Rattle.std.proofs.Common.{◌≡◌, ◌+ℤ◌, ap, refl, ◌∙◌, arith,
 use Rattle.std.specs.Prelude.{unsigned_abs}
 use Rattle.std.proofs.lemmas.Int.{ints}
 use Rattle.ifc_units.specs.declared.fault.GridFault.TheVariants.{OffGrid, TooFar}
-use Rattle.ifc_units.proofs.Signs.{grid_ok, grid_off, grid_far, signed_size}
+use Rattle.bim_text.proofs.Powers.{signed_size}
+use Rattle.ifc_units.proofs.Signs.{grid_ok, grid_off, grid_far}
 use Rattle.ifc_units.proofs.grid.to_grid.Goals as goal
 
 pub returns-in-Ok-clause-ok : goal.returns-in-Ok-clause-ok

@@ -10,6 +10,6 @@ returns-in_default-clause-none c = λ power h.
 
 pub returns-clause-none : goal.returns-clause-none
 returns-clause-none c =
-    power_none c.args.exchange.now c.args.assignment.now c.in-Some-fetch.unit.now c.in-Some.id c.unit_power.result
+    power_none c.args.exchange.now c.args.assignment.now c.in-Some-look.unit.now c.in-Some.id c.unit_power.result
     (subst (λ vs. IsOnly (IsUnitAmong c.args.exchange.now vs) c.in-Some.id) c.listed.ensures c.in-Some.ensures.some)
-    (sym c.fetch.ensures ∙ ap option_copied c.in-Some-fetch.is) c.unit_power.ensures
+    (sym c.look.ensures ∙ ap option_copied c.in-Some-look.is) c.unit_power.ensures

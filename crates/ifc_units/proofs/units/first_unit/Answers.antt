@@ -1,6 +1,6 @@
 use Rattle.ifc_units.specs.Units.{RefersToUnit}
 use Rattle.ifc_units.proofs.UnitFacts.{none_told}
-use Rattle.ifc_units.proofs.Scans.{any_never, any_more}
+use Rattle.ifc_instances.proofs.Scans.{any_never, any_more}
 use Rattle.ifc_units.proofs.units.first_unit.Goals as goal
 
 pub loop-item-preserved : goal.loop-item-preserved

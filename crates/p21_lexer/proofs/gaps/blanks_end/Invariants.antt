@@ -1,5 +1,5 @@
 use Rattle.std.proofs.Common.{◌≡◌, ◌+◌, ◌-◌, ◌≤◌, length, drop}
-use Rattle.p21_lexer.specs.Scanning.{run}
+use Rattle.p21_lexer.specs.Spelling.{run}
 use Rattle.p21_lexer.specs.Gaps.{is_blank}
 use Rattle.p21_lexer.proofs.gaps.blanks_end.Given as goal
 

@@ -1,6 +1,6 @@
 use Rattle.std.proofs.Common.{◌≡◌, ◌-◌, ◌≤◌, length, drop}
 use Rattle.p21_lexer.proofs.Gapping.{Gap}
-use Rattle.p21_lexer.specs.Scanning.{run}
+use Rattle.p21_lexer.specs.Spelling.{run}
 use Rattle.p21_lexer.specs.Gaps.{is_blank}
 use Rattle.p21_lexer.proofs.gaps.skip.Given as goal
 

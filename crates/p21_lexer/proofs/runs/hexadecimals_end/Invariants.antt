@@ -1,6 +1,5 @@
 use Rattle.std.proofs.Common.{◌≡◌, ◌+◌, ◌-◌, ◌≤◌, length, drop}
-use Rattle.p21_lexer.specs.Scanning.{run}
-use Rattle.p21_lexer.specs.Spelling.{is_hexadecimal}
+use Rattle.p21_lexer.specs.Spelling.{run, is_hexadecimal}
 use Rattle.p21_lexer.proofs.runs.hexadecimals_end.Given as goal
 
 abbrev pub invariant-loop-at : goal.invariant-loop-at

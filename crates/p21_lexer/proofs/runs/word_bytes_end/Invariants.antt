@@ -1,6 +1,5 @@
 use Rattle.std.proofs.Common.{◌≡◌, ◌+◌, ◌-◌, ◌≤◌, length, drop}
-use Rattle.p21_lexer.specs.Scanning.{run}
-use Rattle.p21_lexer.specs.Spelling.{is_word_byte}
+use Rattle.p21_lexer.specs.Spelling.{run, is_word_byte}
 use Rattle.p21_lexer.proofs.runs.word_bytes_end.Given as goal
 
 abbrev pub invariant-loop-at : goal.invariant-loop-at

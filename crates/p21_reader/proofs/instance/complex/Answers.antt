@@ -1,4 +1,5 @@
-use Rattle.std.proofs.Common.{◌∷◌, [], Some, sym, ◌∙◌, refl}
+use Rattle.std.proofs.Common.{◌∷◌, [], Some, sym, ◌∙◌, refl, ◌-◌}
+use Rattle.p21_reader.specs.declared.limits.TheConstants.{MOST_DEPTH}
 use Rattle.p21_reader.specs.Grammar.{AnyWord, T, Open, Inside, Ones}
 use Rattle.p21_reader.specs.Lexemes.{lexeme_of}
 use Rattle.p21_reader.proofs.Steps.{residual, fails_none, fails_refused}
@@ -7,7 +8,7 @@ use Rattle.p21_reader.proofs.instance.complex.Goals as goal
 
 pub returns-in_err-word-clause-passes : goal.returns-in_err-word-clause-passes
 returns-in_err-word-clause-passes c =
-    rw (residual _ _ c.from_residual.ensures.1) (fails_none AnyWord (T Open ∷ Inside (Some 30) ∷ Ones ∷ []) c.args.bytes.now c.args.at c.in_err-word.field-0.0 c.in_err-word.ensures.fault)
+    rw (residual _ _ c.from_residual.ensures.1) (fails_none AnyWord (T Open ∷ Inside (Some (MOST_DEPTH - 2)) ∷ Ones ∷ []) c.args.bytes.now c.args.at c.in_err-word.field-0.0 c.in_err-word.ensures.fault)
 
 pub returns-in_err-end-in-Word-clause-passes : goal.returns-in_err-end-in-Word-clause-passes
 returns-in_err-end-in-Word-clause-passes c =
@@ -22,7 +23,7 @@ returns-in_ok-end-in-Word-clause-passes c =
 
 pub returns-in_default : goal.returns-in_default
 returns-in_default c = record {
-  passes = rw c.refused.ensures (fails_refused AnyWord (T Open ∷ Inside (Some 30) ∷ Ones ∷ []) c.args.bytes.now c.args.at c.in_ok-word.word.token.start c.in_ok-word.word.token c.in_ok-word.ensures.cuts
+  passes = rw c.refused.ensures (fails_refused AnyWord (T Open ∷ Inside (Some (MOST_DEPTH - 2)) ∷ Ones ∷ []) c.args.bytes.now c.args.at c.in_ok-word.word.token.start c.in_ok-word.word.token c.in_ok-word.ensures.cuts
       (any_no (lexeme_of c.args.bytes.now c.in_ok-word.word.token) c.in_ok-word.word.kind c.in_ok-word.ensures.piece.seen c.in_default.not-Word) refl);
   empty = tt;
   within = tt;

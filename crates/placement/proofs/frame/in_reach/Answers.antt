@@ -2,7 +2,7 @@ use Rattle.std.proofs.Common.{rules, sym, subst}
 use Rattle.bim_model.specs.declared.geometry.Point.{Point}
 use Rattle.bim_model.specs.Models.{IsInReach}
 use Rattle.placement.specs.Frames.{IsNear, point_at}
-use Rattle.placement.proofs.Components.{same_point}
+use Rattle.ifc_units.proofs.PointFacts.{same_point}
 use Rattle.placement.proofs.Numbers.{narrow, reached}
 use Rattle.placement.proofs.frame.in_reach.Goals as goal
 

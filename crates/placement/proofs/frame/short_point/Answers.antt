@@ -1,5 +1,5 @@
 use Rattle.placement.specs.Frames.{point_at}
-use Rattle.placement.proofs.Components.{same_point}
+use Rattle.ifc_units.proofs.PointFacts.{same_point}
 use Rattle.placement.proofs.Numbers.{fits_cast, shortened}
 use Rattle.placement.proofs.frame.short_point.Goals as goal
 

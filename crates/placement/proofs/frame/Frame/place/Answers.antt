@@ -3,7 +3,7 @@ use Rattle.bim_model.specs.declared.geometry.Point.{Point}
 use Rattle.bim_model.specs.Models.{IsInReach}
 use Rattle.placement.specs.declared.frame.Offset.{Offset}
 use Rattle.placement.specs.Frames.{component, carried, point_at, most}
-use Rattle.placement.proofs.Components.{same_point}
+use Rattle.ifc_units.proofs.PointFacts.{same_point}
 use Rattle.placement.proofs.frame.Frame.place.Goals as goal
 
 pub in_reach-requires : goal.in_reach-requires
