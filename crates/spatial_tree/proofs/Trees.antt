@@ -8,7 +8,7 @@ use Rattle.std.proofs.lemmas.List.{get_or_default}
 use Rattle.std.proofs.lemmas.List.Kept.{AllPairs-from_increasing}
 use Rattle.std.proofs.lemmas.List.Elements.{Contains-append_left, Contains-push, Contains-push_cases}
 use Rattle.std.proofs.lemmas.List.Sorted.{IsNonDecreasingBy-push}
-use Rattle.std.proofs.lemmas.Option.{same_Some}
+use Rattle.std.proofs.lemmas.Option.{same_Some, none-some}
 use Rattle.ifc_instances.proofs.Rising.{below_next}
 use Rattle.spatial_tree.specs.declared.step.Step.{Step}
 use Rattle.spatial_tree.specs.declared.mark.Mark.{Mark}
@@ -113,18 +113,12 @@ found_how steps _ _ (further at up storey n g f) = inr (record { none = n; up = 
 pub finds_once : (steps : List Step) (at a b : ℕ) → Finds steps at a → Finds steps at b → a ≡ b
 finds_once steps _ _ c (here at b e) q = elim (found_how steps at c q) [
   | inl f ↦ same_Some b c (sym e ∙ f)
-  | inr r ↦ absurd (unlike (storey_at steps at) b e r.none)
+  | inr r ↦ absurd (none-some b (sym r.none ∙ e))
 ]
-
-    unlike : (o : Option ℕ) (b : ℕ) → o ≡ Some b → o ≡ None → ⊥
-    unlike o b e f = cc
 finds_once steps _ _ c (further at up b n g p) q = elim (found_how steps at c q) [
-  | inl f ↦ absurd (unlike (storey_at steps at) c f n)
+  | inl f ↦ absurd (none-some c (sym n ∙ f))
   | inr r ↦ finds_once steps up b c p (subst (λ x. Finds steps x c) (one_up steps at r.up up r.goes g) r.rest)
 ]
-  where
-    unlike : (o : Option ℕ) (b : ℕ) → o ≡ Some b → o ≡ None → ⊥
-    unlike o b e f = cc
 
 -- steps and marks of all objects
 pub record Table (N : ℕ → ℕ → Type 0) (T S : ℕ → Type 0) (objects : List ℕ) (steps : List Step) (marks : List Mark) : Type 0 where
