@@ -1,7 +1,8 @@
 -- What the steps of the reader say of the number that bytes spell.
 use Rattle.std.proofs.Common.{◌≡◌, ℕ, ◌+◌, ◌*◌, ◌^◌, ◌<◌, ◌≤◌, List, [], length, drop, Bool, refl, sym, ap, subst, ◌∙◌, arith, Option, Some, None, IfNone, ℤ, pos, ◌-ℤ◌, ◌≤ℤ◌, neg_ℤ}
 use Rattle.std.proofs.lemmas.List.{drop-drop}
-use Rattle.bim_text.specs.declared.limits.TheConstants.{MOST_BYTES, MOST_EXPONENT}
+use Rattle.bim_model.specs.declared.limits.TheConstants.{MOST_UPLOAD}
+use Rattle.bim_text.specs.declared.limits.TheConstants.{MOST_EXPONENT}
 use Rattle.bim_text.specs.declared.digits.Digits.{Digits}
 use Rattle.bim_text.specs.declared.decimal.Decimal.{Decimal}
 use Rattle.bim_text.specs.Values.{signed, SameValue}
@@ -96,7 +97,7 @@ no_exponent bs a b c e f g h s r =
 
 -- the number that is read
 
-pub read_is : (bs : List ℕ) (a b c : ℕ) (k l : Digits) → length bs ≤ MOST_BYTES
+pub read_is : (bs : List ℕ) (a b c : ℕ) (k l : Digits) → length bs ≤ MOST_UPLOAD
     → a ≡ 0 + length (sign_bytes (sign_at bs)) → b ≡ a + length (front (drop a bs)) → (b ≡ a → ⊥) → c ≡ b + length (fraction_bytes (fraction_at (drop b bs)))
     → Some k ≡ kept_after nothing (front (drop a bs)) → Some l ≡ kept_after k (fraction_digits (fraction_at (drop b bs)))
     → IsExponent (exponent_at (drop c bs)) → neg_ℤ (pos MOST_EXPONENT) ≤ℤ exponent_of (exponent_at (drop c bs)) → exponent_of (exponent_at (drop c bs)) ≤ℤ pos MOST_EXPONENT

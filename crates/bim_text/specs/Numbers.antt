@@ -3,7 +3,8 @@
 use Rattle.std.specs.Prelude.{◌≡◌, ℕ, ◌+◌, ◌-◌, ◌<◌, ◌≤◌, ◌==◌, Bool, true, false, if◌then◌else◌, ℤ, pos, ◌-ℤ◌, ◌≤ℤ◌, neg_ℤ, List, [], ◌∷◌, ◌++◌, length, reverse, Option, Some, None, ◌⊎◌}
 use Rattle.std.specs.List.{list_all}
 use Rattle.p21_lexer.specs.Spelling.{is_digit, value_after}
-use Rattle.bim_text.specs.declared.limits.TheConstants.{MOST_BYTES, MOST_DIGITS, MOST_EXPONENT}
+use Rattle.bim_model.specs.declared.limits.TheConstants.{MOST_UPLOAD}
+use Rattle.bim_text.specs.declared.limits.TheConstants.{MOST_DIGITS, MOST_EXPONENT}
 use Rattle.bim_text.specs.Values.{Scaled, signed}
 
 -- A spelling by its parts.
@@ -97,7 +98,7 @@ significant bs = length (from_first (reverse (from_first bs)))
 -- from zero
 pub record IsRead (s : Spelling) (text : List ℕ) : Type 0 where
   pub number : IsNumber s text
-  pub short : length text ≤ MOST_BYTES
+  pub short : length text ≤ MOST_UPLOAD
   pub few : significant (digits_of s) ≤ MOST_DIGITS
   pub low : neg_ℤ (pos MOST_EXPONENT) ≤ℤ exponent_of s.exponent
   pub high : exponent_of s.exponent ≤ℤ pos MOST_EXPONENT

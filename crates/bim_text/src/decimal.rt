@@ -3,9 +3,9 @@ ghost use Rattle.std.specs.Prelude.{◌≡◌, ◌≢◌, ◌^◌, ◌%◌, ◌<
 ghost use Rattle.bim_text.specs.declared.limits.TheConstants.{MOST_DIGITS};
 
 use crate::digits::{Digits, scan};
-use crate::limits::MOST_BYTES;
 use crate::order::order_raised;
 use crate::spelling::{is_minus_at, scan_exponent, scan_fraction, sign_end};
+use bim_model::MOST_UPLOAD;
 use std::cmp::Ordering;
 
 /// An exact decimal number: `digits` times ten to `exp`, or the negative of that. Each value has one form: the digits don't end in
@@ -29,7 +29,8 @@ impl Decimal {
     ghost use Rattle.bim_text.specs.Values.{signed, SameValue, raised, size_order};
     ghost use Rattle.bim_text.specs.Numbers.{Spelling, IsRead};
     ghost use Rattle.bim_text.specs.Decimals.{Reads, value_of};
-    ghost use Rattle.bim_text.specs.declared.limits.TheConstants.{MOST_BYTES, MOST_DIGITS, MOST_EXPONENT};
+    ghost use Rattle.bim_model.specs.declared.limits.TheConstants.{MOST_UPLOAD};
+    ghost use Rattle.bim_text.specs.declared.limits.TheConstants.{MOST_DIGITS, MOST_EXPONENT};
 
     /// The number that the bytes spell (ISO 10303-21, section 6). There is none for other bytes, and none for a spelling that is too
     /// much for a model: more than 33,554,432 bytes, 34 digits that count, or a power of ten beyond 400 either way. Takes no memory.
@@ -37,7 +38,7 @@ impl Decimal {
         ensures value { IfSome result (Reads text.now) }
         ensures none { IfNone result ((s : Spelling) → IsRead s text.now → ⊥) }
     {
-        if text.len() > MOST_BYTES {
+        if text.len() > MOST_UPLOAD {
             return None;
         }
         let from = sign_end(text, 0);
@@ -78,7 +79,7 @@ impl Decimal {
         requires stripped { 0 < digits.significand → 0 < digits.significand % 10 }
         requires low { negsuc 99999999 ≤ℤ power }
         requires high { power ≤ℤ pos MOST_EXPONENT }
-        requires zeros { digits.zeros ≤ MOST_BYTES }
+        requires zeros { digits.zeros ≤ MOST_UPLOAD }
         ensures { SameValue (value_of result) (record { number = signed negative (digits.significand * 10 ^ digits.zeros); power = power }) }
     {
         if digits.significand == 0 {

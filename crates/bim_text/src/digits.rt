@@ -3,7 +3,8 @@ ghost use Rattle.std.specs.Prelude.{◌≡◌, ◌+◌, ◌-◌, ◌^◌, ◌<�
 ghost use Rattle.bim_text.specs.Numbers.{AreDigits};
 ghost use Rattle.p21_lexer.specs.Spelling.{is_digit, value_after};
 ghost use Rattle.bim_text.specs.Scanning.{front, kept_step, kept_after};
-ghost use Rattle.bim_text.specs.declared.limits.TheConstants.{MOST_BYTES, MOST_DIGITS, MOST_EXPONENT};
+ghost use Rattle.bim_model.specs.declared.limits.TheConstants.{MOST_UPLOAD};
+ghost use Rattle.bim_text.specs.declared.limits.TheConstants.{MOST_DIGITS, MOST_EXPONENT};
 
 use crate::limits::MOST_EXPONENT;
 
@@ -79,7 +80,7 @@ impl Digits {
 #[tactic(auto, using(crate::proofs::Fronts::fronts))]
 pub fn scan(text: &[u8], from: usize, before: Digits) -> Option<Scanned>
     requires place { from ≤ length text.now }
-    requires short { length text.now ≤ MOST_BYTES }
+    requires short { length text.now ≤ MOST_UPLOAD }
     requires zeros { before.zeros ≤ from }
     requires fits { before.all < 10 ^ MOST_DIGITS }
     ensures kept { option_map (λ s. s.digits) result ≡ kept_after before (front (drop from text.now)) }

@@ -18,7 +18,7 @@ mod text;
 pub use compare::{says, says_guid};
 pub use decimal::Decimal;
 pub use laws::{one_decimal, one_value, plain_texts};
-pub use limits::{MOST_BYTES, MOST_DIGITS, MOST_EXPONENT};
+pub use limits::{MOST_DIGITS, MOST_EXPONENT};
 pub use print::print_i64;
 pub use text::text_of;
 

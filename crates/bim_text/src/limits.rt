@@ -1,8 +1,5 @@
 //! Bounds of the numbers that are read.
 
-/// The most bytes of a spelled number.
-pub const MOST_BYTES: usize = 33_554_432;
-
 /// The most digits of a number, without the zeros in front and behind.
 pub const MOST_DIGITS: u32 = 34;
 

@@ -2,7 +2,8 @@
 ghost use Rattle.std.specs.Prelude.{◌≡◌, ◌+◌, ◌^◌, ◌<◌, ◌≤◌, ◌≤ℤ◌, pos, neg_ℤ, option_map, IfSome, IfNone, length, drop};
 ghost use Rattle.bim_text.specs.Numbers.{sign_bytes, is_minus, fraction_bytes, fraction_digits, IsExponent, exponent_of};
 ghost use Rattle.bim_text.specs.Scanning.{sign_at, fraction_at, exponent_at, kept_after};
-ghost use Rattle.bim_text.specs.declared.limits.TheConstants.{MOST_BYTES, MOST_DIGITS, MOST_EXPONENT};
+ghost use Rattle.bim_model.specs.declared.limits.TheConstants.{MOST_UPLOAD};
+ghost use Rattle.bim_text.specs.declared.limits.TheConstants.{MOST_DIGITS, MOST_EXPONENT};
 
 use crate::digits::{Digits, Scanned, exponent_size, scan};
 
@@ -41,7 +42,7 @@ pub struct Fraction {
 #[tactic(auto, using(crate::proofs::Fronts::points))]
 pub fn scan_fraction(text: &[u8], whole: Scanned) -> Option<Fraction>
     requires place { whole.end ≤ length text.now }
-    requires short { length text.now ≤ MOST_BYTES }
+    requires short { length text.now ≤ MOST_UPLOAD }
     requires zeros { whole.digits.zeros ≤ whole.end }
     requires fits { whole.digits.all < 10 ^ MOST_DIGITS }
     ensures kept { option_map (λ f. f.digits) result ≡ kept_after whole.digits (fraction_digits (fraction_at (drop whole.end text.now))) }

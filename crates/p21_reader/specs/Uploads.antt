@@ -8,7 +8,7 @@ use Rattle.bim_model.specs.declared.upload.BuildError.TheVariants as errors
 use Rattle.bim_model.specs.declared.upload.Many.TheVariants as many
 use Rattle.p21_lexer.specs.Cutting.{start_of}
 use Rattle.p21_reader.specs.declared.limits.TheConstants.{MOST_INSTANCES, MOST_VALUES}
-use Rattle.bim_text.specs.declared.limits.TheConstants.{MOST_BYTES}
+use Rattle.bim_model.specs.declared.limits.TheConstants.{MOST_UPLOAD}
 use Rattle.p21_reader.specs.declared.value.Instance.{Instance}
 use Rattle.p21_reader.specs.Grammar.{Iso, Semi, Word, T}
 use Rattle.p21_reader.specs.Lexemes.{Lexeme, Cuts, classes}
@@ -25,7 +25,7 @@ BeginsPart21 bytes = (ls : List Lexeme) × (end : ℕ) × Cuts bytes (start_of b
 
 -- so many bytes at most, and the first tokens are a file with these statements in its header and these instances, in their order
 abbrev pub IsUpload : List ℕ → List Statement → List Instance → Type 0
-IsUpload bytes statements found = (length bytes ≤ MOST_BYTES) × HoldsFile bytes statements found
+IsUpload bytes statements found = (length bytes ≤ MOST_UPLOAD) × HoldsFile bytes statements found
 
 -- the same, and the header names IFC4
 abbrev pub IsIfc4Upload : List ℕ → List Instance → Type 0
@@ -47,10 +47,10 @@ SpellsExchange bytes instances =
 
 -- The bytes have this fault, and none of an earlier stage. The faults that aren't a reader's are none of theirs.
 abbrev pub HasFault : List ℕ → UploadFault → Type 0
-HasFault bytes (faults.TooMany many.Bytes) = MOST_BYTES < length bytes
-HasFault bytes faults.NotPart21 = (length bytes ≤ MOST_BYTES) × (BeginsPart21 bytes → ⊥)
-HasFault bytes (faults.BadToken p) = (length bytes ≤ MOST_BYTES) × BeginsPart21 bytes × NoneThere bytes p
-HasFault bytes (faults.BadStatement p) = (length bytes ≤ MOST_BYTES) × BeginsPart21 bytes × WrongThere bytes p
+HasFault bytes (faults.TooMany many.Bytes) = MOST_UPLOAD < length bytes
+HasFault bytes faults.NotPart21 = (length bytes ≤ MOST_UPLOAD) × (BeginsPart21 bytes → ⊥)
+HasFault bytes (faults.BadToken p) = (length bytes ≤ MOST_UPLOAD) × BeginsPart21 bytes × NoneThere bytes p
+HasFault bytes (faults.BadStatement p) = (length bytes ≤ MOST_UPLOAD) × BeginsPart21 bytes × WrongThere bytes p
 HasFault bytes faults.WrongSchema = (statements : List Statement) × (found : List Instance) × IsUpload bytes statements found × (NamesIfc4 statements → ⊥)
 HasFault bytes (faults.TooMany many.Instances) = (found : List Instance) × IsIfc4Upload bytes found × (MOST_INSTANCES < length found)
 HasFault bytes (faults.TooMany many.Values) = (found : List Instance) × IsIfc4Upload bytes found × (length found ≤ MOST_INSTANCES) × (MOST_VALUES < values_of found)

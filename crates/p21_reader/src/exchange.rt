@@ -2,7 +2,7 @@ ghost use Rattle.std.specs.Prelude.{◌≡◌, ◌⊎◌, ◌≤◌, List, IfOk,
 ghost use Rattle.p21_reader.specs.Counting.{values_of};
 ghost use Rattle.p21_reader.specs.Uploads.{SpellsExchange, IsIfc4Upload, IsCause, IsTooMany};
 ghost use Rattle.p21_reader.specs.declared.limits.TheConstants.{MOST_VALUES, MOST_INSTANCES};
-ghost use Rattle.bim_text.specs.declared.limits.TheConstants.{MOST_BYTES};
+ghost use Rattle.bim_model.specs.declared.limits.TheConstants.{MOST_UPLOAD};
 ghost use Rattle.p21_reader.specs.declared.value.Instance.{Instance};
 
 use crate::counting::count_values;
@@ -10,8 +10,7 @@ use crate::double::least_double;
 use crate::file::{begin, read_file};
 use crate::limits::{MOST_INSTANCES, MOST_VALUES};
 use crate::value::Instance;
-use bim_model::{BuildError, Many, UploadFault};
-use bim_text::MOST_BYTES;
+use bim_model::{BuildError, MOST_UPLOAD, Many, UploadFault};
 use std::alloc::Global;
 use std::marker::Model;
 
@@ -66,7 +65,7 @@ pub fn read(alloc: Global, bytes: &[u8]) -> Result<Exchange, BuildError>
     ensures fault { IfErr result (λ error. IsCause bytes.now error) }
     ensures refused { IfErr result (λ error. error ≡ BuildError.Memory ⊎ ((instances : List Instance) → SpellsExchange bytes.now instances → ⊥)) }
 {
-    if bytes.len() > MOST_BYTES {
+    if bytes.len() > MOST_UPLOAD {
         return Err(BuildError::Fault(UploadFault::TooMany { what: Many::Bytes }));
     }
     let found = ifc4_instances(alloc, bytes)?;
@@ -80,7 +79,7 @@ pub fn read(alloc: Global, bytes: &[u8]) -> Result<Exchange, BuildError>
 
 /// The instances of a file that isn't too long, in its order.
 fn ifc4_instances(alloc: Global, bytes: &[u8]) -> Result<Vec<Instance>, BuildError>
-    requires { length bytes.now ≤ MOST_BYTES }
+    requires { length bytes.now ≤ MOST_UPLOAD }
     ensures found { IfOk result (λ found. IsIfc4Upload bytes.now found.items) }
     ensures fault { IfErr result (λ error. IsCause bytes.now error) }
 {

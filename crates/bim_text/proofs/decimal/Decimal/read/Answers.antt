@@ -1,6 +1,7 @@
 use Rattle.std.proofs.Common.{◌≤◌, arith, subst, ℤ, pos, ◌≤ℤ◌, neg_ℤ}
 use Rattle.std.proofs.lemmas.Int.{ints}
-use Rattle.bim_text.specs.declared.limits.TheConstants.{MOST_BYTES, MOST_EXPONENT}
+use Rattle.bim_model.specs.declared.limits.TheConstants.{MOST_UPLOAD}
+use Rattle.bim_text.specs.declared.limits.TheConstants.{MOST_EXPONENT}
 use Rattle.bim_text.specs.Scanning.{parts}
 use Rattle.bim_text.proofs.Reading.{if_none, no_whole, no_digits, no_fraction, no_exponent, read_is, power_is, value_is}
 use Rattle.bim_text.proofs.decimal.Decimal.read.Goals as goal
@@ -40,7 +41,7 @@ returns-clause-value c =
     (omega arith) c.sign_end-from.ensures.end c.in_ok-whole.ensures.end c.if-whole-from.false c.in_ok-fraction.ensures.end c.in_ok-whole.ensures.kept c.in_ok-fraction.ensures.kept
     i.is (subst (λ (x : ℤ). neg_ℤ (pos MOST_EXPONENT) ≤ℤ x) i.value i.low) (subst (λ (x : ℤ). x ≤ℤ pos MOST_EXPONENT) i.value i.high) in
     let p = power_is bs c.sign_end-from.result c.in_ok-whole.whole.end f.end f.count c.in_ok-exponent.exponent c.sign_end-from.ensures.end c.in_ok-whole.ensures.end c.in_ok-fraction.ensures.end i.value c.in_ok-fraction.ensures.count in
-    let few : f.count ≤ MOST_BYTES = omega (arith, c.in_ok-fraction.ensures.few, c.in_ok-fraction.ensures.within) in
+    let few : f.count ≤ MOST_UPLOAD = omega (arith, c.in_ok-fraction.ensures.few, c.in_ok-fraction.ensures.within) in
     record {
       spelling = parts bs;
       read = r.1;
