@@ -3,6 +3,7 @@ use Rattle.std.specs.Prelude.{ℕ, ℤ, pos, ◌-ℤ◌, ◌*ℤ◌, ◌≤ℤ�
 use Rattle.exact_arith.specs.Space.{minus, dot_of, Face, normal}
 use Rattle.tri_exact.specs.Within.{FootWithin}
 use Rattle.tri_exact.specs.Pierce.{PiercesFace}
+use Rattle.tri_exact.specs.Limits.{height_limit, square_limit}
 use Rattle.tri_exact.specs.Places.{at, straight}
 use Rattle.clearance.specs.declared.planes.Plane.{Plane}
 use Rattle.clearance.specs.declared.planes.Heights.{Heights}
@@ -12,7 +13,7 @@ pub record IsPlane (k : Plane) (t : Face) : Type 0 where
   pub side_is : at k.side ≡ minus t.c t.a
   pub normal_is : straight k.normal ≡ normal t
   pub square_is : k.square ≡ dot_of (normal t) (normal t)
-  pub square_in : unsigned_abs k.square ≤ 786432000000000000000000000000
+  pub square_in : unsigned_abs k.square ≤ square_limit
 
 pub record IsOver (h : Heights) (t s : Face) : Type 0 where
   pub a_is : h.a ≡ dot_of (minus s.a t.a) (normal t)
@@ -20,9 +21,9 @@ pub record IsOver (h : Heights) (t s : Face) : Type 0 where
   pub c_is : h.c ≡ dot_of (minus s.c t.a) (normal t)
 
 pub record IsTall (h : Heights) : Type 0 where
-  pub a_in : unsigned_abs h.a ≤ 24576000000000000000000
-  pub b_in : unsigned_abs h.b ≤ 24576000000000000000000
-  pub c_in : unsigned_abs h.c ≤ 24576000000000000000000
+  pub a_in : unsigned_abs h.a ≤ height_limit
+  pub b_in : unsigned_abs h.b ≤ height_limit
+  pub c_in : unsigned_abs h.c ≤ height_limit
 
 -- three heights above a plane, the least of them not low over the root of f
 pub record Clear (a b c f : ℤ) (d : ℕ) : Type 0 where

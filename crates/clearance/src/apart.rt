@@ -1,5 +1,6 @@
 // A gap between two triangles across a direction.
-ghost use Rattle.std.specs.Prelude.{◌≤◌, pos, ◌-ℤ◌, ◌≤ℤ◌, ◌<ℤ◌, unsigned_abs, IsTrue};
+ghost use Rattle.std.specs.Prelude.{◌*◌, ◌≤◌, pos, ◌-ℤ◌, ◌≤ℤ◌, ◌<ℤ◌, unsigned_abs, IsTrue};
+ghost use Rattle.tri_exact.specs.Limits.{height_limit, square_limit, distance_limit};
 ghost use Rattle.clearance.specs.Near.{FacesNear};
 ghost use Rattle.clearance.specs.Corners.{face_of, InGrid};
 ghost use Rattle.clearance.specs.Apart.{Apart};
@@ -26,13 +27,13 @@ fn longest_edge(t: Corners) -> V3
 /// The lowest of three places across a direction.
 #[inline(always)]
 fn lowest(a: i128, b: i128, c: i128) -> i128
-    requires a_in { unsigned_abs a ≤ 24576000000000000000000 }
-    requires b_in { unsigned_abs b ≤ 24576000000000000000000 }
-    requires c_in { unsigned_abs c ≤ 24576000000000000000000 }
+    requires a_in { unsigned_abs a ≤ height_limit }
+    requires b_in { unsigned_abs b ≤ height_limit }
+    requires c_in { unsigned_abs c ≤ height_limit }
     ensures a { result ≤ℤ a }
     ensures b { result ≤ℤ b }
     ensures c { result ≤ℤ c }
-    ensures small { unsigned_abs result ≤ 24576000000000000000000 }
+    ensures small { unsigned_abs result ≤ height_limit }
 {
     if a <= b {
         if a <= c { a } else { c }
@@ -46,13 +47,13 @@ fn lowest(a: i128, b: i128, c: i128) -> i128
 /// The highest of three places across a direction.
 #[inline(always)]
 fn highest(a: i128, b: i128, c: i128) -> i128
-    requires a_in { unsigned_abs a ≤ 24576000000000000000000 }
-    requires b_in { unsigned_abs b ≤ 24576000000000000000000 }
-    requires c_in { unsigned_abs c ≤ 24576000000000000000000 }
+    requires a_in { unsigned_abs a ≤ height_limit }
+    requires b_in { unsigned_abs b ≤ height_limit }
+    requires c_in { unsigned_abs c ≤ height_limit }
     ensures a { a ≤ℤ result }
     ensures b { b ≤ℤ result }
     ensures c { c ≤ℤ result }
-    ensures small { unsigned_abs result ≤ 24576000000000000000000 }
+    ensures small { unsigned_abs result ≤ height_limit }
 {
     if a <= b {
         if b <= c { c } else { b }
@@ -69,11 +70,11 @@ const LIMIT: i128 = 24576000000000000000000;
 /// A gap, or the limit.
 #[inline(always)]
 fn capped(gap: i128) -> i128
-    requires gap_in { unsigned_abs gap ≤ 49152000000000000000000 }
+    requires gap_in { unsigned_abs gap ≤ 2 * height_limit }
     requires some { pos 0 <ℤ gap }
     ensures at_most { result ≤ℤ gap }
     ensures some { pos 0 <ℤ result }
-    ensures small { unsigned_abs result ≤ 24576000000000000000000 }
+    ensures small { unsigned_abs result ≤ height_limit }
 {
     if gap <= LIMIT { gap } else { LIMIT }
 }
@@ -81,10 +82,10 @@ fn capped(gap: i128) -> i128
 /// Whether three places are more than d above three others; a `false` says nothing.
 #[inline(always)]
 fn is_gap(high: i128, low: i128, square: i128, d: u32) -> bool
-    requires high_in { unsigned_abs high ≤ 24576000000000000000000 }
-    requires low_in { unsigned_abs low ≤ 24576000000000000000000 }
-    requires square_in { unsigned_abs square ≤ 786432000000000000000000000000 }
-    requires d_in { d ≤ 10000 }
+    requires high_in { unsigned_abs high ≤ height_limit }
+    requires low_in { unsigned_abs low ≤ height_limit }
+    requires square_in { unsigned_abs square ≤ square_limit }
+    requires d_in { d ≤ distance_limit }
     ensures { IsTrue result → Apart high low square d }
 {
     let gap = low - high;
@@ -102,7 +103,7 @@ fn is_gap(high: i128, low: i128, square: i128, d: u32) -> bool
 fn is_parted(t: Corners, s: Corners, across: Normal, d: u32) -> bool
     requires t_in { InGrid t }
     requires s_in { InGrid s }
-    requires d_in { d ≤ 10000 }
+    requires d_in { d ≤ distance_limit }
     ensures { IsTrue result → FacesNear (face_of t) (face_of s) d → ⊥ }
 {
     let a = height(difference(t.a, t.a), across);
@@ -127,7 +128,7 @@ fn is_parted(t: Corners, s: Corners, across: Normal, d: u32) -> bool
 pub fn is_apart(t: Corners, s: Corners, d: u32) -> bool
     requires t_in { InGrid t }
     requires s_in { InGrid s }
-    requires d_in { d ≤ 10000 }
+    requires d_in { d ≤ distance_limit }
     ensures { IsTrue result → FacesNear (face_of t) (face_of s) d → ⊥ }
 {
     is_parted(t, s, normal_to(longest_edge(t), longest_edge(s)), d)

@@ -1,5 +1,6 @@
 // Boxes along the axes.
 ghost use Rattle.std.specs.Prelude.{◌≤◌, ◌<◌, pos, ◌+ℤ◌, ◌≤ℤ◌, ◌<ℤ◌, ◌↔◌, unsigned_abs, IsTrue, All};
+ghost use Rattle.tri_exact.specs.Limits.{distance_limit};
 ghost use Rattle.bim_model.specs.Points.{grid_limit, IsInGrid, shape_of};
 ghost use Rattle.bim_model.specs.Gaps.{gap};
 ghost use Rattle.clearance.specs.Boxes.{InExtent, IsExtent, Wider, IsOff};
@@ -96,7 +97,7 @@ pub fn extent_of(t: &Triangle) -> Extent
 fn is_past(high: i32, low: i32, d: u32) -> bool
     requires high_in { unsigned_abs high ≤ grid_limit }
     requires low_in { unsigned_abs low ≤ grid_limit }
-    requires d_in { d ≤ 10000 }
+    requires d_in { d ≤ distance_limit }
     ensures { IsTrue result ↔ (high +ℤ pos d) <ℤ low }
 {
     high + (d as i32) < low
@@ -109,7 +110,7 @@ fn is_span_off(low: i32, high: i32, other_low: i32, other_high: i32, d: u32) -> 
     requires high_in { unsigned_abs high ≤ grid_limit }
     requires other_low_in { unsigned_abs other_low ≤ grid_limit }
     requires other_high_in { unsigned_abs other_high ≤ grid_limit }
-    requires d_in { d ≤ 10000 }
+    requires d_in { d ≤ distance_limit }
     ensures { IsTrue result ↔ d < gap low high other_low other_high }
 {
     if is_past(high, other_low, d) {
@@ -123,7 +124,7 @@ fn is_span_off(low: i32, high: i32, other_low: i32, other_high: i32, d: u32) -> 
 pub fn is_off(first: Extent, second: Extent, d: u32) -> bool
     requires first_in { IsExtent first }
     requires second_in { IsExtent second }
-    requires d_in { d ≤ 10000 }
+    requires d_in { d ≤ distance_limit }
     ensures { IsTrue result ↔ IsOff first second d }
 {
     let (low, high) = (first.low, first.high);

@@ -1,5 +1,6 @@
 // A triangle's plane, and the heights of another triangle's corners over it.
 ghost use Rattle.std.specs.Prelude.{ℕ, ◌≤◌, ℤ, ◌≤ℤ◌, unsigned_abs, IsTrue};
+ghost use Rattle.tri_exact.specs.Limits.{height_limit, square_limit, distance_limit};
 ghost use Rattle.clearance.specs.Corners.{face_of, InGrid};
 ghost use Rattle.clearance.specs.Planes.{IsPlane, IsOver, IsTall, Clear, IsClear};
 
@@ -63,11 +64,11 @@ pub fn heights_over(plane: Plane, t: Corners, s: Corners) -> Heights
 /// The lesser of two heights.
 #[inline(always)]
 fn lesser(a: i128, b: i128) -> i128
-    requires a_in { unsigned_abs a ≤ 24576000000000000000000 }
-    requires b_in { unsigned_abs b ≤ 24576000000000000000000 }
+    requires a_in { unsigned_abs a ≤ height_limit }
+    requires b_in { unsigned_abs b ≤ height_limit }
     ensures a { result ≤ℤ a }
     ensures b { result ≤ℤ b }
-    ensures small { unsigned_abs result ≤ 24576000000000000000000 }
+    ensures small { unsigned_abs result ≤ height_limit }
 {
     if a <= b { a } else { b }
 }
@@ -75,11 +76,11 @@ fn lesser(a: i128, b: i128) -> i128
 /// Whether three heights are above 0 and none of them is low; a `false` says nothing.
 #[inline(always)]
 fn is_clear(a: i128, b: i128, c: i128, square: i128, d: u32) -> bool
-    requires a_in { unsigned_abs a ≤ 24576000000000000000000 }
-    requires b_in { unsigned_abs b ≤ 24576000000000000000000 }
-    requires c_in { unsigned_abs c ≤ 24576000000000000000000 }
-    requires square_in { unsigned_abs square ≤ 786432000000000000000000000000 }
-    requires d_in { d ≤ 10000 }
+    requires a_in { unsigned_abs a ≤ height_limit }
+    requires b_in { unsigned_abs b ≤ height_limit }
+    requires c_in { unsigned_abs c ≤ height_limit }
+    requires square_in { unsigned_abs square ≤ square_limit }
+    requires d_in { d ≤ distance_limit }
     ensures { IsTrue result → Clear a b c square d }
 {
     let lower = lesser(a, b);
@@ -96,9 +97,9 @@ fn is_clear(a: i128, b: i128, c: i128, square: i128, d: u32) -> bool
 /// Whether three corners are on one side of a plane, and none of them is low; a `false` says nothing.
 #[inline(always)]
 pub fn is_beyond(plane: Plane, over: Heights, d: u32) -> bool
-    requires square_in { unsigned_abs plane.square ≤ 786432000000000000000000000000 }
+    requires square_in { unsigned_abs plane.square ≤ square_limit }
     requires tall { IsTall over }
-    requires d_in { d ≤ 10000 }
+    requires d_in { d ≤ distance_limit }
     ensures { IsTrue result → IsClear over.a over.b over.c plane.square d }
 {
     if is_clear(over.a, over.b, over.c, plane.square, d) {

@@ -1,5 +1,6 @@
 // The edges of two triangles: for each pair of corners the edges that start there.
 ghost use Rattle.std.specs.Prelude.{◌≡◌, ◌≤◌, ◌↔◌, unsigned_abs, IsTrue};
+ghost use Rattle.tri_exact.specs.Limits.{product_limit, distance_limit};
 ghost use Rattle.exact_arith.specs.Space.{dot_of, minus};
 ghost use Rattle.tri_exact.specs.Places.{at, IsPoint};
 ghost use Rattle.clearance.specs.Corners.{face_of, InGrid};
@@ -17,10 +18,10 @@ fn corner_near(a: V3, b: V3, edge: V3, length: i64, p: V3, q: V3, d: u32) -> boo
     requires b_in { IsPoint b }
     requires edge_is { at edge ≡ minus (at b) (at a) }
     requires length_is { length ≡ dot_of (at edge) (at edge) }
-    requires length_in { unsigned_abs length ≤ 768000000000000 }
+    requires length_in { unsigned_abs length ≤ product_limit }
     requires p_in { IsPoint p }
     requires q_in { IsPoint q }
-    requires d_in { d ≤ 10000 }
+    requires d_in { d ≤ distance_limit }
     ensures { IsTrue result ↔ CornerNear (at a) (at b) (at p) (at q) d }
 {
     let way = difference(p, a);
@@ -48,7 +49,7 @@ fn row_near(a: V3, b: V3, s: Corners, d: u32) -> bool
     requires a_in { IsPoint a }
     requires b_in { IsPoint b }
     requires s_in { InGrid s }
-    requires d_in { d ≤ 10000 }
+    requires d_in { d ≤ distance_limit }
     ensures { IsTrue result ↔ RowNear (at a) (at b) (face_of s) d }
 {
     let edge = difference(b, a);
@@ -66,7 +67,7 @@ fn row_near(a: V3, b: V3, s: Corners, d: u32) -> bool
 pub fn edges_near(t: Corners, s: Corners, d: u32) -> bool
     requires t_in { InGrid t }
     requires s_in { InGrid s }
-    requires d_in { d ≤ 10000 }
+    requires d_in { d ≤ distance_limit }
     ensures { IsTrue result ↔ EdgesNear (face_of t) (face_of s) d }
 {
     if row_near(t.a, t.b, s, d) {

@@ -1,6 +1,7 @@
 // Lists of triangles in runs of sixteen, each run with its box, so that most runs are passed over at once.
 // The boxes of up to 512 triangles lie on the stack.
 ghost use Rattle.std.specs.Prelude.{◌≡◌, ◌≤◌, ◌↔◌, ◌⊎◌, IsTrue, All, length, take, drop};
+ghost use Rattle.tri_exact.specs.Limits.{distance_limit};
 ghost use Rattle.bim_model.specs.Points.{IsInGrid, shape_of};
 ghost use Rattle.clearance.specs.Near.{Near, NearAny, ListsNear};
 ghost use Rattle.clearance.specs.Boxes.{InExtent, IsExtent, Wider, IsOff};
@@ -37,7 +38,7 @@ fn pair_near(p: &Triangle, extent: Extent, q: &Triangle, d: u32) -> bool
     requires inside { InExtent extent (shape_of p.now) }
     requires small { IsExtent extent }
     requires q_in { IsInGrid q.now }
-    requires d_in { d ≤ 10000 }
+    requires d_in { d ≤ distance_limit }
     ensures { IsTrue result ↔ Near p.now q.now d }
 {
     if is_off(extent, extent_of(q), d) {
@@ -53,7 +54,7 @@ fn list_near(p: &Triangle, extent: Extent, qs: &[Triangle], d: u32) -> bool
     requires inside { InExtent extent (shape_of p.now) }
     requires small { IsExtent extent }
     requires qs_in { All IsInGrid qs.now }
-    requires d_in { d ≤ 10000 }
+    requires d_in { d ≤ distance_limit }
     ensures { IsTrue result ↔ NearAny p.now qs.now d }
 {
     for q in qs {
@@ -71,7 +72,7 @@ fn any_near(p: &Triangle, qs: &[Triangle], around: Extent, d: u32) -> bool
     requires qs_in { All IsInGrid qs.now }
     requires inside { AllIn around qs.now }
     requires small { IsExtent around }
-    requires d_in { d ≤ 10000 }
+    requires d_in { d ≤ distance_limit }
     ensures { IsTrue result ↔ NearAny p.now qs.now d }
 {
     let extent = extent_of(p);
@@ -88,7 +89,7 @@ pub fn pairs_near(ps: &[Triangle], qs: &[Triangle], around: Extent, d: u32) -> b
     requires qs_in { All IsInGrid qs.now }
     requires inside { AllIn around qs.now }
     requires small { IsExtent around }
-    requires d_in { d ≤ 10000 }
+    requires d_in { d ≤ distance_limit }
     ensures { IsTrue result ↔ ListsNear ps.now qs.now d }
 {
     for p in ps {
@@ -105,7 +106,7 @@ fn join_reached(found: Extent, extent: Extent, around: Extent, d: u32) -> Extent
     requires found_in { IsExtent found }
     requires extent_in { IsExtent extent }
     requires around_in { IsExtent around }
-    requires d_in { d ≤ 10000 }
+    requires d_in { d ≤ distance_limit }
     ensures found { Wider found result }
     ensures reached { IsOff around extent d ⊎ Wider extent result }
     ensures small { IsExtent result }
@@ -120,7 +121,7 @@ fn join_reached(found: Extent, extent: Extent, around: Extent, d: u32) -> Extent
 fn reached_extent(ts: &[Triangle], around: Extent, d: u32) -> Extent
     requires ts_in { All IsInGrid ts.now }
     requires around_in { IsExtent around }
-    requires d_in { d ≤ 10000 }
+    requires d_in { d ≤ distance_limit }
     ensures reached { AllReach around d result ts.now }
     ensures small { IsExtent result }
 {
@@ -148,7 +149,7 @@ fn run_near(
     requires qs_in { All IsInGrid qs.now }
     requires reached { AllReach around d k qs.now }
     requires small_k { IsExtent k }
-    requires d_in { d ≤ 10000 }
+    requires d_in { d ≤ distance_limit }
     ensures { IsTrue result ↔ NearAny p.now qs.now d }
 {
     if is_off(k, extent, d) {
@@ -172,7 +173,7 @@ fn runs_near(
     requires runs_in { RunsIn around d runs.now qs.now }
     requires reached_in { AllReach around d reached qs.now }
     requires small { IsExtent reached }
-    requires d_in { d ≤ 10000 }
+    requires d_in { d ≤ distance_limit }
     ensures { IsTrue result ↔ NearAny p.now qs.now d }
 {
     let extent = extent_of(p);
@@ -198,7 +199,7 @@ fn run_extents(qs: &[Triangle], around: Extent, d: u32) -> [Extent; RUNS]
     requires qs_in { All IsInGrid qs.now }
     requires few { length qs.now ≤ 512 }
     requires around_in { IsExtent around }
-    requires d_in { d ≤ 10000 }
+    requires d_in { d ≤ distance_limit }
     ensures { RunsIn around d result qs.now }
 {
     let mut runs = [no_extent(); RUNS];
@@ -226,7 +227,7 @@ fn all_near(
     requires runs_in { RunsIn around d runs.now qs.now }
     requires reached_in { AllReach around d reached qs.now }
     requires small { IsExtent reached }
-    requires d_in { d ≤ 10000 }
+    requires d_in { d ≤ distance_limit }
     ensures { IsTrue result ↔ ListsNear ps.now qs.now d }
 {
     for p in ps {
@@ -242,7 +243,7 @@ pub fn block_near(ps: &[Triangle], qs: &[Triangle], d: u32) -> bool
     requires ps_in { All IsInGrid ps.now }
     requires qs_in { All IsInGrid qs.now }
     requires few { length qs.now ≤ 512 }
-    requires d_in { d ≤ 10000 }
+    requires d_in { d ≤ distance_limit }
     ensures { IsTrue result ↔ ListsNear ps.now qs.now d }
 {
     let around = extent_of_all(ps);

@@ -1,5 +1,6 @@
 // A triangle with an area, and the corners and edges of another.
 ghost use Rattle.std.specs.Prelude.{◌≡◌, ◌≤◌, ◌↔◌, unsigned_abs, IsTrue};
+ghost use Rattle.tri_exact.specs.Limits.{height_limit, distance_limit};
 ghost use Rattle.exact_arith.specs.Space.{dot_of, minus, normal};
 ghost use Rattle.tri_exact.specs.Places.{at, IsPoint};
 ghost use Rattle.tri_exact.specs.Within.{HasArea, FootWithin};
@@ -19,8 +20,8 @@ fn foot_near(p: V3, t: Corners, plane: Plane, height: i128, d: u32) -> bool
     requires area { HasArea (face_of t) }
     requires plane_is { IsPlane plane (face_of t) }
     requires height_is { height ≡ dot_of (minus (at p) (at t.a)) (normal (face_of t)) }
-    requires height_in { unsigned_abs height ≤ 24576000000000000000000 }
-    requires d_in { d ≤ 10000 }
+    requires height_in { unsigned_abs height ≤ height_limit }
+    requires d_in { d ≤ distance_limit }
     ensures { IsTrue result ↔ FootWithin (at p) (face_of t) d }
 {
     if is_low(height, plane.square, d) {
@@ -36,7 +37,7 @@ pub fn side_near(t: Corners, plane: Plane, s: Corners, over: Heights, d: u32) ->
     requires plane_is { IsPlane plane (face_of t) }
     requires over_is { IsOver over (face_of t) (face_of s) }
     requires tall { IsTall over }
-    requires d_in { d ≤ 10000 }
+    requires d_in { d ≤ distance_limit }
     ensures { IsTrue result ↔ (HasArea (face_of t) × SideNear (face_of t) (face_of s) d) }
 {
     if plane.square <= 0 {

@@ -1,5 +1,6 @@
 // Two elements.
 ghost use Rattle.std.specs.Prelude.{◌≡◌, ◌+◌, ◌≤◌, ◌↔◌, IsTrue, All};
+ghost use Rattle.tri_exact.specs.Limits.{distance_limit};
 ghost use Rattle.bim_model.specs.Points.{IsInGrid};
 ghost use Rattle.clearance.specs.Near.{ListsNear, ElementsNear, ElementInGrid};
 ghost use Rattle.clearance.specs.Decided.{is_near_lists, is_near};
@@ -13,7 +14,7 @@ use std::sync::ledger::Ledger;
 pub fn lists_near(ps: &[Triangle], qs: &[Triangle], d: u32) -> bool
     requires ps_in { All IsInGrid ps.now }
     requires qs_in { All IsInGrid qs.now }
-    requires d_in { d ≤ 10000 }
+    requires d_in { d ≤ distance_limit }
     ensures near { IsTrue result ↔ ListsNear ps.now qs.now d }
     ensures value { result ≡ is_near_lists ps.now qs.now d }
 {
@@ -36,7 +37,7 @@ pub fn lists_near(ps: &[Triangle], qs: &[Triangle], d: u32) -> bool
 pub fn solids_near<L: Ledger>(a: &Element, b: &Element, d: u32, steps: &mut Steps<L>) -> bool
     requires a_in { ElementInGrid a.now }
     requires b_in { ElementInGrid b.now }
-    requires d_in { d ≤ 10000 }
+    requires d_in { d ≤ distance_limit }
     ensures near { IsTrue result ↔ ElementsNear a.now b.now d }
     ensures value { result ≡ is_near a.now b.now d }
     ensures step { steps.new ≡ steps.old + 1 }

@@ -1,5 +1,6 @@
 ghost use Rattle.std.specs.Prelude.{◌≤◌, unsigned_abs, ◌≡◌, ◌<◌, All, IfOk};
 ghost use Rattle.bim_model.specs.Points.{grid_limit, IsGridPoint, IsInGrid};
+ghost use Rattle.tri_exact.specs.Limits.{distance_limit};
 ghost use Rattle.clearance.specs.Near.{ElementInGrid};
 
 use super::*;
@@ -9,6 +10,7 @@ use std::marker::Brand;
 use std::process::Abort;
 use std::sync::ledger::{Blank, Ledger};
 use std::test::Fail;
+use tri_exact::DISTANCE_LIMIT;
 
 /// A coordinate of the grid; each table holds such.
 fn coordinate(x: i32) -> i32
@@ -47,12 +49,16 @@ fn triangle(t: [[i32; 3]; 3]) -> Triangle
 fn near_from(rt: &impl Abort, p: [[i32; 3]; 3], q: [[i32; 3]; 3], least: u32) {
     let first = triangle(p);
     let second = triangle(q);
-    if least <= 10000 {
+    if least <= DISTANCE_LIMIT {
         assert!(rt; near(&first, &second, least), "{p:?} {q:?}");
         assert!(rt; near(&second, &first, least), "{q:?} {p:?}");
     }
     if least > 0 {
-        let below = if least <= 10000 { least - 1 } else { 10000 };
+        let below = if least <= DISTANCE_LIMIT {
+            least - 1
+        } else {
+            DISTANCE_LIMIT
+        };
         assert!(rt; !near(&first, &second, below), "{p:?} {q:?}");
         assert!(rt; !near(&second, &first, below), "{q:?} {p:?}");
     }
@@ -165,7 +171,7 @@ fn elements_near<L: Ledger>(blank: Blank, first: &Element, second: &Element, d: 
     requires some { 0 < blank.parts }
     requires first_in { ElementInGrid first.now }
     requires second_in { ElementInGrid second.now }
-    requires d_in { d ≤ 10000 }
+    requires d_in { d ≤ distance_limit }
 {
     let mut steps = Steps::<L>::new(blank);
     solids_near(first, second, d, &mut steps)

@@ -1,5 +1,6 @@
 // Two triangles.
 ghost use Rattle.std.specs.Prelude.{◌≡◌, ◌≤◌, ◌↔◌, IsTrue};
+ghost use Rattle.tri_exact.specs.Limits.{distance_limit};
 ghost use Rattle.bim_model.specs.Points.{IsInGrid};
 ghost use Rattle.clearance.specs.Near.{FacesNear, Near};
 ghost use Rattle.clearance.specs.Decided.{is_near_triangles};
@@ -20,7 +21,7 @@ fn planes_near(t: Corners, plane_t: Plane, s: Corners, d: u32) -> bool
     requires t_in { InGrid t }
     requires plane_is { IsPlane plane_t (face_of t) }
     requires s_in { InGrid s }
-    requires d_in { d ≤ 10000 }
+    requires d_in { d ≤ distance_limit }
     ensures { IsTrue result ↔ FacesNear (face_of t) (face_of s) d }
 {
     let over_t = heights_over(plane_t, t, s);
@@ -49,7 +50,7 @@ fn planes_near(t: Corners, plane_t: Plane, s: Corners, d: u32) -> bool
 pub fn test_near(p: &Triangle, q: &Triangle, d: u32) -> bool
     requires p_in { IsInGrid p.now }
     requires q_in { IsInGrid q.now }
-    requires d_in { d ≤ 10000 }
+    requires d_in { d ≤ distance_limit }
     ensures { IsTrue result ↔ Near p.now q.now d }
 {
     let corners = corners_of(p);
@@ -62,7 +63,7 @@ pub fn test_near(p: &Triangle, q: &Triangle, d: u32) -> bool
 pub fn near(p: &Triangle, q: &Triangle, d: u32) -> bool
     requires p_in { IsInGrid p.now }
     requires q_in { IsInGrid q.now }
-    requires d_in { d ≤ 10000 }
+    requires d_in { d ≤ distance_limit }
     ensures near { IsTrue result ↔ Near p.now q.now d }
     ensures value { result ≡ is_near_triangles p.now q.now d }
 {

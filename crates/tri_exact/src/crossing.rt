@@ -1,5 +1,6 @@
 // Segments and triangles.
 ghost use Rattle.std.specs.Prelude.{◌≡◌, ◌≤◌, ◌↔◌, ◌⊎◌, unsigned_abs, IsTrue};
+ghost use Rattle.tri_exact.specs.Limits.{height_limit};
 ghost use Rattle.exact_arith.specs.Space.{dot_of, minus, normal};
 ghost use Rattle.tri_exact.specs.Places.{at, face_at, IsPoint};
 ghost use Rattle.tri_exact.specs.Within.{HasArea, Meets};
@@ -18,8 +19,8 @@ fn rises(p: V3, q: V3, a: V3, b: V3, c: V3, from: i128, to: i128) -> bool
     requires a_in { IsPoint a }
     requires b_in { IsPoint b }
     requires c_in { IsPoint c }
-    requires from_in { unsigned_abs from ≤ 24576000000000000000000 }
-    requires to_in { unsigned_abs to ≤ 24576000000000000000000 }
+    requires from_in { unsigned_abs from ≤ height_limit }
+    requires to_in { unsigned_abs to ≤ height_limit }
     ensures { IsTrue result ↔ Rises from to (weight_a (at p) (at q) (face_at a b c)) (weight_b (at p) (at q) (face_at a b c)) (weight_c (at p) (at q) (face_at a b c)) }
 {
     if from > 0 {
@@ -53,8 +54,8 @@ pub fn edge_pierces(p: V3, q: V3, a: V3, b: V3, c: V3, from: i128, to: i128) -> 
     requires c_in { IsPoint c }
     requires from_is { from ≡ dot_of (minus (at p) (at a)) (normal (face_at a b c)) }
     requires to_is { to ≡ dot_of (minus (at q) (at a)) (normal (face_at a b c)) }
-    requires from_in { unsigned_abs from ≤ 24576000000000000000000 }
-    requires to_in { unsigned_abs to ≤ 24576000000000000000000 }
+    requires from_in { unsigned_abs from ≤ height_limit }
+    requires to_in { unsigned_abs to ≤ height_limit }
     ensures { IsTrue result ↔ PiercesFace (at p) (at q) (face_at a b c) }
 {
     if rises(p, q, a, b, c, from, to) {

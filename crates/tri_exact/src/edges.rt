@@ -1,5 +1,6 @@
 // Points and edges, and two edges.
 ghost use Rattle.std.specs.Prelude.{ℕ, ◌≡◌, ◌≤◌, ℤ, pos, ◌*ℤ◌, ◌↔◌, unsigned_abs, IsTrue};
+ghost use Rattle.tri_exact.specs.Limits.{product_limit, distance_limit};
 ghost use Rattle.exact_arith.specs.Space.{dot_of};
 ghost use Rattle.tri_exact.specs.Places.{at, IsPoint};
 ghost use Rattle.tri_exact.specs.Within.{PointEdgeWithin, EdgesWithin};
@@ -12,10 +13,10 @@ use crate::products::{difference, height, is_low, minor, normal_to, scalar};
 /// the way from its start to the point, and the product of the two.
 #[inline(always)]
 pub fn is_beside(length: i64, gap: i64, share: i64, d: u32) -> bool
-    requires length_in { unsigned_abs length ≤ 768000000000000 }
-    requires gap_in { unsigned_abs gap ≤ 768000000000000 }
-    requires share_in { unsigned_abs share ≤ 768000000000000 }
-    requires d_in { d ≤ 10000 }
+    requires length_in { unsigned_abs length ≤ product_limit }
+    requires gap_in { unsigned_abs gap ≤ product_limit }
+    requires share_in { unsigned_abs share ≤ product_limit }
+    requires d_in { d ≤ distance_limit }
     ensures { IsTrue result ↔ Beside length gap share (pos d *ℤ pos d) }
 {
     if share <= 0 {
@@ -33,7 +34,7 @@ pub fn point_edge_within(p: V3, a: V3, b: V3, d: u32) -> bool
     requires p_in { IsPoint p }
     requires a_in { IsPoint a }
     requires b_in { IsPoint b }
-    requires d_in { d ≤ 10000 }
+    requires d_in { d ≤ distance_limit }
     ensures { IsTrue result ↔ PointEdgeWithin (at p) (at a) (at b) d }
 {
     let edge = difference(b, a);
@@ -68,11 +69,11 @@ pub fn is_crossing(
     requires span_is { span ≡ dot_of (at side) (at side) }
     requires share_is { share ≡ dot_of (at way) (at edge) }
     requires part_is { part ≡ dot_of (at way) (at side) }
-    requires length_in { unsigned_abs length ≤ 768000000000000 }
-    requires span_in { unsigned_abs span ≤ 768000000000000 }
-    requires share_in { unsigned_abs share ≤ 768000000000000 }
-    requires part_in { unsigned_abs part ≤ 768000000000000 }
-    requires d_in { d ≤ 10000 }
+    requires length_in { unsigned_abs length ≤ product_limit }
+    requires span_in { unsigned_abs span ≤ product_limit }
+    requires share_in { unsigned_abs share ≤ product_limit }
+    requires part_in { unsigned_abs part ≤ product_limit }
+    requires d_in { d ≤ distance_limit }
     ensures { IsTrue result ↔ Crosses (at edge) (at side) (at way) (pos d *ℤ pos d) }
 {
     let slant = scalar(edge, side);
@@ -103,7 +104,7 @@ fn lines_within(a: V3, b: V3, p: V3, q: V3, d: u32) -> bool
     requires b_in { IsPoint b }
     requires p_in { IsPoint p }
     requires q_in { IsPoint q }
-    requires d_in { d ≤ 10000 }
+    requires d_in { d ≤ distance_limit }
     ensures { IsTrue result ↔ LinesClose (at a) (at b) (at p) (at q) (pos d *ℤ pos d) }
 {
     let edge = difference(b, a);
@@ -122,7 +123,7 @@ pub fn edge_edge_within(a: V3, b: V3, p: V3, q: V3, d: u32) -> bool
     requires b_in { IsPoint b }
     requires p_in { IsPoint p }
     requires q_in { IsPoint q }
-    requires d_in { d ≤ 10000 }
+    requires d_in { d ≤ distance_limit }
     ensures { IsTrue result ↔ EdgesWithin (at a) (at b) (at p) (at q) d }
 {
     if point_edge_within(a, p, q, d) {

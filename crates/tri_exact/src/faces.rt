@@ -1,5 +1,6 @@
 // Points and triangles.
 ghost use Rattle.std.specs.Prelude.{◌≡◌, ◌≤◌, ◌↔◌, unsigned_abs, IsTrue};
+ghost use Rattle.tri_exact.specs.Limits.{square_limit, distance_limit};
 ghost use Rattle.tri_exact.specs.Places.{at, face_at, IsPoint};
 ghost use Rattle.tri_exact.specs.Within.{HasArea, FootWithin};
 ghost use Rattle.tri_exact.specs.Foot.{square_of, Inside};
@@ -12,7 +13,7 @@ use crate::products::{difference, height, is_low, minor, normal_to, scalar, squa
 #[inline(always)]
 pub fn is_inside(edge: V3, side: V3, way: V3, square: i128) -> bool
     requires square_is { square ≡ square_of (at edge) (at side) }
-    requires square_in { unsigned_abs square ≤ 786432000000000000000000000000 }
+    requires square_in { unsigned_abs square ≤ square_limit }
     ensures { IsTrue result ↔ Inside (at edge) (at side) (at way) }
 {
     let length = scalar(edge, edge);
@@ -38,7 +39,7 @@ pub fn point_face_within(p: V3, a: V3, b: V3, c: V3, d: u32) -> bool
     requires b_in { IsPoint b }
     requires c_in { IsPoint c }
     requires area { HasArea (face_at a b c) }
-    requires d_in { d ≤ 10000 }
+    requires d_in { d ≤ distance_limit }
     ensures { IsTrue result ↔ FootWithin (at p) (face_at a b c) d }
 {
     let edge = difference(b, a);

@@ -2,6 +2,7 @@
 #![tactic(auto)]
 
 ghost use Rattle.std.specs.Prelude.{◌≤◌, unsigned_abs};
+ghost use Rattle.tri_exact.specs.Limits.{normal_limit};
 ghost use Rattle.bim_model.specs.Points.{step_limit};
 
 mod crossing;
@@ -15,6 +16,9 @@ pub use crossing::{edge_pierces, segment_crosses};
 pub use edges::{edge_edge_within, is_beside, is_crossing, point_edge_within};
 pub use faces::{is_inside, point_face_within};
 pub use products::{cross, dot, orient};
+
+/// The greatest distance that the tests take, in grid numbers. It holds a metre also at ten grid numbers a millimetre.
+pub const DISTANCE_LIMIT: u32 = 10_000;
 
 /// A point or a vector, in grid numbers.
 #[derive(Clone, Copy)]
@@ -41,7 +45,7 @@ pub struct Normal {
     pub x: i64,
     pub y: i64,
     pub z: i64,
-    ghost x_in: { unsigned_abs x ≤ 512000000000000 },
-    ghost y_in: { unsigned_abs y ≤ 512000000000000 },
-    ghost z_in: { unsigned_abs z ≤ 512000000000000 },
+    ghost x_in: { unsigned_abs x ≤ normal_limit },
+    ghost y_in: { unsigned_abs y ≤ normal_limit },
+    ghost z_in: { unsigned_abs z ≤ normal_limit },
 }

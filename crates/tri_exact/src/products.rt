@@ -1,5 +1,6 @@
 // Products of vectors. Those of two vectors of the grid fit 64 bits, and those above them fit 128.
 ghost use Rattle.std.specs.Prelude.{ℕ, ◌≡◌, ◌≤◌, ℤ, pos, ◌-ℤ◌, ◌*ℤ◌, ◌≤ℤ◌, ◌↔◌, unsigned_abs, IsTrue};
+ghost use Rattle.tri_exact.specs.Limits.{product_limit, height_limit, square_limit, minor_limit, distance_limit};
 ghost use Rattle.exact_arith.specs.Space.{dot_of, cross_of, minus};
 ghost use Rattle.tri_exact.specs.Places.{at, wide, straight, IsPoint, IsCross};
 ghost use Rattle.tri_exact.specs.Foot.{orient_of};
@@ -9,7 +10,7 @@ use crate::{Normal, V3, W3};
 /// The scalar product.
 pub fn dot(a: V3, b: V3) -> i128
     ensures value { result ≡ dot_of (at a) (at b) }
-    ensures small { unsigned_abs result ≤ 768000000000000 }
+    ensures small { unsigned_abs result ≤ product_limit }
 {
     scalar(a, b) as i128
 }
@@ -36,7 +37,7 @@ pub fn orient(a: V3, b: V3, c: V3, d: V3) -> i128
     requires c_in { IsPoint c }
     requires d_in { IsPoint d }
     ensures value { result ≡ orient_of (at a) (at b) (at c) (at d) }
-    ensures small { unsigned_abs result ≤ 24576000000000000000000 }
+    ensures small { unsigned_abs result ≤ height_limit }
 {
     let side = difference(b, a);
     let other = difference(c, a);
@@ -62,7 +63,7 @@ pub fn difference(a: V3, b: V3) -> V3
 #[inline(always)]
 pub fn scalar(a: V3, b: V3) -> i64
     ensures value { result ≡ dot_of (at a) (at b) }
-    ensures small { unsigned_abs result ≤ 768000000000000 }
+    ensures small { unsigned_abs result ≤ product_limit }
 {
     a.x * b.x + a.y * b.y + a.z * b.z
 }
@@ -83,7 +84,7 @@ pub fn normal_to(a: V3, b: V3) -> Normal
 #[inline(always)]
 pub fn square(n: Normal) -> i128
     ensures value { result ≡ dot_of (straight n) (straight n) }
-    ensures small { unsigned_abs result ≤ 786432000000000000000000000000 }
+    ensures small { unsigned_abs result ≤ square_limit }
 {
     let (x, y, z) = (n.x as i128, n.y as i128, n.z as i128);
     x * x + y * y + z * z
@@ -94,7 +95,7 @@ pub fn square(n: Normal) -> i128
 #[inline(always)]
 pub fn height(v: V3, n: Normal) -> i128
     ensures value { result ≡ dot_of (at v) (straight n) }
-    ensures small { unsigned_abs result ≤ 24576000000000000000000 }
+    ensures small { unsigned_abs result ≤ height_limit }
 {
     v.x as i128 * n.x as i128 + v.y as i128 * n.y as i128 + v.z as i128 * n.z as i128
 }
@@ -102,12 +103,12 @@ pub fn height(v: V3, n: Normal) -> i128
 /// A difference of two products of scalar products.
 #[inline(always)]
 pub fn minor(a: i64, b: i64, c: i64, d: i64) -> i128
-    requires a_in { unsigned_abs a ≤ 768000000000000 }
-    requires b_in { unsigned_abs b ≤ 768000000000000 }
-    requires c_in { unsigned_abs c ≤ 768000000000000 }
-    requires d_in { unsigned_abs d ≤ 768000000000000 }
+    requires a_in { unsigned_abs a ≤ product_limit }
+    requires b_in { unsigned_abs b ≤ product_limit }
+    requires c_in { unsigned_abs c ≤ product_limit }
+    requires d_in { unsigned_abs d ≤ product_limit }
     ensures value { result ≡ a *ℤ b -ℤ c *ℤ d }
-    ensures small { unsigned_abs result ≤ 1179648000000000000000000000000 }
+    ensures small { unsigned_abs result ≤ minor_limit }
 {
     a as i128 * b as i128 - c as i128 * d as i128
 }
@@ -121,9 +122,9 @@ const DEEP: i128 = -9223372036854775808;
 /// Whether a height, over the root of a square, is at most d.
 #[inline(always)]
 pub fn is_low(height: i128, square: i128, d: u32) -> bool
-    requires height_in { unsigned_abs height ≤ 24576000000000000000000 }
-    requires square_in { unsigned_abs square ≤ 786432000000000000000000000000 }
-    requires d_in { d ≤ 10000 }
+    requires height_in { unsigned_abs height ≤ height_limit }
+    requires square_in { unsigned_abs square ≤ square_limit }
+    requires d_in { d ≤ distance_limit }
     ensures { IsTrue result ↔ (height *ℤ height) ≤ℤ (pos d *ℤ pos d *ℤ square) }
 {
     if height >= TALL {

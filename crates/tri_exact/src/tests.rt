@@ -58,7 +58,7 @@ fn points_and_edges(rt: HostRuntime) {
         ([0, 0, 10000], [-LIMIT, 0, 0], [LIMIT, 0, 0], 10000),
     ];
     for (p, a, b, least) in rows {
-        if least > 10000 {
+        if least > DISTANCE_LIMIT {
             continue;
         }
         assert!(rt;
@@ -95,7 +95,7 @@ fn edges_and_edges(rt: HostRuntime) {
         ),
     ];
     for (a, b, p, q, least) in rows {
-        if least > 10000 {
+        if least > DISTANCE_LIMIT {
             continue;
         }
         assert!(rt;
@@ -126,7 +126,7 @@ fn points_and_segments_at_a_triangle(rt: HostRuntime) {
         ([60, 60, 0], 10000, false),
         ([-1, 0, 4], 10000, false),
     ] {
-        if d > 10000 {
+        if d > DISTANCE_LIMIT {
             continue;
         }
         assert_eq!(rt; point_face_within(point(p), a, b, c, d), want, "{p:?}");
