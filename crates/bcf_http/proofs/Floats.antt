@@ -19,8 +19,12 @@ use Rattle.bim_model.specs.declared.upload.UploadFault.TheVariants as fault
 use Rattle.bim_model.specs.declared.geometry.Extent.{Extent}
 use Rattle.bim_model.specs.declared.element.Element.{Element}
 use Rattle.bim_model.specs.declared.named_model.NamedModel.{NamedModel}
+use Rattle.bim_model.specs.declared.rules.Rule.{Rule}
+use Rattle.bim_model.specs.declared.rules.RuleKind.{RuleKind}
+use Rattle.bim_model.specs.declared.rules.RuleKind.TheVariants.{Clash, Ignore}
+use Rattle.bcf_http.specs.Rules.{storey_tree, class_text, storeys_text, models_text, clash_tree, ignore_tree, kind_tree, rule_items}
 use Rattle.bcf_http.specs.UploadFaults.{error_tree, error_at, error_of, error_to, error_many, upload_fault_tree}
-use Rattle.bcf_http.specs.Versions.{length_tree, box_tree, storey_tree, element_tree, model_tree, version_tree, changed_tree, AreElementTrees, AreModelTrees}
+use Rattle.bcf_http.specs.Versions.{length_tree, box_tree, element_tree, model_tree, version_tree, changed_tree, AreElementTrees, AreModelTrees}
 use Rattle.bcf_http.specs.Answers.{IsReplyTree, IsAnswerTree, IsAnswerText, request_fault_tree}
 
 topic_has_none : (user date guid serial title : List ℕ) → has_float (topic_tree user date guid serial title) ≡ false
@@ -104,9 +108,20 @@ models_have_none (m ∷ ms) (item d ds) are =
     let one : has_float d ≡ false = ap has_float are.0.2 ∙ model_has_none are.0.0 m.name (elements_have_none m.model are.0.0 are.0.1) in
     rw (one, models_have_none ms ds are.1) refl
 
-version_has_none : (items : Items) (newest version : ℕ) → items_have_float items ≡ false → has_float (version_tree items newest version) ≡ false
+kind_has_none : (kind : RuleKind) (a b : List ℕ) (level : Data) (models storey : List ℕ) → has_float level ≡ false
+    → has_float (kind_tree kind a b level models storey) ≡ false
+unfolding clash_tree ignore_tree
+kind_has_none (Clash distance) a b level models storey none = rw none refl
+kind_has_none Ignore a b level models storey none = rw none refl
+
+rules_have_none : (rules : List Rule) → items_have_float (rule_items rules) ≡ false
+rules_have_none [] = refl
+rules_have_none (r ∷ rs) = rw (kind_has_none r.kind (class_text r.a) (class_text r.b) (storey_tree r.level) (models_text r.models) (storeys_text r.storey) (storey_has_none r.level), rules_have_none rs) refl
+
+version_has_none : (items : Items) (newest : ℕ) (rules : Items) (version : ℕ) → items_have_float items ≡ false → items_have_float rules ≡ false
+    → has_float (version_tree items newest rules version) ≡ false
 unfolding version_tree
-version_has_none items newest version none = rw none refl
+version_has_none items newest rules version none no_rules = rw (none, no_rules) refl
 
 changed_has_none : (version elements triangles left : ℕ) → has_float (changed_tree version elements triangles left) ≡ false
 unfolding changed_tree
@@ -125,7 +140,9 @@ reply_has_none : (project : ℕ) (body : ReplyBody) (tree : Data) → IsReplyTre
 reply_has_none project (reply.TopicIs topic) tree is = one_has_none project topic tree is
 reply_has_none project (reply.TopicList topics) tree is = ap has_float is.2 ∙ all_have_none project topics is.0 is.1
 reply_has_none project (reply.Changed version elements triangles left) tree is = ap has_float is ∙ changed_has_none _ _ _ _
-reply_has_none project (reply.Version version newest models) tree is = ap has_float is.2 ∙ version_has_none is.0 newest version (models_have_none models is.0 is.1)
+reply_has_none project (reply.Version version newest snapshot) tree is =
+    ap has_float is.2
+    ∙ version_has_none is.0 newest (rule_items snapshot.rules) version (models_have_none snapshot.models is.0 is.1) (rules_have_none snapshot.rules)
 reply_has_none project (reply.Refused NoProject) tree is = ap has_float is ∙ error_has_none _ _
 
 fault_has_none : (fault : RequestFault) → has_float (request_fault_tree fault) ≡ false

@@ -1,10 +1,13 @@
--- One more tree of an element or a model.
+-- One more tree of an element, a model or a rule.
 use Rattle.std.proofs.Common.{◌≡◌, ◌+◌, ◌<◌, ℕ, List, [], ◌∷◌, ◌++◌, length, take, get_or, sym, ◌∙◌, ap}
 use Rattle.std.proofs.lemmas.List.{take_more}
+use Rattle.serde_json.specs.Data.{item, no_items}
 use Rattle.serde_json.specs.View.{view, items_view}
 use Rattle.serde_json.specs.declared.value.Value.{Value}
 use Rattle.bim_model.specs.declared.element.Element.{Element}
 use Rattle.bim_model.specs.declared.named_model.NamedModel.{NamedModel}
+use Rattle.bim_model.specs.declared.rules.Rule.{Rule}
+use Rattle.bcf_http.specs.Rules.{rule_tree, rule_items}
 use Rattle.bcf_http.specs.Versions.{IsElementTree, AreElementTrees, IsModelTree, AreModelTrees}
 
 elements_push : (es : List Element) (vs : List Value) (e : Element) (v : Value)
@@ -34,3 +37,20 @@ pub models_more : (ms : List NamedModel) (i : ℕ) (old new : List Value) → i 
 models_more ms i old new lt m at v is grown are =
     let more : take (i + 1) ms ≡ take i ms ++ m ∷ [] = take_more ms i m lt ∙ ap (λ x. take i ms ++ x ∷ []) (sym at) in
     rw (more, grown) (models_push (take i ms) old m v are is)
+
+rules_push : (rs : List Rule) (vs : List Value) (r : Rule) (v : Value)
+    → items_view vs ≡ rule_items rs → view v ≡ rule_tree r → items_view (vs ++ v ∷ []) ≡ rule_items (rs ++ r ∷ [])
+rules_push [] [] r v are is = ap (λ d. item d no_items) is
+rules_push [] (w ∷ vs) r v are is = cc
+rules_push (q ∷ rs) [] r v are is = cc
+rules_push (q ∷ rs) (w ∷ vs) r v are is =
+    let first : view w ≡ rule_tree q = cc in
+    let rest : items_view vs ≡ rule_items rs = cc in
+    ap (λ d. item d (items_view (vs ++ v ∷ []))) first ∙ ap (λ ds. item (rule_tree q) ds) (rules_push rs vs r v rest is)
+
+pub rules_more : (rs : List Rule) (i : ℕ) (old new : List Value) → i < length rs → (r : Rule) → r ≡ get_or rs i r
+    → (v : Value) → view v ≡ rule_tree r → new ≡ old ++ v ∷ []
+    → items_view old ≡ rule_items (take i rs) → items_view new ≡ rule_items (take (i + 1) rs)
+rules_more rs i old new lt r at v is grown are =
+    let more : take (i + 1) rs ≡ take i rs ++ r ∷ [] = take_more rs i r lt ∙ ap (λ x. take i rs ++ x ∷ []) (sym at) in
+    rw (more, grown) (rules_push (take i rs) old r v are is)

@@ -26,7 +26,7 @@ abbrev pub IsReplyTree : ℕ → ReplyBody → Data → Type 0
 IsReplyTree project (reply.TopicIs topic) tree = IsTopicTree project topic tree
 IsReplyTree project (reply.TopicList topics) tree = (items : Items) × AreTopicTrees project topics items × (tree ≡ array items)
 IsReplyTree project (reply.Changed version elements triangles left) tree = tree ≡ changed_tree version elements triangles left
-IsReplyTree project (reply.Version version newest models) tree = IsVersionTree version newest models tree
+IsReplyTree project (reply.Version version newest snapshot) tree = IsVersionTree version newest snapshot tree
 IsReplyTree project (reply.Refused NoProject) tree = tree ≡ error_tree (codes "K1") (codes "NoProject")
 
 abbrev pub IsAnswerTree : ℕ → Answer → Data → Type 0
@@ -40,7 +40,7 @@ abbrev pub reply_status : Bool → ReplyBody → ℕ
 reply_status created (reply.TopicIs topic) = if created then 201 else 200
 reply_status created (reply.TopicList topics) = 200
 reply_status created (reply.Changed version elements triangles left) = if created then 201 else 200
-reply_status created (reply.Version version newest models) = 200
+reply_status created (reply.Version version newest snapshot) = 200
 reply_status created (reply.Refused NoProject) = 404
 
 abbrev pub fault_status : RequestFault → ℕ

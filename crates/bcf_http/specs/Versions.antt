@@ -1,14 +1,13 @@
 -- Versions, and what uploads answer, as JSON data.
-use Rattle.std.specs.Prelude.{◌≡◌, ℕ, ℤ, List, [], ◌∷◌, length, Option, Some, None, codes}
-use Rattle.serde_json.specs.Data.{Data, null, number, string, array, object, unsigned, Items, no_items, item, member, no_members}
+use Rattle.std.specs.Prelude.{◌≡◌, ℕ, ℤ, List, [], ◌∷◌, length, codes}
+use Rattle.serde_json.specs.Data.{Data, number, string, array, object, Items, no_items, item, member, no_members}
 use Rattle.serde_json.specs.Find.{of_integer}
 use Rattle.bim_model.specs.Boxes.{IsExtentOf}
+use Rattle.bim_model.specs.Snapshots.{Version}
+use Rattle.bcf_http.specs.Rules.{count_tree, storey_tree, rule_items}
 use Rattle.bim_model.specs.declared.geometry.Extent.{Extent}
 use Rattle.bim_model.specs.declared.element.Element.{Element}
 use Rattle.bim_model.specs.declared.named_model.NamedModel.{NamedModel}
-
-abbrev pub count_tree : ℕ → Data
-count_tree n = number (unsigned n)
 
 abbrev pub length_tree : ℤ → Data
 length_tree z = number (of_integer z)
@@ -18,11 +17,6 @@ abbrev pub box_tree : Extent → Data
 box_tree e =
     array (item (length_tree e.low.x) (item (length_tree e.low.y) (item (length_tree e.low.z)
     (item (length_tree e.high.x) (item (length_tree e.high.y) (item (length_tree e.high.z) no_items))))))
-
--- the name of a storey, or null
-abbrev pub storey_tree : Option (List ℕ) → Data
-storey_tree None = null
-storey_tree (Some name) = string name
 
 unfoldable pub element_tree : Data → List ℕ → List ℕ → List ℕ → Data → ℕ → Data
 element_tree box class guid name storey triangles =
@@ -60,16 +54,17 @@ AreModelTrees [] (item d ds) = ⊥
 AreModelTrees (m ∷ ms) no_items = ⊥
 AreModelTrees (m ∷ ms) (item d ds) = IsModelTree m d × AreModelTrees ms ds
 
-unfoldable pub version_tree : Items → ℕ → ℕ → Data
-version_tree models newest version =
+unfoldable pub version_tree : Items → ℕ → Items → ℕ → Data
+version_tree models newest rules version =
     object (member (codes "models") (array models)
     (member (codes "newest") (count_tree newest)
-    (member (codes "rules") (array no_items)
+    (member (codes "rules") (array rules)
     (member (codes "version") (count_tree version) no_members))))
 
--- a version with its models; it has no rules yet
-abbrev pub IsVersionTree : ℕ → ℕ → List NamedModel → Data → Type 0
-IsVersionTree version newest models tree = (trees : Items) × AreModelTrees models trees × (tree ≡ version_tree trees newest version)
+-- a version with its models and its rules
+abbrev pub IsVersionTree : ℕ → ℕ → Version → Data → Type 0
+IsVersionTree version newest snapshot tree =
+    (trees : Items) × AreModelTrees snapshot.models trees × (tree ≡ version_tree trees newest (rule_items snapshot.rules) version)
 
 -- what an upload made
 unfoldable pub changed_tree : ℕ → ℕ → ℕ → ℕ → Data

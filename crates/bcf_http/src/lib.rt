@@ -4,6 +4,7 @@
 mod answers;
 mod calls;
 mod responses;
+mod rules;
 mod trees;
 mod upload_faults;
 mod versions;

@@ -41,7 +41,7 @@ fn reply_out(alloc: Global, project: u32, reply: &ReplyBody) -> Result<Value, Al
             version,
             newest,
             snapshot,
-        } => version_out(alloc, *version, *newest, snapshot.get().models()),
+        } => version_out(alloc, *version, *newest, snapshot.get()),
         ReplyBody::Refused(BookFault::NoProject) => error_out(alloc, "K1", "NoProject"),
     }
 }

@@ -2,9 +2,10 @@
 ghost use Rattle.std.specs.Prelude.{◌≡◌, ◌<◌, ◌++◌, ◌∷◌, [], All, length, IfOk, OnOk};
 ghost use Rattle.serde_json.specs.View.{view, items_view};
 ghost use Rattle.bim_model.specs.Models.{IsModel, IsModelled};
-ghost use Rattle.bcf_http.specs.Versions.{box_tree, storey_tree, element_tree, model_tree, version_tree, changed_tree, IsElementTree, AreElementTrees, IsModelTree, AreModelTrees, IsVersionTree};
+ghost use Rattle.bcf_http.specs.Versions.{box_tree, element_tree, model_tree, version_tree, changed_tree, IsElementTree, AreElementTrees, IsModelTree, AreModelTrees, IsVersionTree};
 
-use bim_model::{Element, Extent, NamedModel, Text, extent_of};
+use crate::rules::{rules_out, storey_out};
+use bim_model::{Element, Extent, NamedModel, Snapshot, extent_of};
 use serde_json::{Value, json};
 use std::alloc::{AllocError, Global};
 
@@ -13,15 +14,6 @@ fn box_out(alloc: Global, extent: Extent) -> Result<Value, AllocError>
 {
     let (low, high) = (extent.low, extent.high);
     json!(in alloc; [low.x, low.y, low.z, high.x, high.y, high.z])
-}
-
-fn storey_out(alloc: Global, storey: &Option<Text>) -> Result<Value, AllocError>
-    ensures { IfOk result (λ v. view v ≡ storey_tree storey.now) }
-{
-    match storey {
-        Some(name) => json!(in alloc; name.as_str()),
-        None => Ok(Value::Null),
-    }
 }
 
 #[tactic(auto, unfolding(crate::specs::Versions::element_tree))]
@@ -118,25 +110,28 @@ fn version_tree(
     alloc: Global,
     models: Vec<Value>,
     newest: u64,
+    rules: Vec<Value>,
     version: u64,
 ) -> Result<Value, AllocError>
-    ensures { IfOk result (λ v. view v ≡ version_tree (items_view models.items) newest version) }
+    ensures { IfOk result (λ v. view v ≡ version_tree (items_view models.items) newest (items_view rules.items) version) }
 {
     let models = Value::Array(models);
-    json!(in alloc; { "models": models, "newest": newest, "rules": [], "version": version })
+    let rules = Value::Array(rules);
+    json!(in alloc; { "models": models, "newest": newest, "rules": rules, "version": version })
 }
 
-/// A version with its models, as an object.
+/// A version with its models and its rules, as an object.
 pub fn version_out(
     alloc: Global,
     version: u64,
     newest: u64,
-    models: &[NamedModel],
+    snapshot: &Snapshot,
 ) -> Result<Value, AllocError>
-    ensures { IfOk result (λ v. IsVersionTree version newest models.now (view v)) }
+    ensures { IfOk result (λ v. IsVersionTree version newest snapshot.now (view v)) }
 {
-    let trees = models_out(alloc, models)?;
-    version_tree(alloc, trees, newest, version)
+    let trees = models_out(alloc, snapshot.models())?;
+    let rules = rules_out(alloc, snapshot.rules().list())?;
+    version_tree(alloc, trees, newest, rules, version)
 }
 
 /// What an upload made, as an object: the number of the version, how many elements and triangles the uploaded model has, and how many buckets

@@ -1,4 +1,4 @@
-use Rattle.std.proofs.Common.{◌≡◌, ◌∙◌, true≢false, refl, sym}
+use Rattle.std.proofs.Common.{◌∙◌, true≢false, refl, sym}
 use Rattle.bim_model.specs.Models.{IsInReach}
 use Rattle.bim_model.proofs.Tested.{corners_more, corners_at, corners_whole}
 use Rattle.bim_model.proofs.checks.are_in_reach.Goals as goal

@@ -1,4 +1,4 @@
-use Rattle.std.proofs.Common.{◌≡◌, ◌↔◌, ◌∷◌, [], ◌∙◌, Bool, true, false, true≢false, IsTrue, All, sym, subst}
+use Rattle.std.proofs.Common.{◌↔◌, ◌∷◌, [], ◌∙◌, Bool, true≢false, IsTrue, All, sym, subst}
 use Rattle.bim_model.specs.Boxes.{corners_of}
 use Rattle.bim_model.specs.Models.{IsInReach}
 use Rattle.bim_model.proofs.Tested.{three_tested, two_failed}
