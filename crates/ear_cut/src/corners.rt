@@ -2,6 +2,7 @@
 ghost use Rattle.std.specs.Prelude.{◌≡◌, ◌≤◌, ◌<◌, length, All, IfOk};
 ghost use Rattle.bim_model.specs.Points.{IsGridPoint, step};
 ghost use Rattle.exact_arith.specs.Space.{is_nowhere, cross_of};
+ghost use Rattle.ear_cut.specs.Limits.{most_corners};
 ghost use Rattle.ear_cut.specs.Corners.{corners_from, previous, next, turn_at, angle_of, by_sign, InGrid};
 
 use crate::normals::{cross, step};
@@ -37,7 +38,7 @@ pub enum Angle {
 
 /// The corners with their places.
 pub fn corners_of(alloc: Global, points: &[Point]) -> Result<Vec<Corner>, AllocError>
-    requires { length points.now ≤ 65536 }
+    requires { length points.now ≤ most_corners }
     ensures { IfOk result (λ made. made.items ≡ corners_from 0 points.now) }
 {
     let mut corners = Vec::with_capacity(alloc, points.len())?;

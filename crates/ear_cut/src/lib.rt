@@ -13,4 +13,4 @@ mod tests;
 mod views;
 
 pub use ears::Ear;
-pub use removal::{CutFault, cut};
+pub use removal::{CutFault, MOST_CORNERS, cut};

@@ -3,6 +3,7 @@ ghost use Rattle.std.specs.Prelude.{◌≡◌, ◌≤◌, ◌<◌, ◌+◌, ◌*
 ghost use Rattle.exact_arith.specs.Space.{plus, cross_of};
 ghost use Rattle.bim_model.specs.Points.{grid_limit, vector_of, step, IsGridPoint};
 ghost use Rattle.bim_model.specs.Polygons.{normal_of};
+ghost use Rattle.ear_cut.specs.Limits.{most_corners, product_limit, normal_limit};
 ghost use Rattle.ear_cut.specs.Registers.{as_vector, IsWithin, as_way, IsStep};
 
 use crate::coordinates::Way;
@@ -60,17 +61,17 @@ fn product(p: Point, q: Point) -> Normal
     requires p_in { IsGridPoint p }
     requires q_in { IsGridPoint q }
     ensures value { as_vector result ≡ cross_of (vector_of p) (vector_of q) }
-    ensures small { IsWithin result 128000000000000 }
+    ensures small { IsWithin result product_limit }
 {
     cross(from_origin(p), from_origin(q))
 }
 
 /// The sum of two vectors.
 fn sum_of(a: Normal, b: Normal) -> Normal
-    requires a_in { IsWithin a 8388608000000000000 }
-    requires b_in { IsWithin b 128000000000000 }
+    requires a_in { IsWithin a normal_limit }
+    requires b_in { IsWithin b product_limit }
     ensures value { as_vector result ≡ plus (as_vector a) (as_vector b) }
-    ensures small { (m : ℕ) → IsWithin a m → IsWithin result (m + 128000000000000) }
+    ensures small { (m : ℕ) → IsWithin a m → IsWithin result (m + product_limit) }
 {
     Normal {
         x: a.x + b.x,
@@ -82,7 +83,7 @@ fn sum_of(a: Normal, b: Normal) -> Normal
 /// Twice the area of the closed polygon, along its normal.
 pub fn normal_of(corners: &[Point]) -> Normal
     requires some { 0 < length corners.now }
-    requires few { length corners.now ≤ 65536 }
+    requires few { length corners.now ≤ most_corners }
     requires in_grid { All IsGridPoint corners.now }
     ensures { as_vector result ≡ normal_of corners.now }
 {

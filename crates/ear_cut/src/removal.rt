@@ -2,6 +2,7 @@
 ghost use Rattle.std.specs.Prelude.{◌≡◌, ◌≤◌, ◌<◌, ◌+◌, ◌-◌, length, All, IfOk, IfErr, MatchOption, None, Some};
 ghost use Rattle.bim_model.specs.Points.{IsGridPoint};
 ghost use Rattle.bim_model.specs.Polygons.{normal_of};
+ghost use Rattle.ear_cut.specs.Limits.{most_corners};
 ghost use Rattle.ear_cut.specs.Corners.{AreInGrid};
 ghost use Rattle.ear_cut.specs.Removal.{is_turned_over, cut_by, cut_of};
 ghost use Rattle.ear_cut.specs.Areas.{area_of_ears};
@@ -14,6 +15,9 @@ use crate::notes::{notes_of, take_next};
 use crate::views::{View, view_of};
 use bim_model::Point;
 use std::alloc::{AllocError, Global};
+
+/// The greatest number of corners of a polygon that is cut.
+pub const MOST_CORNERS: usize = 65_536;
 
 /// Why a polygon was not cut.
 #[derive(Clone, Copy, Debug, PartialEq, Eq, Drop)]
@@ -64,7 +68,7 @@ fn clipped(
 /// The triangles of a polygon; none where the rule is stuck.
 fn triangles_of(alloc: Global, corners: &[Point]) -> Result<Option<Vec<Ear>>, AllocError>
     requires three { 3 ≤ length corners.now }
-    requires few { length corners.now ≤ 65536 }
+    requires few { length corners.now ≤ most_corners }
     requires in_grid { All IsGridPoint corners.now }
     ensures { IfOk result (λ found. MatchOption found (cut_of corners.now ≡ None) (λ ears. cut_of corners.now ≡ Some ears.items)) }
 {
@@ -84,7 +88,7 @@ fn triangles_of(alloc: Global, corners: &[Point]) -> Result<Option<Vec<Ear>>, Al
 /// polygon that crosses itself; `CutFault::Memory` where memory was refused.
 pub fn cut(alloc: Global, corners: &[Point]) -> Result<Vec<Ear>, CutFault>
     requires three { 3 ≤ length corners.now }
-    requires few { length corners.now ≤ 65536 }
+    requires few { length corners.now ≤ most_corners }
     requires in_grid { All IsGridPoint corners.now }
     ensures triangles { IfOk result (λ ears. cut_of corners.now ≡ Some ears.items) }
     ensures stuck { IfErr result (λ fault. fault ≡ CutFault.Stuck → cut_of corners.now ≡ None) }

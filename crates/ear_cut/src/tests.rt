@@ -414,7 +414,7 @@ fn polygon(alloc: Global, corners: &[[i32; 3]]) -> Result<Vec<Point>, AllocError
 fn cuts_by_the_rule(rt: HostRuntime) -> Result<(), Fail> {
     for case in CASES.iter() {
         let points = polygon(rt.alloc(), case.corners)?;
-        assert!(rt; points.len() >= 3 && points.len() <= 65536);
+        assert!(rt; points.len() >= 3 && points.len() <= MOST_CORNERS);
         let mut wanted = Vec::new(rt.alloc());
         for ear in case.ears {
             wanted.push(Ear {
@@ -484,7 +484,7 @@ fn cuts_a_thousand_corners(rt: HostRuntime) -> Result<(), Fail> {
             corners.push(corner_of(kind, i))?;
         }
         let points = polygon(rt.alloc(), &corners)?;
-        assert!(rt; points.len() >= 3 && points.len() <= 65536);
+        assert!(rt; points.len() >= 3 && points.len() <= MOST_CORNERS);
         let mut folded: u32 = 0;
         match cut(rt.alloc(), &points) {
             Ok(ears) => {
