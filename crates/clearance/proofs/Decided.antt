@@ -1,5 +1,5 @@
 -- The truth values say what the definitions by weights say.
-use Rattle.std.proofs.Common.{ℕ, Bool, true, false, ◌&&◌, ◌||◌, ◌≡◌, ◌↔◌, ◌⊎◌, inl, inr, IsTrue, arith, ℤ, pos, negsuc, ◌+ℤ◌, ◌-ℤ◌, ◌*ℤ◌, ◌≤ℤ◌, ◌<ℤ◌, List, refl}
+use Rattle.std.proofs.Common.{ℕ, Bool, true, false, ◌&&◌, ◌||◌, ◌≡◌, ◌↔◌, ◌⊎◌, IsTrue, arith, ℤ, pos, ◌+ℤ◌, ◌-ℤ◌, ◌*ℤ◌, ◌≤ℤ◌, ◌<ℤ◌, List, refl}
 use Rattle.std.specs.Prelude.{Any, int_le, int_lt}
 use Rattle.std.specs.Bool.{Decides}
 use Rattle.std.specs.List.{list_any}
@@ -14,15 +14,14 @@ use Rattle.tri_exact.specs.Within.{HasArea, FootWithin}
 use Rattle.tri_exact.specs.Foot.{square_of, along_of, across_of, height_of}
 use Rattle.tri_exact.specs.Edges.{Beside, Crosses}
 use Rattle.tri_exact.specs.Pierce.{Rises, Up, PiercesFace, height, weight_a, weight_b, weight_c}
-use Rattle.tri_exact.proofs.TwoFaces.{FootClose}
 use Rattle.tri_exact.proofs.FootTest.{foot_yes, foot_no}
 use Rattle.clearance.specs.Near.{FacesNear, Near, NearAny, ListsNear, ElementsNear}
 use Rattle.clearance.specs.Planes.{SideNear}
 use Rattle.clearance.specs.Rows.{CornerNear, RowNear, EdgesNear}
-use Rattle.clearance.specs.Decided.{is_beside, is_crossing, is_corner_near, is_row_near, is_edge_near, is_foot, is_over, is_rising, is_up, is_through, is_side_near, is_face_near, is_near_triangles, is_near_lists, is_near}
+use Rattle.clearance.specs.Decided.{is_beside, is_crossing, is_corner_near, is_row_near, is_edge_near, is_over, is_rising, is_up, is_through, is_side_near, is_face_near, is_near_triangles, is_near_lists, is_near}
 use Rattle.clearance.proofs.Lists.{any_map}
 use Rattle.clearance.proofs.NearTest.{near_tests, tests_near}
-use Rattle.clearance.proofs.RowsTest.{RowsNear, rows_yes, rows_no}
+use Rattle.clearance.proofs.RowsTest.{rows_yes, rows_no}
 
 -- ---- comparisons
 unless : (t : Bool) → (t ≡ false → ⊥) → t ≡ true

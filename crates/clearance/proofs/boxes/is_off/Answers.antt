@@ -1,4 +1,4 @@
-use Rattle.std.proofs.Common.{◌↔◌, ◌≡◌, ◌<◌, ◌≤◌, ℕ, ℤ, unsigned_abs, subst}
+use Rattle.std.proofs.Common.{◌↔◌, ◌<◌, ◌≤◌, ℕ, ℤ, unsigned_abs, subst}
 use Rattle.bim_model.specs.Gaps.{gap}
 use Rattle.tri_exact.proofs.Choice.{first_yes, second_yes, third}
 use Rattle.clearance.proofs.Words.{in_32, same_32}
