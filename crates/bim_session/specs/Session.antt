@@ -19,12 +19,13 @@ use Rattle.bcf_http.specs.declared.answers.Answer.{Answer}
 use Rattle.bcf_http.specs.declared.answers.Answer.TheVariants as answer
 use Rattle.bcf_http.specs.Calls.{asked_by, kind_of, no_kind}
 use Rattle.bcf_http.specs.Answers.{IsResponse}
+use Rattle.bim_session.specs.declared.talk.TheConstants.{MOST_REQUESTS}
 use Rattle.bim_session.specs.declared.end.SessionEnd.{SessionEnd}
 use Rattle.bim_session.specs.declared.end.SessionEnd.TheVariants.{Closed, Cut, ReadFault, WriteFault, Frame, Spent, Memory}
 
 -- the most requests of a session
 abbrev pub most_requests : ℕ
-most_requests = 10000
+most_requests = MOST_REQUESTS
 
 -- the connection is closed behind the answer to the request of this number, counted from 1
 abbrev pub closes_after : ℕ → Bool

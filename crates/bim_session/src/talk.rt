@@ -14,7 +14,8 @@ use http_frame::{FrameError, FrameFault, FrameStep, Framer, HttpRequest};
 use std::alloc::{AllocError, Global};
 use std::marker::Model;
 
-const MOST_REQUESTS: u64 = 10_000;
+/// The most requests that a session is answered.
+pub const MOST_REQUESTS: u64 = 10_000;
 
 /// One connection. It stands for the bytes fed that follow the last request that it took.
 #[derive(Drop)]
