@@ -25,10 +25,12 @@ abbrev pub numbers_from : ℕ → ℕ → List ℕ
 numbers_from a zero = []
 numbers_from a (suc n) = a ∷ numbers_from (suc a) n
 
+-- the first number alone
 abbrev pub first_only : List ℕ → List ℕ
 first_only [] = []
 first_only (p ∷ ps) = p ∷ []
 
+-- all numbers but the first
 abbrev pub all_but_first : List ℕ → List ℕ
 all_but_first [] = []
 all_but_first (p ∷ ps) = ps

@@ -18,6 +18,7 @@ awaited Free = 0
 awaited (Waiting t) = t
 awaited (Called t) = t
 
+-- it is at its turn
 abbrev pub IsCalled : Stage → Type 0
 IsCalled Free = ⊥
 IsCalled (Waiting t) = ⊥

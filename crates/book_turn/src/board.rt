@@ -49,9 +49,11 @@ impl<O: SeqObject> Board<O> {
     // Looks whether the turn has come.
     pub(crate) fn look(&self, seat: &mut Place<O>) -> u64
         requires own { seat.old.table_id ≡ self.now.table.shared.table_id }
-        requires waits { (t : ℕ) × (seat.old.me.0.stage ≡ Waiting t) × (0 < length seat.old.me.0.passes) × (seat.old.me.1 ≡ []) }
+        requires waits { (t : ℕ) × (seat.old.me.0.stage ≡ Waiting t)
+            × (0 < length seat.old.me.0.passes) × (seat.old.me.1 ≡ []) }
         ensures own { (seat.new.table_id ≡ seat.old.table_id) × (seat.new.id ≡ seat.old.id) }
-        ensures looked { looked O.journal O.settings (λ e. (O.stamp_of e).turn) (λ e. (O.stamp_of e).pass) (step 1 1 0 0 none) seat.old.me result seat.new.me }
+        ensures looked { looked O.journal O.settings (λ e. (O.stamp_of e).turn) (λ e. (O.stamp_of e).pass)
+            (step 1 1 0 0 none) seat.old.me result seat.new.me }
     {
         self.table.shared.load::<Look>(seat, SERVING)
     }
@@ -59,7 +61,10 @@ impl<O: SeqObject> Board<O> {
     // Puts the object back, with what it has become, and lets the next turn come.
     pub(crate) fn pass_on(&self, seat: &mut Place<O>)
         requires own { seat.old.table_id ≡ self.now.table.shared.table_id }
-        requires called { (t : ℕ) × (o : O) × (seat.old.me.0.stage ≡ Called t) × (0 < length seat.old.me.0.passes) × (seat.old.me.1 ≡ (0, Some o) ∷ []) × Adds O.journal O.settings (λ e. (O.stamp_of e).turn) (λ e. (O.stamp_of e).pass) t o seat.old.me.0 }
+        requires called { (t : ℕ) × (o : O) × (seat.old.me.0.stage ≡ Called t)
+            × (0 < length seat.old.me.0.passes) × (seat.old.me.1 ≡ (0, Some o) ∷ [])
+            × Adds O.journal O.settings (λ e. (O.stamp_of e).turn) (λ e. (O.stamp_of e).pass)
+            t o seat.old.me.0 }
         ensures own { (seat.new.table_id ≡ seat.old.table_id) × (seat.new.id ≡ seat.old.id) }
         ensures passed { passed O.journal (step 1 1 1 0 none) seat.old.me 0 seat.new.me }
     {
@@ -69,20 +74,27 @@ impl<O: SeqObject> Board<O> {
     // Cuts a further pass off.
     pub(crate) fn cut(&self, seat: &mut Place<O>) -> Place<O>
         requires own { seat.old.table_id ≡ self.now.table.shared.table_id }
-        requires free { (seat.old.me.0.stage ≡ Free) × (1 < length seat.old.me.0.passes) × (seat.old.me.0.turns ≡ []) }
-        ensures own { (seat.new.table_id ≡ seat.old.table_id) × (seat.new.id ≡ seat.old.id) × (result.table_id ≡ seat.old.table_id) }
-        ensures cut { (seat.new.me ≡ (kept_view seat.old.me.0, seat.old.me.1)) × (result.me ≡ (given_view seat.old.me.0, [])) }
+        requires free { (seat.old.me.0.stage ≡ Free)
+            × (1 < length seat.old.me.0.passes) × (seat.old.me.0.turns ≡ []) }
+        ensures own { (seat.new.table_id ≡ seat.old.table_id) × (seat.new.id ≡ seat.old.id)
+            × (result.table_id ≡ seat.old.table_id) }
+        ensures cut { (seat.new.me ≡ (kept_view seat.old.me.0, seat.old.me.1))
+            × (result.me ≡ (given_view seat.old.me.0, [])) }
     {
         self.table.shared.split_seat::<Cut>(seat)
     }
 
     // Takes another seat in, and compares what both have seen.
     pub(crate) fn glue(&self, seat: &mut Place<O>, other: Place<O>)
-        requires own { (seat.old.table_id ≡ self.now.table.shared.table_id) × (other.table_id ≡ self.now.table.shared.table_id) }
-        requires free { (seat.old.me.0.stage ≡ Free) × (0 < length seat.old.me.0.passes) × (seat.old.me.1 ≡ []) }
+        requires own { (seat.old.table_id ≡ self.now.table.shared.table_id)
+            × (other.table_id ≡ self.now.table.shared.table_id) }
+        requires free { (seat.old.me.0.stage ≡ Free)
+            × (0 < length seat.old.me.0.passes) × (seat.old.me.1 ≡ []) }
         requires other { (other.me.0.stage ≡ Free) × (0 < length other.me.0.passes) × (other.me.1 ≡ []) }
         ensures own { (seat.new.table_id ≡ seat.old.table_id) × (seat.new.id ≡ seat.old.id) }
-        ensures glued { Glued (λ e. (O.stamp_of e).turn) (λ e. (O.stamp_of e).pass) seat.old.me.0 other.me.0 seat.new.me.0 × (seat.new.me.1 ≡ []) }
+        ensures glued { Glued (λ e. (O.stamp_of e).turn) (λ e. (O.stamp_of e).pass)
+            seat.old.me.0 other.me.0 seat.new.me.0
+            × (seat.new.me.1 ≡ []) }
     {
         self.table.shared.join_seat::<Glue>(seat, other);
         self.table.shared.load::<Compare>(seat, TICKET);
@@ -96,11 +108,15 @@ impl<O: SeqObject> Board<O> {
         request: O::Request,
     ) -> Result<O::Reply, AllocError>
         requires own { seat.old.table_id ≡ self.now.table.shared.table_id }
-        requires called { (o : O) × (seat.old.me.0.stage ≡ Called stamp.turn) × (seat.old.me.1 ≡ (0, Some o) ∷ []) × (O.journal o ≡ seat.old.me.0.seen) × (seat.old.me.0.settings ≡ Some (O.settings o)) × O.is_legal (O.settings o) seat.old.me.0.seen request }
+        requires called { (o : O) × (seat.old.me.0.stage ≡ Called stamp.turn)
+            × (seat.old.me.1 ≡ (0, Some o) ∷ []) × (O.journal o ≡ seat.old.me.0.seen)
+            × (seat.old.me.0.settings ≡ Some (O.settings o))
+            × O.is_legal (O.settings o) seat.old.me.0.seen request }
         requires after { AllBefore (λ e. (O.stamp_of e).turn) stamp.turn seat.old.me.0.seen }
         requires named { has stamp.pass seat.old.me.0.passes ≡ true }
         ensures own { (seat.new.table_id ≡ seat.old.table_id) × (seat.new.id ≡ seat.old.id) }
-        ensures done { Serves O.reply_of O.added_by stamp request seat.old.me.0 seat.new.me.0 result × (seat.new.me.1 ≡ []) }
+        ensures done { Serves O.reply_of O.added_by stamp request seat.old.me.0 seat.new.me.0 result
+            × (seat.new.me.1 ≡ []) }
     {
         let hand = self.table.shared.exchange(seat, 0, None);
         let Some(mut object) = hand else {
@@ -123,11 +139,14 @@ impl<O: SeqObject> Board<O> {
         request: O::Request,
     ) -> (u64, Result<O::Reply, AllocError>)
         requires own { seat.old.table_id ≡ self.now.table.shared.table_id }
-        requires free { (seat.old.me.0.stage ≡ Free) × (seat.old.me.1 ≡ []) × (has number seat.old.me.0.passes ≡ true) }
+        requires free { (seat.old.me.0.stage ≡ Free) × (seat.old.me.1 ≡ [])
+            × (has number seat.old.me.0.passes ≡ true) }
         requires few { length seat.old.me.0.turns < 2 ^ 40 * length seat.old.me.0.passes }
         requires legal { IfSome seat.old.me.0.settings (λ s. O.is_legal s seat.old.me.0.seen request) }
-        ensures own { (seat.new.table_id ≡ seat.old.table_id) × (seat.new.id ≡ seat.old.id) × (seat.new.me.1 ≡ []) }
-        ensures taken { TakesTurn O.stamp_of O.reply_of O.added_by result.0 number call request seat.old.me.0 seat.new.me.0 result.1 }
+        ensures own { (seat.new.table_id ≡ seat.old.table_id) × (seat.new.id ≡ seat.old.id)
+            × (seat.new.me.1 ≡ []) }
+        ensures taken { TakesTurn O.stamp_of O.reply_of O.added_by result.0 number call request
+            seat.old.me.0 seat.new.me.0 result.1 }
     {
         let turn = self.draw(seat);
         self.wait_for(rt, seat, turn);
@@ -144,7 +163,8 @@ impl<O: SeqObject> Board<O> {
     pub(crate) fn close(self, seat: Place<O>) -> O
         requires own { seat.table_id ≡ self.table.shared.table_id }
         requires free { seat.me.0.stage ≡ Free }
-        requires all { (length seat.me.0.passes ≡ self.table.shared.key.passes) × (0 < self.table.shared.key.passes) }
+        requires all { (length seat.me.0.passes ≡ self.table.shared.key.passes)
+            × (0 < self.table.shared.key.passes) }
         ensures journal { O.journal result ≡ seat.me.0.seen }
         ensures settings { O.settings result ≡ O.settings self.table.shared.key.object.value }
     {
@@ -175,8 +195,10 @@ pub(crate) fn board_of<O: SeqObject + Drop>(
 ) -> Result<(Board<O>, Place<O>), AllocError>
     requires passes { (0 < passes) × (passes ≤ 64) }
     requires empty { O.journal object ≡ [] }
-    ensures board { IfOk result (λ r. (r.0.table.shared.key.passes ≡ passes) × (O.settings r.0.table.shared.key.object.value ≡ O.settings object)) }
-    ensures seat { IfOk result (λ r. (r.1.table_id ≡ r.0.table.shared.table_id) × (r.1.me ≡ (first_view (O.settings object) passes, []))) }
+    ensures board { IfOk result (λ r. (r.0.table.shared.key.passes ≡ passes)
+        × (O.settings r.0.table.shared.key.object.value ≡ O.settings object)) }
+    ensures seat { IfOk result (λ r. (r.1.table_id ≡ r.0.table.shared.table_id)
+        × (r.1.me ≡ (first_view (O.settings object) passes, []))) }
 {
     let about = Key {
         object: Snapshot::of(&object),

@@ -12,7 +12,8 @@ pub struct Stamp {
     pub turn: u64,
     /// The number of the pass that made it.
     pub pass: u32,
-    /// Its number among the calls of that pass, from 1 on. Calls of passes that were joined into it do not count.
+    /// Its number among the calls of that pass, from 1 on. Calls of passes that were joined into it do not
+    /// count.
     pub call: u64,
 }
 
@@ -57,12 +58,15 @@ pub trait SeqObject {
         requires after { AllBefore (λ e. (stamp_of e).turn) stamp.turn (journal self.old) }
         ensures settings { settings self.new ≡ settings self.old }
         ensures reply { IfOk result (λ r. r ≡ reply_of (settings self.old) (journal self.old) stamp request) }
-        ensures added { OnOk result (journal self.new ≡ journal self.old ++ listed (added_by (settings self.old) (journal self.old) stamp request)) }
+        ensures added { OnOk result (journal self.new
+            ≡ journal self.old ++ listed (added_by (settings self.old) (journal self.old) stamp request)) }
         ensures unchanged { OnErr result (journal self.new ≡ journal self.old) };
 
     /// A legal request stays legal as the journal grows.
-    ghost legal_later: { (s : Self.Settings) (h more : List Self.Entry) (r : Self.Request) → is_legal s h r → is_legal s (h ++ more) r };
+    ghost legal_later: { (s : Self.Settings) (h more : List Self.Entry) (r : Self.Request)
+        → is_legal s h r → is_legal s (h ++ more) r };
 
     /// An entry carries the stamp of the call that adds it.
-    ghost stamped: { (s : Self.Settings) (h : List Self.Entry) (st : Stamp) (r : Self.Request) (e : Self.Entry) → added_by s h st r ≡ Some e → stamp_of e ≡ st };
+    ghost stamped: { (s : Self.Settings) (h : List Self.Entry) (st : Stamp) (r : Self.Request)
+        (e : Self.Entry) → added_by s h st r ≡ Some e → stamp_of e ≡ st };
 }

@@ -11,7 +11,8 @@ use std::marker::Model;
 
 /// One caller's right to call the object of a turn, and what it has seen of the history.
 ///
-/// It may go to another thread. A pass that is dropped takes its number with it, and its turn can't be closed.
+/// It may go to another thread. A pass that is dropped takes its number with it, and its turn can't be
+/// closed.
 pub struct Pass<O: SeqObject> {
     pub(crate) seat: Seat<Option<O>, View<O::Entry, O::Settings>>,
     pub(crate) number: u32,
@@ -47,7 +48,8 @@ impl<O: SeqObject> Pass<O> {
     }
 
     pub(crate) fn into_parts(self) -> (Place<O>, u64)
-        ensures { (pass_state result.0 self.number self.made ≡ self) × IsIdle result.0 self.number self.made result.1 }
+        ensures { (pass_state result.0 self.number self.made ≡ self)
+            × IsIdle result.0 self.number self.made result.1 }
     {
         let Self {
             seat,

@@ -54,7 +54,8 @@ impl<O: SeqObject> TableRule<Option<O>, View<O::Entry, O::Settings>, Key<O>> for
     ghost use Rattle.book_turn.specs.Views.{first_view};
     ghost use Rattle.book_turn.specs.Rule.{Kept};
 
-    ghost holds = { λ key. Kept O.journal O.settings (λ e. (O.stamp_of e).turn) (λ e. (O.stamp_of e).pass) key.passes (O.settings key.object.value) };
+    ghost holds = { λ key. Kept O.journal O.settings (λ e. (O.stamp_of e).turn) (λ e. (O.stamp_of e).pass)
+        key.passes (O.settings key.object.value) };
 
     ghost first = { λ key. first_view (O.settings key.object.value) key.passes };
 }

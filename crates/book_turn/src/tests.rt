@@ -96,8 +96,8 @@ fn new_counter(alloc: Global, name: u64) -> Counter
     }
 }
 
-// Adds so many times, which is how many entries more the history has of this pass. None where a call isn't answered, or
-// its turn isn't above the one before.
+// Adds so many times, which is how many entries more the history has of this pass. None where a call isn't
+// answered, or its turn isn't above the one before.
 fn count<R: Wait>(
     rt: &R,
     turn: &Turn<Counter>,
@@ -133,11 +133,13 @@ fn in_two_threads<R: Threads + Wait + Sync>(rt: &R, alloc: Global) -> Option<Cou
         rt,
         move || -> Option<Pass<Counter>>
             requires { IsSingle shared.now first }
-            ensures { IfSome result (λ p. BelongsTo shared.entry.now p × KeepsNumbers first p × (own_count p ≡ own_count first + 100)) }
+            ensures { IfSome result (λ p. BelongsTo shared.entry.now p
+                × KeepsNumbers first p × (own_count p ≡ own_count first + 100)) }
         { count(rt, shared, first, 100) },
         move || -> Option<Pass<Counter>>
             requires { IsSingle shared.now second }
-            ensures { IfSome result (λ p. BelongsTo shared.entry.now p × KeepsNumbers second p × (own_count p ≡ own_count second + 100)) }
+            ensures { IfSome result (λ p. BelongsTo shared.entry.now p
+                × KeepsNumbers second p × (own_count p ≡ own_count second + 100)) }
         { count(rt, shared, second, 100) },
     );
     let mut into = a?;
@@ -284,7 +286,7 @@ fn lanes_stand_in_one_history(rt: HostRuntime) -> Result<(), Fail> {
     Ok(())
 }
 
-// While one call takes thousands of steps, all others that wait have gone to sleep. Each must be woken: where one
+// While one call takes thousands of steps, all others that wait go to sleep. Each must be woken: where one
 // isn't, the test never ends.
 #[test]
 fn sleepers_are_woken(rt: HostRuntime) -> Result<(), Fail> {
@@ -297,15 +299,16 @@ fn sleepers_are_woken(rt: HostRuntime) -> Result<(), Fail> {
     Ok(())
 }
 
-// Calls of about the length after which one that waits goes to sleep, so that some turns come at that very moment.
+// Calls of about the length after which one that waits goes to sleep, so that some turns come at that very
+// moment.
 #[test]
 fn nobody_sleeps_through_its_turn(rt: HostRuntime) -> Result<(), Fail> {
     let middling = Pace {
-        rounds: 40,
+        rounds: 120,
         shortest: 50,
         end: 250,
     };
-    each_made(&rt, rt.alloc(), 2, middling, 8_000);
+    each_made(&rt, rt.alloc(), 2, middling, 24_000);
     Ok(())
 }
 

@@ -35,7 +35,11 @@ impl<O: SeqObject> Model for Turn<O> {
 
     ghost Value = { TurnState O.Settings };
 
-    ghost view = { λ t. record { turn_id = t.board.table.shared.table_id; settings = O.settings t.board.table.shared.key.object.value; passes = t.board.table.shared.key.passes } };
+    ghost view = { λ t. record {
+      turn_id = t.board.table.shared.table_id;
+      settings = O.settings t.board.table.shared.key.object.value;
+      passes = t.board.table.shared.key.passes;
+    } };
 
     ghost invariant = { λ t. 0 < t.board.table.shared.key.passes };
 }
@@ -69,7 +73,8 @@ impl<O: SeqObject> Turn<O> {
         requires legal { O.is_legal self.now.settings pass.old.seen request }
         ensures own { BelongsTo self.now pass.new }
         ensures same { KeepsNumbers pass.old pass.new }
-        ensures answered { IfOk result (λ r. Answered O.stamp_of O.reply_of O.added_by self.now.settings r.turn request r.reply pass.old pass.new) }
+        ensures answered { IfOk result (λ r. Answered O.stamp_of O.reply_of O.added_by self.now.settings
+            r.turn request r.reply pass.old pass.new) }
         ensures failed { IfErr result (λ e. Failed O.stamp_of pass.old pass.new e) }
     {
         if pass.made >= MOST {
@@ -122,7 +127,11 @@ fn deal<O: SeqObject>(
     requires passes { 0 < passes }
     requires own { seat.table_id ≡ board.now.table.shared.table_id }
     requires seat { seat.me ≡ (dealt_view (O.settings board.now.table.shared.key.object.value) 0 passes, []) }
-    ensures { IfOk result (λ all. all.items ≡ new_passes (record { turn_id = board.entry.now.table.shared.table_id; settings = O.settings board.entry.now.table.shared.key.object.value; passes = board.entry.now.table.shared.key.passes }) 0 passes) }
+    ensures { IfOk result (λ all. all.items ≡ new_passes (record {
+      turn_id = board.entry.now.table.shared.table_id;
+      settings = O.settings board.entry.now.table.shared.key.object.value;
+      passes = board.entry.now.table.shared.key.passes;
+    }) 0 passes) }
 {
     let mut all = Vec::new(alloc);
     for number in 0..passes - 1 {

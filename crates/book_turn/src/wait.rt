@@ -38,9 +38,11 @@ impl<O: SeqObject> Board<O> {
     // Waits until the turn has come.
     pub(crate) fn wait_for<R: Wait>(&self, rt: &R, seat: &mut Place<O>, turn: u64)
         requires own { seat.old.table_id ≡ self.now.table.shared.table_id }
-        requires waits { (seat.old.me.0.stage ≡ Waiting turn) × (0 < length seat.old.me.0.passes) × (seat.old.me.1 ≡ []) }
+        requires waits { (seat.old.me.0.stage ≡ Waiting turn)
+            × (0 < length seat.old.me.0.passes) × (seat.old.me.1 ≡ []) }
         ensures own { (seat.new.table_id ≡ seat.old.table_id) × (seat.new.id ≡ seat.old.id) }
-        ensures comes { Comes O.journal O.settings (λ e. (O.stamp_of e).turn) (λ e. (O.stamp_of e).pass) turn seat.old.me seat.new.me }
+        ensures comes { Comes O.journal O.settings (λ e. (O.stamp_of e).turn) (λ e. (O.stamp_of e).pass)
+            turn seat.old.me seat.new.me }
     {
         let mut round = 0;
         for _ in rt.forever() {
@@ -54,8 +56,8 @@ impl<O: SeqObject> Board<O> {
         unreachable!()
     }
 
-    // What a thread does that has looked in vain: at first nothing, and then it hangs its bell out and, if it has
-    // looked again, sleeps until the bell is taken in.
+    // What a thread does that has looked in vain: at first nothing, and then it hangs its bell out and, if it
+    // has looked again, sleeps until the bell is taken in.
     fn pause<R: Wait>(&self, rt: &R, seat: &mut Place<O>, bell: usize, round: u64)
         requires own { seat.old.table_id ≡ self.now.table.shared.table_id }
         requires bell { (8 ≤ bell) × (bell < 72) }
@@ -74,7 +76,10 @@ impl<O: SeqObject> Board<O> {
     // Puts the object back, and wakes whoever sleeps until the next turn.
     pub(crate) fn hand_on(&self, seat: &mut Place<O>, turn: u64)
         requires own { seat.old.table_id ≡ self.now.table.shared.table_id }
-        requires called { (t : ℕ) × (o : O) × (seat.old.me.0.stage ≡ Called t) × (0 < length seat.old.me.0.passes) × (seat.old.me.1 ≡ (0, Some o) ∷ []) × Adds O.journal O.settings (λ e. (O.stamp_of e).turn) (λ e. (O.stamp_of e).pass) t o seat.old.me.0 }
+        requires called { (t : ℕ) × (o : O) × (seat.old.me.0.stage ≡ Called t)
+            × (0 < length seat.old.me.0.passes) × (seat.old.me.1 ≡ (0, Some o) ∷ [])
+            × Adds O.journal O.settings (λ e. (O.stamp_of e).turn) (λ e. (O.stamp_of e).pass)
+            t o seat.old.me.0 }
         ensures own { (seat.new.table_id ≡ seat.old.table_id) × (seat.new.id ≡ seat.old.id) }
         ensures passed { passed O.journal (step 1 1 1 0 none) seat.old.me 0 seat.new.me }
     {

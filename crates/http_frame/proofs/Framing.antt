@@ -88,9 +88,6 @@ occurs_whole hay needle m k short at =
       reads = λ j lt. let p : k + j < m = omega arith in sym (get_or-take m hay (k + j) 0 p) ∙ at.reads j lt;
     }
 
-take_take : (k m : ℕ) (bytes : List ℕ) → k ≤ m → m ≤ length bytes → take k (take m bytes) ≡ take k bytes
-take_take k m bytes le fits = grind (arith, common_steps)
-
 pub found_block : (bytes : List ℕ) (n k : ℕ) → n ≤ most_head → n ≤ length bytes → FindsNeedle (take n bytes) blank_line 0 (Some k)
     → IsBlock (take (k + 4) bytes) × (k + 4 ≤ length bytes)
 found_block bytes n k most fits found =

@@ -49,6 +49,7 @@ route_length ListTopics fields = no_length fields
 route_length (PutModel name mode) fields = body_length 8 MOST_UPLOAD fields
 route_length NewestVersion fields = no_length fields
 
+-- the same of the route that is asked for, where there is one
 abbrev pub length_asked : Option Route → List (List ℕ × List ℕ) → Option ℕ
 length_asked None fields = None
 length_asked (Some route) fields = route_length route fields

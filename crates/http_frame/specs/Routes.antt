@@ -64,13 +64,16 @@ put_route target =
     if bytes_eq (take name_start target) models_address && is_name (span_bytes target (name_up_to (query_at target)))
     then option_map (put_before (query_at target)) (grid_mode (drop (query_at target) target)) else None
 
+-- what a method asks of the topics
 abbrev pub topics_route : List ℕ → Option Route
 topics_route method =
     if bytes_eq method (codes "GET") then Some ListTopics else (if bytes_eq method (codes "POST") then Some MakeTopic else None)
 
+-- what it asks of the newest version
 abbrev pub newest_route : List ℕ → Option Route
 newest_route method = if bytes_eq method (codes "GET") then Some NewestVersion else None
 
+-- what it asks of a model, at this target
 abbrev pub model_route : List ℕ → List ℕ → Option Route
 model_route method target = if bytes_eq method (codes "PUT") then put_route target else None
 

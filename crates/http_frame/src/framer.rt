@@ -147,7 +147,8 @@ struct Front {
 }
 
 fn front_of(alloc: Global, bytes: &[u8]) -> Result<Front, FrameError>
-    ensures ok { IfOk result (λ front. (front.used ≤ length bytes.now) × Frames bytes.now (Ok front.step) (drop front.used bytes.now)) }
+    ensures ok { IfOk result (λ front. (front.used ≤ length bytes.now)
+        × Frames bytes.now (Ok front.step) (drop front.used bytes.now)) }
     ensures err { IfErr result (λ error. Frames bytes.now (Err error) bytes.now) }
 {
     match look_at(bytes) {
@@ -181,8 +182,8 @@ impl Model for Framer {
     ghost invariant = { λ f. f.at ≤ length f.buf.items };
 }
 
-// Drops the bytes before the place once they are at least half of all, so that each byte is moved once at most for
-// each byte dropped.
+// Drops the bytes before the place once they are at least half of all, so that each byte is moved once at
+// most for each byte dropped.
 fn compact(buf: &mut Vec<u8>, at: usize) -> usize
     requires { at ≤ length buf.old.items }
     ensures place { result ≤ length buf.new.items }
@@ -242,8 +243,8 @@ impl Framer {
         Ok(())
     }
 
-    /// The next request, or the fault in which the bytes end. After a fault each later call answers it too; an `Err`
-    /// leaves the framer as it was.
+    /// The next request, or the fault in which the bytes end. After a fault each later call answers it too;
+    /// an `Err` leaves the framer as it was.
     pub fn next(&mut self) -> Result<FrameStep, FrameError>
         ensures step { Frames self.old result self.new }
         ensures short { result ≡ Ok FrameStep.More → length self.old < 2 ^ 34 }

@@ -60,7 +60,8 @@ fn length_of_two(
     requires digits { digits ≤ 8 }
     requires first { IsHeaderWithin (length block.now) first.now }
     requires second { IsHeaderWithin (length block.now) second.now }
-    ensures { result ≡ length_of_two digits most (header_bytes block.now first.now) (header_bytes block.now second.now) }
+    ensures { result
+        ≡ length_of_two digits most (header_bytes block.now first.now) (header_bytes block.now second.now) }
 {
     if is_named(b"host", block, first) && is_named(b"content-length", block, second) {
         return small_number(digits, most, second.value.of(block));
@@ -115,7 +116,9 @@ fn simple_length(block: &[u8], spans: &RequestSpans, headers: &[HeaderSpan]) -> 
     requires method { IsWithin (length block.now) spans.now.method }
     requires target { IsWithin (length block.now) spans.now.path }
     requires headers { All (IsHeaderWithin (length block.now)) headers.now }
-    ensures { result ≡ simple_length (span_bytes block.now spans.now.method) (span_bytes block.now spans.now.path) spans.now.version (map (header_bytes block.now) headers.now) }
+    ensures { result
+        ≡ simple_length (span_bytes block.now spans.now.method) (span_bytes block.now spans.now.path)
+        spans.now.version (map (header_bytes block.now) headers.now) }
 {
     if spans.version != 1 {
         return None;
@@ -162,8 +165,11 @@ fn found_in(block: &[u8], spans: &RequestSpans, headers: &[HeaderSpan]) -> Optio
     requires target { IsWithin (length block.now) spans.now.path }
     requires headers { All (IsHeaderWithin (length block.now)) headers.now }
     ensures some { IfSome result (λ found. (found.method ≡ spans.now.method) × (found.target ≡ spans.now.path)
-        × (simple_length (span_bytes block.now spans.now.method) (span_bytes block.now spans.now.path) spans.now.version (map (header_bytes block.now) headers.now) ≡ Some found.length)) }
-    ensures none { IfNone result (simple_length (span_bytes block.now spans.now.method) (span_bytes block.now spans.now.path) spans.now.version (map (header_bytes block.now) headers.now) ≡ None) }
+        × (simple_length (span_bytes block.now spans.now.method) (span_bytes block.now spans.now.path)
+        spans.now.version (map (header_bytes block.now) headers.now) ≡ Some found.length)) }
+    ensures none { IfNone result (
+        simple_length (span_bytes block.now spans.now.method) (span_bytes block.now spans.now.path)
+        spans.now.version (map (header_bytes block.now) headers.now) ≡ None) }
 {
     match simple_length(block, spans, headers) {
         Some(length) => Some(SimpleHead {

@@ -168,8 +168,9 @@ fn model_route(method: &[u8], target: &[u8]) -> Option<Route>
     }
 }
 
-/// What a method and a target ask for, where they are served: the topics of the first project, a model that is put into it, with the query
-/// `?grid=exact`, `?grid=snap` or none, and its newest version. The name of a model has 1 to 64 characters of `A-Za-z0-9_.-`.
+/// What a method and a target ask for, where they are served: the topics of the first project, a model that
+/// is put into it, with the query `?grid=exact`, `?grid=snap` or none, and its newest version. The name of a
+/// model has 1 to 64 characters of `A-Za-z0-9_.-`.
 #[tactic(auto, unfolding(crate::specs::Routes::route_of))]
 pub fn route_of(method: &[u8], target: &[u8]) -> Option<Route>
     ensures route { result ≡ route_of method.now target.now }
