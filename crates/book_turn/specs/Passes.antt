@@ -5,6 +5,7 @@ use Rattle.atomic_table.specs.declared.shared.Seat.{Seat}
 use Rattle.book_turn.specs.declared.rule.View.{View}
 use Rattle.book_turn.specs.declared.rule.Stage.TheVariants.{Free}
 use Rattle.book_turn.specs.declared.object.Stamp.{Stamp}
+use Rattle.book_turn.specs.declared.limits.TheConstants.{MOST_TURNS}
 use Rattle.book_turn.specs.Numbers.{has, times, greatest}
 use Rattle.book_turn.specs.Entries.{listed, AllBefore, AllAfter, Rises, up_to, calls_by}
 
@@ -62,7 +63,7 @@ module _ {E S : Type 0} where
     -- a pass takes the turn t. It comes to see all entries with earlier turns; those that are new to it, `news`, are by other passes
     pub record Takes (t : ℕ) (news : List E) (v w : PassState E S) : Type 0 where
       pub later : v.last < t
-      pub room : v.made < 2 ^ 40
+      pub room : v.made < MOST_TURNS
       pub last : w.last ≡ t
       pub turns : w.turns ≡ t ∷ v.turns
       pub made : w.made ≡ v.made + 1

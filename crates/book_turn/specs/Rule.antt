@@ -4,6 +4,7 @@ use mathlib.Core.Option.{some, none}
 use lib.ListN.{get_elem?}
 use Rattle.atomic_table.specs.Table.{State}
 use Rattle.book_turn.specs.declared.rule.View.{View}
+use Rattle.book_turn.specs.declared.limits.TheConstants.{MOST_PASSES}
 use Rattle.book_turn.specs.Numbers.{times}
 use Rattle.book_turn.specs.Entries.{AllBefore, Rises, up_to, OwnUpTo}
 use Rattle.book_turn.specs.Views.{staged, IsCalled, IsInTurn}
@@ -50,7 +51,7 @@ module _ {O E S : Type 0} (journal : O → List E) (settings : O → S) (turn pa
     pub words : s.words ≡ ticket ∷ serving ∷ bells
     pub starts : 0 < serving
     pub in_order : serving ≤ ticket
-    pub most : n ≤ 64
+    pub most : n ≤ MOST_PASSES
     -- there are as many drawn turns as the ticket says, and n passes
     pub counted : total (λ v. length v.turns) s.views + 1 ≡ ticket
     pub numbered : total (λ v. length v.passes) s.views ≡ n

@@ -8,6 +8,7 @@ ghost use Rattle.atomic_table.specs.Table.{step};
 ghost use Rattle.book_turn.specs.declared.rule.Stage.TheVariants.{Free, Waiting, Called};
 ghost use mathlib.Core.Option.{none};
 
+use crate::limits::{MOST_PASSES, MOST_TURNS};
 use crate::object::{SeqObject, Stamp};
 use crate::plays::{Compare, Cut, Draw, Glue, Look, Pass as GoOn};
 use crate::rule::{InTurn, Key, View};
@@ -39,7 +40,7 @@ impl<O: SeqObject> Board<O> {
     fn draw(&self, seat: &mut Place<O>) -> u64
         requires own { seat.old.table_id ≡ self.now.table.shared.table_id }
         requires free { (seat.old.me.0.stage ≡ Free) × (0 < length seat.old.me.0.passes) }
-        requires few { length seat.old.me.0.turns < 2 ^ 40 * length seat.old.me.0.passes }
+        requires few { length seat.old.me.0.turns < MOST_TURNS * length seat.old.me.0.passes }
         ensures own { (seat.new.table_id ≡ seat.old.table_id) × (seat.new.id ≡ seat.old.id) }
         ensures drew { drew (step 1 0 1 0 none) seat.old.me result seat.new.me }
     {
@@ -141,7 +142,7 @@ impl<O: SeqObject> Board<O> {
         requires own { seat.old.table_id ≡ self.now.table.shared.table_id }
         requires free { (seat.old.me.0.stage ≡ Free) × (seat.old.me.1 ≡ [])
             × (has number seat.old.me.0.passes ≡ true) }
-        requires few { length seat.old.me.0.turns < 2 ^ 40 * length seat.old.me.0.passes }
+        requires few { length seat.old.me.0.turns < MOST_TURNS * length seat.old.me.0.passes }
         requires legal { IfSome seat.old.me.0.settings (λ s. O.is_legal s seat.old.me.0.seen request) }
         ensures own { (seat.new.table_id ≡ seat.old.table_id) × (seat.new.id ≡ seat.old.id)
             × (seat.new.me.1 ≡ []) }
@@ -193,7 +194,7 @@ pub(crate) fn board_of<O: SeqObject + Drop>(
     object: O,
     passes: u32,
 ) -> Result<(Board<O>, Place<O>), AllocError>
-    requires passes { (0 < passes) × (passes ≤ 64) }
+    requires passes { (0 < passes) × (passes ≤ MOST_PASSES) }
     requires empty { O.journal object ≡ [] }
     ensures board { IfOk result (λ r. (r.0.table.shared.key.passes ≡ passes)
         × (O.settings r.0.table.shared.key.object.value ≡ O.settings object)) }

@@ -1,6 +1,7 @@
 //! Why a call got no reply.
-ghost use Rattle.std.specs.Prelude.{◌≡◌, ◌^◌};
+ghost use Rattle.std.specs.Prelude.{◌≡◌};
 
+use crate::limits::MOST_TURNS;
 use std::error::Error;
 use std::fmt;
 use std::marker::Model;
@@ -13,18 +14,19 @@ pub struct SpentPass {
 }
 
 impl Model for SpentPass {
-    ghost use Rattle.std.specs.Prelude.{ℕ, ◌≡◌, ◌^◌};
+    ghost use Rattle.std.specs.Prelude.{ℕ, ◌≡◌};
+    ghost use Rattle.book_turn.specs.declared.limits.TheConstants.{MOST_TURNS};
 
     ghost Value = { ℕ };
 
     ghost view = { λ s. s.pass };
 
-    ghost invariant = { λ s. s.turns ≡ 2 ^ 40 };
+    ghost invariant = { λ s. s.turns ≡ MOST_TURNS };
 }
 
 impl SpentPass {
     pub(crate) fn new(pass: u32, turns: u64) -> SpentPass
-        requires { turns ≡ 2 ^ 40 }
+        requires { turns ≡ MOST_TURNS }
         ensures { result ≡ pass }
     {
         SpentPass { pass, turns }
@@ -39,7 +41,7 @@ impl SpentPass {
 
     /// How many turns it has made: all that a pass may make.
     pub fn turns(&self) -> u64
-        ensures { result ≡ 2 ^ 40 }
+        ensures { result ≡ MOST_TURNS }
     {
         self.turns
     }
@@ -50,7 +52,7 @@ impl SpentPass {
 pub enum CallFault {
     /// Memory ran out in the object. The turn was taken, and no entry was added.
     Memory,
-    /// The pass has made 2^40 turns, those of passes that were joined into it not counted. No turn was taken.
+    /// The pass has made `MOST_TURNS` turns, those of passes that were joined into it not counted. No turn was taken.
     PassSpent(SpentPass),
 }
 

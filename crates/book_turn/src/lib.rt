@@ -10,6 +10,7 @@
 
 mod board;
 pub mod fault;
+pub mod limits;
 pub mod object;
 pub mod pass;
 mod plays;

@@ -6,14 +6,12 @@ ghost use Rattle.book_turn.specs.Views.{dealt_view};
 
 use crate::board::{Board, Place, board_of};
 use crate::fault::{CallFault, SpentPass};
+use crate::limits::{MOST_PASSES, MOST_TURNS};
 use crate::object::SeqObject;
 use crate::pass::Pass;
 use std::alloc::{AllocError, Global};
 use std::marker::Model;
 use std::sync::Wait;
-
-/// The most turns that a pass takes. With at most 64 passes, no count of turns ever wraps.
-const MOST: u64 = 1 << 40;
 
 /// What a call was answered, and in which turn.
 #[derive(Drop)]
@@ -50,7 +48,7 @@ impl<O: SeqObject> Turn<O> {
     pub fn new(alloc: Global, object: O, passes: u32) -> Result<(Turn<O>, Vec<Pass<O>>), AllocError>
     where
         O: Drop,
-        requires passes { (0 < passes) × (passes ≤ 64) }
+        requires passes { (0 < passes) × (passes ≤ MOST_PASSES) }
         requires empty { O.journal object ≡ [] }
         ensures turn { IfOk result (λ r. (r.0.settings ≡ O.settings object) × (r.0.passes ≡ passes)) }
         ensures passes { IfOk result (λ r. r.1.items ≡ new_passes r.0 0 passes) }
@@ -77,7 +75,7 @@ impl<O: SeqObject> Turn<O> {
             r.turn request r.reply pass.old pass.new) }
         ensures failed { IfErr result (λ e. Failed O.stamp_of pass.old pass.new e) }
     {
-        if pass.made >= MOST {
+        if pass.made >= MOST_TURNS {
             let spent = SpentPass::new(pass.number, pass.made);
             return Err(CallFault::PassSpent(spent));
         }

@@ -7,6 +7,7 @@ ghost use Rattle.book_turn.specs.declared.rule.Stage.TheVariants.{Waiting, Calle
 ghost use mathlib.Core.Option.{none};
 
 use crate::board::{Board, Place};
+use crate::limits::MOST_PASSES;
 use crate::object::SeqObject;
 use crate::plays::Ring;
 use std::hint;
@@ -15,8 +16,8 @@ use std::sync::Wait;
 // The first bell. Bells lie apart from the two numbers, which all threads read.
 const BELLS: usize = 8;
 
-// No more than 64 passes wait at a time, so those that wait have different bells.
-const BELL_COUNT: u64 = 64;
+// No more than all passes wait at a time, so those that wait have different bells.
+const BELL_COUNT: u64 = MOST_PASSES as u64;
 
 // A bell that is hung out: somebody sleeps, or is about to.
 const OUT: u64 = 1;
