@@ -1,5 +1,6 @@
 //! Each public call once, with memory at hand.
-ghost use Rattle.std.specs.Prelude.{◌≡◌, ◌<◌};
+ghost use Rattle.std.specs.Prelude.{◌≡◌, ◌<◌, ◌≤◌, ◌+◌, length, All, IfOk, IfSome};
+ghost use Rattle.bim_model.specs.Rules.{IsRule, IsClassTest};
 
 use crate::bytes::Bytes;
 use crate::element::Element;
@@ -9,6 +10,7 @@ use crate::identifiers::{id_of, serial_of};
 use crate::items::{Duplicate, Items};
 use crate::keys::{ElementKey, Pair};
 use crate::laws::{keys_rise, names_tell_models, smallest_boxes_are_unique};
+use crate::limits::MOST_LEVEL;
 use crate::model::Model;
 use crate::moment::Moment;
 use crate::named_model::NamedModel;
@@ -230,47 +232,74 @@ fn makes_versions(rt: HostRuntime) -> Result<(), Fail> {
     Ok(())
 }
 
+// A rule is put behind others.
+fn push_rule(list: &mut Vec<Rule>, rule: Rule) -> Result<(), AllocError>
+    requires rule { IsRule rule }
+    requires rules { All IsRule list.old.items }
+    ensures rules { All IsRule list.new.items }
+    ensures count { length list.new.items ≤ length list.old.items + 1 }
+{
+    list.push(rule)?;
+    Ok(())
+}
+
+fn beams(alloc: Global) -> Result<ClassTest, AllocError>
+    ensures { IfOk result IsClassTest }
+{
+    Ok(ClassTest::Named(Text::of(alloc, "IFCBEAM")?))
+}
+
+fn ground_floor(alloc: Global) -> Result<Option<Text>, AllocError>
+    ensures { IfOk result (λ level. IfSome level (λ name. length name ≤ MOST_LEVEL)) }
+{
+    Ok(Some(Text::of(alloc, "EG")?))
+}
+
 fn one_rule(alloc: Global) -> Result<Rules, AllocError> {
     let mut list = Vec::new(alloc);
-    list.push(Rule {
+    let rule = Rule {
         a: ClassTest::Any,
         b: ClassTest::Any,
         storey: StoreyTest::Any,
         level: None,
         models: ModelTest::Any,
         kind: RuleKind::Clash { distance: 7 },
-    })?;
+    };
+    push_rule(&mut list, rule)?;
     Ok(Rules::from_vec(list))
 }
 
-// Two elements of one storey are ignored where both are beams; beams of one model clash with all but beams at 50 mm where both stand in
-// the storey `EG`; all others of two models clash at 1,000 mm.
+// Beams of one storey never clash; in the storey `EG` beams of one model clash with anything at 50 mm; elements of two models in two
+// storeys clash at 1,000 mm.
 fn three_rules(alloc: Global) -> Result<Rules, AllocError> {
     let mut list = Vec::new(alloc);
-    list.push(Rule {
-        a: ClassTest::Named(Text::of(alloc, "IFCBEAM")?),
-        b: ClassTest::Named(Text::of(alloc, "IFCBEAM")?),
+    let ignored = Rule {
+        a: beams(alloc)?,
+        b: beams(alloc)?,
         storey: StoreyTest::Same,
         level: None,
         models: ModelTest::Any,
         kind: RuleKind::Ignore,
-    })?;
-    list.push(Rule {
+    };
+    push_rule(&mut list, ignored)?;
+    let near = Rule {
         a: ClassTest::Any,
-        b: ClassTest::Named(Text::of(alloc, "IFCBEAM")?),
+        b: beams(alloc)?,
         storey: StoreyTest::Any,
-        level: Some(Text::of(alloc, "EG")?),
+        level: ground_floor(alloc)?,
         models: ModelTest::Same,
         kind: RuleKind::Clash { distance: 50 },
-    })?;
-    list.push(Rule {
+    };
+    push_rule(&mut list, near)?;
+    let far = Rule {
         a: ClassTest::Any,
         b: ClassTest::Any,
         storey: StoreyTest::Different,
         level: None,
         models: ModelTest::Other,
         kind: RuleKind::Clash { distance: 1_000 },
-    })?;
+    };
+    push_rule(&mut list, far)?;
     Ok(Rules::from_vec(list))
 }
 
