@@ -1,5 +1,5 @@
 -- From what the framer and the parts of a talk answer to what a talk wants.
-use Rattle.std.proofs.Common.{◌≡◌, ℕ, ◌+◌, List, [], ◌∷◌, Option, Some, None, Result, Ok, Err, IfOk, inl, inr, refl, sym, ap, ◌∙◌, subst}
+use Rattle.std.proofs.Common.{◌≡◌, ℕ, List, [], ◌∷◌, Option, Some, None, Result, Ok, Err, IfOk, inl, inr, refl, sym, ap, ◌∙◌, subst}
 use Rattle.std.specs.declared.alloc.AllocError.{AllocError}
 use Rattle.http_frame.specs.declared.framer.HttpRequest.{HttpRequest}
 use Rattle.http_frame.specs.Requests.{Begins, IsRefused, IsUnfinished}
@@ -45,17 +45,38 @@ took_wants : (old new : TalkState) (rest : List ℕ) (m : ℕ) (request : HttpRe
     → WantsFor m request (with_rest rest old) want new → Talks (m ∷ []) old want new
 took_wants old new rest m request More here begins wants = absurd wants
 took_wants old new rest m request (Call call) here begins wants =
-    let left : new.rest ≡ rest = ap (λ (s : TalkState). s.rest) wants.1 in
-    (here, (m, request, refl, subst (λ (b : List ℕ). Begins old.rest request b) (sym left) begins, wants.0,
-    wants.1 ∙ ap (λ b. with_call b (kind_of request) old) (sym left)))
+    let left : new.rest ≡ rest = ap (λ (s : TalkState). s.rest) wants.1 in (
+      here,
+      (
+        m,
+        request,
+        refl,
+        subst (λ (b : List ℕ). Begins old.rest request b) (sym left) begins,
+        wants.0,
+        wants.1 ∙ ap (λ b. with_call b (kind_of request) old) (sym left),
+      ),
+    )
 took_wants old new rest m request (Write bytes) here begins (inl alone) =
-    let left : new.rest ≡ rest = ap (λ (s : TalkState). s.rest) alone.1 in
-    (here, inl (m, request, refl, subst (λ (b : List ℕ). Begins old.rest request b) (sym left) begins, alone.0,
-    alone.1 ∙ ap (λ b. with_answer b old) (sym left)))
+    let left : new.rest ≡ rest = ap (λ (s : TalkState). s.rest) alone.1 in (
+      here,
+      inl (
+        m,
+        request,
+        refl,
+        subst (λ (b : List ℕ). Begins old.rest request b) (sym left) begins,
+        alone.0,
+        alone.1 ∙ ap (λ b. with_answer b old) (sym left),
+      ),
+    )
 took_wants old new rest m request (Write bytes) here begins (inr fault) =
-    let left : new.rest ≡ rest = ap (λ (s : TalkState). s.rest) fault.2 in
-    (here, inr (inr (m, request, refl, subst (λ (b : List ℕ). Begins old.rest request b) (sym left) begins, fault.0), fault.1,
-    fault.2 ∙ ap (λ b. with_fault b old) (sym left)))
+    let left : new.rest ≡ rest = ap (λ (s : TalkState). s.rest) fault.2 in (
+      here,
+      inr (
+        inr (m, request, refl, subst (λ (b : List ℕ). Begins old.rest request b) (sym left) begins, fault.0),
+        fault.1,
+        fault.2 ∙ ap (λ b. with_fault b old) (sym left),
+      ),
+    )
 took_wants old new rest m request (Leave e) here begins wants = absurd wants
 
 -- a request was taken at the moment that the clock gave

@@ -3,7 +3,7 @@ use Rattle.std.specs.Prelude.{◌≡◌, ◌≢◌, ◌⊎◌, ℕ, ◌+◌, ◌
 use Rattle.std.specs.declared.alloc.AllocError.{AllocError}
 use Rattle.http_frame.specs.declared.framer.HttpRequest.{HttpRequest}
 use Rattle.http_frame.specs.declared.framer.FrameFault.TheVariants as frame
-use Rattle.http_frame.specs.Requests.{Begins, IsRefused, IsUnfinished}
+use Rattle.http_frame.specs.Requests.{Begins, IsUnfinished}
 use Rattle.federation_book.specs.declared.types.ReplyBody.{ReplyBody}
 use Rattle.federation_book.specs.declared.types.ReplyBody.TheVariants as reply
 use Rattle.bcf_http.specs.declared.calls.ReplyKind.{ReplyKind}

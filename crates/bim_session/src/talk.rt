@@ -260,7 +260,11 @@ impl Talk {
     }
 
     // The response to a call that the book answered.
-    fn answer_receipt(&mut self, kind: ReplyKind, receipt: Receipt<Book>) -> Result<Want, AllocError>
+    fn answer_receipt(
+        &mut self,
+        kind: ReplyKind,
+        receipt: Receipt<Book>,
+    ) -> Result<Want, AllocError>
         requires { self.old.leaving ≡ None }
         ensures want { IfOk result (λ want. Replies (Ok receipt) kind self.old want self.new) }
         ensures ok { IsOk result }
