@@ -48,3 +48,18 @@ pub record ClockGives (old new : ClockSeen) (moments : List ℕ) : Type 0 where
   pub gave : Grows old.gave new.gave moments
   pub one : new.one ≡ old.one
   pub each : All (MayGive old.one) moments
+
+-- a source, a sink and a clock
+pub record Outside : Type 0 where
+  pub source : SourceSeen
+  pub sink : SinkSeen
+  pub clock : ClockSeen
+
+abbrev pub outside : SourceSeen → SinkSeen → ClockSeen → Outside
+outside source sink clock = record { source = source; sink = sink; clock = clock }
+
+-- the source gave the input, the clock the moments, and the sink took the output
+pub record Exchanges (old new : Outside) (input moments output : List ℕ) : Type 0 where
+  pub gave : SourceGives old.source new.source input
+  pub told : ClockGives old.clock new.clock moments
+  pub took : SinkTakes old.sink new.sink output

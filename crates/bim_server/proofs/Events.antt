@@ -1,7 +1,6 @@
 -- What a talk wants, once done, is the next of the session.
 use Rattle.std.proofs.Common.{◌≡◌, ◌⊎◌, ℕ, ◌+◌, ◌≤◌, List, [], ◌∷◌, ◌++◌, length, Bool, Option, Some, None, Ok, Err, inl, inr, sym, ◌∙◌, ap, subst, refl, length-append, arith}
 use Rattle.http_frame.specs.declared.framer.HttpRequest.{HttpRequest}
-use Rattle.http_frame.specs.Requests.{Begins, IsRefused}
 use Rattle.bim_model.specs.declared.element.Element.{Element}
 use Rattle.bim_model.specs.declared.topic.TopicBody.{TopicBody}
 use Rattle.bim_model.specs.declared.topic.Author.{Author}
@@ -15,34 +14,25 @@ use Rattle.federation_book.specs.declared.types.Change.TheVariants as change
 use Rattle.federation_book.specs.History.{reply_of, added_by, body_of, topic_made, model_put, entry_made, project_of, at_turn, IsBefore}
 use Rattle.federation_book.specs.Runs.{Step, IsRun, IsOneThread}
 use Rattle.federation_book.proofs.Histories.{AreOf, added_of, above_of, at_turn-new, of_turn-new, Runs_push, follows_one, one_push}
-use Rattle.bcf_http.specs.declared.calls.RequestFault.TheVariants.{NotBuilt}
 use Rattle.bcf_http.specs.declared.answers.Answer.TheVariants as answer
-use Rattle.bcf_http.specs.Calls.{asked_by, kind_of}
+use Rattle.bcf_http.specs.Calls.{kind_of}
 use Rattle.bcf_http.specs.Answers.{IsResponse}
-use Rattle.bim_session.specs.declared.want.Receipt.{Receipt}
-use Rattle.bim_session.specs.Session.{Means, Answers, Answered, Faults, Takes, last_turn}
-use Rattle.bim_session.specs.Talking.{TalkState, AnswersAlone, AnswersCall, ChangesNothing}
+use Rattle.bim_io.specs.Seen.{Outside}
+use Rattle.bim_session.specs.Session.{Means, Answers, Answered, TakesTurn, last_turn}
+use Rattle.bim_session.specs.Talking.{TalkState, BookReceipt, AnswersAlone, AnswersCall, ChangesNothing}
 use Rattle.bim_session.proofs.Sessions.{Takes_new, Answered_grown, answered_last}
 use Rattle.bim_server.specs.Loop.{ServerState, SoFar, with_turn, stamp_of}
 
 -- an answer without a turn
-pub alone_answers : (may : ℕ → Type 0) (h : List Entry) (last top moment : ℕ) (request : HttpRequest) (close : Bool) (bytes : List ℕ) → may moment
-    → AnswersAlone moment request close bytes → Answers may 1 h last top request close bytes []
-alone_answers may h last top moment request close bytes may_be (inl refuses) = inl (record {
-  moment = moment;
-  may_be = may_be;
+pub alone_answers : (h : List Entry) (last top moment : ℕ) (request : HttpRequest) (close : Bool) (bytes : List ℕ)
+    → AnswersAlone moment request close bytes → Answers 1 h last top moment request close bytes []
+alone_answers h last top moment request close bytes (inl refuses) = inl (record {
   refusal = refuses.refusal;
   refused = refuses.refused;
   response = refuses.response;
   none = refl;
 })
-alone_answers may h last top moment request close bytes may_be (inr lacks) = inr (inr (record { response = lacks; idle = inl refl }))
-
--- a fault that ends the session
-pub fault_is : (may : ℕ → Type 0) (moment : ℕ) (rest later : List ℕ) → may moment
-    → IsRefused rest ⊎ ((request : HttpRequest) × Begins rest request later × (asked_by moment request ≡ Err NotBuilt)) → Faults may rest
-fault_is may moment rest later may_be (inl refused) = inl refused
-fault_is may moment rest later may_be (inr body) = inr (moment, may_be, body.0, later, body.1, body.2)
+alone_answers h last top moment request close bytes (inr lacks) = inr (inr (record { response = lacks; idle = inl refl }))
 
 -- the step of a call at the next turn
 abbrev pub step_of : ServerState → BookRequest → Step
@@ -68,68 +58,65 @@ nothing_added h stamp (PostTopic id body author weight) nothing = nothing_posted
 nothing_added h stamp (Upload id name model) nothing = nothing_put h stamp name model (project_of 1 id) nothing
 nothing_added h stamp (ReadVersion id wanted) nothing = nothing_asked stamp (project_of 1 id)
 
-pub takes_next : (may : ℕ → Type 0) (server : ServerState) (request : HttpRequest) (call : BookRequest) (moment : ℕ) → may moment → Means moment request call
-    → IsBefore (server.turns + 1) server.history → Takes may 1 (with_turn call server).history request (step_of server call)
-takes_next may server request call moment may_be means before =
-    Takes_new may 1 server.history request (step_of server call) moment may_be means before
+-- the next turn is taken by a call
+pub turn_next : (server : ServerState) (last : ℕ) (request : HttpRequest) (call : BookRequest) (moment : ℕ) → Means moment request call
+    → IsBefore (server.turns + 1) server.history → last ≤ server.turns
+    → TakesTurn 1 (with_turn call server).history last (server.turns + 1) moment request (step_of server call ∷ [])
+turn_next server last request call moment means earlier le = record {
+  step = step_of server call;
+  one = refl;
+  above = omega arith;
+  within = omega arith;
+  takes = Takes_new 1 server.history moment request (step_of server call) means earlier;
+}
 
 -- the answer to a call at the next turn
-pub called_answers : (may : ℕ → Type 0) (server : ServerState) (last : ℕ) (request : HttpRequest) (close : Bool) (bytes : List ℕ) (call : BookRequest) (moment : ℕ) (receipt : Receipt)
-    → may moment → Means moment request call → IsBefore (server.turns + 1) server.history → last ≤ server.turns
+pub called_answers : (server : ServerState) (last : ℕ) (request : HttpRequest) (close : Bool) (bytes : List ℕ) (call : BookRequest) (moment : ℕ) (receipt : BookReceipt)
+    → Means moment request call → IsBefore (server.turns + 1) server.history → last ≤ server.turns
     → receipt.turn ≡ server.turns + 1 → receipt.reply ≡ reply_of 1 server.history call
     → AnswersCall (Ok receipt) (kind_of request) close bytes
-    → Answers may 1 (with_turn call server).history last (server.turns + 1) request close bytes (step_of server call ∷ [])
-called_answers may server last request close bytes call moment receipt may_be means before le turn reply (inl response) =
+    → Answers 1 (with_turn call server).history last (server.turns + 1) moment request close bytes (step_of server call ∷ [])
+unfolding turn_next
+called_answers server last request close bytes call moment receipt means earlier le turn reply (inl response) =
     let own : AreOf (server.turns + 1) (added_by 1 server.history (stamp_of (server.turns + 1)) call) = added_of 1 server.history (stamp_of (server.turns + 1)) call in
-    let at : at_turn (server.turns + 1) (with_turn call server).history ≡ server.history = at_turn-new (server.turns + 1) server.history _ before own in
+    let at : at_turn (server.turns + 1) (with_turn call server).history ≡ server.history = at_turn-new (server.turns + 1) server.history _ earlier own in
     let here : receipt.reply ≡ reply_of 1 (at_turn (server.turns + 1) (with_turn call server).history) call = reply ∙ ap (λ h. reply_of 1 h call) (sym at) in
     let booked : IsResponse (answer.Book (reply_of 1 (at_turn (server.turns + 1) (with_turn call server).history) call)) (kind_of request) (Some receipt.turn) close bytes =
     subst (λ (r : BookReply). IsResponse (answer.Book r) (kind_of request) (Some receipt.turn) close bytes) here response in
     inr (inl (record {
-      step = step_of server call;
-      one = refl;
-      above = omega arith;
-      within = omega arith;
-      takes = takes_next may server request call moment may_be means before;
+      taken = turn_next server last request call moment means earlier le;
       response = subst (λ (t : ℕ). IsResponse (answer.Book (reply_of 1 (at_turn (server.turns + 1) (with_turn call server).history) call)) (kind_of request) (Some t) close bytes) turn booked;
     }))
-called_answers may server last request close bytes call moment receipt may_be means before le turn reply (inr quiet) =
+called_answers server last request close bytes call moment receipt means earlier le turn reply (inr quiet) =
     let own : AreOf (server.turns + 1) (added_by 1 server.history (stamp_of (server.turns + 1)) call) = added_of 1 server.history (stamp_of (server.turns + 1)) call in
     let nothing : ChangesNothing (body_of 1 server.history call) = subst (λ (r : BookReply). ChangesNothing r.body) reply quiet.0 in
     inr (inr (record {
       response = quiet.1;
       idle = inr (record {
-        step = step_of server call;
-        one = refl;
-        above = omega arith;
-        within = omega arith;
-        takes = takes_next may server request call moment may_be means before;
-        idle = of_turn-new (server.turns + 1) server.history _ before own ∙ nothing_added server.history (stamp_of (server.turns + 1)) call nothing;
+        taken = turn_next server last request call moment means earlier le;
+        idle = of_turn-new (server.turns + 1) server.history _ earlier own ∙ nothing_added server.history (stamp_of (server.turns + 1)) call nothing;
       });
     }))
 
 -- what was answered stays so after the next turn
-pub answered_next : (may : ℕ → Type 0) (given a : Option (List ℕ)) (ended : Bool) (held x : Option (List ℕ)) (old : TalkState) (server : ServerState) (call : BookRequest)
-    (so : SoFar may given a ended held x old server)
-    → Answered may 1 (with_turn call server).history (server.turns + 1) 0 0 so.requests so.out so.steps
-answered_next may given a ended held x old server call so =
+pub answered_next : (w a : Outside) (old : TalkState) (server : ServerState) (call : BookRequest) (so : SoFar w a old server)
+    → Answered 1 (with_turn call server).history (server.turns + 1) 0 0 so.requests so.asked so.out so.steps
+answered_next w a old server call so =
     let own : AreOf (server.turns + 1) (added_by 1 server.history (stamp_of (server.turns + 1)) call) = added_of 1 server.history (stamp_of (server.turns + 1)) call in
-    Answered_grown may 1 server.history _ server.turns (server.turns + 1) 0 0 so.requests so.out so.steps so.answered (omega arith)
+    Answered_grown 1 server.history _ server.turns (server.turns + 1) 0 0 so.requests so.asked so.out so.steps so.answered (omega arith)
     (above_of (server.turns + 1) server.turns _ (omega arith) own)
 
-pub run_next : (may : ℕ → Type 0) (given a : Option (List ℕ)) (ended : Bool) (held x : Option (List ℕ)) (old : TalkState) (server : ServerState) (call : BookRequest)
-    (so : SoFar may given a ended held x old server) → IsRun 1 (so.steps ++ step_of server call ∷ []) (with_turn call server).history
-run_next may given a ended held x old server call so =
+pub run_next : (w a : Outside) (old : TalkState) (server : ServerState) (call : BookRequest) (so : SoFar w a old server)
+    → IsRun 1 (so.steps ++ step_of server call ∷ []) (with_turn call server).history
+run_next w a old server call so =
     Runs_push 1 [] [] so.steps server.history (step_of server call) so.run (follows_one so.steps (step_of server call) server.turns so.one_thread so.count refl)
 
-pub one_next : (may : ℕ → Type 0) (given a : Option (List ℕ)) (ended : Bool) (held x : Option (List ℕ)) (old : TalkState) (server : ServerState) (call : BookRequest)
-    (so : SoFar may given a ended held x old server) → IsOneThread (so.steps ++ step_of server call ∷ [])
-one_next may given a ended held x old server call so = one_push so.steps (step_of server call) so.one_thread refl
+pub one_next : (w a : Outside) (old : TalkState) (server : ServerState) (call : BookRequest) (so : SoFar w a old server) → IsOneThread (so.steps ++ step_of server call ∷ [])
+one_next w a old server call so = one_push so.steps (step_of server call) so.one_thread refl
 
-pub count_next : (may : ℕ → Type 0) (given a : Option (List ℕ)) (ended : Bool) (held x : Option (List ℕ)) (old : TalkState) (server : ServerState) (call : BookRequest)
-    (so : SoFar may given a ended held x old server) → length (so.steps ++ step_of server call ∷ []) ≡ server.turns + 1
-count_next may given a ended held x old server call so = length-append so.steps (step_of server call ∷ []) ∙ ap (λ n. n + 1) so.count
+pub count_next : (w a : Outside) (old : TalkState) (server : ServerState) (call : BookRequest) (so : SoFar w a old server)
+    → length (so.steps ++ step_of server call ∷ []) ≡ server.turns + 1
+count_next w a old server call so = length-append so.steps (step_of server call ∷ []) ∙ ap (λ n. n + 1) so.count
 
-pub last_of : (may : ℕ → Type 0) (given a : Option (List ℕ)) (ended : Bool) (held x : Option (List ℕ)) (old : TalkState) (server : ServerState)
-    (so : SoFar may given a ended held x old server) → last_turn 0 so.steps ≤ server.turns
-last_of may given a ended held x old server so = answered_last may 1 server.history server.turns 0 0 so.requests so.out so.steps so.answered (omega arith)
+pub last_of : (w a : Outside) (old : TalkState) (server : ServerState) (so : SoFar w a old server) → last_turn 0 so.steps ≤ server.turns
+last_of w a old server so = answered_last 1 server.history server.turns 0 0 so.requests so.asked so.out so.steps so.answered (omega arith)

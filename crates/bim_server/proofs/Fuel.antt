@@ -1,6 +1,7 @@
 -- Each step of a session leaves less to do.
 use Rattle.std.proofs.Common.{◌≡◌, ℕ, ◌+◌, ◌^◌, ◌<◌, ◌≤◌, List, [], ◌∷◌, ◌++◌, length, Bool, true, false, Option, Some, None, inl, inr, sym, ◌∙◌, ap, subst, refl, length-append, arith}
 use Rattle.http_frame.proofs.OneReading.{unfinished_short}
+use Rattle.bim_io.specs.Seen.{SourceSeen, SinkSeen}
 use Rattle.federation_book.specs.declared.types.BookRequest.{BookRequest}
 use Rattle.bim_session.specs.declared.end.SessionEnd.{SessionEnd}
 use Rattle.bim_session.specs.declared.want.Want.TheVariants.{More, Write, Call}
@@ -51,18 +52,18 @@ faulted old new e here served leaving =
     let c = ended_bound new.ended in
     omega (arith, a, b, c, served)
 
-pub smaller_read : (moment : ℕ) (a b : Option (List ℕ)) (ended : Bool) (old mid new : TalkState) (result : Progress) → Talks moment old More mid → Reading a b ended mid result new → result ≡ Again → fuel new < fuel old
-smaller_read moment a b ended old mid new Again talks reading e =
-    let is : new ≡ with_piece reading.0 old = reading.2 ∙ ap (λ s. with_piece reading.0 s) talks.3 in
-    subst (λ (s : TalkState). fuel s < fuel old) (sym is) (fed old reading.0 talks.1 (unfinished_short old.rest talks.2))
-smaller_read moment a b ended old mid new (End x) talks reading e = cc
+pub smaller_read : (moments : List ℕ) (a b : SourceSeen) (old mid new : TalkState) (result : Progress) → Talks moments old More mid → Reading a b mid result new → result ≡ Again → fuel new < fuel old
+smaller_read moments a b old mid new Again talks reading e =
+    let is : new ≡ with_piece reading.0 old = reading.3 ∙ ap (λ s. with_piece reading.0 s) talks.4 in
+    subst (λ (s : TalkState). fuel s < fuel old) (sym is) (fed old reading.0 talks.2 (unfinished_short old.rest talks.3))
+smaller_read moments a b old mid new (End x) talks reading e = cc
 
-pub smaller_write : (moment : ℕ) (old new : TalkState) (bytes : List ℕ) → Talks moment old (Write bytes) new → old.served < most_requests → fuel new < fuel old
-smaller_write moment old new bytes (here, inl one) few = answered old new few (ap (λ (s : TalkState). s.served) one.3)
-smaller_write moment old new bytes (here, inr fault) few = faulted old new _ here (ap (λ (s : TalkState). s.served) fault.2) (ap (λ (s : TalkState). s.leaving) fault.2)
+pub smaller_write : (moments : List ℕ) (old new : TalkState) (bytes : List ℕ) → Talks moments old (Write bytes) new → old.served < most_requests → fuel new < fuel old
+smaller_write moments old new bytes (here, inl one) few = answered old new few (ap (λ (s : TalkState). s.served) one.5)
+smaller_write moments old new bytes (here, inr fault) few = faulted old new _ here (ap (λ (s : TalkState). s.served) fault.2) (ap (λ (s : TalkState). s.leaving) fault.2)
 
-pub smaller_call : (moment : ℕ) (old mid new : TalkState) (call : BookRequest) (x y : Option (List ℕ)) (server server' : ServerState) (result : Progress)
-    → Talks moment old (Call call) mid → Called call x y mid server result new server' → old.served < most_requests → result ≡ Again → fuel new < fuel old
-smaller_call moment old mid new call x y server server' Again talks called few e =
-    answered old new few (ap (λ (s : TalkState). s.served) called.6 ∙ ap (λ n. n + 1) (ap (λ (s : TalkState). s.served) talks.1.3))
-smaller_call moment old mid new call x y server server' (End z) talks called few e = cc
+pub smaller_call : (moments : List ℕ) (old mid new : TalkState) (call : BookRequest) (x y : SinkSeen) (server server' : ServerState) (result : Progress)
+    → Talks moments old (Call call) mid → Called call x y mid server result new server' → old.served < most_requests → result ≡ Again → fuel new < fuel old
+smaller_call moments old mid new call x y server server' Again talks called few e =
+    answered old new few (ap (λ (s : TalkState). s.served) called.6 ∙ ap (λ n. n + 1) (ap (λ (s : TalkState). s.served) talks.1.5))
+smaller_call moments old mid new call x y server server' (End z) talks called few e = cc

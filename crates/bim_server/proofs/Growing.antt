@@ -1,8 +1,8 @@
 -- A session so far goes on by one more event.
 use Rattle.std.proofs.Common.{◌≡◌, ◌≢◌, ◌⊎◌, ℕ, ◌+◌, ◌<◌, ◌≤◌, ◌==◌, List, [], ◌∷◌, ◌++◌, length, Bool, true, false, Option, Some, None, IsTrue, inl, inr, sym, ◌∙◌, ap, subst, refl, append-nil, length-append, arith}
-use Rattle.std.specs.Io.KnownBytes.{Appends}
 use Rattle.std.proofs.lemmas.Bool.Decides.{eqb_tells}
-use Rattle.bim_io.specs.Causes.{Grows}
+use Rattle.bim_io.specs.Seen.{Outside, Exchanges}
+use Rattle.bim_io.proofs.Calls.{exchanges_none, exchanges_trans}
 use Rattle.http_frame.specs.declared.framer.HttpRequest.{HttpRequest}
 use Rattle.http_frame.specs.Requests.{Begins, Reads}
 use Rattle.federation_book.specs.declared.types.Entry.{Entry}
@@ -13,166 +13,194 @@ use Rattle.bim_session.specs.declared.end.SessionEnd.{SessionEnd}
 use Rattle.bim_session.specs.Session.{Answers, Answered, Ends, last_turn, most_requests, closes_after}
 use Rattle.bim_session.specs.Talking.{TalkState, fresh, with_piece, leaving_after}
 use Rattle.bim_session.proofs.Sessions.{Reads_more, Reads_push, Answered_push}
-use Rattle.bim_server.specs.Loop.{ServerState, LeavesBy, SoFar}
-use Rattle.bim_server.proofs.Known.{Appends_empty, Appends_trans, Grows_empty, Grows_trans}
+use Rattle.bim_server.specs.Loop.{ServerState, LeavesBy, IsQuiet, SoFar}
 
-pub so_far_start : (may : ℕ → Type 0) (given held : Option (List ℕ)) (ended : Bool) → SoFar may given given ended held held fresh (record { history = []; turns = 0 })
-so_far_start may given held ended = record {
+pub quiet_trans : (a b c : Outside) → IsQuiet a b → IsQuiet b c → IsQuiet a c
+quiet_trans a b c p q = (q.0 ∙ p.0, q.1 ∙ p.1)
+
+pub so_far_start : (w : Outside) → SoFar w w fresh (record { history = []; turns = 0 })
+so_far_start w = record {
   input = [];
+  moments = [];
   output = [];
   requests = [];
   rest = [];
+  asked = [];
+  late = [];
   out = [];
   tail = [];
   steps = [];
-  took = Appends_empty given;
-  wrote = Grows_empty held;
+  exchanges = exchanges_none w;
+  quiet = (refl, refl);
+  moments_are = refl;
   output_is = refl;
   reads = refl;
   run = refl;
   one_thread = one_none;
   count = refl;
-  before = none_before 1;
-  answered = (refl, refl);
+  earlier = none_before 1;
+  answered = (refl, refl, refl);
   served = refl;
   idle = refl;
   few = omega arith;
   most = omega arith;
   ended_is = λ e. cc;
-  leaving = (refl, omega arith, refl);
+  leaving = (refl, omega arith, refl, refl);
 }
 
 -- what is known of a session that is not leaving
-pub leaves_none : (may : ℕ → Type 0) (h : List Entry) (last top : ℕ) (ended : Bool) (fed rest : List ℕ) (served : ℕ) (tail : List ℕ) (o : Option SessionEnd)
-    → o ≡ None → LeavesBy may h last top ended fed rest served tail o → (rest ≡ fed) × (served < most_requests) × (tail ≡ [])
-leaves_none may h last top ended fed rest served tail None e leaves = leaves
-leaves_none may h last top ended fed rest served tail (Some x) e leaves = cc
+pub leaves_none : (h : List Entry) (last top : ℕ) (ended : Bool) (fed rest : List ℕ) (served : ℕ) (late tail : List ℕ) (o : Option SessionEnd)
+    → o ≡ None → LeavesBy h last top ended fed rest served late tail o → (rest ≡ fed) × (served < most_requests) × (late ≡ []) × (tail ≡ [])
+leaves_none h last top ended fed rest served late tail None e leaves = leaves
+leaves_none h last top ended fed rest served late tail (Some x) e leaves = cc
 
-pub leaves_some : (may : ℕ → Type 0) (h : List Entry) (last top : ℕ) (ended : Bool) (fed rest : List ℕ) (served : ℕ) (tail : List ℕ) (o : Option SessionEnd) (x : SessionEnd)
-    → o ≡ Some x → LeavesBy may h last top ended fed rest served tail o → Ends may 1 h last top ended rest served x [] tail []
-leaves_some may h last top ended fed rest served tail None x e leaves = cc
-leaves_some may h last top ended fed rest served tail (Some y) x e leaves =
-    let same : y ≡ x = cc in subst (λ (z : SessionEnd). Ends may 1 h last top ended rest served z [] tail []) same leaves
+pub leaves_some : (h : List Entry) (last top : ℕ) (ended : Bool) (fed rest : List ℕ) (served : ℕ) (late tail : List ℕ) (o : Option SessionEnd) (x : SessionEnd)
+    → o ≡ Some x → LeavesBy h last top ended fed rest served late tail o → Ends 1 h last top ended rest served x [] late tail []
+leaves_some h last top ended fed rest served late tail None x e leaves = cc
+leaves_some h last top ended fed rest served late tail (Some y) x e leaves =
+    let same : y ≡ x = cc in subst (λ (z : SessionEnd). Ends 1 h last top ended rest served z [] late tail []) same leaves
 
-leaves_here : (may : ℕ → Type 0) (h : List Entry) (last top : ℕ) (ended : Bool) (fed : List ℕ) (served : ℕ) (o : Option SessionEnd)
-    → o ≡ None → served < most_requests → LeavesBy may h last top ended fed fed served [] o
-leaves_here may h last top ended fed served None e lt = (refl, lt, refl)
-leaves_here may h last top ended fed served (Some x) e lt = cc
+leaves_here : (h : List Entry) (last top : ℕ) (ended : Bool) (fed : List ℕ) (served : ℕ) (o : Option SessionEnd)
+    → o ≡ None → served < most_requests → LeavesBy h last top ended fed fed served [] [] o
+leaves_here h last top ended fed served None e lt = (refl, lt, refl, refl)
+leaves_here h last top ended fed served (Some x) e lt = cc
 
-leaves_after : (may : ℕ → Type 0) (h : List Entry) (last top : ℕ) (ended : Bool) (fed : List ℕ) (n k : ℕ) → n ≡ k → k ≤ most_requests
-    → LeavesBy may h last top ended fed fed k [] (leaving_after n)
-leaves_after may h last top ended fed n k e le = by_test (n == most_requests) (eqb_tells n most_requests)
+leaves_after : (h : List Entry) (last top : ℕ) (ended : Bool) (fed : List ℕ) (n k : ℕ) → n ≡ k → k ≤ most_requests
+    → LeavesBy h last top ended fed fed k [] [] (leaving_after n)
+leaves_after h last top ended fed n k e le = by_test (n == most_requests) (eqb_tells n most_requests)
   where
     by_test : (b : Bool) → ((n == most_requests ≡ true) × (n ≡ most_requests)) ⊎ ((n == most_requests ≡ false) × (n ≢ most_requests))
-        → LeavesBy may h last top ended fed fed k [] (leaving_after n)
-    by_test b (inl is) = rw is.0 (e, sym e ∙ is.1, refl, refl, refl)
-    by_test b (inr other) = rw other.0 (refl, below, refl)
+        → LeavesBy h last top ended fed fed k [] [] (leaving_after n)
+    by_test b (inl is) = rw is.0 (e, sym e ∙ is.1, refl, refl, refl, refl)
+    by_test b (inr other) = rw other.0 (refl, below, refl, refl)
       where
         below : k < most_requests
         below = let other_is : n ≢ most_requests = other.1 in omega (arith, e, le, other_is)
 
-same_rest : (bytes : List ℕ) (rs : List HttpRequest) (rest fed : List ℕ) → rest ≡ fed → Reads bytes rs rest → Reads bytes rs fed
-same_rest bytes rs rest fed e reads = subst (λ (b : List ℕ). Reads bytes rs b) e reads
+-- what is known where a session goes on
+pub open_of : (w a : Outside) (old : TalkState) (server : ServerState) (so : SoFar w a old server) → old.leaving ≡ None
+    → (so.rest ≡ old.rest) × (length so.requests < most_requests) × (so.late ≡ []) × (so.tail ≡ [])
+open_of w a old server so here =
+    leaves_none server.history (last_turn 0 so.steps) server.turns a.source.ended old.rest so.rest (length so.requests) so.late so.tail old.leaving here so.leaving
+
+-- how few requests were answered
+pub room_of : (w a : Outside) (old : TalkState) (server : ServerState) (so : SoFar w a old server) → old.leaving ≡ None → length so.requests < most_requests
+room_of w a old server so here = let open_ = open_of w a old server so here in open_.1
+
+pub plain_moments : (w a : Outside) (old : TalkState) (server : ServerState) (so : SoFar w a old server) → old.leaving ≡ None → so.moments ≡ so.asked
+plain_moments w a old server so here =
+    let open_ = open_of w a old server so here in
+    so.moments_are ∙ ap (λ t. so.asked ++ t) open_.2 ∙ append-nil so.asked
+
+pub plain_output : (w a : Outside) (old : TalkState) (server : ServerState) (so : SoFar w a old server) → old.leaving ≡ None → so.output ≡ so.out
+plain_output w a old server so here =
+    let open_ = open_of w a old server so here in
+    so.output_is ∙ ap (λ t. so.out ++ t) open_.3 ∙ append-nil so.out
+
+-- all that was read of the input, but for the bytes that the talk stands for
+pub reads_open : (w a : Outside) (old : TalkState) (server : ServerState) (so : SoFar w a old server) → old.leaving ≡ None → Reads so.input so.requests old.rest
+reads_open w a old server so here =
+    let open_ = open_of w a old server so here in
+    subst (λ (b : List ℕ). Reads so.input so.requests b) open_.0 so.reads
+
+reads_piece : (input : List ℕ) (rs : List HttpRequest) (old : TalkState) (piece : List ℕ) → Reads input rs old.rest → Reads (input ++ piece) rs (with_piece piece old).rest
+reads_piece input rs old [] reads = rw (append-nil input) reads
+reads_piece input rs old (c ∷ cs) reads = Reads_more input rs old.rest (c ∷ cs) reads
+
+piece_served : (old : TalkState) (piece : List ℕ) → (with_piece piece old).served ≡ old.served
+piece_served old [] = refl
+piece_served old (c ∷ cs) = refl
+
+piece_waits : (old : TalkState) (piece : List ℕ) → (with_piece piece old).waits ≡ old.waits
+piece_waits old [] = refl
+piece_waits old (c ∷ cs) = refl
+
+piece_leaving : (old : TalkState) (piece : List ℕ) → (with_piece piece old).leaving ≡ old.leaving
+piece_leaving old [] = refl
+piece_leaving old (c ∷ cs) = refl
+
+piece_ends : (old : TalkState) (piece : List ℕ) (over : Bool) → old.ended ≡ false → (piece ≡ [] → IsTrue over) → (with_piece piece old).ended ≡ true → IsTrue over
+piece_ends old [] over going at_end e = at_end refl
+piece_ends old (c ∷ cs) over going at_end e = cc (e, going)
 
 -- a piece is fed, or the end
-pub so_far_fed : (may : ℕ → Type 0) (given a b : Option (List ℕ)) (ended ended' : Bool) (held x : Option (List ℕ)) (old : TalkState) (server : ServerState) (piece : List ℕ)
-    → SoFar may given a ended held x old server → old.leaving ≡ None → old.ended ≡ false → Appends a b piece → (piece ≡ [] → IsTrue ended')
-    → SoFar may given b ended' held x (with_piece piece old) server
-so_far_fed may given a b ended ended' held x old server [] so here going took at_end =
-    let at = leaves_none may server.history (last_turn 0 so.steps) server.turns ended old.rest so.rest (length so.requests) so.tail old.leaving here so.leaving in
-    record {
-      input = so.input ++ [];
-      output = so.output;
-      requests = so.requests;
-      rest = old.rest;
-      out = so.out;
-      tail = [];
-      steps = so.steps;
-      took = Appends_trans given a b so.input [] so.took took;
-      wrote = so.wrote;
-      output_is = so.output_is ∙ ap (λ t. so.out ++ t) at.2;
-      reads = rw (append-nil so.input) (same_rest so.input so.requests so.rest old.rest at.0 so.reads);
-      run = so.run;
-      one_thread = so.one_thread;
-      count = so.count;
-      before = so.before;
-      answered = so.answered;
-      served = so.served;
-      idle = so.idle;
-      few = so.few;
-      most = so.most;
-      ended_is = λ e. at_end refl;
-      leaving = leaves_here may server.history (last_turn 0 so.steps) server.turns ended' old.rest (length so.requests) old.leaving here at.1;
-    }
-so_far_fed may given a b ended ended' held x old server (c ∷ cs) so here going took at_end =
-    let at = leaves_none may server.history (last_turn 0 so.steps) server.turns ended old.rest so.rest (length so.requests) so.tail old.leaving here so.leaving in
-    record {
-      input = so.input ++ c ∷ cs;
-      output = so.output;
-      requests = so.requests;
-      rest = old.rest ++ c ∷ cs;
-      out = so.out;
-      tail = [];
-      steps = so.steps;
-      took = Appends_trans given a b so.input (c ∷ cs) so.took took;
-      wrote = so.wrote;
-      output_is = so.output_is ∙ ap (λ t. so.out ++ t) at.2;
-      reads = Reads_more so.input so.requests old.rest (c ∷ cs) (same_rest so.input so.requests so.rest old.rest at.0 so.reads);
-      run = so.run;
-      one_thread = so.one_thread;
-      count = so.count;
-      before = so.before;
-      answered = so.answered;
-      served = so.served;
-      idle = so.idle;
-      few = so.few;
-      most = so.most;
-      ended_is = λ e. cc (e, going);
-      leaving = leaves_here may server.history (last_turn 0 so.steps) server.turns ended' (old.rest ++ c ∷ cs) (length so.requests) old.leaving here at.1;
-    }
+pub so_far_fed : (w a b : Outside) (old : TalkState) (server : ServerState) (piece : List ℕ)
+    → SoFar w a old server → old.leaving ≡ None → old.ended ≡ false → Exchanges a b piece [] [] → IsQuiet a b → (piece ≡ [] → IsTrue b.source.ended)
+    → SoFar w b (with_piece piece old) server
+so_far_fed w a b old server piece so here going gave quiet at_end = record {
+  input = so.input ++ piece;
+  moments = so.moments ++ [];
+  output = so.output ++ [];
+  requests = so.requests;
+  rest = (with_piece piece old).rest;
+  asked = so.asked;
+  late = [];
+  out = so.out;
+  tail = [];
+  steps = so.steps;
+  exchanges = exchanges_trans w a b so.input so.moments so.output piece [] [] so.exchanges gave;
+  quiet = quiet_trans w a b so.quiet quiet;
+  moments_are = ap (λ l. l ++ []) (plain_moments w a old server so here);
+  output_is = ap (λ l. l ++ []) (plain_output w a old server so here);
+  reads = reads_piece so.input so.requests old piece (reads_open w a old server so here);
+  run = so.run;
+  one_thread = so.one_thread;
+  count = so.count;
+  earlier = so.earlier;
+  answered = so.answered;
+  served = piece_served old piece ∙ so.served;
+  idle = piece_waits old piece ∙ so.idle;
+  few = so.few;
+  most = so.most;
+  ended_is = piece_ends old piece b.source.ended going at_end;
+  leaving = leaves_here server.history (last_turn 0 so.steps) server.turns b.source.ended (with_piece piece old).rest (length so.requests)
+      (with_piece piece old).leaving (piece_leaving old piece ∙ here) (room_of w a old server so here);
+}
 
--- one more request is answered
-pub so_far_push : (may : ℕ → Type 0) (given a : Option (List ℕ)) (ended : Bool) (held x y : Option (List ℕ)) (old new : TalkState) (server server' : ServerState)
-    (so : SoFar may given a ended held x old server) (request : HttpRequest) (bytes : List ℕ) (first : List Step)
+-- one more request is answered, at one more moment
+pub so_far_push : (w a b : Outside) (old new : TalkState) (server server' : ServerState)
+    (so : SoFar w a old server) (m : ℕ) (request : HttpRequest) (bytes : List ℕ) (first : List Step)
     → old.leaving ≡ None → Begins old.rest request new.rest
-    → Answers may 1 server'.history (last_turn 0 so.steps) server'.turns request (closes_after (old.served + 1)) bytes first
+    → Answers 1 server'.history (last_turn 0 so.steps) server'.turns m request (closes_after (old.served + 1)) bytes first
     → IsRun 1 (so.steps ++ first) server'.history → IsOneThread (so.steps ++ first) → length (so.steps ++ first) ≡ server'.turns
     → IsBefore (server'.turns + 1) server'.history
-    → Answered may 1 server'.history server'.turns 0 0 so.requests so.out so.steps
+    → Answered 1 server'.history server'.turns 0 0 so.requests so.asked so.out so.steps
     → server'.turns ≤ length so.requests + 1
-    → Grows x y bytes
+    → Exchanges a b [] (m ∷ []) bytes → IsQuiet a b → b.source.ended ≡ a.source.ended
     → new.served ≡ old.served + 1 → new.waits ≡ None → new.ended ≡ old.ended → new.leaving ≡ leaving_after (old.served + 1)
-    → SoFar may given a ended held y new server'
-so_far_push may given a ended held x y old new server server' so request bytes first here begins answers run one count before answered few wrote served idle going leaving =
-    let at = leaves_none may server.history (last_turn 0 so.steps) server.turns ended old.rest so.rest (length so.requests) so.tail old.leaving here so.leaving in
+    → SoFar w b new server'
+so_far_push w a b old new server server' so m request bytes first here begins answers run one count earlier answered few gave quiet over served idle going leaving =
     let number : old.served ≡ length so.requests = so.served in
-    let room : length so.requests < most_requests = at.1 in
+    let room : length so.requests < most_requests = room_of w a old server so here in
     let grown : length (so.requests ++ request ∷ []) ≡ length so.requests + 1 = length-append so.requests (request ∷ []) in
-    let plain : so.output ≡ so.out = so.output_is ∙ ap (λ t. so.out ++ t) at.2 ∙ append-nil so.out in
     let close : closes_after (old.served + 1) ≡ closes_after (0 + length so.requests + 1) = (let e : old.served + 1 ≡ 0 + length so.requests + 1 = omega (arith, number) in ap closes_after e) in
     record {
-      input = so.input;
+      input = so.input ++ [];
+      moments = so.moments ++ m ∷ [];
       output = so.output ++ bytes;
       requests = so.requests ++ request ∷ [];
       rest = new.rest;
+      asked = so.asked ++ m ∷ [];
+      late = [];
       out = so.out ++ bytes;
       tail = [];
       steps = so.steps ++ first;
-      took = so.took;
-      wrote = Grows_trans held x y so.output bytes so.wrote wrote;
-      output_is = ap (λ o. o ++ bytes) plain ∙ sym (append-nil (so.out ++ bytes));
-      reads = Reads_push so.input so.requests old.rest request new.rest (same_rest so.input so.requests so.rest old.rest at.0 so.reads) begins;
+      exchanges = exchanges_trans w a b so.input so.moments so.output [] (m ∷ []) bytes so.exchanges gave;
+      quiet = quiet_trans w a b so.quiet quiet;
+      moments_are = ap (λ l. l ++ m ∷ []) (plain_moments w a old server so here) ∙ sym (append-nil (so.asked ++ m ∷ []));
+      output_is = ap (λ o. o ++ bytes) (plain_output w a old server so here) ∙ sym (append-nil (so.out ++ bytes));
+      reads = rw (append-nil so.input) (Reads_push so.input so.requests old.rest request new.rest (reads_open w a old server so here) begins);
       run = run;
       one_thread = one;
       count = count;
-      before = before;
-      answered = Answered_push may 1 server'.history server'.turns 0 0 so.requests so.out so.steps request bytes first answered
-          (subst (λ (c : Bool). Answers may 1 server'.history (last_turn 0 so.steps) server'.turns request c bytes first) close answers);
+      earlier = earlier;
+      answered = Answered_push 1 server'.history server'.turns 0 0 so.requests so.asked so.out so.steps m request bytes first answered
+          (subst (λ (c : Bool). Answers 1 server'.history (last_turn 0 so.steps) server'.turns m request c bytes first) close answers);
       served = served ∙ omega (arith, number, grown);
       idle = idle;
       few = omega (arith, few, grown);
       most = omega (arith, room, grown);
-      ended_is = λ e. so.ended_is (sym going ∙ e);
-      leaving = subst (λ (o : Option SessionEnd). LeavesBy may server'.history (last_turn 0 (so.steps ++ first)) server'.turns ended new.rest new.rest (length (so.requests ++ request ∷ [])) [] o) (sym leaving)
-          (leaves_after may server'.history (last_turn 0 (so.steps ++ first)) server'.turns ended new.rest (old.served + 1) (length (so.requests ++ request ∷ [])) (omega (arith, number, grown)) (omega (arith, room, grown)));
+      ended_is = λ e. over ∙ so.ended_is (sym going ∙ e);
+      leaving = subst (λ (o : Option SessionEnd). LeavesBy server'.history (last_turn 0 (so.steps ++ first)) server'.turns b.source.ended new.rest new.rest (length (so.requests ++ request ∷ [])) [] [] o) (sym leaving)
+          (leaves_after server'.history (last_turn 0 (so.steps ++ first)) server'.turns b.source.ended new.rest (old.served + 1) (length (so.requests ++ request ∷ [])) (omega (arith, number, grown)) (omega (arith, room, grown)));
     }

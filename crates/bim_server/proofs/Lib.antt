@@ -5,3 +5,5 @@ pub mod Ending
 pub mod Stepping
 pub mod Fuel
 pub mod Times
+pub mod Statuses
+pub mod Calling

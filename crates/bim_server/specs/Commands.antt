@@ -1,38 +1,44 @@
 -- What the commands do and answer.
-use Rattle.std.specs.Prelude.{◌≡◌, ◌≢◌, ℕ, ◌++◌, List, [], ◌∷◌, Bool, if◌then◌else◌, Option, Some, None, codes}
+use Rattle.std.specs.Prelude.{◌≡◌, ◌≢◌, ℕ, ◌++◌, List, [], ◌∷◌, if◌then◌else◌, Option, Some, None, codes}
 use Rattle.std.specs.Str.{bytes_eq}
-use Rattle.bim_io.specs.Causes.{Grows, Rose}
+use Rattle.bim_io.specs.Causes.{ComesOfFault}
+use Rattle.bim_io.specs.Seen.{ClockSeen, Outside, outside, SinkTakes}
 use Rattle.bim_session.specs.declared.end.SessionEnd.{SessionEnd}
-use Rattle.bim_session.specs.Replay.{Replays, MayGive, status_of}
+use Rattle.bim_session.specs.Replay.{Replays, status_of}
 use Rattle.bim_server.specs.declared.words.Time.{Time}
 use Rattle.bim_server.specs.declared.words.Time.TheVariants.{OfClock, At}
 use Rattle.bim_server.specs.Words.{replay_words, usage_line}
 
--- the usage line is written, or a front of it where the sink's count of faults rose
-pub record PrintsUsage (held held' : Option (List ℕ)) (faults faults' : ℕ) (status : ℕ) : Type 0 where
+-- the usage line is written, or a front of it exactly where a write failed; nothing was read, and the clock was not asked
+pub record PrintsUsage (before after : Outside) (status : ℕ) : Type 0 where
   pub status_is : status ≡ 2
   pub front : List ℕ
   pub more : List ℕ
   pub line : usage_line ≡ front ++ more
-  pub wrote : Grows held held' front
-  pub short : more ≢ [] → Rose faults faults'
-
--- the moment that the words name, or the one that the clock tells
-abbrev pub told_by : Time → Option ℕ → Option ℕ
-told_by OfClock told = told
-told_by (At moment) told = Some moment
+  pub source : after.source ≡ before.source
+  pub clock : after.clock ≡ before.clock
+  pub wrote : SinkTakes before.sink after.sink front
+  pub short : ComesOfFault before.sink.faults after.sink.faults (more ≢ [])
 
 -- a session is replayed, and its end decides the status
-pub record ReplaysTo (told : Option ℕ) (given given' : Option (List ℕ)) (ended : Bool) (held held' : Option (List ℕ)) (status : ℕ) : Type 0 where
+pub record ReplaysTo (before after : Outside) (status : ℕ) : Type 0 where
   pub end : SessionEnd
   pub status_is : status ≡ status_of end
-  pub replays : Replays (MayGive told) 1 given given' ended held held' end
+  pub replays : Replays 1 before after end
 
--- What `replay` does by its words: outside its grammar it prints the usage line, and the source has given nothing; else
--- it replays a session.
-abbrev pub Does : Option Time → Option ℕ → Option (List ℕ) → Option (List ℕ) → Bool → Option (List ℕ) → Option (List ℕ) → ℕ → ℕ → ℕ → Type 0
-Does None told given given' ended held held' faults faults' status = PrintsUsage held held' faults faults' status × (given' ≡ given)
-Does (Some time) told given given' ended held held' faults faults' status = ReplaysTo (told_by time told) given given' ended held held' status
+-- a session is replayed by a clock that always gives this moment; the one of the outside was not asked
+pub record ReplaysAt (moment : ℕ) (before after : Outside) (status : ℕ) : Type 0 where
+  pub clock : after.clock ≡ before.clock
+  pub own : ClockSeen
+  pub own' : ClockSeen
+  pub one : own.one ≡ Some moment
+  pub replays : ReplaysTo (outside before.source before.sink own) (outside after.source after.sink own') status
+
+-- what `replay` does by its words: outside its grammar it prints the usage line, else it replays a session
+abbrev pub Does : Option Time → Outside → Outside → ℕ → Type 0
+Does None before after status = PrintsUsage before after status
+Does (Some OfClock) before after status = ReplaysTo before after status
+Does (Some (At moment)) before after status = ReplaysAt moment before after status
 
 -- the words behind the name of a command, where it is `replay`; nothing for a command that is not built
 abbrev pub command_words : List (List ℕ) → Option Time

@@ -1,6 +1,7 @@
 //! The commands.
-ghost use Rattle.std.specs.Prelude.{◌≡◌, ◌≤◌};
-ghost use Rattle.bim_io.specs.Causes.{Rose};
+ghost use Rattle.std.specs.Prelude.{◌≡◌};
+ghost use Rattle.bim_io.specs.Causes.{Rose, ComesOfFault};
+ghost use Rattle.bim_io.specs.Seen.{SourceSeen, ClockSeen, outside};
 ghost use Rattle.bim_server.specs.Words.{replay_words};
 ghost use Rattle.bim_server.specs.Commands.{Does, PrintsUsage, command_words};
 
@@ -14,7 +15,7 @@ use std::alloc::Global;
 const USAGE: &str = "usage: bim_server replay|check|generate|serve\n";
 
 fn print_usage<K: Sink>(sink: &mut K) -> u8
-    ensures usage { PrintsUsage (K.held sink.old) (K.held sink.new) (K.faults sink.old) (K.faults sink.new) result }
+    ensures { (source : SourceSeen) (clock : ClockSeen) → PrintsUsage (outside source (K.seen sink.old) clock) (outside source (K.seen sink.new) clock) result }
 {
     let _written = write_whole(sink, USAGE.as_bytes());
     2
@@ -32,10 +33,10 @@ pub fn run_replay<S: Source, K: Sink, C: Clock>(
     sink: &mut K,
     clock: &mut C,
 ) -> u8
-    ensures does { Does (replay_words words.now) (C.moment clock.old) (S.given source.old) (S.given source.new) (S.ended source.new)
-        (K.held sink.old) (K.held sink.new) (K.faults sink.old) (K.faults sink.new) result }
-    ensures read { result ≡ 4 → Rose (S.faults source.old) (S.faults source.new) }
-    ensures write { result ≡ 5 → Rose (K.faults sink.old) (K.faults sink.new) }
+    ensures does { Does (replay_words words.now) (outside (S.seen source.old) (K.seen sink.old) (C.seen clock.old))
+        (outside (S.seen source.new) (K.seen sink.new) (C.seen clock.new)) result }
+    ensures read { ComesOfFault (S.seen source.old).faults (S.seen source.new).faults (result ≡ 4) }
+    ensures write { result ≡ 5 → Rose (K.seen sink.old).faults (K.seen sink.new).faults }
 {
     match replay_words(words) {
         None => print_usage(sink),
@@ -56,10 +57,10 @@ pub fn run<S: Source, K: Sink, C: Clock>(
     sink: &mut K,
     clock: &mut C,
 ) -> u8
-    ensures does { Does (command_words words.now) (C.moment clock.old) (S.given source.old) (S.given source.new) (S.ended source.new)
-        (K.held sink.old) (K.held sink.new) (K.faults sink.old) (K.faults sink.new) result }
-    ensures read { result ≡ 4 → Rose (S.faults source.old) (S.faults source.new) }
-    ensures write { result ≡ 5 → Rose (K.faults sink.old) (K.faults sink.new) }
+    ensures does { Does (command_words words.now) (outside (S.seen source.old) (K.seen sink.old) (C.seen clock.old))
+        (outside (S.seen source.new) (K.seen sink.new) (C.seen clock.new)) result }
+    ensures read { ComesOfFault (S.seen source.old).faults (S.seen source.new).faults (result ≡ 4) }
+    ensures write { result ≡ 5 → Rose (K.seen sink.old).faults (K.seen sink.new).faults }
 {
     match words {
         [] => print_usage(sink),

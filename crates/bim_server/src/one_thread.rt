@@ -3,7 +3,7 @@ ghost use Rattle.std.specs.Prelude.{◌≡◌, ◌<◌, ◌+◌, ◌^◌, [], If
 ghost use Rattle.federation_book.specs.History.{IsBefore};
 ghost use Rattle.bim_server.specs.Loop.{Calls};
 
-use bim_session::Receipt;
+use book_turn::turn::Receipt;
 use federation_book::{Book, BookRequest, Stamp};
 use std::alloc::{AllocError, Global};
 use std::marker::Model;
@@ -38,7 +38,7 @@ impl OneThread {
     }
 
     /// Answers a request at the next turn. An `Err` takes no turn and changes nothing.
-    pub fn call(&mut self, request: BookRequest) -> Result<Receipt, AllocError>
+    pub fn call(&mut self, request: BookRequest) -> Result<Receipt<Book>, AllocError>
         requires { self.old.turns < 2 ^ 63 }
         ensures receipt { Calls request self.old result self.new }
         ensures before { IsBefore (self.new.turns + 1) self.new.history }

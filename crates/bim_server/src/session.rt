@@ -1,9 +1,9 @@
 //! One session over one source and one sink, with a one-thread book.
-ghost use Rattle.std.specs.Prelude.{◌≡◌, ◌<◌, ◌≤◌, ◌^◌, ◌+◌, false, None, IsTrue, IsSome, List, ℕ, Option};
-ghost use Rattle.bim_io.specs.Causes.{Rose};
+ghost use Rattle.std.specs.Prelude.{◌≡◌, ◌<◌, ◌^◌, ◌+◌, false, None, IsSome};
+ghost use Rattle.bim_io.specs.Seen.{Outside, outside};
 ghost use Rattle.federation_book.specs.History.{IsBefore};
-ghost use Rattle.bim_session.specs.Replay.{Replays, MayGive, status_of};
-ghost use Rattle.bim_server.specs.Loop.{SoFar, Goes, Reading, Writing, Called, IsReadFault, IsWriteFault, fuel};
+ghost use Rattle.bim_session.specs.Replay.{Replays, status_of};
+ghost use Rattle.bim_server.specs.Loop.{SoFar, Goes, Reading, Writing, Called, fuel};
 
 use crate::one_thread::OneThread;
 use crate::sinks::write_whole;
@@ -36,10 +36,7 @@ pub fn status_of(end: SessionEnd) -> u8
 
 fn read_more<S: Source>(talk: &mut Talk, source: &mut S) -> Progress
     requires { talk.old.ended ≡ false }
-    ensures step { Reading (S.given source.old) (S.given source.new) (S.ended source.new) talk.old result talk.new }
-    ensures later { S.faults source.old ≤ S.faults source.new }
-    ensures read { IsReadFault result → Rose (S.faults source.old) (S.faults source.new) }
-    ensures other { IsWriteFault result → ⊥ }
+    ensures { Reading (S.seen source.old) (S.seen source.new) talk.old result talk.new }
 {
     let mut room = [0u8; 16384];
     match source.read(&mut room) {
@@ -56,10 +53,7 @@ fn read_more<S: Source>(talk: &mut Talk, source: &mut S) -> Progress
 }
 
 fn write_bytes<K: Sink>(served: u64, sink: &mut K, bytes: &[u8]) -> Progress
-    ensures step { Writing served (K.held sink.old) (K.held sink.new) bytes.now result }
-    ensures later { K.faults sink.old ≤ K.faults sink.new }
-    ensures write { IsWriteFault result → Rose (K.faults sink.old) (K.faults sink.new) }
-    ensures other { IsReadFault result → ⊥ }
+    ensures { Writing served (K.seen sink.old) (K.seen sink.new) bytes.now result }
 {
     match write_whole(sink, bytes) {
         Ok(()) => Progress::Again,
@@ -68,7 +62,6 @@ fn write_bytes<K: Sink>(served: u64, sink: &mut K, bytes: &[u8]) -> Progress
 }
 
 // Calls the book for the request that waits, and writes the response.
-#[tactic(auto, using(crate::proofs::Known::Grows_empty))]
 fn call_book<K: Sink>(
     talk: &mut Talk,
     server: &mut OneThread,
@@ -78,11 +71,8 @@ fn call_book<K: Sink>(
     requires waits { IsSome talk.old.waits }
     requires leaving { talk.old.leaving ≡ None }
     requires turns { server.old.turns < 2 ^ 63 }
-    ensures step { Called call (K.held sink.old) (K.held sink.new) talk.old server.old result talk.new server.new }
-    ensures before { IsBefore (server.new.turns + 1) server.new.history }
-    ensures later { K.faults sink.old ≤ K.faults sink.new }
-    ensures write { IsWriteFault result → Rose (K.faults sink.old) (K.faults sink.new) }
-    ensures other { IsReadFault result → ⊥ }
+    ensures step { Called call (K.seen sink.old) (K.seen sink.new) talk.old server.old result talk.new server.new }
+    ensures earlier { IsBefore (server.new.turns + 1) server.new.history }
 {
     let served = talk.served();
     let receipt = server.call(call);
@@ -104,17 +94,12 @@ fn take_step<S: Source, K: Sink, C: Clock>(
 ) -> Progress
     requires idle { talk.old.waits ≡ None }
     requires turns { server.old.turns < 2 ^ 63 }
-    ensures step { (given held : Option (List ℕ)) → SoFar (MayGive (C.moment clock.old)) given (S.given source.old) (S.ended source.old) held (K.held sink.old) talk.old server.old
-        → Goes (MayGive (C.moment clock.old)) given (S.given source.new) (S.ended source.new) held (K.held sink.new) result talk.new server.new }
+    ensures step { (before : Outside) → SoFar before (outside (S.seen source.old) (K.seen sink.old) (C.seen clock.old)) talk.old server.old
+        → Goes before (outside (S.seen source.new) (K.seen sink.new) (C.seen clock.new)) result talk.new server.new }
     ensures smaller { result ≡ Progress.Again → fuel talk.new < fuel talk.old }
-    ensures clock { C.moment clock.new ≡ C.moment clock.old }
-    ensures sources { S.faults source.old ≤ S.faults source.new }
-    ensures sinks { K.faults sink.old ≤ K.faults sink.new }
-    ensures read { IsReadFault result → Rose (S.faults source.old) (S.faults source.new) }
-    ensures write { IsWriteFault result → Rose (K.faults sink.old) (K.faults sink.new) }
 {
     let served = talk.served();
-    match talk.next(clock.now()) {
+    match talk.next(clock) {
         Ok(Want::More) => read_more(talk, source),
         Ok(Want::Write(bytes)) => write_bytes(served, sink, bytes.as_slice()),
         Ok(Want::Call(call)) => call_book(talk, server, sink, call),
@@ -130,10 +115,8 @@ pub fn run_session<S: Source, K: Sink, C: Clock>(
     sink: &mut K,
     clock: &mut C,
 ) -> SessionEnd
-    ensures session { Replays (MayGive (C.moment clock.old)) 1 (S.given source.old) (S.given source.new) (S.ended source.new)
-        (K.held sink.old) (K.held sink.new) result }
-    ensures read { IsReadFault (Progress.End result) → Rose (S.faults source.old) (S.faults source.new) }
-    ensures write { IsWriteFault (Progress.End result) → Rose (K.faults sink.old) (K.faults sink.new) }
+    ensures { Replays 1 (outside (S.seen source.old) (K.seen sink.old) (C.seen clock.old))
+        (outside (S.seen source.new) (K.seen sink.new) (C.seen clock.new)) result }
 {
     let Ok(mut talk) = Talk::new(alloc) else {
         return SessionEnd::Memory { served: 0 };

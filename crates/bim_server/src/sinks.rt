@@ -1,6 +1,5 @@
 //! Writing a whole piece.
 ghost use Rattle.std.specs.Prelude.{◌≡◌, ◌≤◌, length, drop};
-ghost use Rattle.bim_io.specs.Causes.{HasCause};
 ghost use Rattle.bim_server.specs.Writes.{WritesWhole};
 
 use bim_io::{Failed, Sink};
@@ -13,10 +12,8 @@ fn tail(bytes: &[u8], at: usize) -> &[u8]
 }
 
 /// Writes all the bytes, or a front of them where the sink fails.
-#[tactic(auto, using(crate::proofs::Known::Grows_empty))]
 pub fn write_whole<K: Sink>(sink: &mut K, bytes: &[u8]) -> Result<(), Failed>
-    ensures bytes { WritesWhole (K.held sink.old) (K.held sink.new) bytes.now result }
-    ensures cause { HasCause (K.faults sink.old) (K.faults sink.new) result }
+    ensures { WritesWhole (K.seen sink.old) (K.seen sink.new) bytes.now result }
 {
     let mut at = 0;
     while at < bytes.len() {

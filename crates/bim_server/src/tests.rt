@@ -2,8 +2,8 @@
 ghost use Rattle.std.specs.Prelude.{◌≤◌};
 
 use crate::commands::{run, run_replay};
-use bim_io::{MemClock, MemSink, MemSource, SureSink, SureSource};
-use bim_model::{Bytes, Items, Text};
+use bim_io::{ListClock, MemClock, MemSink, MemSource, SureSink, SureSource};
+use bim_model::{Bytes, Items, Moment, Text};
 use std::alloc::Global;
 use std::process::Abort;
 use std::test::Fail;
@@ -46,6 +46,28 @@ fn a_session_is_answered_in_any_pieces(rt: HostRuntime) -> Result<(), Fail> {
         MADE_AND_LISTED_ANSWERS,
     )?;
     assert_replays(&rt, alloc, 1, b"", b"")
+}
+
+const TWO_MADE: &[u8] =
+    b"POST /bcf/3.0/projects/00000001-0000-8000-8000-000000000000/topics HTTP/1.1\r\nHost: h\r\nContent-Length: 16\r\n\r\n{\"title\":\"Pipe\"}POST /bcf/3.0/projects/00000001-0000-8000-8000-000000000000/topics HTTP/1.1\r\nHost: h\r\nContent-Length: 16\r\n\r\n{\"title\":\"Duct\"}";
+
+const TWO_MADE_ANSWERS: &[u8] =
+    b"HTTP/1.1 201 Created\r\nContent-Type: application/json\r\nX-Book-Turn: 1\r\nContent-Length: 156\r\n\r\n{\"creation_author\":\"anonymous\",\"creation_date\":\"2024-05-01T12:00:00Z\",\"guid\":\"00000001-0000-8000-8000-000000000001\",\"server_assigned_id\":\"1\",\"title\":\"Pipe\"}HTTP/1.1 201 Created\r\nContent-Type: application/json\r\nX-Book-Turn: 2\r\nContent-Length: 156\r\n\r\n{\"creation_author\":\"anonymous\",\"creation_date\":\"2024-05-01T12:00:12Z\",\"guid\":\"00000001-0000-8000-8000-000000000002\",\"server_assigned_id\":\"2\",\"title\":\"Duct\"}";
+
+// Two topics that are made 12 seconds apart bear their own dates.
+#[test]
+fn each_request_has_a_moment_of_its_own(rt: HostRuntime) -> Result<(), Fail> {
+    let alloc = rt.alloc();
+    let mut moments = Items::new(alloc);
+    moments.push(Moment::new(1_714_564_800))?;
+    moments.push(Moment::new(1_714_564_812))?;
+    let mut clock = ListClock::new(moments);
+    let mut source = SureSource::new(Bytes::of(alloc, TWO_MADE)?, 7)?;
+    let mut sink = SureSink::new(alloc, 100)?;
+    let status = run_replay(alloc, &[], &mut source, &mut sink, &mut clock);
+    assert_eq!(rt; status, 0);
+    assert_eq!(rt; sink.bytes(), TWO_MADE_ANSWERS);
+    Ok(())
 }
 
 fn fails_at(alloc: Global, call: u64) -> Result<Items<u64>, Fail> {

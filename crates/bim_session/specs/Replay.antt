@@ -1,31 +1,38 @@
 -- A session over a one-thread book, as a run with one actor.
-use Rattle.std.specs.Prelude.{ℕ, List, length, Bool, Option}
-use Rattle.std.specs.Io.KnownBytes.{Appends}
-use Rattle.bim_model.specs.Moments.{IsMoment}
-use Rattle.bim_io.specs.Causes.{Grows, GivesMoment}
+use Rattle.std.specs.Prelude.{◌≡◌, ℕ, List, length}
+use Rattle.bim_io.specs.Causes.{ComesOfFault}
+use Rattle.bim_io.specs.Seen.{Outside, EndsEmpty, Exchanges}
 use Rattle.federation_book.specs.declared.types.Entry.{Entry}
 use Rattle.federation_book.specs.Runs.{Step, IsRun, IsOneThread}
 use Rattle.bim_session.specs.declared.end.SessionEnd.{SessionEnd}
 use Rattle.bim_session.specs.declared.end.SessionEnd.TheVariants.{Closed, Cut, ReadFault, WriteFault, Frame, Spent, Memory}
 use Rattle.bim_session.specs.Session.{Session}
 
--- a moment that a clock gives, which has one moment or none to tell
-abbrev pub MayGive : Option ℕ → ℕ → Type 0
-MayGive told moment = IsMoment moment × GivesMoment told moment
+-- it ends by a failed read
+abbrev pub IsReadFault : SessionEnd → Type 0
+IsReadFault end = (n : ℕ) × (end ≡ ReadFault n)
 
--- What a source has given grew by the input, and what a sink holds by the output. The steps of the session are the
--- turns of a run with one actor, from 1 without a gap, and its history is the one whose entries below a printed turn
--- decide the reply. Where an object doesn't tell, some input and some output are meant.
-pub record Replays (may : ℕ → Type 0) (projects : ℕ) (given given' : Option (List ℕ)) (ended : Bool) (held held' : Option (List ℕ)) (end : SessionEnd) : Type 0 where
+-- it ends by a failed write
+abbrev pub IsWriteFault : SessionEnd → Type 0
+IsWriteFault end = (n : ℕ) × (end ≡ WriteFault n)
+
+-- A source gave the input and has nothing left once it answered its end, a clock gave the moments, and a sink took the
+-- output. The steps of the session are the turns of a run with one actor, from 1 without a gap, and its history is the one
+-- whose entries below a printed turn decide the reply. It ends by a fault exactly where a read or a write failed. Where an
+-- object doesn't tell, some input, some moments and some output are meant.
+pub record Replays (projects : ℕ) (before after : Outside) (end : SessionEnd) : Type 0 where
   pub input : List ℕ
+  pub moments : List ℕ
   pub output : List ℕ
   pub history : List Entry
   pub steps : List Step
-  pub took : Appends given given' input
-  pub wrote : Grows held held' output
+  pub exchanges : Exchanges before after input moments output
+  pub empty : EndsEmpty after.source
   pub run : IsRun projects steps history
   pub one_thread : IsOneThread steps
-  pub session : Session may projects history 0 (length steps) ended input output steps end
+  pub session : Session projects history 0 (length steps) after.source.ended input moments output steps end
+  pub read_fault : ComesOfFault before.source.faults after.source.faults (IsReadFault end)
+  pub write_fault : ComesOfFault before.sink.faults after.sink.faults (IsWriteFault end)
 
 -- the exit status of a session's end
 abbrev pub status_of : SessionEnd → ℕ

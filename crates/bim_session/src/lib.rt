@@ -8,4 +8,4 @@ mod want;
 
 pub use end::SessionEnd;
 pub use talk::Talk;
-pub use want::{Receipt, Want};
+pub use want::Want;

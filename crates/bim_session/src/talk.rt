@@ -1,15 +1,18 @@
-//! One connection as a machine without input or output.
-ghost use Rattle.std.specs.Prelude.{◌≡◌, ◌↔◌, ◌<◌, None, Some, false, Ok, IsTrue, IsSome, IsOk, IfOk, IfSome, OnOk, OnErr};
+//! One connection as a machine without input or output, which asks a clock.
+ghost use Rattle.std.specs.Prelude.{◌≡◌, ◌↔◌, ◌<◌, ℕ, List, None, Some, false, Ok, IsTrue, IsSome, IsOk, IfOk, IfSome, OnOk, OnErr};
 ghost use Rattle.bim_model.specs.Moments.{IsMoment};
+ghost use Rattle.bim_io.specs.Seen.{ClockGives};
 ghost use Rattle.http_frame.specs.Requests.{IsUnfinished};
 ghost use Rattle.bim_session.specs.Session.{most_requests};
-ghost use Rattle.bim_session.specs.Talking.{fresh, with_piece, WantsFor, Talks, Replies, LacksFor, AtRest, AnswersFault, Responds, IsOwnLeaving, IsOwnWant, leaving_after, ChangesNothing};
+ghost use Rattle.bim_session.specs.Talking.{fresh, with_piece, with_memory, WantsFor, Talks, Lacks, StopsShort, Replies, LacksFor, AtRest, AnswersFault, Responds, IsOwnLeaving, IsOwnWant, leaving_after, ChangesNothing};
 
 use crate::calls::{Unasked, call_of};
 use crate::end::SessionEnd;
-use crate::want::{Receipt, Want};
+use crate::want::Want;
 use bcf_http::{Answer, ReplyKind, kind_of, to_response};
-use federation_book::ReplyBody;
+use bim_io::Clock;
+use book_turn::turn::Receipt;
+use federation_book::{Book, ReplyBody};
 use http_frame::{FrameError, FrameFault, FrameStep, Framer, HttpRequest};
 use std::alloc::{AllocError, Global};
 use std::marker::Model;
@@ -101,33 +104,30 @@ impl Talk {
         }
     }
 
-    /// What is to be done next, at a moment in seconds since 1970. An `Err` ends the talk for want of memory: each later
-    /// call says so.
-    pub fn next(&mut self, moment: u64) -> Result<Want, AllocError>
-        requires moment { IsMoment moment }
+    /// What is to be done next. A request that is taken is read at a moment of its own, which the clock is asked for then;
+    /// for nothing else is it asked. An `Err` ends the talk for want of memory: each later call says so.
+    pub fn next<C: Clock>(&mut self, clock: &mut C) -> Result<Want, AllocError>
         requires idle { self.old.waits ≡ None }
-        ensures want { IfOk result (λ want. Talks moment self.old want self.new) }
-        ensures err { OnErr result (self.old.leaving ≡ None) }
-        ensures gone { OnErr result (self.new.leaving ≡ Some (SessionEnd.Memory self.old.served)) }
+        ensures want { IfOk result (λ want. (moments : List ℕ) × ClockGives (C.seen clock.old) (C.seen clock.new) moments × Talks moments self.old want self.new) }
+        ensures lacks { OnErr result ((moments : List ℕ) × ClockGives (C.seen clock.old) (C.seen clock.new) moments × Lacks moments self.old self.new) }
         ensures few { self.old.leaving ≡ None → self.old.served < most_requests }
         ensures own { IfOk result IsOwnWant }
     {
-        let served = self.served;
-        match self.step(moment) {
+        match self.step(clock) {
             Ok(want) => Ok(want),
             Err(error) => {
-                self.leaving = Some(SessionEnd::Memory { served });
+                let _end = self.give_up();
                 Err(error)
             }
         }
     }
 
     #[tactic(auto, using(crate::proofs::Talks::none_of))]
-    fn step(&mut self, moment: u64) -> Result<Want, AllocError>
-        requires moment { IsMoment moment }
+    fn step<C: Clock>(&mut self, clock: &mut C) -> Result<Want, AllocError>
         requires idle { self.old.waits ≡ None }
-        ensures want { IfOk result (λ want. Talks moment self.old want self.new) }
+        ensures want { IfOk result (λ want. (moments : List ℕ) × ClockGives (C.seen clock.old) (C.seen clock.new) moments × Talks moments self.old want self.new) }
         ensures err { OnErr result (self.old.leaving ≡ None) }
+        ensures short { OnErr result ((moments : List ℕ) × ClockGives (C.seen clock.old) (C.seen clock.new) moments × StopsShort moments self.old self.new) }
         ensures few { self.old.leaving ≡ None → self.old.served < most_requests }
         ensures own { IfOk result IsOwnWant }
     {
@@ -136,10 +136,26 @@ impl Talk {
         }
         match self.framer.next() {
             Ok(FrameStep::More) => Ok(self.at_rest()),
-            Ok(FrameStep::Request(request)) => self.take(moment, request),
+            Ok(FrameStep::Request(request)) => {
+                let moment = clock.now();
+                self.take(moment, request)
+            }
             Err(FrameError::Fault(fault)) => self.refuse(fault),
             Err(FrameError::Memory) => Err(AllocError),
         }
+    }
+
+    // Ends the talk for want of memory.
+    fn give_up(&mut self) -> SessionEnd
+        ensures end { result ≡ SessionEnd.Memory self.old.served }
+        ensures state { self.new ≡ with_memory self.old.rest self.old }
+    {
+        let end = SessionEnd::Memory {
+            served: self.served,
+        };
+        self.waits = None;
+        self.leaving = Some(end);
+        end
     }
 
     // What is wanted where less than a request is at hand.
@@ -161,6 +177,7 @@ impl Talk {
 
     fn refuse(&mut self, fault: FrameFault) -> Result<Want, AllocError>
         ensures want { IfOk result (λ want. AnswersFault self.old want self.new) }
+        ensures err { OnErr result (self.new ≡ self.old) }
         ensures own { IfOk result IsOwnWant }
     {
         let bytes = to_response(
@@ -200,6 +217,7 @@ impl Talk {
         requires moment { IsMoment moment }
         requires open_ { self.old.leaving ≡ None }
         ensures want { IfOk result (λ want. WantsFor moment request self.old want self.new) }
+        ensures err { OnErr result (self.new ≡ self.old) }
         ensures own { IfOk result IsOwnWant }
     {
         let kind = kind_of(&request);
@@ -215,7 +233,7 @@ impl Talk {
 
     /// Takes the book's answer to the call that waits, or want of memory for it, and says what is to be done next: the
     /// response is written, or the talk ends for want of memory. An `Err` does not come.
-    pub fn answer(&mut self, receipt: Result<Receipt, AllocError>) -> Result<Want, AllocError>
+    pub fn answer(&mut self, receipt: Result<Receipt<Book>, AllocError>) -> Result<Want, AllocError>
         requires waits { IsSome self.old.waits }
         requires open_ { self.old.leaving ≡ None }
         ensures want { IfOk result (λ want. IfSome self.old.waits (λ kind. Replies receipt kind self.old want self.new)) }
@@ -238,17 +256,16 @@ impl Talk {
     {
         match self.respond(&Answer::Memory, kind, None) {
             Ok(want) => Ok(want),
-            Err(_) => {
-                self.waits = None;
-                Ok(Want::Leave(SessionEnd::Memory {
-                    served: self.served,
-                }))
-            }
+            Err(_) => Ok(Want::Leave(self.give_up())),
         }
     }
 
     // The response to a call that the book answered.
-    fn answer_receipt(&mut self, kind: ReplyKind, receipt: Receipt) -> Result<Want, AllocError>
+    fn answer_receipt(
+        &mut self,
+        kind: ReplyKind,
+        receipt: Receipt<Book>,
+    ) -> Result<Want, AllocError>
         requires { self.old.leaving ≡ None }
         ensures want { IfOk result (λ want. Replies (Ok receipt) kind self.old want self.new) }
         ensures ok { IsOk result }
@@ -261,10 +278,7 @@ impl Talk {
                 if changes_nothing {
                     return self.answer_memory(kind);
                 }
-                self.waits = None;
-                Ok(Want::Leave(SessionEnd::Memory {
-                    served: self.served,
-                }))
+                Ok(Want::Leave(self.give_up()))
             }
         }
     }

@@ -1,7 +1,7 @@
-//! What a connection wants, and what it is given.
+//! What a connection wants.
 use crate::end::SessionEnd;
 use bim_model::Bytes;
-use federation_book::{BookReply, BookRequest};
+use federation_book::BookRequest;
 
 /// What is to be done next for a connection.
 #[derive(Drop)]
@@ -14,11 +14,4 @@ pub enum Want {
     Call(BookRequest),
     /// The session has ended.
     Leave(SessionEnd),
-}
-
-/// The book's answer to a call, with the turn that the call took.
-#[derive(Drop)]
-pub struct Receipt {
-    pub turn: u64,
-    pub reply: BookReply,
 }

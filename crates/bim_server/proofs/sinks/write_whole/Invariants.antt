@@ -1,12 +1,12 @@
-use Rattle.std.proofs.Common.{length, take, ◌-◌, ◌≤◌}
-use Rattle.bim_io.specs.Causes.{Grows}
+use Rattle.std.proofs.Common.{◌≡◌, length, take, ◌-◌, ◌≤◌}
+use Rattle.bim_io.specs.Seen.{SinkTakes}
 use Rattle.bim_server.proofs.sinks.write_whole.Given as goal
 
 abbrev pub invariant-loop-at : goal.invariant-loop-at
 invariant-loop-at g l = record {
   within : l.at ≤ length l.bytes;
-  held : Grows (g.K.Sink.held l.initial.sink) (g.K.Sink.held l.sink) (take l.at l.bytes);
-  later : g.K.Sink.faults l.initial.sink ≤ g.K.Sink.faults l.sink;
+  took : SinkTakes (g.K.Sink.seen l.initial.sink) (g.K.Sink.seen l.sink) (take l.at l.bytes);
+  quiet : (g.K.Sink.seen l.sink).faults ≡ (g.K.Sink.seen l.initial.sink).faults;
 }
 
 abbrev pub decreases-loop-at : goal.decreases-loop-at
