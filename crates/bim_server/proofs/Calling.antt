@@ -1,5 +1,5 @@
 -- The book was called, and its response written.
-use Rattle.std.proofs.Common.{◌≡◌, ℕ, ◌+◌, List, Option, Some, None, IsSome, IfSome, Result, inr, refl}
+use Rattle.std.proofs.Common.{◌≡◌, ℕ, List, Option, Some, None, IsSome, IfSome, Result, inr, refl}
 use Rattle.std.specs.declared.alloc.AllocError.{AllocError}
 use Rattle.bim_io.specs.Seen.{SinkSeen}
 use Rattle.federation_book.specs.declared.types.BookRequest.{BookRequest}

@@ -1,14 +1,13 @@
 -- A session so far ends.
-use Rattle.std.proofs.Common.{◌≡◌, ◌⊎◌, ℕ, ◌<◌, ◌≤◌, List, [], ◌∷◌, ◌++◌, length, Bool, true, Option, Some, None, IsTrue, inl, inr, sym, ◌∙◌, ap, subst, refl, append-nil, arith}
+use Rattle.std.proofs.Common.{◌≡◌, ℕ, List, [], ◌++◌, length, true, Some, None, inl, inr, sym, ap, subst, refl, append-nil, arith}
 use Rattle.bim_io.specs.Causes.{Rose, ComesOfFault}
 use Rattle.bim_io.specs.Seen.{Outside, EndsEmpty, Exchanges}
 use Rattle.bim_io.proofs.Calls.{exchanges_none, exchanges_trans}
-use Rattle.federation_book.specs.declared.types.Entry.{Entry}
 use Rattle.federation_book.specs.Runs.{Step, IsRun, IsOneThread}
 use Rattle.bim_session.specs.declared.end.SessionEnd.{SessionEnd}
 use Rattle.bim_session.specs.declared.end.SessionEnd.TheVariants as end
 use Rattle.bim_session.specs.declared.want.Want.TheVariants.{Leave}
-use Rattle.bim_session.specs.Session.{Answered, Ends, last_turn, most_requests}
+use Rattle.bim_session.specs.Session.{Answered, Ends, last_turn}
 use Rattle.bim_session.specs.Replay.{Replays, IsReadFault, IsWriteFault}
 use Rattle.bim_session.specs.Talking.{TalkState, MeetsEnd, IsOwnEnd, IsOwnWant, Lacks, fresh}
 use Rattle.bim_server.specs.Loop.{ServerState, IsQuiet, SoFar}

@@ -1,5 +1,5 @@
 -- What a sink holds after a piece was written in parts.
-use Rattle.std.proofs.Common.{◌≡◌, ◌+◌, ◌<◌, ◌≤◌, length, arith, length-drop, ℕ, List, [], ◌++◌, take, drop, sym, ◌∙◌, ap, append-nil, subst}
+use Rattle.std.proofs.Common.{◌≡◌, ◌+◌, ◌<◌, ◌≤◌, length, arith, length-drop, ℕ, List, [], ◌++◌, take, drop, sym, ap, append-nil, subst}
 use Rattle.std.proofs.Math.Seq.{take-add}
 use Rattle.std.proofs.lemmas.List.{take-append-drop}
 use Rattle.bim_io.specs.Causes.{Rose, Grows}

@@ -1,5 +1,5 @@
 -- Where a session stands after one step.
-use Rattle.std.proofs.Common.{◌≡◌, ◌≢◌, ◌⊎◌, ℕ, ◌+◌, List, [], ◌∷◌, ◌++◌, length, Bool, Option, Some, None, Result, Ok, Err, inl, inr, sym, ◌∙◌, ap, subst, refl, append-nil, arith}
+use Rattle.std.proofs.Common.{◌≡◌, ◌⊎◌, ℕ, ◌+◌, List, [], ◌∷◌, ◌++◌, length, Bool, Some, None, Result, Ok, Err, inl, inr, sym, ◌∙◌, ap, subst, refl, append-nil, arith}
 use Rattle.std.specs.declared.alloc.AllocError.{AllocError}
 use Rattle.bim_io.specs.Causes.{Rose}
 use Rattle.bim_io.specs.Seen.{SourceSeen, SinkSeen, ClockSeen, Outside, outside, EndsEmpty, SourceGives, SinkTakes, ClockGives, Exchanges}
@@ -21,7 +21,7 @@ use Rattle.bim_session.specs.Talking.{TalkState, BookReceipt, Talks, Lacks, IsOw
 use Rattle.bim_server.specs.declared.session.Progress.{Progress}
 use Rattle.bim_server.specs.declared.session.Progress.TheVariants.{Again, End}
 use Rattle.bim_server.specs.Writes.{WritesFront}
-use Rattle.bim_server.specs.Loop.{ServerState, IsQuiet, SoFar, Goes, Reading, EndsReading, Writing, Called, Calls, with_turn}
+use Rattle.bim_server.specs.Loop.{ServerState, SoFar, Goes, Reading, EndsReading, Writing, Called, Calls, with_turn}
 use Rattle.bim_server.proofs.Growing.{quiet_trans, room_of, plain_moments, plain_output, reads_open, so_far_fed, so_far_push}
 use Rattle.bim_server.proofs.Events.{alone_answers, step_of, turn_next, called_answers, answered_next, run_next, one_next, count_next, last_of}
 use Rattle.bim_server.proofs.Ending.{no_fault, one_fault, finish, finish_same, finish_leaving, finish_met, finish_memory, finish_lacks, finish_own, memory_own}
