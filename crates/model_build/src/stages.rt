@@ -75,7 +75,7 @@ fn model_of(
         scale,
         mode,
     )? {
-        Ok(elements) => Ok(Model::from_vec(in_order(elements))),
+        Ok(elements) => Ok(Model::of(alloc, in_order(elements))?),
         Err(lacking) => match lacking.lack {
             Lack::Beyond => Err(BuildError::Fault(UploadFault::TooFar { id: lacking.id })),
             Lack::Unready => unreachable!(),
