@@ -19,12 +19,12 @@ of-requires c =
     model_made c.args.exchange.now c.args.scale c.args.mode c.args.survey.now c.args.chains.now c.in-Ok.elements.items c.in_order.result.items c.requires.settled c.requires.ready c.requires.few z
     c.in_order.ensures.permutation c.in_order.ensures.rising
 
-pub returns-in-Ok-clause-model : goal.returns-in-Ok-clause-model
-returns-in-Ok-clause-model c =
+pub returns-in_ok-of-in-Ok-clause-model : goal.returns-in_ok-of-in-Ok-clause-model
+returns-in_ok-of-in-Ok-clause-model c =
     let z = subst (λ (ids : List ℕ). AllZip (IsNearElement c.args.exchange.now c.args.scale c.args.mode) ids c.in-Ok.elements.items) c.elements.ensures
     (of_ok _ _ c.in_ok-elements.field-0 c.in-Ok.elements c.in-Ok.is (c.in_ok-elements.ensures c.args.chains.now (used_ids c.args.survey.now) c.requires.frames c.requires.sets)) in (
       reach_clear c.args.exchange.now c.args.scale c.args.mode (element_ids c.args.survey.now) c.in-Ok.elements.items c.requires.settled.checked.surveyed.elements z,
-      subst (λ (elements : List Element). IsModelOf c.args.exchange.now c.args.mode elements) (sym c.in_ok-of.ensures)
+      subst (λ (elements : List Element). IsModelOf c.args.exchange.now c.args.mode elements) (sym c.in_ok-of-in-Ok.ensures)
           (model_is c.args.exchange.now c.args.scale c.args.mode c.args.survey.now c.args.chains.now c.in-Ok.elements.items c.in_order.result.items c.requires.settled z c.in_order.ensures.permutation c.in_order.ensures.rising),
     )
 
