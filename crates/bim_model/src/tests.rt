@@ -1,6 +1,5 @@
 //! Each public call once, with memory at hand.
-ghost use Rattle.std.specs.Prelude.{◌≡◌, ◌<◌, ◌≤◌, ◌+◌, length, All, IfOk, IfSome};
-ghost use Rattle.bim_model.specs.Rules.{IsRule, IsClassTest};
+ghost use Rattle.std.specs.Prelude.{◌≡◌, ◌<◌};
 
 use crate::bytes::Bytes;
 use crate::element::Element;
@@ -10,7 +9,6 @@ use crate::identifiers::{id_of, serial_of};
 use crate::items::{Duplicate, Items};
 use crate::keys::{ElementKey, Pair};
 use crate::laws::{keys_rise, names_tell_models, smallest_boxes_are_unique};
-use crate::limits::MOST_LEVEL;
 use crate::model::Model;
 use crate::moment::Moment;
 use crate::named_model::NamedModel;
@@ -122,65 +120,50 @@ fn finds_a_box(rt: HostRuntime) {
     assert_eq!(rt; extent_of(&triangles), wanted);
 }
 
-const BEAM: &str = "0000000000000000000001";
-
-const DUCT: &str = "0000000000000000000002";
-
 fn guid(text: &str) -> Result<Guid, Fail> {
     Ok(Guid::read(text.as_bytes()).ok_or("no identifier")?)
 }
 
-fn element(
-    alloc: Global,
-    guid: Guid,
-    class: &str,
-    storey: Option<&str>,
-    x: i32,
-) -> Result<Element, AllocError> {
+fn element(alloc: Global, guid: Guid, x: i32) -> Result<Element, AllocError> {
     let mut triangles = Items::new(alloc);
     triangles.push(triangle((x, 0, 0), (0, 7, 0), (0, 0, -3)))?;
-    let storey = match storey {
-        Some(name) => Some(Text::of(alloc, name)?),
-        None => None,
-    };
     Ok(Element {
         guid,
-        class: Text::of(alloc, class)?,
+        class: Text::of(alloc, "IFCBEAM")?,
         name: Text::of(alloc, "")?,
-        storey,
+        storey: None,
         triangles,
     })
 }
 
+fn is_model(alloc: Global, first: Element, second: Element) -> Result<bool, AllocError> {
+    let mut elements = Vec::new(alloc);
+    elements.push(first)?;
+    elements.push(second)?;
+    Ok(Model::checked(alloc, elements)?.is_some())
+}
+
+fn is_model_at(alloc: Global, first: Guid, second: Guid, x: i32) -> Result<bool, AllocError> {
+    let beam = element(alloc, first, 4)?;
+    let duct = element(alloc, second, x)?;
+    is_model(alloc, beam, duct)
+}
+
 #[test]
 fn checks_models(rt: HostRuntime) -> Result<(), Fail> {
-    let cases = [
-        (BEAM, DUCT, FARTHEST, true),
-        (BEAM, BEAM, 5, false),
-        (DUCT, BEAM, 5, false),
-        (BEAM, DUCT, FARTHEST + 1, false),
-        (BEAM, DUCT, -FARTHEST, true),
-        (BEAM, DUCT, -FARTHEST - 1, false),
-    ];
+    let beam = guid("0000000000000000000001")?;
+    let duct = guid("0000000000000000000002")?;
     let alloc = rt.alloc();
-    for (first, second, x, wanted) in cases {
-        let mut elements = Vec::new(alloc);
-        elements.push(element(alloc, guid(first)?, "IFCBEAM", None, 4)?)?;
-        elements.push(element(alloc, guid(second)?, "IFCBEAM", None, x)?)?;
-        let made = Model::checked(alloc, elements)?;
-        assert_eq!(rt; made.is_some(), wanted, "{first} {second} {x}");
-    }
-    let mut bare = element(alloc, guid(BEAM)?, "IFCBEAM", None, 4)?;
-    bare.triangles = Items::new(alloc);
-    let mut elements = Vec::new(alloc);
-    elements.push(bare)?;
-    assert!(rt; Model::checked(alloc, elements)?.is_none());
+    assert!(rt; is_model_at(alloc, beam, duct, FARTHEST)?);
+    assert!(rt; !is_model_at(alloc, beam, beam, 5)?);
+    assert!(rt; !is_model_at(alloc, duct, beam, 5)?);
+    assert!(rt; !is_model_at(alloc, beam, duct, FARTHEST + 1)?);
     Ok(())
 }
 
 fn one_element(alloc: Global, x: i32) -> Result<Model, Fail> {
     let mut elements = Vec::new(alloc);
-    elements.push(element(alloc, guid(BEAM)?, "IFCBEAM", None, x)?)?;
+    elements.push(element(alloc, guid("0000000000000000000001")?, x)?)?;
     Ok(Model::checked(alloc, elements)?.ok_or("no model")?)
 }
 
@@ -196,195 +179,97 @@ fn keeps_boxes(rt: HostRuntime) -> Result<(), Fail> {
     Ok(())
 }
 
-fn named(alloc: Global, name: &str, x: i32) -> Result<NamedModel, Fail> {
-    let model = Shared::new(alloc, one_element(alloc, x)?)?;
+fn named(alloc: Global, name: &str) -> Result<NamedModel, Fail> {
+    let model = Shared::new(alloc, one_element(alloc, 1)?)?;
     Ok(NamedModel {
         name: Text::of(alloc, name)?,
         model,
     })
 }
 
-fn assert_names(rt: &impl Abort, snapshot: &Snapshot, wanted: &[&str]) {
-    let models = snapshot.models();
-    assert_eq!(rt; models.len(), wanted.len());
-    for (model, name) in models.iter().zip(wanted) {
-        assert_eq!(rt; model.name.as_str(), *name);
-    }
+fn two_models(alloc: Global) -> Result<Snapshot, Fail> {
+    let empty = Snapshot::new(alloc, Shared::new(alloc, Rules::new(alloc))?);
+    let first = empty.with_model(alloc, named(alloc, "m")?)?;
+    Ok(first.with_model(alloc, named(alloc, "a")?)?)
 }
 
 #[test]
 fn makes_versions(rt: HostRuntime) -> Result<(), Fail> {
     let alloc = rt.alloc();
-    let empty = Snapshot::new(alloc, Shared::new(alloc, Rules::new(alloc))?);
-    let first = empty.with_model(alloc, named(alloc, "m", 1)?)?;
-    let second = first.with_model(alloc, named(alloc, "a", 2)?)?;
-    let third = second.with_model(alloc, named(alloc, "m", 3)?)?;
-    assert_names(&rt, &third, &["a", "m"]);
-    assert_names(&rt, &third.without_model(alloc, "a")?, &["m"]);
-    assert_names(&rt, &third.without_model(alloc, "b")?, &["a", "m"]);
-    let ruled = third.with_rules(alloc, Shared::new(alloc, one_rule(alloc)?)?)?;
-    assert_names(&rt, &ruled, &["a", "m"]);
+    let version = two_models(alloc)?;
+    assert_eq!(rt; version.models().len(), 2);
+    let fewer = version.without_model(alloc, "a")?;
+    assert_eq!(rt; fewer.models().len(), 1);
+    let ruled = version.with_rules(alloc, Shared::new(alloc, one_rule(alloc)?)?)?;
     assert_eq!(rt; ruled.rules().list().len(), 1);
-    assert_eq!(rt; third.rules().list().len(), 0);
+    Ok(())
+}
+
+#[test]
+fn laws_are_called() {
     keys_rise();
     names_tell_models();
     smallest_boxes_are_unique();
-    Ok(())
-}
-
-// A rule is put behind others.
-fn push_rule(list: &mut Vec<Rule>, rule: Rule) -> Result<(), AllocError>
-    requires rule { IsRule rule }
-    requires rules { All IsRule list.old.items }
-    ensures rules { All IsRule list.new.items }
-    ensures count { length list.new.items ≤ length list.old.items + 1 }
-{
-    list.push(rule)?;
-    Ok(())
-}
-
-fn beams(alloc: Global) -> Result<ClassTest, AllocError>
-    ensures { IfOk result IsClassTest }
-{
-    Ok(ClassTest::Named(Text::of(alloc, "IFCBEAM")?))
-}
-
-fn ground_floor(alloc: Global) -> Result<Option<Text>, AllocError>
-    ensures { IfOk result (λ level. IfSome level (λ name. length name ≤ MOST_LEVEL)) }
-{
-    Ok(Some(Text::of(alloc, "EG")?))
 }
 
 fn one_rule(alloc: Global) -> Result<Rules, AllocError> {
     let mut list = Vec::new(alloc);
-    let rule = Rule {
+    list.push(Rule {
         a: ClassTest::Any,
         b: ClassTest::Any,
         storey: StoreyTest::Any,
-        level: None,
-        models: ModelTest::Any,
-        kind: RuleKind::Clash { distance: 7 },
-    };
-    push_rule(&mut list, rule)?;
-    Ok(Rules::from_vec(list))
-}
-
-// Beams of one storey never clash; in the storey `EG` beams of one model clash with anything at 50 mm; elements of two models in two
-// storeys clash at 1,000 mm.
-fn three_rules(alloc: Global) -> Result<Rules, AllocError> {
-    let mut list = Vec::new(alloc);
-    let ignored = Rule {
-        a: beams(alloc)?,
-        b: beams(alloc)?,
-        storey: StoreyTest::Same,
-        level: None,
-        models: ModelTest::Any,
-        kind: RuleKind::Ignore,
-    };
-    push_rule(&mut list, ignored)?;
-    let near = Rule {
-        a: ClassTest::Any,
-        b: beams(alloc)?,
-        storey: StoreyTest::Any,
-        level: ground_floor(alloc)?,
-        models: ModelTest::Same,
-        kind: RuleKind::Clash { distance: 50 },
-    };
-    push_rule(&mut list, near)?;
-    let far = Rule {
-        a: ClassTest::Any,
-        b: ClassTest::Any,
-        storey: StoreyTest::Different,
         level: None,
         models: ModelTest::Other,
-        kind: RuleKind::Clash { distance: 1_000 },
-    };
-    push_rule(&mut list, far)?;
+        kind: RuleKind::Clash { distance: 7 },
+    })?;
     Ok(Rules::from_vec(list))
 }
 
 #[test]
-fn finds_rules(rt: HostRuntime) -> Result<(), Fail> {
+fn finds_a_rule(rt: HostRuntime) -> Result<(), Fail> {
     let alloc = rt.alloc();
-    let rules = three_rules(alloc)?;
-    let cases = [
-        ("IFCBEAM", Some("EG"), "IFCBEAM", Some("EG"), true, None),
-        (
-            "IFCBEAM",
-            Some("EG"),
-            "IFCDUCT",
-            Some("EG"),
-            true,
-            Some((1, 50)),
-        ),
-        (
-            "IFCDUCT",
-            Some("EG"),
-            "IFCBEAM",
-            Some("EG"),
-            true,
-            Some((1, 50)),
-        ),
-        ("IFCDUCT", Some("OG"), "IFCBEAM", Some("EG"), true, None),
-        (
-            "IFCDUCT",
-            Some("OG"),
-            "IFCBEAM",
-            Some("EG"),
-            false,
-            Some((2, 1_000)),
-        ),
-        ("IFCDUCT", Some("EG"), "IFCDUCT", Some("EG"), false, None),
-        ("IFCDUCT", None, "IFCDUCT", Some("EG"), false, None),
-        ("IFCDUCT", None, "IFCDUCT", None, false, None),
-    ];
-    for (class, storey, other, above, same, wanted) in cases {
-        let a = element(alloc, guid(BEAM)?, class, storey, 1)?;
-        let b = element(alloc, guid(DUCT)?, other, above, 1)?;
-        let found = rule_of(&rules, &a, &b, same);
-        let wanted = wanted.map(|(rule, distance)| Found { rule, distance });
-        assert_eq!(rt; found, wanted, "{class} {other}");
-    }
-    assert_eq!(rt; greatest_distance(&rules), 1_000);
-    assert_eq!(rt; greatest_distance(&Rules::new(alloc)), 0);
+    let rules = one_rule(alloc)?;
+    let a = element(alloc, guid("0000000000000000000001")?, 1)?;
+    let b = element(alloc, guid("0000000000000000000002")?, 1)?;
+    let wanted = Found {
+        rule: 0,
+        distance: 7,
+    };
+    assert_eq!(rt; rule_of(&rules, &a, &b, false), Some(wanted));
+    assert_eq!(rt; rule_of(&rules, &a, &b, true), None);
+    assert_eq!(rt; greatest_distance(&rules), 7);
     Ok(())
+}
+
+fn key(alloc: Global, model: &str, guid: Guid) -> Result<ElementKey, AllocError> {
+    Ok(ElementKey {
+        model: Text::of(alloc, model)?,
+        guid,
+    })
+}
+
+fn pair(alloc: Global, a: &ElementKey, b: &ElementKey) -> Result<Pair, AllocError> {
+    Ok(Pair {
+        a: a.copy(alloc)?,
+        b: b.copy(alloc)?,
+        rule: 0,
+    })
 }
 
 #[test]
 fn orders_keys_and_pairs(rt: HostRuntime) -> Result<(), Fail> {
     let alloc = rt.alloc();
-    let cases = [
-        ("a", DUCT, "b", BEAM, true),
-        ("a", BEAM, "a", DUCT, true),
-        ("a", BEAM, "a", BEAM, false),
-        ("aa", BEAM, "a", DUCT, false),
-        ("Z", DUCT, "a", BEAM, true),
-    ];
-    for (model, first, other, second, wanted) in cases {
-        let a = key(alloc, model, first)?;
-        let b = key(alloc, other, second)?;
-        assert_eq!(rt; a.is_below(&b), wanted, "{a:?} {b:?}");
-        let one = pair(&a, &b, 0, alloc)?;
-        let same = pair(&a, &a, 7, alloc)?;
-        assert_eq!(rt; same.is_before(&one), wanted);
-        assert!(rt; !one.is_before(&one.copy(alloc)?));
-    }
+    let beam = guid("0000000000000000000001")?;
+    let duct = guid("0000000000000000000002")?;
+    let a = key(alloc, "a", duct)?;
+    let b = key(alloc, "b", beam)?;
+    assert!(rt; a.is_below(&b));
+    assert!(rt; !b.is_below(&a));
+    let one = pair(alloc, &a, &a)?;
+    let other = pair(alloc, &a, &b)?;
+    assert!(rt; one.is_before(&other));
+    assert!(rt; !other.is_before(&other.copy(alloc)?));
     Ok(())
-}
-
-fn key(alloc: Global, model: &str, of: &str) -> Result<ElementKey, Fail> {
-    Ok(ElementKey {
-        model: Text::of(alloc, model)?,
-        guid: guid(of)?,
-    })
-}
-
-fn pair(a: &ElementKey, b: &ElementKey, rule: u32, alloc: Global) -> Result<Pair, AllocError> {
-    Ok(Pair {
-        a: a.copy(alloc)?,
-        b: b.copy(alloc)?,
-        rule,
-    })
 }
 
 #[test]
