@@ -13,6 +13,7 @@ use Rattle.ifc_instances.specs.Attributes.{items_in, listed, target_at, led_to}
 use Rattle.ear_cut.specs.declared.ears.Ear.{Ear}
 use Rattle.ear_cut.specs.Areas.{point_at}
 use Rattle.ear_cut.specs.Removal.{cut_of}
+use Rattle.faceset.specs.declared.faces.TheConstants.{MOST_CORNERS}
 use Rattle.faceset.specs.Indexes.{PointsAt, PointsNowhere}
 
 -- What a set says.
@@ -124,8 +125,9 @@ AreCorners numbers points = AllZip (IsCorner numbers points)
 abbrev pub triangle_of : List Point → Ear → Triangle
 triangle_of corners ear = record { a = point_at corners ear.a; b = point_at corners ear.b; c = point_at corners ear.c }
 
+-- the most corners of a face
 abbrev pub most_corners : ℕ
-most_corners = 1000
+most_corners = MOST_CORNERS
 
 -- a face of three corners or more, but not too many
 abbrev pub IsOutlined : Instance → Type 0

@@ -17,6 +17,7 @@ mod tests;
 
 pub use bad::has_bad_index;
 pub use counts::triangle_count;
+pub use faces::MOST_CORNERS;
 pub use indexes::place_of;
 pub use reaches::FaceReaches;
 pub use sets::{is_polygonal, is_set, outline};

@@ -2,6 +2,7 @@
 use Rattle.std.specs.Prelude.{◌≡◌, ℕ, ◌<◌, ◌||◌, Bool, List, [], filter, flat_map, sum_by, Option, Some, None, option_and_then, if◌then◌else◌}
 use Rattle.bim_model.specs.declared.upload.UploadFault.TheVariants as faults
 use Rattle.bim_model.specs.declared.upload.Many.TheVariants as many
+use Rattle.bim_model.specs.declared.limits.TheConstants.{MOST_TRIANGLES}
 use Rattle.p21_reader.specs.declared.value.Value21.{Value21}
 use Rattle.p21_reader.specs.declared.value.Instance.{Instance}
 use Rattle.ifc_instances.specs.declared.entity.Entity.TheVariants.{MappedItem}
@@ -79,8 +80,9 @@ pub record HasTriangles (world : List Instance) (count : ℕ) : Type 0 where
   pub lists : Lists (IsModelElement world) ids
   pub sum : sum_by (count_of world) ids ≡ count
 
+-- the most triangles of a model
 abbrev pub most_triangles : ℕ
-most_triangles = 1000000
+most_triangles = MOST_TRIANGLES
 
 abbrev pub TrianglesStage : List Instance → Stage
 TrianglesStage world fault = (fault ≡ faults.TooMany many.Triangles) × (count : ℕ) × HasTriangles world count × (most_triangles < count)

@@ -8,14 +8,13 @@ ghost use Rattle.model_build.specs.Shapes.{AreShapes};
 
 use crate::items::{is_mapped_item, spelled_items, spelled_sets};
 use crate::shapes::{Shapes, bodies};
+use bim_model::MOST_TRIANGLES;
 use faceset::triangle_count;
 use ifc_instances::{look, target};
 use p21_reader::{Exchange, Instance, Value21};
 use std::alloc::{AllocError, Global};
 
-const MOST_TRIANGLES: u64 = 1_000_000;
-
-/// The number of triangles so far and of a set. None where it is more than a million, as in all that follows.
+/// The number of triangles so far and of a set. None where it is more than a model may have, as in all that follows.
 fn count_set(exchange: &Exchange, set: &Instance, so_far: u64) -> Option<u64>
     requires { so_far ≤ most_triangles }
     ensures { CountsTo (so_far + triangle_count exchange.now set.now) result }

@@ -8,11 +8,9 @@ ghost use Rattle.model_build.specs.Finding.{Finds};
 ghost use Rattle.model_build.specs.Faces.{HasManyCorners};
 ghost use Rattle.model_build.specs.Least.{IsLeastOf, NoneOf, IsVoided};
 
-use faceset::outline;
+use faceset::{MOST_CORNERS, outline};
 use ifc_instances::{Entity, is_a, look};
 use p21_reader::{Exchange, Instance};
-
-const MOST_CORNERS: usize = 1_000;
 
 fn is_voided(exchange: &Exchange, id: u64) -> bool
     ensures { MatchBool result (IsVoided exchange.now id) (IsVoided exchange.now id → ⊥) }
