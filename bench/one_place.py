@@ -1,6 +1,7 @@
 #!/usr/bin/env python3
 """Shows that each definition stands in one place: bench/one_place.py. Reads specs/*.antt of each crate, and prints each pair of definitions in two
-crates that are the same word for word, where only the name may differ. Exit status 1 if there is one."""
+crates that are the same word for word, where only the name may differ. Types and constants of the program count as what they are: two of one name in
+two crates are two. Exit status 1 if there is a pair."""
 import collections
 import itertools
 import os
@@ -9,6 +10,7 @@ import sys
 
 HEAD = re.compile(r"^(?:(?:abbrev|unfoldable|opaque|pub)\s+)*(?:(?:record|data)\s+)?([^\s(:{]+)")
 WORDS = re.compile(r"[\w◌'.-]+|[^\s\w]")
+DECLARED = re.compile(r"^use (Rattle\.\w+\.specs\.declared\.[\w.]+)\.\{([^}]*)\}", re.M)
 OTHERS = ("use ", "open ", "mod ", "pub mod ", "pub use ", "ruleset ", "pub ruleset ", "unfolding ")
 
 
@@ -33,10 +35,20 @@ def is_head(line):
     return re.match(r"(?:abbrev|unfoldable|opaque|pub|record|data)\s", line) is not None
 
 
-def normal(name, lines):
+def declared(path):
+    """The types and constants of the program that a file imports, with where they stand."""
+    found = {}
+    for module, names in DECLARED.findall(open(path, encoding="utf-8").read()):
+        for name in names.split(","):
+            words = name.split()
+            found[words[-1]] = f"{module}.{words[0]}"
+    return found
+
+
+def normal(name, lines, known):
     """The text without the definition's own name, its marks and its layout."""
     words = [word for line in lines for word in WORDS.findall(line)]
-    return tuple("·" if word == name else word for word in words if word not in ("abbrev", "unfoldable", "opaque", "pub"))
+    return tuple("·" if word == name else known.get(word, word) for word in words if word not in ("abbrev", "unfoldable", "opaque", "pub"))
 
 
 def main():
@@ -45,8 +57,9 @@ def main():
     for crate in sorted(os.listdir(top)):
         specs = os.path.join(top, crate, "specs")
         for file in sorted(os.listdir(specs)) if os.path.isdir(specs) else ():
-            for name, lines in definitions(os.path.join(specs, file)):
-                places[normal(name, lines)].append((crate, file, name))
+            path = os.path.join(specs, file)
+            for name, lines in definitions(path):
+                places[normal(name, lines, declared(path))].append((crate, file, name))
     pairs = 0
     for found in places.values():
         for one, other in itertools.combinations(found, 2):
