@@ -111,34 +111,3 @@ exchanges_trans a b c i m o i' m' o' p q = record {
   told = clock_trans a.clock b.clock c.clock m m' p.told q.told;
   took = takes_trans a.sink b.sink c.sink o o' p.took q.took;
 }
-
-over_now : (before : Bool) (n space : ℕ) → n ≡ 0 → 0 < space → (before || (nat_lt 0 space && n == 0)) ≡ true
-over_now true n space none some = refl
-over_now false n space none some = grind (arith, nat_tests)
-
-taken_none : (n : ℕ) (room : List ℕ) → n ≤ length room → take n room ≡ [] → n ≡ 0
-taken_none n room within none = grind (arith, common_steps, ap length none)
-
--- a read that went well gave a piece, which was empty only at the end, and did not raise the count of faults
-pub gives_read : (old new : SourceSeen) (n : ℕ) (room : List ℕ) → n ≤ length room → 0 < length room
-    → Loses old.left new.left (take n room) → Gains old.given new.given (take n room)
-    → new.ended ≡ (old.ended || (nat_lt 0 (length room) && n == 0)) → new.faults ≡ old.faults
-    → SourceGives old new (take n room) × (take n room ≡ [] → IsTrue new.ended)
-gives_read old new n room within some loses gains ends same = (
-  record {
-    left = loses;
-    given = gains;
-    ended = λ e. ends ∙ ap (λ b. b || (nat_lt 0 (length room) && n == 0)) e;
-    faults = omega arith;
-  },
-  λ none. ends ∙ over_now old.ended n (length room) (taken_none n room within none) some,
-)
-
--- a read that failed gave nothing
-pub gives_failed : (old new : SourceSeen) → new.left ≡ old.left → new.given ≡ old.given → new.ended ≡ old.ended → old.faults ≤ new.faults → SourceGives old new []
-gives_failed old new left given ends later = record {
-  left = Loses_empty old.left ∙ ap (prepend_known []) (sym left);
-  given = given ∙ Gains_empty old.given;
-  ended = λ e. ends ∙ e;
-  faults = later;
-}

@@ -25,6 +25,10 @@ grid_limit = unsigned_abs GRID_LIMIT
 abbrev pub step_limit : ℕ
 step_limit = 2 * grid_limit
 
+-- how large each part of the vector product of two such ways can be
+abbrev pub cross_limit : ℕ
+cross_limit = 2 * (step_limit * step_limit)
+
 -- a point of the grid
 pub record IsGridPoint (p : Point) : Type 0 where
   pub x_in : unsigned_abs p.x ≤ grid_limit

@@ -21,9 +21,6 @@ pub record HasParts (F : List Triangle → Type 0) : Type 0 where
 abbrev pub IsLeft : (List Triangle → Type 0) → List Triangle → List Triangle → Type 0
 IsLeft F whole left = (F left → F whole) × (F whole → F left)
 
-pub left_all : (F : List Triangle → Type 0) (xs : List Triangle) → IsLeft F xs xs
-left_all F xs = (λ x. x, λ x. x)
-
 pub left_found : (F : List Triangle → Type 0) → HasParts F → (n : ℕ) (whole left front : List Triangle) → front ≡ take n left → IsLeft F whole left → F front → F whole
 left_found F h n whole left front e l x = l.0 (h.front n left (subst F e x))
 
@@ -44,15 +41,6 @@ second_parts ps d =
       behind = λ n qs. any_map (λ (p : Triangle). NearAny p (drop n qs) d) (λ (p : Triangle). NearAny p qs d) ps (λ p. any_behind (λ (q : Triangle). Near p q d) n qs);
       parts = λ n qs (k, p, lt, e, a). elim (any_parts (λ (q : Triangle). Near p q d) n qs a) [ inl y ↦ inl (k, p, lt, e, y) | inr y ↦ inr (k, p, lt, e, y) ];
       none = λ qs e (k, p, lt, f, a). none_any (λ (q : Triangle). Near p q d) qs e a;
-    }
-
-pub first_parts : (qs : List Triangle) (d : ℕ) → HasParts (λ (ps : List Triangle). ListsNear ps qs d)
-first_parts qs d =
-    record {
-      front = any_front (λ (p : Triangle). NearAny p qs d);
-      behind = any_behind (λ (p : Triangle). NearAny p qs d);
-      parts = any_parts (λ (p : Triangle). NearAny p qs d);
-      none = none_any (λ (p : Triangle). NearAny p qs d);
     }
 
 -- one triangle and a list, by parts of the list

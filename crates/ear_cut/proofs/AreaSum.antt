@@ -25,9 +25,6 @@ use Rattle.ear_cut.proofs.Places.{corner, length-corners}
 use Rattle.ear_cut.proofs.Taken.{lift, taken, lift_within}
 
 -- ---- sums of vectors
-against : (a b c d : ℤ) → (a *ℤ b -ℤ c *ℤ d) +ℤ (c *ℤ d -ℤ a *ℤ b) ≡ pos 0
-against a b c d = omega (arith, ints)
-
 turned : (a b c d : ℤ) → (a *ℤ b -ℤ c *ℤ d) +ℤ (d *ℤ c -ℤ b *ℤ a) ≡ pos 0
 turned a b c d = omega (arith, ints)
 
@@ -124,9 +121,6 @@ normal_without (p ∷ q ∷ qs) (suc j) d h l =
     ∙ ap (λ (r : Point). plus (triangle (get_or (p ∷ q ∷ qs) (previous (length (p ∷ q ∷ qs)) (suc j)) d) (get_or (q ∷ qs) j d) r) (along (p ∷ (remove (q ∷ qs) j ++ p ∷ [])))) (sym (next_point p (q ∷ qs) j d (omega (arith, l)))))
 
 -- ---- points of the corners that remain
-points_of : List Corner → List Point
-points_of left = map (λ (c : Corner). c.point) left
-
 map-remove : (left : List Corner) (i : ℕ) → map (λ (c : Corner). c.point) (remove left i) ≡ remove (map (λ (c : Corner). c.point) left) i
 map-remove left i =
     map-append (λ (c : Corner). c.point) (take i left) (drop (suc i) left)

@@ -36,15 +36,6 @@ pub first_is : (test : ℕ → Bool) (n : ℕ) (r : Option ℕ) → IsFirst test
 first_is test n (Some i) h = sym (some_from test 0 n i (omega arith) (omega (arith, h.0)) h.1 (λ k l m. h.2 k m))
 first_is test n None h = sym (none_from test 0 n (λ k l m. h k (omega arith)))
 
--- a corner that a triangle is free of, by what the code computes
-pub free_is : (view : View) (t : Turn) (other : Corner) (a b c p : Spot) (r s : Bool) → r ≡ holds view a b c p → a ≡ seen view.axis t.before.point → b ≡ seen view.axis t.corner.point → c ≡ seen view.axis t.after.point → p ≡ seen view.axis other.point → r ≡ s → is_free (Some view) t other ≡ not s
-free_is view t other a b c p r s e f g h k l =
-    ap not (sym (e
-    ∙ (ap (λ (x : Spot). holds view x b c p) f
-    ∙ (ap (λ (x : Spot). holds view (seen view.axis t.before.point) x c p) g
-    ∙ (ap (λ (x : Spot). holds view (seen view.axis t.before.point) (seen view.axis t.corner.point) x p) h
-    ∙ ap (λ (x : Spot). holds view (seen view.axis t.before.point) (seen view.axis t.corner.point) (seen view.axis t.after.point) x) k)))) ∙ l)
-
 -- the numbers pass another test alike
 pub first_same : (test other : ℕ → Bool) (n m : ℕ) (r : Option ℕ) → n ≡ m → ((k : ℕ) → k < m → other k ≡ test k) → IsFirst test n r → IsFirst other m r
 first_same test other n m (Some i) e h f = (omega (arith, f.0), h i (omega (arith, f.0)) ∙ f.1, λ k l. h k (omega (arith, f.0)) ∙ f.2 k l)
@@ -76,7 +67,3 @@ no_ear left t = flat left t (is_nowhere (cross_of (step t.before.point t.corner.
     flat : (left : List Corner) (t : Turn) (b : Bool) → is_ear_at None left t (cond b Straight Reflex) ≡ false
     flat left t true = refl
     flat left t false = refl
-
-pub first_within : (test : ℕ → Bool) (n : ℕ) (r : Option ℕ) → IsFirst test n r → IfSome r (λ i. i < n)
-first_within test n (Some i) h = h.0
-first_within test n None h = tt

@@ -1,6 +1,6 @@
 -- How many corners a polygon may have, and how large what is computed of them can be.
 use Rattle.std.specs.Prelude.{ℕ, ◌*◌}
-use Rattle.bim_model.specs.Points.{grid_limit, step_limit}
+use Rattle.bim_model.specs.Points.{grid_limit}
 use Rattle.ear_cut.specs.declared.removal.TheConstants.{MOST_CORNERS}
 
 -- the greatest number of corners
@@ -14,7 +14,3 @@ product_limit = 2 * (grid_limit * grid_limit)
 -- each part of a normal
 abbrev pub normal_limit : ℕ
 normal_limit = most_corners * product_limit
-
--- the area of a triangle in a view
-abbrev pub area_limit : ℕ
-area_limit = 2 * (step_limit * step_limit)

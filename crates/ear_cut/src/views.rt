@@ -1,8 +1,7 @@
 // The view in which a polygon is cut.
 ghost use Rattle.std.specs.Prelude.{◌≡◌, ◌≤◌, pos, int_lt, unsigned_abs};
-ghost use Rattle.bim_model.specs.Points.{IsGridPoint};
+ghost use Rattle.bim_model.specs.Points.{IsGridPoint, cross_limit};
 ghost use Rattle.exact_arith.specs.Space.{is_nowhere};
-ghost use Rattle.ear_cut.specs.Limits.{area_limit};
 ghost use Rattle.ear_cut.specs.Views.{axis_of, component, view_of, seen, bend, area, same_spot, is_corner, holds};
 ghost use Rattle.ear_cut.specs.Registers.{as_vector, as_spot};
 
@@ -93,7 +92,7 @@ pub fn seen(axis: Axis, p: Point) -> Flat
 #[inline(always)]
 fn bend(a: Flat, b: Flat, c: Flat) -> i64
     ensures value { result ≡ bend (as_spot a) (as_spot b) (as_spot c) }
-    ensures small { unsigned_abs result ≤ area_limit }
+    ensures small { unsigned_abs result ≤ cross_limit }
 {
     (b.u - a.u) * (c.v - b.v) - (b.v - a.v) * (c.u - b.u)
 }

@@ -28,9 +28,6 @@ pub square_nonneg : (a : ℤ) → pos 0 ≤ℤ (a *ℤ a)
 square_nonneg (pos a) = omega (arith, ints)
 square_nonneg (negsuc a) = omega (arith, ints)
 
-pub le_by : (a b e : ℤ) → b ≡ a +ℤ e → pos 0 ≤ℤ e → a ≤ℤ b
-le_by a b e h k = omega (arith, ints)
-
 pub le_trans : (a b c : ℤ) → a ≤ℤ b → b ≤ℤ c → a ≤ℤ c
 le_trans a b c h k = omega (arith, ints)
 

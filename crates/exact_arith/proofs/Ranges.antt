@@ -91,10 +91,6 @@ value_kept_64 a h r = kept_64 (value_kept a h) r
 pub natural_kept_64 : (d : ℕ) {m : ℕ} → d ≤ m → Room64 m → Kept (to_z w64 d) (pos d) m
 natural_kept_64 d {m} h r = record { same = to_z_pos w64 d (omega (arith, ltb→lt m (2 ^ 63) r)); small = h }
 
--- a number of 64 bits in a register of 128
-pub widened_kept : (a : ℤ) {m : ℕ} → unsigned_abs a ≤ m → Room64 m → Room128 m → Kept (in_128 (in_64 a)) a m
-widened_kept a h r s = kept_128 (value_kept_64 a h r) s
-
 -- an argument as the callee sees it
 pub same_64 : (a : ℤ) {m : ℕ} → unsigned_abs a ≤ m → Room64 m → in_64 a ≡ a
 same_64 a h r = (value_kept_64 a h r).same

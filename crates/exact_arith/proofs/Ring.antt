@@ -40,9 +40,6 @@ add_comm a b = omega (arith, ints)
 pub add_assoc : (a b c : ℤ) → (a +ℤ b) +ℤ c ≡ a +ℤ (b +ℤ c)
 add_assoc a b c = omega (arith, ints)
 
-pub mul_zero : (a : ℤ) → a *ℤ pos 0 ≡ pos 0
-mul_zero a = omega (arith, ints)
-
 -- four sums in another order
 add-swap : (a b c d : ℤ) → (a +ℤ b) +ℤ (c +ℤ d) ≡ (a +ℤ c) +ℤ (b +ℤ d)
 add-swap a b c d = omega (arith, ints)
@@ -107,9 +104,6 @@ times (more p q) (more r s) = more (times p r) (plus (lift p (times p) s) (times
 
 add-mul : (a b c : ℤ) → (a +ℤ b) *ℤ c ≡ a *ℤ c +ℤ b *ℤ c
 add-mul a b c = mul_comm (a +ℤ b) c ∙ mul-add c a b ∙ (rw (mul_comm c a, mul_comm c b))
-
-add-swap-last : (a b c : ℤ) → (a +ℤ b) +ℤ c ≡ (a +ℤ c) +ℤ b
-add-swap-last a b c = omega (arith, ints)
 
 both_more : (p r x q s : ℤ) → (p +ℤ r) +ℤ x *ℤ (q +ℤ s) ≡ (p +ℤ x *ℤ q) +ℤ (r +ℤ x *ℤ s)
 both_more p r x q s = rw (mul-add x q s) (add-swap p r (x *ℤ q) (x *ℤ s))

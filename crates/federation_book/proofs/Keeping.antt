@@ -62,9 +62,6 @@ kept_push ps j e number q kept before low high own is =
       rising = all_pairs_push (λ (a b : Entry). a.stamp.turn < b.stamp.turn) j e kept.rising before;
     }
 
-pub kept_none : (n : ℕ) → KeepStates n [] []
-kept_none n = tt
-
 nothing_yet : (m : ℕ) → state_of m [] ≡ untouched
 unfolding state_of
 nothing_yet m = refl

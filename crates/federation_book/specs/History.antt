@@ -32,10 +32,6 @@ IsBefore turn entries = All (λ (e : Entry). e.stamp.turn < turn) entries
 unfoldable pub at_turn : ℕ → List Entry → List Entry
 at_turn turn history = filter (λ (e : Entry). nat_lt e.stamp.turn turn) history
 
--- the entries of the turns up to this one
-unfoldable pub up_to_turn : ℕ → List Entry → List Entry
-up_to_turn turn history = filter (λ (e : Entry). nat_le e.stamp.turn turn) history
-
 -- the entries of this turn
 unfoldable pub of_turn : ℕ → List Entry → List Entry
 of_turn turn history = filter (λ (e : Entry). e.stamp.turn == turn) history

@@ -7,10 +7,6 @@ use Rattle.exact_arith.proofs.Ring.{ring, at, lit, ◌⊕◌, ◌⊖◌, ◌⊗�
 use Rattle.exact_arith.proofs.Triples.{spot, ◌⊞◌, ◌⊟◌, ◌⊡◌, scalar}
 use Rattle.exact_arith.proofs.Order.{mul_nonneg, mul_positive, rest, certify, nonneg}
 
-module _ (p a b : Vector) where
-  along : ℤ
-  along = dot_of (minus p a) (minus b a)
-
 -- the square of a gap, in the edge's own numbers
 gap_square : (p a b : Vector) (i j : ℤ) → let u = minus b a in let w = minus p a in let n = i +ℤ j in let g = minus (times n p) (mix2 a b i j) in
     dot_of g g ≡ n *ℤ n *ℤ dot_of w w -ℤ pos 2 *ℤ n *ℤ j *ℤ dot_of w u +ℤ j *ℤ j *ℤ dot_of u u

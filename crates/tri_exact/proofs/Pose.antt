@@ -39,15 +39,6 @@ drift t s o = minus (plus (times o.a2 (minus t.b t.a)) (times o.a3 (minus t.c t.
 abbrev pub move : ℤ → ℤ → Pose → Shift → Pose
 move m k w o = record { n = m *ℤ w.n; a2 = m *ℤ w.a2 +ℤ k *ℤ o.a2; a3 = m *ℤ w.a3 +ℤ k *ℤ o.a3; b2 = m *ℤ w.b2 +ℤ k *ℤ o.b2; b3 = m *ℤ w.b3 +ℤ k *ℤ o.b3 }
 
--- no weight is negative
-pub record NoNegative (w : Pose) : Type 0 where
-  pub a1_in : pos 0 ≤ℤ (w.n -ℤ w.a2 -ℤ w.a3)
-  pub a2_in : pos 0 ≤ℤ w.a2
-  pub a3_in : pos 0 ≤ℤ w.a3
-  pub b1_in : pos 0 ≤ℤ (w.n -ℤ w.b2 -ℤ w.b3)
-  pub b2_in : pos 0 ≤ℤ w.b2
-  pub b3_in : pos 0 ≤ℤ w.b3
-
 -- two points whose distance squared is at most d
 pub record IsClose (t s : Face) (d : ℤ) (w : Pose) : Type 0 where
   pub n_positive : pos 0 <ℤ w.n

@@ -51,9 +51,6 @@ at_t t s d ca j c = at_s t s d j c
 at_t t s d cb j c = swapped t s d (turned_back s t d (swapped s (turn t) d (at_s (turn t) s d j c)))
 at_t t s d cc j c = swapped t s d (turned_back s t d (turned_back s (turn t) d (swapped s (turn (turn t)) d (at_s (turn (turn t)) s d j c))))
 
-pub edges_posed : (t s : Face) (d : ℤ) → SomeEdges t s d → Posed t s d
-edges_posed t s d (i, j, c) = at_t t s d i j c
-
 minus_square : (h : ℤ) → (pos 0 -ℤ h) *ℤ (pos 0 -ℤ h) ≡ h *ℤ h
 minus_square h = ring (h ∷ []) ((lit (pos 0) ⊖ at 0) ⊗ (lit (pos 0) ⊖ at 0)) (at 0 ⊗ at 0) refl
 

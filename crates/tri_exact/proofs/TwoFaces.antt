@@ -207,9 +207,6 @@ nothing n m = omega (arith, ints)
 nothing_first : (n m : ℤ) → pos 0 -ℤ (pos 0 *ℤ n -ℤ pos 0 *ℤ m) -ℤ (pos 0 *ℤ n -ℤ pos 0 *ℤ m) ≡ pos 0
 nothing_first n m = omega (arith, ints)
 
-abbrev all_a : List Six
-all_a = a1 ∷ a2 ∷ a3 ∷ []
-
 zero_in_a : (w : Pose) (i : Six) → In i (a1 ∷ a2 ∷ a3 ∷ []) → weight i w ≡ pos 0 → ZeroA w
 zero_in_a w i (inl h) z = inl (subst (λ (l : Six). weight l w ≡ pos 0) h z)
 zero_in_a w i (inr (inl h)) z = inr (inl (subst (λ (l : Six). weight l w ≡ pos 0) h z))
@@ -492,9 +489,6 @@ zero_in_all w b3 h z = inr (inr (inr z))
 
 abbrev pub FacesFound : Face → Face → ℤ → Type 0
 FacesFound t s d = SideFound t s d ⊎ SideFound s t d
-
-pub zero_across : (w : Pose) → ZeroA w → ZeroB (swap w)
-zero_across w z = z
 
 -- ---- a face with no area: its points have other weights too
 pub record Flat (t s : Face) (d : ℤ) (w : Pose) : Type 0 where

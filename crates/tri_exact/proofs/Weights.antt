@@ -97,9 +97,6 @@ new_nonneg m k w o live hm nn cover h i =
     nonneg_by (weight i (move m k w o)) (m *ℤ weight i w +ℤ k *ℤ change i o) (weight_moves m k w o i)
     (elim (cover i) [ inl x ↦ held m k w o live i h x | inr e ↦ still_nonneg m k (weight i w) (change i o) hm (nn i) e ])
 
-never : (m k : ℤ) → pos 0 <ℤ m → m *ℤ pos 1 +ℤ k *ℤ pos 0 ≡ pos 0 → ⊥
-never m k h e = omega (arith, ints)
-
 -- a move that changes both points alike
 pub free_slide : (t s : Face) (d : ℤ) (w : Pose) (o : Shift) (live : List Six) (c : IsClose t s d w) → NoNegative w → drift t s o ≡ nowhere →
     ((i : Six) → In i live ⊎ (change i o ≡ pos 0)) → (NoneFalls (paces w o live) → ⊥) → Next t s d w o live

@@ -1,6 +1,6 @@
 -- How large what is computed of points of the grid can be.
 use Rattle.std.specs.Prelude.{ℕ, ◌*◌}
-use Rattle.bim_model.specs.Points.{step_limit}
+use Rattle.bim_model.specs.Points.{step_limit, cross_limit}
 use Rattle.tri_exact.specs.declared.TheConstants.{DISTANCE_LIMIT}
 
 -- the greatest distance that the tests take
@@ -11,17 +11,13 @@ distance_limit = DISTANCE_LIMIT
 abbrev pub product_limit : ℕ
 product_limit = 3 * (step_limit * step_limit)
 
--- each part of the vector product of two steps
-abbrev pub normal_limit : ℕ
-normal_limit = 2 * (step_limit * step_limit)
-
 -- the scalar product of a step and such a vector product
 abbrev pub height_limit : ℕ
-height_limit = 3 * (step_limit * normal_limit)
+height_limit = 3 * (step_limit * cross_limit)
 
 -- the square of such a vector product
 abbrev pub square_limit : ℕ
-square_limit = 3 * (normal_limit * normal_limit)
+square_limit = 3 * (cross_limit * cross_limit)
 
 -- a difference of two products of scalar products
 abbrev pub minor_limit : ℕ

@@ -1,8 +1,7 @@
 -- The program's points as vectors, and the bounds of what is computed from them.
 use Rattle.std.specs.Prelude.{◌≤◌, unsigned_abs}
 use Rattle.exact_arith.specs.Space.{Vector, Face}
-use Rattle.bim_model.specs.Points.{grid_limit}
-use Rattle.tri_exact.specs.Limits.{normal_limit}
+use Rattle.bim_model.specs.Points.{grid_limit, cross_limit}
 use Rattle.tri_exact.specs.declared.V3.{V3}
 use Rattle.tri_exact.specs.declared.W3.{W3}
 use Rattle.tri_exact.specs.declared.Normal.{Normal}
@@ -27,6 +26,6 @@ pub record IsPoint (p : V3) : Type 0 where
 
 -- the vector product of two ways between points of the grid
 pub record IsCross (n : W3) : Type 0 where
-  pub x_in : unsigned_abs n.x ≤ normal_limit
-  pub y_in : unsigned_abs n.y ≤ normal_limit
-  pub z_in : unsigned_abs n.z ≤ normal_limit
+  pub x_in : unsigned_abs n.x ≤ cross_limit
+  pub y_in : unsigned_abs n.y ≤ cross_limit
+  pub z_in : unsigned_abs n.z ≤ cross_limit

@@ -2,8 +2,7 @@
 #![tactic(auto)]
 
 ghost use Rattle.std.specs.Prelude.{◌≤◌, unsigned_abs};
-ghost use Rattle.tri_exact.specs.Limits.{normal_limit};
-ghost use Rattle.bim_model.specs.Points.{step_limit};
+ghost use Rattle.bim_model.specs.Points.{step_limit, cross_limit};
 
 mod crossing;
 mod edges;
@@ -45,7 +44,7 @@ pub struct Normal {
     pub x: i64,
     pub y: i64,
     pub z: i64,
-    ghost x_in: { unsigned_abs x ≤ normal_limit },
-    ghost y_in: { unsigned_abs y ≤ normal_limit },
-    ghost z_in: { unsigned_abs z ≤ normal_limit },
+    ghost x_in: { unsigned_abs x ≤ cross_limit },
+    ghost y_in: { unsigned_abs y ≤ cross_limit },
+    ghost z_in: { unsigned_abs z ≤ cross_limit },
 }

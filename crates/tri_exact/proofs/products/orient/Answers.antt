@@ -9,9 +9,6 @@ use Rattle.tri_exact.proofs.products.orient.Goals as goal
 dot_comm : (a b : Vector) → dot_of a b ≡ dot_of b a
 dot_comm a b = ring (a.x ∷ a.y ∷ a.z ∷ b.x ∷ b.y ∷ b.z ∷ []) (scalar (spot 0) (spot 3)) (scalar (spot 3) (spot 0)) refl
 
-along : (w n a b c d v : Vector) → v ≡ n → n ≡ cross_of a b → a ≡ c → b ≡ d → v ≡ cross_of c d
-along w n a b c d v e f g h = e ∙ (f ∙ (ap (λ (x : Vector). cross_of x b) g ∙ ap (λ (x : Vector). cross_of c x) h))
-
 pub returns-clause-value : goal.returns-clause-value
 returns-clause-value c =
     let way = minus (at c.args.d) (at c.args.a) in let side = minus (at c.args.b) (at c.args.a) in let other = minus (at c.args.c) (at c.args.a) in
