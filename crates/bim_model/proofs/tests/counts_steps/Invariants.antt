@@ -1,4 +1,4 @@
-use Rattle.bim_model.proofs.tests.copies_topics_and_counts_steps.Given as goal
+use Rattle.bim_model.proofs.tests.counts_steps.Given as goal
 
 abbrev pub ghosts-count_two_steps : goal.ghosts-count_two_steps
 ghosts-count_two_steps g a = record { name = a.blank.name; parts = a.blank.parts }
