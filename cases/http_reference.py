@@ -1,0 +1,410 @@
+#!/usr/bin/env python3
+"""What `replay --at N` must write for the bytes of one connection: the HTTP profile read anew, in plain Python, from its
+own text (docs/API.md) and not from the program. Cases of heads, chunks and clients are worked out with it. It knows
+topics by title, empty versions, and uploads of one small file; where a stream asks for more it stops (Beyond).
+
+    python3 cases/http_reference.py --at N [--projects N] <input >output      ends with the status of the run
+    python3 cases/http_reference.py --cases FOLDER     compares with the cases KKK.json, KKK.in, KKK.out of a folder
+"""
+import datetime
+import glob
+import json
+import re
+import sys
+import urllib.parse
+
+TCHAR = rb"[!#$%&'*+\-.^_`|~0-9A-Za-z]+"
+REQUEST_LINE = re.compile(rb"(" + TCHAR + rb") ([\x21-\x7e\x80-\xff]+) HTTP/1\.([01])$")
+FIELD = re.compile(rb"(" + TCHAR + rb"):[ \t]*([\t\x20-\x7e\x80-\xff]*)$")
+MOST_HEAD, MOST_BODY, MOST_UPLOAD, MOST_REQUESTS = 16384, 4194304, 33554432, 10000
+
+PHRASES = {200: "OK", 201: "Created", 400: "Bad Request", 404: "Not Found", 405: "Method Not Allowed",
+           413: "Payload Too Large", 415: "Unsupported Media Type", 422: "Unprocessable Entity",
+           431: "Request Header Fields Too Large", 505: "HTTP Version Not Supported"}
+
+FRAME = {"BadHead": ("H1", 400), "HeadTooLong": ("H2", 431), "BadLength": ("H3", 400), "BodyTooLong": ("H4", 413),
+         "BadChunk": ("H5", 400), "Version": ("H6", 505)}
+
+SMALL_FILE = b"""ISO-10303-21;
+HEADER;
+FILE_DESCRIPTION((''),'2;1');
+FILE_NAME('a.ifc','2024-05-01T12:00:00',(''),(''),'','','');
+FILE_SCHEMA(('IFC4'));
+ENDSEC;
+DATA;
+#1=IFCPROJECT('0000000000000000000001',$,'P',$,$,$,$,(),#2);
+#2=IFCUNITASSIGNMENT((#3));
+#3=IFCSIUNIT(*,.LENGTHUNIT.,.MILLI.,.METRE.);
+#4=IFCCARTESIANPOINTLIST3D(((0.,0.,0.),(100.,0.,0.),(0.,100.,0.)));
+#5=IFCTRIANGULATEDFACESET(#4,$,$,((1,2,3)),$);
+#6=IFCSHAPEREPRESENTATION($,'Body','Tessellation',(#5));
+#7=IFCPRODUCTDEFINITIONSHAPE($,$,(#6));
+#8=IFCPIPESEGMENT('0000000000000000000002',$,'Pipe 1',$,$,$,#7,$,$);
+ENDSEC;
+END-ISO-10303-21;
+"""
+SMALL_MODEL = [{"box": [0, 0, 0, 100, 100, 0], "class": "IFCPIPESEGMENT", "guid": "0000000000000000000002",
+                "name": "Pipe 1", "storey": None, "triangles": 1}]
+
+
+class Beyond(Exception):
+    """The stream asks for what this program doesn't know."""
+
+
+class Fault(Exception):
+    def __init__(self, name):
+        self.name = name
+
+
+class Unfinished(Exception):
+    """The bytes end within a request."""
+
+
+def whole_line(data, at):
+    """The line at a place, without its end, and the place behind it; None where no LF follows."""
+    end = data.find(b"\n", at)
+    if end < 0:
+        return None
+    line = data[at:end]
+    return (line[:-1] if line.endswith(b"\r") else line), end + 1
+
+
+def read_fields(data, at):
+    fields = []
+    while True:
+        got = whole_line(data, at)
+        if got is None:
+            return fields, None
+        line, at = got
+        if not line:
+            return fields, at
+        match = FIELD.match(line)
+        if not match:
+            raise Beyond(f"a line that is no field: {line!r}") if line[:1] in b" \t" else Fault("BadLine")
+        fields.append((match.group(1).lower(), match.group(2).rstrip(b" \t")))
+
+
+def values(fields, name):
+    return [value for other, value in fields if other == name]
+
+
+def read_chunks(data, at, most):
+    body = b""
+    while True:
+        line = re.match(rb"([0-9A-Fa-f]{1,8})(;[^\r\n]{0,256})?\r\n", data[at:at + 300])
+        if not line:
+            if re.match(rb"([0-9A-Fa-f]{0,8}|[0-9A-Fa-f]{1,8};[^\r\n]{0,256}|[0-9A-Fa-f]{1,8}(;[^\r\n]{0,256})?\r)$", data[at:at + 300]):
+                raise Unfinished
+            raise Fault("BadChunk")
+        size = int(line.group(1), 16)
+        at += line.end()
+        if size == 0:
+            break
+        if len(body) + size > most:
+            raise Fault("BodyTooLong")
+        body += data[at:at + size]
+        if not (b"\r\n").startswith(data[at + size:at + size + 2]):
+            raise Fault("BadChunk")
+        at += size + 2
+        if at > len(data):
+            raise Unfinished
+    try:
+        trailers, behind = read_fields(data, at)
+    except Fault:
+        raise Fault("BadChunk")
+    if behind is None:
+        if len(data) - at >= MOST_HEAD:
+            raise Fault("HeadTooLong")
+        raise Unfinished
+    if len(trailers) > 64 or behind - at > MOST_HEAD:
+        raise Fault("HeadTooLong")
+    return body, behind
+
+
+class Request:
+    pass
+
+
+def read_request(data, start):
+    """The request at a place, and the place behind it. It tells by `continues` whether 100 Continue comes before it."""
+    at = start
+    while data[at:at + 1] == b"\n" or data[at:at + 2] == b"\r\n":
+        at += 1 if data[at:at + 1] == b"\n" else 2
+    request = Request()
+    request.continues = False
+    first = whole_line(data, at)
+    if first is None or first[1] - start > MOST_HEAD:
+        if len(data) - start >= MOST_HEAD:
+            raise Fault("HeadTooLong")
+        raise Unfinished
+    line, behind = first
+    if re.search(rb" HTTP/[0-9]\.[0-9]$", line) and not re.search(rb" HTTP/1\.[01]$", line):
+        raise Fault("Version")
+    match = REQUEST_LINE.match(line)
+    if not match:
+        raise Fault("BadHead")
+    request.method, request.target, request.minor = match.group(1), match.group(2), int(match.group(3))
+    try:
+        fields, at = read_fields(data[:start + MOST_HEAD], behind)
+    except Fault:
+        raise Fault("BadHead")
+    if at is None:
+        if len(data) - start >= MOST_HEAD:
+            raise Fault("HeadTooLong")
+        raise Unfinished
+    if request.minor == 1 and len(values(fields, b"host")) != 1:
+        raise Fault("BadHead")
+    if len(fields) > 64:
+        raise Fault("HeadTooLong")
+    lengths, codings = values(fields, b"content-length"), values(fields, b"transfer-encoding")
+    most = MOST_UPLOAD if request.method == b"PUT" and request.target.startswith(b"/coord/1/") else MOST_BODY
+    if len(lengths) > 1 or any(not re.match(rb"[0-9]+$", n) for n in lengths) \
+            or any(c.lower() != b"chunked" for c in codings) or len(codings) > 1 \
+            or (codings and (lengths or request.minor == 0)):
+        raise Fault("BadLength")
+    if lengths and int(lengths[0]) > most:
+        raise Fault("BodyTooLong")
+    users = values(fields, b"x-user")
+    request.user = "anonymous"
+    if len(users) == 1 and 1 <= len(users[0]) <= 128:
+        try:
+            request.user = users[0].decode()
+        except UnicodeDecodeError:
+            pass
+    options = [o.strip(b" \t").lower() for v in values(fields, b"connection") for o in v.split(b",")]
+    request.close = request.minor == 0 or b"close" in options
+    request.encoded = any(v.lower() != b"identity" for v in values(fields, b"content-encoding"))
+    request.continues = request.minor == 1 and bool(lengths or codings) and any(
+        v.lower() == b"100-continue" for v in values(fields, b"expect"))
+    request.body = b""
+    request.behind = at
+    request.most = most
+    request.length = int(lengths[0]) if lengths else None
+    request.chunked = bool(codings)
+    return request
+
+
+def read_body(data, request):
+    at = request.behind
+    if request.chunked:
+        request.body, at = read_chunks(data, at, request.most)
+    elif request.length is not None:
+        request.body = data[at:at + request.length]
+        at += request.length
+        if at > len(data):
+            raise Unfinished
+    return at
+
+
+def error(code, word, **fields):
+    return dict(fields, code=code, message=f"{code} {word}")
+
+
+def refused(code, word, status, **fields):
+    return status, error(code, word, **fields), None, []
+
+
+class Book:
+    def __init__(self, projects, moment):
+        self.projects, self.moment, self.turn = projects, moment, 0
+        self.topics = {n: [] for n in range(1, projects + 1)}
+        self.models = {n: {} for n in range(1, projects + 1)}
+        self.versions = {n: 0 for n in range(1, projects + 1)}
+
+    def project(self, identifier):
+        for n in self.topics:
+            if identifier == n.to_bytes(4, "big") + bytes.fromhex("000080008000") + bytes(6):
+                return n
+        return None
+
+    def topic(self, n, serial, made):
+        title, user = made
+        date = (datetime.datetime(1970, 1, 1) + datetime.timedelta(seconds=self.moment)).strftime("%Y-%m-%dT%H:%M:%SZ")
+        if self.moment < 0 or date[0] == "-":
+            raise Beyond("a date")
+        return {"creation_author": user, "creation_date": date, "guid": f"{n:08x}-0000-8000-8000-{serial:012x}",
+                "server_assigned_id": str(serial), "title": title}
+
+    def booked(self, status, tree):
+        self.turn += 1
+        return status, tree, self.turn, []
+
+
+PART = r"([^/]+)"
+ROWS = [(re.compile(f"/bcf/3.0/projects/{PART}/topics$"), "topics", ["GET", "POST"]),
+        (re.compile(f"/coord/1/projects/{PART}/models/{PART}$"), "model", ["PUT"]),
+        (re.compile(f"/coord/1/projects/{PART}/versions/{PART}$"), "version", ["GET"])]
+
+
+def identifier_in(text):
+    """The sixteen bytes of an identifier, in one of the four forms that the crate `uuid` reads; else None."""
+    hyphenated = "[0-9a-fA-F]{8}-[0-9a-fA-F]{4}-[0-9a-fA-F]{4}-[0-9a-fA-F]{4}-[0-9a-fA-F]{12}"
+    forms = ["[0-9a-fA-F]{32}", hyphenated, "\\{" + hyphenated + "\\}", "[uU][rR][nN]:[uU][uU][iI][dD]:" + hyphenated]
+    if not any(re.fullmatch(form, text) for form in forms):
+        return None
+    return bytes.fromhex(re.sub("[^0-9a-fA-F]", "", text)[-32:])
+
+
+def finite(text):
+    if float(text) in (float("inf"), float("-inf")):
+        raise ValueError(text)
+    return float(text)
+
+
+def constant(text):
+    raise ValueError(text)
+
+
+def depth(tree):
+    if isinstance(tree, (dict, list)):
+        return 1 + max(map(depth, tree.values() if isinstance(tree, dict) else tree), default=0)
+    return 0
+
+
+def object_in(body):
+    """The object of a body, as serde_json reads it: at most 127 levels, no lone surrogates, no number beyond a float."""
+    tree = json.loads(body.decode(), parse_float=finite, parse_int=lambda text: finite(text) and int(text), parse_constant=constant)
+    json.dumps(tree, ensure_ascii=False).encode()
+    if not isinstance(tree, dict) or depth(tree) > 127:
+        raise ValueError("no object")
+    return tree
+
+
+def answer(book, request):
+    """Status, tree, turn or None, and the methods of Allow."""
+    no_route = refused("H7", "NoRoute", 404)
+    target = request.target.decode("latin-1")
+    path, _, query = target.partition("?")
+    if path.startswith("http://"):
+        slash = path.find("/", 7)
+        if slash < 0:
+            return no_route
+        path = path[slash:]
+    for row, kind, methods in ROWS:
+        fits = row.match(path)
+        if fits:
+            break
+    else:
+        return no_route
+    identifier = identifier_in(fits.group(1))
+    if identifier is None:
+        return no_route
+    if kind == "model" and not re.fullmatch(r"[A-Za-z0-9_.\-]{1,64}", fits.group(2)):
+        return no_route
+    if kind == "version" and fits.group(2) != "newest":
+        return no_route
+    method = request.method.decode()
+    if method not in methods:
+        return 405, error("H8", "Method"), None, methods
+    if request.encoded:
+        return refused("H12", "Encoding", 415)
+    if kind == "model":
+        grids = []
+        for piece in filter(None, query.split("&")):
+            name, _, value = (urllib.parse.unquote_to_bytes(p.replace("+", " ")) for p in piece.partition("="))
+            if name == b"grid":
+                grids.append(value)
+        if len(grids) > 1 or any(g not in (b"exact", b"snap") for g in grids):
+            return refused("H11", "Query", 400, name="grid")
+    number = book.project(identifier)
+    if kind == "topics" and method == "POST":
+        try:
+            tree = object_in(request.body)
+        except (ValueError, RecursionError):
+            return refused("H9", "BadJson", 400)
+        title = tree.get("title")
+        if not isinstance(title, str) or not 1 <= len(title.encode()) <= 1024:
+            return refused("B3", "Title", 422)
+    if kind == "model" and request.body != SMALL_FILE:
+        raise Beyond("another file")
+    if number is None:
+        return book.booked(404, error("K1", "NoProject"))
+    if kind == "topics" and method == "POST":
+        book.topics[number].append((title, request.user))
+        made = book.topics[number]
+        return book.booked(201, book.topic(number, len(made), made[-1]))
+    if kind == "topics":
+        return book.booked(200, [book.topic(number, i + 1, t) for i, t in enumerate(book.topics[number])])
+    if kind == "model":
+        book.models[number][fits.group(2)] = SMALL_MODEL
+        book.versions[number] += 1
+        return book.booked(201, {"elements": 1, "left": 0, "triangles": 1, "version": book.versions[number]})
+    models = [{"elements": book.models[number][name], "name": name} for name in sorted(book.models[number])]
+    return book.booked(200, {"models": models, "newest": book.versions[number], "rules": [], "version": book.versions[number]})
+
+
+def response(status, tree, turn, close, head, methods):
+    body = json.dumps(tree, ensure_ascii=False, separators=(",", ":"), sort_keys=True).encode()
+    lines = [f"HTTP/1.1 {status} {PHRASES[status]}", "Content-Type: application/json"]
+    if status == 405:
+        lines.append("Allow: " + ", ".join(methods))
+    if turn is not None:
+        lines.append(f"X-Book-Turn: {turn}")
+    if close:
+        lines.append("Connection: close")
+    lines.append(f"Content-Length: {len(body)}")
+    return "".join(line + "\r\n" for line in lines).encode() + b"\r\n" + (b"" if head else body)
+
+
+def replay(data, projects, moment):
+    """The bytes written, and the exit status."""
+    book, out, at, served = Book(projects, moment), b"", 0, 0
+    while True:
+        try:
+            request = read_request(data, at)
+            if request.continues:
+                out += b"HTTP/1.1 100 Continue\r\n\r\n"
+            at = read_body(data, request)
+        except Fault as fault:
+            code, status = FRAME[fault.name]
+            return out + response(status, error(code, fault.name), None, True, False, []), 7
+        except Unfinished:
+            return out, 0 if re.match(rb"(\r?\n)*$", data[at:]) else 7
+        served += 1
+        close = request.close or served == MOST_REQUESTS
+        status, tree, turn, methods = answer(book, request)
+        out += response(status, tree, turn, close, request.method == b"HEAD", methods)
+        if served == MOST_REQUESTS:
+            return out, 7
+        if close:
+            return out, 0
+
+
+def words(args):
+    options = {"--at": None, "--projects": 1}
+    args = list(args)
+    while args:
+        word = args.pop(0)
+        name, eq, value = word.partition("=")
+        options[name] = int(value if eq else args.pop(0))
+    return options["--projects"], options["--at"]
+
+
+def compare(folder):
+    agree = beyond = differ = 0
+    for name in sorted(glob.glob(folder + "/*.json")):
+        case = json.load(open(name))
+        if case["args"][:1] != ["replay"] or case["status"] == 2:
+            continue
+        data, wanted = (open(name[:-4] + kind, "rb").read() for kind in ("in", "out"))
+        try:
+            got = replay(data, *words(case["args"][1:]))
+        except Beyond as reason:
+            beyond += 1
+            continue
+        if got == (wanted, case["status"]):
+            agree += 1
+        else:
+            differ += 1
+            at = next((i for i, (a, b) in enumerate(zip(got[0], wanted)) if a != b), min(len(got[0]), len(wanted)))
+            print(f"{name}: {case['name']}: status {got[1]}, from byte {at} {got[0][at:at + 60]!r}, wanted {wanted[at:at + 60]!r}")
+    print(f"{agree} agree, {differ} differ, {beyond} ask for more")
+    return 1 if differ or not agree else 0
+
+
+if __name__ == "__main__":
+    if sys.argv[1:2] == ["--cases"]:
+        sys.exit(compare(sys.argv[2]))
+    written, ended = replay(sys.stdin.buffer.read(), *words(sys.argv[1:]))
+    sys.stdout.buffer.write(written)
+    sys.exit(ended)
