@@ -27,7 +27,7 @@ line_opened : (all : ℕ) (last : List ℕ) (s : SizeSpot) → s ≡ size_run (D
 line_opened all last s at is = size_open all last (λ e. inside s is (at ∙ e)) (λ e. not_ended s is (at ∙ e))
 
 -- so few bytes stand behind the line that no chunk and its CR LF can
-few_behind : (begun after c r : List ℕ) (size left : ℕ) → size ≡ length begun + left → length after < 2 → length after ≡ 0 ⊎ (left ≡ 0)
+few_behind : (begun after c r : List ℕ) (size left : ℕ) → size ≡ length begun + left → length after < 2 → (length after ≡ 0) ⊎ (left ≡ 0)
     → begun ++ after ≡ c ++ (crlf_bytes ++ r) → length c ≡ size → ⊥
 few_behind begun after c r size left is few how e n =
     let a : length (begun ++ after) ≡ length begun + length after = length-append begun after in
@@ -43,7 +43,7 @@ abbrev CanEnd : List ℕ → Type 0
 CanEnd after = (more : List ℕ) × (rest : List ℕ) × (after ++ more ≡ crlf_bytes ++ rest)
 
 ends_well : (room : ℕ) (last begun after : List ℕ) (left : ℕ) (l : ChunkLine) → ReadsSize last l (begun ++ after) → chunk_size l ≡ length begun + left
-    → length after ≡ 0 ⊎ (left ≡ 0) → CanEnd after → LacksEnd room last → ⊥
+    → (length after ≡ 0) ⊎ (left ≡ 0) → CanEnd after → LacksEnd room last → ⊥
 ends_well room last begun after left l reads size how can lacks =
     let same = size_unique last lacks.line l (lacks.content ++ lacks.after) (begun ++ after) lacks.reads reads in
     let n : length lacks.content ≡ length begun + left = sym lacks.size_is ∙ ap chunk_size same.0 ∙ size in
@@ -61,7 +61,7 @@ ends_well room last begun after left l reads size how can lacks =
     nil_of [] e = refl
     nil_of (x ∷ xs) e = absurd (omega arith)
 
-chunk_opened : (all room left : ℕ) (last begun after : List ℕ) → IsInChunk all room left last begun after → length after < 2 → length after ≡ 0 ⊎ (left ≡ 0) → CanEnd after
+chunk_opened : (all room left : ℕ) (last begun after : List ℕ) → IsInChunk all room left last begun after → length after < 2 → (length after ≡ 0) ⊎ (left ≡ 0) → CanEnd after
     → IsOpenAt all last
 chunk_opened all room left last begun after x few how can =
     let fits : chunk_size x.line ≤ all = let f : room + chunk_size x.line ≡ all = x.fits in omega arith in

@@ -332,7 +332,7 @@ some_chunk most text content last cs l value room true test some at is left read
     (cs, last, at, inr (inl ((l, [], reads, more), refl)))
 some_chunk most text content last cs l value room false test some at is left reads size =
     let fits = le_of room value test in
-    let size_is : chunk_size l ≡ length [] + value = size ∙ zero_plus value in record {
+    let size_is : chunk_size l ≡ 0 + value = size ∙ zero_plus value in record {
       contents = cs;
       last = last;
       begun = [];

@@ -2,7 +2,8 @@
 use Rattle.std.proofs.Common.{◌≡◌, ℕ, ◌<◌, ◌≤◌, Bool, true, false, List, ◌++◌, length, map, take, drop, min, Option, Some, None, All, Result, Ok, Err, refl, sym, ap, ◌∙◌, arith, inl, inr, subst}
 use Rattle.std.proofs.lemmas.List.{take-append-drop, length-map, length-take, take_all}
 use Rattle.std.proofs.lemmas.List.Elements.{All-weaker}
-use Rattle.std.specs.Prelude.{IfOk, AllocError}
+use Rattle.std.specs.Prelude.{IfOk}
+use Rattle.std.specs.declared.alloc.AllocError.{AllocError}
 use Rattle.std.proofs.Math.Seq.{drop-append_seam}
 use Rattle.httparse.specs.declared.spans.Span.{Span}
 use Rattle.httparse.specs.declared.spans.HeaderSpan.{HeaderSpan}
@@ -12,6 +13,7 @@ use Rattle.httparse.specs.Spans.{IsWithin, IsHeaderWithin, IsRequestWithin, IsRe
 use Rattle.httparse.proofs.GrammarLemmas.{ReadsRequest-append}
 use Rattle.http_frame.specs.declared.types.FrameFault.{FrameFault}
 use Rattle.http_frame.specs.declared.types.FrameFault.TheVariants.{BadHead, HeadTooLong, Version}
+use Rattle.http_frame.specs.declared.head.HeadFacts.{HeadFacts}
 use Rattle.http_frame.specs.declared.head.Plan.{Plan}
 use Rattle.http_frame.specs.declared.seen.Seen.{Seen}
 use Rattle.http_frame.specs.declared.seen.Seen.TheVariants.{Unfinished, Fault, Good}
@@ -117,7 +119,7 @@ head_seen bytes headers spans (Good g) (h, at) within small fits is =
           whole = subst (λ (n : ℕ). HasHead bytes h (drop n bytes)) (sym len) whole;
           good = checked.0;
         },
-        subst (λ f. IsFactsOf f h) (sym is.1) (is_facts (front bytes) spans found h at.method at.path at.version at.fields),
+        subst (λ (f : HeadFacts). IsFactsOf f h) (sym is.1) (is_facts (front bytes) spans found h at.method at.path at.version at.fields),
         checked.1,
         subst (λ (b : Bool). IsAskingAs h b) (sym is.2) (is_asking (front bytes) found spans.version h g.plan at.version at.fields checked.1),
       ),

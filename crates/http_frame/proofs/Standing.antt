@@ -265,7 +265,8 @@ same_end e d most text items taken is x = subst (λ (v : ChunkEnd). IsTaken most
 take_twice : (n : ℕ) (xs ys : List ℕ) → ys ≡ take n xs → n ≤ length xs → (take n ys ≡ take n xs) × (drop n ys ≡ [])
 take_twice n xs ys e fits =
     let size : length ys ≡ n = ap length e ∙ length-take-le n xs fits in
-    (take_all n ys (omega arith) ∙ e, drop_of_length-le ys (omega arith))
+    let fits_here : length ys ≤ n = omega arith in
+    (take_all n ys fits_here ∙ e, drop_of_length-le ys fits_here)
 
 pub chunked_more : (facts : HeadFacts) (chunks : Chunks) (at : ℕ) (items mid new : List ℕ) (taken : Taken)
     → Advances items (record { chunks = chunks; at = at; end = end.More }) mid taken → taken.end ≡ end.More → length mid ≤ taken.at → taken.chunks.filled ≤ length mid
