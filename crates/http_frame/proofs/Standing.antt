@@ -44,9 +44,12 @@ pub memory_step : (stage : Stage) (items new : List ℕ) (at : ℕ) → new ≡ 
 unfolding Steps
 memory_step stage items new at same = λ bytes told x. (bytes, told, (refl, refl), subst (λ (i : List ℕ). StandsAt stage i at bytes told) (sym same) x)
 
-pub failed_step : (fault : FrameFault) (items : List ℕ) (at : ℕ) → Steps (Failed fault) items at (record { stage = Failed fault; at = at; answer = Err (Fault fault) }) items
+pub failed_step : (stage : Stage) (fault : FrameFault) (items : List ℕ) (at : ℕ) → stage ≡ Failed fault
+    → Steps stage items at (record { stage = Failed fault; at = at; answer = Err (Fault fault) }) items
 unfolding Steps
-failed_step fault items at = λ bytes told x. (bytes, told, (x.0, x.1, refl, refl), x)
+failed_step stage fault items at is = λ bytes told x.
+    let y : StandsAt (Failed fault) items at bytes told = subst (λ (s : Stage). StandsAt s items at bytes told) is x in
+    (bytes, told, (y.0, y.1, refl, refl), y)
 
 -- one step after a change that leaves the bytes the same
 pub steps_after : (a b : Stage) (old mid new : List ℕ) (at place : ℕ) (r : Stepped) → ((bytes : List ℕ) (told : Bool) → StandsAt a old at bytes told → StandsAt b mid place bytes told)

@@ -115,11 +115,18 @@ fn step_whole(buf: &mut Vec<u8>, at: usize, facts: HeadFacts, filled: usize) -> 
     }
 }
 
+fn run(bytes: &[u8], at: usize, count: usize) -> &[u8]
+    requires { at + count ≤ length bytes.now }
+    ensures { result.now ≡ take count (drop at bytes.now) }
+{
+    &bytes[at..at + count]
+}
+
 fn copied(buf: &Vec<u8>, at: usize, count: usize) -> Result<Items<u8>, AllocError>
     requires { at + count ≤ length buf.now.items }
     ensures { IfOk result (λ body. body ≡ take count (drop at buf.now.items)) }
 {
-    let body = tail(buf, at)[..count].to_vec(*buf.allocator())?;
+    let body = run(buf, at, count).to_vec(*buf.allocator())?;
     Ok(Items::from_vec(body))
 }
 
