@@ -30,7 +30,7 @@ pub fn a_whole_line_may_become_a_head()
         → (more : List ℕ) × (h : RequestHead) × ReadsRequest (bytes ++ more) h [] }
 {}
 
-/// What a framer answers over any pieces are the first events of all bytes; where that is `More`, none is left.
+/// What a framer answers over any pieces are the first events of all bytes; where it is `More`, none is left.
 pub fn answers_are_the_events()
     ensures first { (old new : List ℕ) (told mark : Bool) (acts : List Act) (es : List Event) (e : Ending)
         → Runs old told acts new mark
