@@ -163,7 +163,8 @@ fn step_sized(buf: &mut Vec<u8>, at: usize, facts: HeadFacts, count: usize) -> S
     ensures step { Steps (Stage.Body (record { facts = facts; owes = false; body = Awaited.Sized count }))
         buf.old.items at result buf.new.items }
 {
-    if buf.len() - at < count {
+    let rest = buf.len() - at;
+    if rest < count {
         settle(buf, at);
         return Stepped {
             stage: Stage::Body(Pending {

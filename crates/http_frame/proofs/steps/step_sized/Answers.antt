@@ -3,8 +3,8 @@ use Rattle.http_frame.specs.declared.stage.Awaited.TheVariants.{Sized, Whole}
 use Rattle.http_frame.proofs.Standing.{Owing, steps_after, sized_more, sized_is_whole}
 use Rattle.http_frame.proofs.steps.step_sized.Goals as goal
 
-pub returns-then-count-clause-step : goal.returns-then-count-clause-step
-returns-then-count-clause-step c =
+pub returns-then-rest-count-clause-step : goal.returns-then-rest-count-clause-step
+returns-then-rest-count-clause-step c =
     let lacks : length c.args.buf.now.items - c.args.at < c.args.count = omega (arith, c.args.buf.now.ok.0) in
     sized_more c.args.facts c.args.count c.args.at c.args.buf.now.items c.settle.new.buf.items c.settle.ensures lacks
 
