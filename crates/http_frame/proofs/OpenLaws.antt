@@ -1,17 +1,13 @@
 -- Chunked bodies that have not come whole.
 use Rattle.std.proofs.Common.{◌≡◌, ℕ, zero, ◌<◌, ◌≤◌, List, ◌++◌, length, sym, ap, ◌∙◌, arith, inl, inr, subst}
 use Rattle.httparse.specs.Ascii.{crlf_bytes}
-use Rattle.httparse.specs.Grammar.{ChunkLine, chunk_size, ReadsSection}
-use Rattle.http_frame.specs.declared.walk.Place.TheVariants.{Start}
-use Rattle.http_frame.specs.Scan.{run, IsOpen}
-use Rattle.http_frame.proofs.Scanned.{open_may, open_none}
-use Rattle.std.proofs.lemmas.List.{take_all}
+use Rattle.httparse.specs.Grammar.{ChunkLine, chunk_size}
 use Rattle.http_frame.specs.declared.types.FrameFault.{FrameFault}
 use Rattle.http_frame.specs.declared.size_line.SizeSpot.TheVariants.{Digits, Whole, Wrong}
-use Rattle.http_frame.specs.Heads.{chunked, most_head, front}
-use Rattle.http_frame.specs.Bodies.{ReadsSize, ReadsChunk, ReadsChunks, room_left, ReadsLast, ReadsTrailers, ReadsBody, HasBadTrailer, LacksEnd, FailsInChunk, FailsInBody}
+use Rattle.http_frame.specs.Heads.{chunked}
+use Rattle.http_frame.specs.Bodies.{ReadsSize, ReadsChunk, ReadsChunks, room_left, ReadsLast, ReadsTrailers, ReadsBody, LacksEnd, FailsInChunk, FailsInBody}
 use Rattle.http_frame.specs.Sizes.{size_run}
-use Rattle.http_frame.proofs.BodyLaws.{size_unique, never_now, chunks_unique, fails_is_terminal, last_is_terminal, last_unique, last_is_no_chunk, over_is_not_last, lacks_is_not_last, bad_more, bad_is_no_section}
+use Rattle.http_frame.proofs.BodyLaws.{size_unique, never_now, chunks_unique, fails_is_terminal, last_is_terminal}
 use Rattle.http_frame.proofs.SizeLaws.{right_is_whole, not_wrong_may_be_right}
 
 -- behind whole chunks: no chunk within the room, no fault and no end

@@ -1,6 +1,6 @@
 -- Where a reading of a chunked body stops for want of bytes, no body and no fault has come.
-use Rattle.std.proofs.Common.{◌≡◌, ℕ, zero, suc, ◌+◌, ◌<◌, ◌≤◌, ◌⊎◌, List, [], ◌∷◌, ◌++◌, length, refl, sym, ap, ◌∙◌, arith, inl, inr, subst}
-use Rattle.std.proofs.lemmas.List.{append-nil, length-append}
+use Rattle.std.proofs.Common.{◌≡◌, ℕ, suc, ◌+◌, ◌<◌, ◌≤◌, ◌⊎◌, List, [], ◌∷◌, ◌++◌, length, refl, sym, ap, ◌∙◌, arith, inl, inr, subst}
+use Rattle.std.proofs.lemmas.List.{length-append}
 use Rattle.httparse.specs.Ascii.{crlf_bytes}
 use Rattle.httparse.specs.Grammar.{ChunkLine, chunk_size, ReadsSection, HasNoSection}
 use Rattle.http_frame.specs.declared.types.FrameFault.{FrameFault}
@@ -9,9 +9,9 @@ use Rattle.http_frame.specs.declared.size_line.SizeSpot.TheVariants.{Digits, Who
 use Rattle.http_frame.specs.declared.chunks.Part.{Part}
 use Rattle.http_frame.specs.declared.chunks.Part.TheVariants.{Size, Data, Lf, Trailers}
 use Rattle.http_frame.specs.Heads.{chunked, most_head, front}
-use Rattle.http_frame.specs.Bodies.{ReadsSize, ReadsChunks, room_left, ReadsLast, ReadsTrailers, ReadsBody, HasBadTrailer, LacksEnd, FailsInChunk, FailsInBody}
+use Rattle.http_frame.specs.Bodies.{ReadsSize, room_left, ReadsLast, ReadsBody, HasBadTrailer, LacksEnd, FailsInChunk, FailsInBody}
 use Rattle.http_frame.specs.Sizes.{size_run}
-use Rattle.http_frame.specs.Chunks.{IsInLine, IsInChunk, IsInTrailers, IsPart, IsReading}
+use Rattle.http_frame.specs.Chunks.{IsInLine, IsInChunk, IsPart, IsReading}
 use Rattle.http_frame.proofs.BodyLaws.{size_unique, never_now, same_cut, last_unique, last_is_no_chunk, over_is_not_last, lacks_is_not_last}
 use Rattle.http_frame.proofs.OpenLaws.{IsOpenAt, open_no_body, open_no_fault, size_open, data_open}
 use Rattle.http_frame.proofs.Seeing.{short_front}

@@ -1,5 +1,5 @@
 -- The steps of a framer.
-use Rattle.std.proofs.Common.{◌≡◌, ℕ, zero, ◌+◌, ◌-◌, ◌<◌, ◌≤◌, Bool, true, false, List, [], ◌∷◌, ◌++◌, length, take, drop, Result, Ok, Err, refl, sym, ap, ◌∙◌, arith, append_assoc, inl, inr, ◌⊎◌, subst}
+use Rattle.std.proofs.Common.{◌≡◌, ℕ, ◌+◌, ◌-◌, ◌<◌, ◌≤◌, Bool, true, false, List, [], ◌∷◌, ◌++◌, length, take, drop, Ok, Err, refl, sym, ap, ◌∙◌, arith, append_assoc, inl, inr, subst}
 use Rattle.std.proofs.lemmas.List.{append-nil, take-append-drop, drop-drop, length-take-le, length-drop, take_all}
 use Rattle.std.proofs.Math.ListN.{drop_of_length-le}
 use Rattle.httparse.specs.Grammar.{RequestHead}
@@ -17,15 +17,13 @@ use Rattle.http_frame.specs.declared.chunks.Chunks.{Chunks}
 use Rattle.http_frame.specs.declared.chunks.Taken.{Taken}
 use Rattle.http_frame.specs.declared.chunks.ChunkEnd.{ChunkEnd}
 use Rattle.http_frame.specs.declared.chunks.ChunkEnd.TheVariants as end
-use Rattle.http_frame.specs.declared.size_line.SizeSpot.TheVariants.{Digits}
-use Rattle.http_frame.specs.declared.chunks.Part.TheVariants.{Size}
 use Rattle.http_frame.specs.declared.stage.Awaited.{Awaited}
 use Rattle.http_frame.specs.declared.stage.Awaited.TheVariants.{Sized, Chunked, Whole}
 use Rattle.http_frame.specs.declared.stage.Pending.{Pending}
 use Rattle.http_frame.specs.declared.stage.Stage.{Stage}
 use Rattle.http_frame.specs.declared.stage.Stage.TheVariants.{Head, Body, Failed}
 use Rattle.http_frame.specs.declared.steps.Stepped.{Stepped}
-use Rattle.http_frame.specs.Heads.{Framing, absent, sized, chunked, badly, framing, most_body, user_of, closes, is_encoded, HasGoodHead, FailsInHead}
+use Rattle.http_frame.specs.Heads.{Framing, chunked, framing, most_body, HasGoodHead, FailsInHead}
 use Rattle.http_frame.specs.Bodies.{ReadsBody, FailsInBody}
 use Rattle.http_frame.specs.Events.{Begins, Fails, Asks, IsRest, IsTold}
 use Rattle.http_frame.specs.Told.{IsPlan, IsFactsOf, IsAskingAs}
@@ -34,7 +32,6 @@ use Rattle.http_frame.specs.Chunks.{IsReading, IsTaken, Advances}
 use Rattle.http_frame.specs.Stages.{request_by, awaited_of, pending_of, IsSized, IsBodyAt, IsBodyOf, IsOwed, StandsAt, Steps}
 use Rattle.http_frame.proofs.HeadLaws.{good_unique, good_is_no_fault}
 use Rattle.http_frame.proofs.BodyLaws.{body_stays, body_fault_stays}
-use Rattle.http_frame.proofs.EventLaws.{fails_stays, asks_stays, told_stays, fails_settles, settled}
 use Rattle.http_frame.proofs.StepLaws.{body_to_come}
 use Rattle.http_frame.proofs.Opened.{reading_goes_on}
 

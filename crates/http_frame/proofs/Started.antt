@@ -3,15 +3,15 @@ use Rattle.std.proofs.Common.{◌≡◌, ℕ, ◌+◌, ◌≤◌, ◌==◌, ◌|
 use Rattle.std.proofs.lemmas.List.{append_cancel_right}
 use Rattle.std.proofs.lemmas.List.Elements.{All-head, All-tail}
 use Rattle.std.proofs.lemmas.Bool.{ne_eqb}
-use Rattle.httparse.specs.Grammar.{RequestHead, LineEnd, crlf, lf, print_end, print_blank, print_version, ReadsSection, ReadsRequest, HasNoRequest, NeverHasRequest, MayBecomeRequest}
+use Rattle.httparse.specs.Grammar.{LineEnd, crlf, lf, print_end, print_blank, print_version, ReadsSection, HasNoRequest, NeverHasRequest, MayBecomeRequest}
 use Rattle.httparse.specs.Pieces.{RequestStart, Stops, is_newline}
 use Rattle.httparse.proofs.PieceLemmas.{RequestStart_deterministic, Stops_token}
 use Rattle.httparse.proofs.GrammarLemmas.{request_pieces, request_from_pieces, request_tree, request_head}
-use Rattle.http_frame.specs.declared.walk.Place.TheVariants.{Start, Done, Dead}
+use Rattle.http_frame.specs.declared.walk.Place.TheVariants.{Start}
 use Rattle.http_frame.specs.Heads.{before, begins_lf, line_at, first_line}
 use Rattle.http_frame.specs.Scan.{run, IsOpen, after_lf, after_line, Parts, IsStarted}
 use Rattle.http_frame.proofs.Lines.{token_no_lf, uri_no_lf, may_is_head}
-use Rattle.http_frame.proofs.Scanned.{open_may, open_none, dead_is_never, done_is_section}
+use Rattle.http_frame.proofs.Scanned.{open_may, open_none}
 
 -- ---- the bytes behind the first line
 

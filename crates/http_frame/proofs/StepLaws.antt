@@ -1,15 +1,14 @@
 -- What a framer answers are the events that all the bytes spell, in their order.
-use Rattle.std.proofs.Common.{◌≡◌, ℕ, ◌<◌, ◌≤◌, Bool, true, false, List, [], ◌∷◌, ◌++◌, length, Ok, Err, Some, refl, sym, ap, ◌∙◌, arith, append_assoc, inl, inr, subst}
+use Rattle.std.proofs.Common.{◌≡◌, ℕ, ◌<◌, ◌≤◌, Bool, true, false, List, [], ◌∷◌, ◌++◌, length, Ok, Err, refl, sym, ap, ◌∙◌, arith, append_assoc, inl, inr, subst}
 use Rattle.std.proofs.lemmas.List.{append-nil, length-append}
 use Rattle.httparse.specs.Grammar.{RequestHead, HasNoRequest}
 use Rattle.http_frame.specs.declared.types.HttpRequest.{HttpRequest}
 use Rattle.http_frame.specs.declared.types.FrameFault.{FrameFault}
-use Rattle.http_frame.specs.declared.types.FrameFault.TheVariants.{BadHead, HeadTooLong}
 use Rattle.http_frame.specs.declared.types.FrameStep.TheVariants.{More, Continue, Request}
 use Rattle.http_frame.specs.declared.types.FrameError.TheVariants.{Fault, Memory}
-use Rattle.http_frame.specs.Heads.{Framing, sized, most_head, front, fault_of, framing, most_body, HasOtherVersion, IsHopeless, HasHead, HasGoodHead}
+use Rattle.http_frame.specs.Heads.{Framing, sized, most_head, front, framing, most_body, HasOtherVersion, IsHopeless, HasGoodHead}
 use Rattle.http_frame.specs.Bodies.{ReadsBody, FailsInBody}
-use Rattle.http_frame.specs.Events.{Begins, Fails, Asks, Event, continue, request, Ending, between, within, bad, IsRest, IsTold, Spells}
+use Rattle.http_frame.specs.Events.{Begins, Fails, Asks, Event, continue, request, Ending, IsRest, IsTold, Spells}
 use Rattle.http_frame.specs.Steps.{Act, fed, answered, Runs, given, told_by}
 use Rattle.http_frame.proofs.HeadLaws.{head_is_some, good_unique, good_is_no_fault}
 use Rattle.http_frame.proofs.EventLaws.{begins_unique, begins_stays, asks_stays, begins_settles, told_not, ends_not}
