@@ -8,6 +8,8 @@ use Rattle.std.proofs.lemmas.Bool.{ne_eqb}
 use Rattle.http_frame.specs.Heads.{before, line_at, first_line, begins_lf, without_cr, ends_in_version, has_other_version}
 use Rattle.std.proofs.lemmas.List.{reverse-append}
 use Rattle.std.proofs.lemmas.List.Elements.{All-head, All-tail, All-cons, All-append}
+use Rattle.std.proofs.Math.Bool.{Bool-set}
+use Rattle.std.proofs.Math.Logic.{∥∥₁_elim}
 use Rattle.httparse.specs.Grammar.{RequestHead, LineEnd, crlf, lf, print_end, print_version, ReadsRequest}
 use Rattle.httparse.specs.Pieces.{RequestStart}
 use Rattle.httparse.proofs.GrammarLemmas.{request_pieces, request_tree}
@@ -193,7 +195,9 @@ watch_version : (s : Spot) (bytes : List ℕ) → s ≡ spot_run Before bytes �
 watch_version Before bytes e asked = none_version (first_line bytes) (early_is_none bytes (ap is_early (sym e)))
 watch_version BeforeCr bytes e asked = none_version (first_line bytes) (early_is_none bytes (ap is_early (sym e)))
 watch_version Line bytes e asked = none_version (first_line bytes) (early_is_none bytes (ap is_early (sym e)))
-watch_version (Fields place) bytes e asked = started_version asked.0 bytes (after_line bytes) asked.1
+watch_version (Fields place) bytes e asked =
+    ∥∥₁_elim asked (Bool-set (has_other_version (first_line bytes)) false)
+    (λ (x : (p : Parts) × RequestStart p bytes (after_line bytes)). started_version x.0 bytes (after_line bytes) x.1)
 
 pub watched_version : (w : Watch) (bytes : List ℕ) → IsWatch w bytes → has_other_version (first_line bytes) ≡ false
 watched_version w bytes is = watch_version w.spot bytes is.0 is.1

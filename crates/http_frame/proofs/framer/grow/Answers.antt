@@ -7,16 +7,16 @@ returns-then-is_failed-clause-ok c = failed_grows c.args.stage.now c.args.buf.no
 
 pub returns-clause-ok : goal.returns-clause-ok
 returns-clause-ok c =
-    grows c.args.stage.now c.args.buf.now.items c.args.piece.now c.extend_from_slice.new.buf.items c.args.at c.in_ok-extend_from_slice.ensures.items c.requires
+    grows c.args.stage.now c.args.buf.now.items c.args.piece.now c.extend_from_slice.new.self.items c.args.at c.in_ok-extend_from_slice.ensures.items c.requires
 
 pub returns-clause-safe : goal.returns-clause-safe
 returns-clause-safe c =
-    safe_grows c.args.stage.now c.args.buf.now.items c.args.piece.now c.extend_from_slice.new.buf.items c.args.at c.in_ok-extend_from_slice.ensures.items c.requires
+    safe_grows c.args.stage.now c.args.buf.now.items c.args.piece.now c.extend_from_slice.new.self.items c.args.at c.in_ok-extend_from_slice.ensures.items c.requires
 
 pub returns-in_err-extend_from_slice-clause-err : goal.returns-in_err-extend_from_slice-clause-err
 returns-in_err-extend_from_slice-clause-err c =
-    keeps_items c.args.stage.now c.args.buf.now.items c.extend_from_slice.new.buf.items c.args.at c.in_err-extend_from_slice.ensures.items
+    keeps_items c.args.stage.now c.args.buf.now.items c.extend_from_slice.new.self.items c.args.at c.in_err-extend_from_slice.ensures.items
 
 pub returns-in_err-extend_from_slice-clause-safe : goal.returns-in_err-extend_from_slice-clause-safe
 returns-in_err-extend_from_slice-clause-safe c =
-    safe_items c.args.stage.now c.args.buf.now.items c.extend_from_slice.new.buf.items c.args.at c.in_err-extend_from_slice.ensures.items c.requires
+    safe_items c.args.stage.now c.args.buf.now.items c.extend_from_slice.new.self.items c.args.at c.in_err-extend_from_slice.ensures.items c.requires
