@@ -1,6 +1,5 @@
 -- The code that reads the version, and its definition.
-use Rattle.std.proofs.Common.{◌≡◌, ℕ, zero, suc, ◌+◌, ◌<◌, ◌≤◌, ◌==◌, ◌||◌, ◌&&◌, not, Bool, true, false, List, [], ◌∷◌, ◌++◌, length, take, drop, get_or, if◌then◌else◌, Option, Some, None, All, reverse, rules, refl, sym, ap, ◌∙◌, arith, append_assoc, drop-cons, add-one, eq-eqb}
-use Rattle.std.specs.Prelude.{codes, bytes_eq}
+use Rattle.std.proofs.Common.{◌≡◌, ℕ, zero, suc, ◌+◌, ◌<◌, ◌≤◌, ◌==◌, ◌||◌, ◌&&◌, Bool, true, false, List, [], ◌∷◌, ◌++◌, length, take, drop, get_or, if◌then◌else◌, Option, Some, None, All, reverse, rules, refl, sym, ap, ◌∙◌, arith, append_assoc, drop-cons, add-one, eq-eqb}
 use Rattle.std.proofs.lemmas.List.{append-nil}
 use Rattle.std.proofs.Math.Seq.{take-suc, drop-length}
 use Rattle.std.proofs.Math.ListN.{drop_of_length-le}
@@ -20,7 +19,7 @@ use Rattle.http_frame.specs.Scan.{Parts, after_line, spot_run, IsAsked}
 use Rattle.http_frame.specs.Watched.{is_early, IsWatch}
 use Rattle.http_frame.proofs.Lines.{skip_blank, line_here, token_no_lf, uri_no_lf}
 use Rattle.http_frame.proofs.Watching.{early_is_none}
-use Rattle.http_frame.specs.Lines.{begins_blank, put_before, is_version, is_current}
+use Rattle.http_frame.specs.Lines.{begins_blank, put_before}
 
 -- ---- empty lines
 
@@ -96,37 +95,6 @@ pub line_nowhere : (bytes : List ℕ) (i : ℕ) → length bytes ≤ i → line_
 line_nowhere bytes i all h =
     let here : drop i bytes ≡ [] = drop_of_length-le bytes all in
     h ∙ ap (λ t. put_before (take i bytes) (line_at t)) here ∙ ap (put_before (take i bytes)) nothing
-
--- ---- the version
-
-pub short_none : (r : List ℕ) → length r < 9 → ends_in_version r ≡ false
-short_none [] lt = refl
-short_none (b ∷ []) lt = refl
-short_none (b ∷ p ∷ []) lt = refl
-short_none (b ∷ p ∷ a ∷ []) lt = refl
-short_none (b ∷ p ∷ a ∷ s ∷ []) lt = refl
-short_none (b ∷ p ∷ a ∷ s ∷ t ∷ []) lt = refl
-short_none (b ∷ p ∷ a ∷ s ∷ t ∷ u ∷ []) lt = refl
-short_none (b ∷ p ∷ a ∷ s ∷ t ∷ u ∷ v ∷ []) lt = refl
-short_none (b ∷ p ∷ a ∷ s ∷ t ∷ u ∷ v ∷ w ∷ []) lt = refl
-short_none (b ∷ p ∷ a ∷ s ∷ t ∷ u ∷ v ∷ w ∷ x ∷ bytes) lt = absurd (omega arith)
-
--- the nine bytes at the front decide
-abbrev pub other_of : ℕ → ℕ → ℕ → List ℕ → Bool
-other_of minor point major name = is_version minor point major && bytes_eq name (codes "/PTTH ") && not (is_current major minor)
-
-pub nine_last : (r : List ℕ) → 9 ≤ length r
-    → ends_in_version r ≡ other_of (get_or r 0 0) (get_or r 1 0) (get_or r 2 0) (get_or r 3 0 ∷ get_or r 4 0 ∷ get_or r 5 0 ∷ get_or r 6 0 ∷ get_or r 7 0 ∷ get_or r 8 0 ∷ [])
-nine_last [] ge = absurd (omega arith)
-nine_last (b ∷ []) ge = absurd (omega arith)
-nine_last (b ∷ p ∷ []) ge = absurd (omega arith)
-nine_last (b ∷ p ∷ a ∷ []) ge = absurd (omega arith)
-nine_last (b ∷ p ∷ a ∷ s ∷ []) ge = absurd (omega arith)
-nine_last (b ∷ p ∷ a ∷ s ∷ t ∷ []) ge = absurd (omega arith)
-nine_last (b ∷ p ∷ a ∷ s ∷ t ∷ u ∷ []) ge = absurd (omega arith)
-nine_last (b ∷ p ∷ a ∷ s ∷ t ∷ u ∷ v ∷ []) ge = absurd (omega arith)
-nine_last (b ∷ p ∷ a ∷ s ∷ t ∷ u ∷ v ∷ w ∷ []) ge = absurd (omega arith)
-nine_last (b ∷ p ∷ a ∷ s ∷ t ∷ u ∷ v ∷ w ∷ x ∷ bytes) ge = refl
 
 -- ---- a line of the grammar names 1.0 or 1.1
 

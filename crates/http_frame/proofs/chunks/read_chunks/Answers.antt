@@ -1,4 +1,4 @@
-use Rattle.std.proofs.Common.{◌≡◌, length, refl, sym, ◌∙◌}
+use Rattle.std.proofs.Common.{refl, sym, ◌∙◌}
 use Rattle.http_frame.proofs.Advancing.{advances_none, advances_on, not_over, over, ordered_at}
 use Rattle.http_frame.proofs.chunks.read_chunks.Goals as goal
 
