@@ -1,6 +1,7 @@
 pub mod Axes
-pub mod Columns
+pub mod Sides
 pub mod Places
+pub mod Bits
 pub mod Reach
 pub mod Spans
 pub mod Vectors

@@ -1,6 +1,7 @@
 -- Boxes kept as one list for each side.
-use Rattle.std.specs.Prelude.{◌<◌, ◌^◌, ◌≡◌, ℤ, List, [], ◌∷◌, map, length, All}
+use Rattle.std.specs.Prelude.{ℕ, ◌<◌, ◌≤◌, ◌^◌, ◌%◌, ◌≡◌, ℤ, List, [], ◌∷◌, map, take, length, All}
 use Rattle.bim_model.specs.declared.geometry.Extent.{Extent}
+use Rattle.box_lanes.specs.declared.columns.Columns.{Columns}
 use Rattle.box_lanes.specs.declared.table.BoxTable.TheInside.{Inside}
 use Rattle.box_lanes.specs.Lanes.{Fits32}
 
@@ -15,16 +16,28 @@ boxes_of (a ∷ lx) (b ∷ ly) (c ∷ lz) (d ∷ hx) (e ∷ hy) [] = []
 boxes_of (a ∷ lx) (b ∷ ly) (c ∷ lz) (d ∷ hx) (e ∷ hy) (f ∷ hz) =
     record { low = record { x = a; y = b; z = c }; high = record { x = d; y = e; z = f } } ∷ boxes_of lx ly lz hx hy hz
 
-abbrev pub boxes_in : Inside → List Extent
-boxes_in t = boxes_of t.x.low.items t.y.low.items t.z.low.items t.x.high.items t.y.high.items t.z.high.items
+-- each list has its side of every box, and the sides fit 32 bits
+pub record AreSides (columns : Columns) (boxes : List Extent) : Type 0 where
+  pub low_x_is : columns.x.low.items ≡ map (λ (b : Extent). b.low.x) boxes
+  pub low_y_is : columns.y.low.items ≡ map (λ (b : Extent). b.low.y) boxes
+  pub low_z_is : columns.z.low.items ≡ map (λ (b : Extent). b.low.z) boxes
+  pub high_x_is : columns.x.high.items ≡ map (λ (b : Extent). b.high.x) boxes
+  pub high_y_is : columns.y.high.items ≡ map (λ (b : Extent). b.high.y) boxes
+  pub high_z_is : columns.z.high.items ≡ map (λ (b : Extent). b.high.z) boxes
+  pub fits : All Fits32 boxes
 
--- each list has its side of every box; coordinates and places fit 32 bits
+-- all boxes of a table, with those behind its own
+abbrev pub all_in : Inside → List Extent
+all_in t =
+    boxes_of t.columns.x.low.items t.columns.y.low.items t.columns.z.low.items t.columns.x.high.items t.columns.y.high.items t.columns.z.high.items
+
+-- the boxes of a table
+abbrev pub boxes_in : Inside → List Extent
+boxes_in t = take t.count (all_in t)
+
+-- the boxes of a table and those behind them are a multiple of eight; a place fits 32 bits
 pub record IsTable (t : Inside) : Type 0 where
-  pub low_x_is : t.x.low.items ≡ map (λ (b : Extent). b.low.x) (boxes_in t)
-  pub low_y_is : t.y.low.items ≡ map (λ (b : Extent). b.low.y) (boxes_in t)
-  pub low_z_is : t.z.low.items ≡ map (λ (b : Extent). b.low.z) (boxes_in t)
-  pub high_x_is : t.x.high.items ≡ map (λ (b : Extent). b.high.x) (boxes_in t)
-  pub high_y_is : t.y.high.items ≡ map (λ (b : Extent). b.high.y) (boxes_in t)
-  pub high_z_is : t.z.high.items ≡ map (λ (b : Extent). b.high.z) (boxes_in t)
-  pub fits : All Fits32 (boxes_in t)
-  pub few : length (boxes_in t) < 2 ^ 32
+  pub sides : AreSides t.columns (all_in t)
+  pub enough : t.count ≤ length (all_in t)
+  pub whole : length (all_in t) % 8 ≡ 0
+  pub few : t.count < 2 ^ 32

@@ -1,5 +1,5 @@
 -- The places in a list of the boxes near a box.
-use Rattle.std.specs.Prelude.{ℕ, Bool, List, map}
+use Rattle.std.specs.Prelude.{ℕ, ◌+◌, Bool, pos, List, map, drop, slice_index_or}
 use Rattle.std.specs.List.{filter, enumerate_from}
 use Rattle.bim_model.specs.declared.geometry.Extent.{Extent}
 use Rattle.bim_model.specs.Gaps.{is_within}
@@ -11,3 +11,15 @@ places_from n passes items = map (λ e. e.0) (filter (λ e. passes e.1) (enumera
 -- the plain filter: the places, from 0 and rising, of the boxes within grow of the probe
 abbrev pub places_within : Extent → ℕ → List Extent → List ℕ
 places_within probe grow boxes = places_from 0 (is_within probe grow) boxes
+
+-- .. of the boxes behind a place alone
+abbrev pub later_within : Extent → ℕ → ℕ → List Extent → List ℕ
+later_within probe grow first boxes = places_from (first + 1) (is_within probe grow) (drop (first + 1) boxes)
+
+-- what stands past the end of a list of boxes
+abbrev pub nowhere : Extent
+nowhere = record { low = record { x = pos 0; y = pos 0; z = pos 0 }; high = record { x = pos 0; y = pos 0; z = pos 0 } }
+
+-- the box at a place
+abbrev pub box_at : List Extent → ℕ → Extent
+box_at boxes n = slice_index_or boxes n nowhere

@@ -1,58 +1,24 @@
-//! Boxes kept as one list for each side.
-ghost use Rattle.std.specs.Prelude.{◌≡◌, ◌+◌, ◌≤◌, ◌<◌, ◌^◌, ◌++◌, ◌∷◌, [], ◌&&◌, length, map, take, int_le, slice_index_or, IfOk};
+//! A table of boxes, in which those near a box are found eight at a time.
+ghost use Rattle.std.specs.Prelude.{◌≡◌, ◌+◌, ◌-◌, ◌*◌, ◌/◌, ◌%◌, ◌≤◌, ◌<◌, ◌^◌, ◌++◌, [], ℕ, List, length, map, take, drop, min, All, IfOk, OnOk, OnErr};
 ghost use Rattle.std.specs.Simd.Lanes.{mask_l, chunk};
 ghost use Rattle.bim_model.specs.declared.geometry.Extent.{Extent};
 ghost use Rattle.bim_model.specs.Gaps.{is_within};
-ghost use Rattle.box_lanes.specs.Places.{places_from, places_within};
+ghost use Rattle.box_lanes.specs.Columns.{AreSides};
+ghost use Rattle.box_lanes.specs.Places.{box_at, places_from, places_within, later_within};
 ghost use Rattle.box_lanes.specs.Lanes.{meets, Fits32};
 
+use crate::columns::{Columns, LANES};
 use bim_model::{Extent, Point};
 use std::alloc::{AllocError, Global};
 use std::marker::Model;
 use std::simd::prelude::*;
 
-const LANES: usize = 8;
-
-/// The spans of all boxes on one axis, the ends of each kind in a list of their own.
-#[derive(Drop)]
-struct Spans {
-    low: Vec<i32>,
-    high: Vec<i32>,
-}
-
-impl Spans {
-    fn with_capacity(alloc: Global, count: usize) -> Result<Spans, AllocError>
-        ensures { IfOk result (λ spans. (spans.low.items ≡ []) × (spans.high.items ≡ [])) }
-    {
-        let low = Vec::with_capacity(alloc, count)?;
-        let high = Vec::with_capacity(alloc, count)?;
-        Ok(Spans { low, high })
-    }
-
-    fn push(&mut self, low: i32, high: i32) -> Result<(), AllocError>
-        ensures { IfOk result (λ _. (self.new.low.items ≡ self.old.low.items ++ low ∷ []) × (self.new.high.items ≡ self.old.high.items ++ high ∷ [])) }
-    {
-        self.low.push(low)?;
-        self.high.push(high)?;
-        Ok(())
-    }
-
-    /// Whether the span at the place has a number in common with the span from `low` to `high`.
-    fn meets(&self, place: usize, low: i32, high: i32) -> bool
-        requires low_within { place < length self.now.low.items }
-        requires high_within { place < length self.now.high.items }
-        ensures { result ≡ (int_le (slice_index_or self.now.low.items place low) high && int_le low (slice_index_or self.now.high.items place high)) }
-    {
-        self.low[place] <= high && low <= self.high[place]
-    }
-}
-
 /// A list of boxes, in which those near a box are found eight at a time.
 #[derive(Drop)]
 pub struct BoxTable {
-    x: Spans,
-    y: Spans,
-    z: Spans,
+    // The boxes, and behind them so many others that all are a multiple of eight.
+    columns: Columns,
+    count: usize,
 }
 
 impl Model for BoxTable {
@@ -69,20 +35,59 @@ impl Model for BoxTable {
 }
 
 impl BoxTable {
+    /// A table without boxes, which takes no memory.
+    pub fn new(alloc: Global) -> BoxTable
+        ensures { result ≡ [] }
+    {
+        BoxTable {
+            columns: Columns::new(alloc),
+            count: 0,
+        }
+    }
+
     /// A table of the boxes, of which there are fewer than 2^32: a place has 32 bits. An error where memory is wanting.
     pub fn of(alloc: Global, boxes: &[Extent]) -> Result<BoxTable, AllocError>
         requires { length boxes.now < 2 ^ 32 }
         ensures { IfOk result (λ table. table ≡ boxes.now) }
     {
-        let mut x = Spans::with_capacity(alloc, boxes.len())?;
-        let mut y = Spans::with_capacity(alloc, boxes.len())?;
-        let mut z = Spans::with_capacity(alloc, boxes.len())?;
-        for extent in boxes {
-            x.push(extent.low.x, extent.high.x)?;
-            y.push(extent.low.y, extent.high.y)?;
-            z.push(extent.low.z, extent.high.z)?;
+        let mut columns = Columns::new(alloc);
+        columns.extend(boxes)?;
+        columns.pad()?;
+        Ok(BoxTable {
+            columns,
+            count: boxes.len(),
+        })
+    }
+
+    /// The boxes at these places, of which there are fewer than 2^32, in place of the boxes before. The room is used again. An error where
+    /// memory is wanting, which leaves no boxes.
+    pub fn refill(&mut self, boxes: &[Extent], places: &[u32]) -> Result<(), AllocError>
+        requires within { All (λ n. n < length boxes.now) places.now }
+        requires few { length places.now < 2 ^ 32 }
+        ensures ok { OnOk result (self.new ≡ map (box_at boxes.now) places.now) }
+        ensures err { OnErr result (self.new ≡ []) }
+    {
+        self.count = 0;
+        self.columns.clear();
+        match fill(&mut self.columns, boxes, places) {
+            Ok(()) => {
+                self.count = places.len();
+                Ok(())
+            }
+            Err(error) => {
+                self.columns.clear();
+                Err(error)
+            }
         }
-        Ok(BoxTable { x, y, z })
+    }
+
+    /// How many boxes there are.
+    pub fn len(&self) -> usize
+        ensures count { result ≡ length self.now }
+        ensures few { result < 2 ^ 32 }
+        ensures fits { All Fits32 self.now }
+    {
+        self.count
     }
 
     /// The places, from 0 and rising, of the boxes whose gap to the probe is at most `grow` grid numbers on each axis.
@@ -91,30 +96,64 @@ impl BoxTable {
         ensures { IfOk result (λ places. places.items ≡ places_within probe.now grow self.now) }
     {
         let reach = grown(probe, grow);
-        let count = self.x.low.len();
+        let _count = self.len();
         let mut places = Vec::new(alloc);
-        let blocks = count / LANES;
-        for block in 0..blocks {
-            self.add_block(block * LANES, &reach, &mut places)?;
-        }
-        self.add_rest(blocks * LANES, &reach, &mut places)?;
+        self.add_from(0, &reach, &mut places)?;
         Ok(places)
     }
 
-    /// Adds the places of those of the eight boxes from `at` on that meet `reach`.
-    #[inline(always)]
-    fn add_block(&self, at: usize, reach: &Extent, places: &mut Vec<u32>) -> Result<(), AllocError>
-        requires whole { at + 8 ≤ length self.now }
-        requires few { length self.now < 2 ^ 32 }
-        requires so_far { places.old.items ≡ places_from 0 (meets reach.now) (take at self.now) }
-        ensures { IfOk result (λ _. places.new.items ≡ places_from 0 (meets reach.now) (take (at + 8) self.now)) }
+    /// The same of the boxes behind the place `first` alone, as the only places of the list. An error where memory is wanting.
+    pub fn later_within(
+        &self,
+        first: usize,
+        probe: &Extent,
+        grow: u32,
+        places: &mut Vec<u32>,
+    ) -> Result<(), AllocError>
+        requires { first < length self.now }
+        ensures { OnOk result (places.new.items ≡ later_within probe.now grow first self.now) }
     {
-        let mut lanes = self.lanes(at, reach);
+        let reach = grown(probe, grow);
+        let _count = self.len();
+        places.clear();
+        self.add_from(first + 1, &reach, places)?;
+        Ok(())
+    }
+
+    /// Adds the places of the boxes from the place `from` on that meet `reach`.
+    fn add_from(&self, from: usize, reach: &Extent, places: &mut Vec<u32>) -> Result<(), AllocError>
+        requires { from ≤ length self.now }
+        ensures { OnOk result (places.new.items ≡ places.old.items ++ places_from from (meets reach.now) (drop from self.now)) }
+    {
+        let mut from = from;
+        while from < self.count {
+            let end = block_end(from, self.count);
+            self.add_block(from, end, reach, places)?;
+            from = end;
+        }
+        Ok(())
+    }
+
+    /// Adds the places of those boxes from the place `from` up to `end`, all in one block of eight, that meet `reach`.
+    #[inline(always)]
+    fn add_block(
+        &self,
+        from: usize,
+        end: usize,
+        reach: &Extent,
+        places: &mut Vec<u32>,
+    ) -> Result<(), AllocError>
+        requires from { from < end }
+        requires end { end ≤ length self.now }
+        requires block { end ≤ from / 8 * 8 + 8 }
+        ensures { OnOk result (places.new.items ≡ places.old.items ++ places_from from (meets reach.now) (take (end - from) (drop from self.now))) }
+    {
+        let mut lanes = self.bits(from, end, reach);
         if lanes == 0 {
             return Ok(());
         }
-        places.reserve(self.x.low.len() - at)?;
-        let mut place = at as u32;
+        places.reserve(self.count - from)?;
+        let mut place = from as u32;
         while lanes != 0 {
             let passed = lanes.trailing_zeros();
             places.push(place + passed)?;
@@ -124,46 +163,59 @@ impl BoxTable {
         Ok(())
     }
 
-    /// A bit for each of the eight boxes from `at` on, the first the lowest: whether the box meets `reach`.
+    /// A bit for each of the boxes from the place `from` up to `end`, all in one block of eight, the first the lowest: whether the box meets
+    /// `reach`.
+    #[inline(always)]
+    fn bits(&self, from: usize, end: usize, reach: &Extent) -> u64
+        requires from { from < end }
+        requires end { end ≤ length self.now }
+        requires block { end ≤ from / 8 * 8 + 8 }
+        ensures { result ≡ mask_l (map (meets reach.now) (take (end - from) (drop from self.now))) }
+    {
+        let at = from / LANES * LANES;
+        let whole = self.lanes(at, reach);
+        (whole & ((1 << (end - at)) - 1)) >> (from - at)
+    }
+
+    /// A bit for each of the eight boxes from `at` on, the first the lowest: whether the box meets `reach`. Bits of boxes behind the table's
+    /// may be any.
     #[inline(always)]
     fn lanes(&self, at: usize, reach: &Extent) -> u64
-        requires { at + 8 ≤ length self.now }
-        ensures { result ≡ mask_l (map (meets reach.now) (chunk at 8 self.now)) }
+        requires within { at < length self.now }
+        requires block { at % 8 ≡ 0 }
+        ensures { (n : ℕ) → n ≤ 8 → at + n ≤ length self.now → result % 2 ^ n ≡ mask_l (map (meets reach.now) (take n (drop at self.now))) }
     {
-        let x = i32x8::from_slice(&self.x.low[at..]).simd_le(i32x8::splat(reach.high.x))
-            & i32x8::from_slice(&self.x.high[at..]).simd_ge(i32x8::splat(reach.low.x));
-        let y = i32x8::from_slice(&self.y.low[at..]).simd_le(i32x8::splat(reach.high.y))
-            & i32x8::from_slice(&self.y.high[at..]).simd_ge(i32x8::splat(reach.low.y));
-        let z = i32x8::from_slice(&self.z.low[at..]).simd_le(i32x8::splat(reach.high.z))
-            & i32x8::from_slice(&self.z.high[at..]).simd_ge(i32x8::splat(reach.low.z));
+        let columns = &self.columns;
+        let x = i32x8::from_slice(&columns.x.low[at..]).simd_le(i32x8::splat(reach.high.x))
+            & i32x8::from_slice(&columns.x.high[at..]).simd_ge(i32x8::splat(reach.low.x));
+        let y = i32x8::from_slice(&columns.y.low[at..]).simd_le(i32x8::splat(reach.high.y))
+            & i32x8::from_slice(&columns.y.high[at..]).simd_ge(i32x8::splat(reach.low.y));
+        let z = i32x8::from_slice(&columns.z.low[at..]).simd_le(i32x8::splat(reach.high.z))
+            & i32x8::from_slice(&columns.z.high[at..]).simd_ge(i32x8::splat(reach.low.z));
         (x & y & z).to_bitmask()
     }
+}
 
-    /// Adds the places of the boxes from `from` on that meet `reach`.
-    fn add_rest(&self, from: usize, reach: &Extent, places: &mut Vec<u32>) -> Result<(), AllocError>
-        requires within { from ≤ length self.now }
-        requires so_far { places.old.items ≡ places_from 0 (meets reach.now) (take from self.now) }
-        ensures { IfOk result (λ _. places.new.items ≡ places_from 0 (meets reach.now) self.now) }
-    {
-        let count = self.x.low.len();
-        for place in from..count {
-            if self.is_met(place, reach) {
-                places.reserve(count - place)?;
-                places.push(place as u32)?;
-            }
-        }
-        Ok(())
-    }
+/// Where the block of eight ends that has the place `from`, or all boxes do.
+fn block_end(from: usize, count: usize) -> usize
+    requires from { from < count }
+    requires few { count < 2 ^ 32 }
+    ensures after { from < result }
+    ensures block { result ≤ from / 8 * 8 + 8 }
+    ensures within { result ≤ count }
+{
+    let end = from / LANES * LANES + LANES;
+    if end < count { end } else { count }
+}
 
-    /// Whether the box at the place meets `reach`.
-    fn is_met(&self, place: usize, reach: &Extent) -> bool
-        requires { place < length self.now }
-        ensures { (d : Extent) → result ≡ meets reach.now (slice_index_or self.now place d) }
-    {
-        self.x.meets(place, reach.low.x, reach.high.x)
-            && self.y.meets(place, reach.low.y, reach.high.y)
-            && self.z.meets(place, reach.low.z, reach.high.z)
-    }
+// The boxes at these places, and behind them so many others that all are a multiple of eight.
+fn fill(columns: &mut Columns, boxes: &[Extent], places: &[u32]) -> Result<(), AllocError>
+    requires { All (λ n. n < length boxes.now) places.now }
+    ensures { OnOk result (AreSides columns.old [] → (rest : List Extent) × AreSides columns.new (map (box_at boxes.now) places.now ++ rest) × (length (map (box_at boxes.now) places.now ++ rest) % 8 ≡ 0)) }
+{
+    columns.extend_by(boxes, places)?;
+    columns.pad()?;
+    Ok(())
 }
 
 /// The box grown by `grow` on each side, as far as 32 bits go.

@@ -123,3 +123,24 @@ fn each_length(rt: HostRuntime) -> Result<(), Fail> {
     }
     Ok(())
 }
+
+/// A table that is filled again, by places, and asked for the boxes behind one of them alone.
+#[test]
+fn filled_again(rt: HostRuntime) -> Result<(), Fail> {
+    let boxes = [
+        extent([0, 0, 0, 1, 1, 1]),
+        extent([5, 0, 0, 6, 1, 1]),
+        extent([0, 0, 9, 1, 1, 10]),
+    ];
+    let mut table = BoxTable::new(rt.alloc());
+    let mut places = Vec::new(rt.alloc());
+    table.refill(&boxes, &[2, 0, 1, 0])?;
+    table.later_within(1, &boxes[0], 4, &mut places)?;
+    assert_eq!(rt; places.as_slice(), [2, 3].as_slice());
+    table.later_within(3, &boxes[0], 4, &mut places)?;
+    assert_eq!(rt; places.len(), 0);
+    table.refill(&boxes, &[1])?;
+    let found = table.within(rt.alloc(), &boxes[0], 4)?;
+    assert_eq!(rt; found.as_slice(), [0].as_slice());
+    Ok(())
+}

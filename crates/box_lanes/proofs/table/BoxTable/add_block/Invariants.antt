@@ -1,16 +1,16 @@
-use Rattle.std.proofs.Common.{◌≡◌, ◌+◌, ◌≤◌, map, take}
+use Rattle.std.proofs.Common.{◌≡◌, ◌++◌, ◌≤◌, map}
 use lib.Lanes.{mask_l}
-use Rattle.box_lanes.specs.Places.{places_from}
 use Rattle.box_lanes.specs.Lanes.{meets}
 use Rattle.box_lanes.proofs.Places.{rest_of}
+use Rattle.box_lanes.proofs.Bits.{part}
 use Rattle.box_lanes.proofs.table.BoxTable.add_block.Given as goal
 
 abbrev pub invariant-loop-lanes : goal.invariant-loop-lanes
 invariant-loop-lanes l = record {
-  low : l.at ≤ l.place;
-  high : l.place ≤ l.at + 8;
-  bits : l.lanes ≡ mask_l (map (meets l.reach) (rest_of l.self (l.at + 8) l.place));
-  found : l.places.items ≡ places_from 0 (meets l.reach) (take l.place l.self);
+  low : l.from ≤ l.place;
+  high : l.place ≤ l.end;
+  bits : l.lanes ≡ mask_l (map (meets l.reach) (rest_of l.self l.end l.place));
+  found : l.places.items ≡ l.fn.places.items ++ part (meets l.reach) l.self l.from l.place;
 }
 
 abbrev pub decreases-loop-lanes : goal.decreases-loop-lanes

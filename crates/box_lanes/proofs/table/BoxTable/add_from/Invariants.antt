@@ -1,0 +1,14 @@
+use Rattle.std.proofs.Common.{◌≡◌, ◌++◌, ◌≤◌, ◌-◌, length}
+use Rattle.box_lanes.specs.Lanes.{meets}
+use Rattle.box_lanes.proofs.Bits.{part}
+use Rattle.box_lanes.proofs.table.BoxTable.add_from.Given as goal
+
+abbrev pub invariant-loop-from : goal.invariant-loop-from
+invariant-loop-from l = record {
+  low : l.fn.from ≤ l.from;
+  high : l.from ≤ length l.self;
+  found : l.places.items ≡ l.fn.places.items ++ part (meets l.reach) l.self l.fn.from l.from;
+}
+
+abbrev pub decreases-loop-from : goal.decreases-loop-from
+decreases-loop-from l = length l.self - l.from

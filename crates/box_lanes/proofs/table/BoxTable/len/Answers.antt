@@ -1,0 +1,14 @@
+use Rattle.std.proofs.Common.{◌≡◌, length, sym, ap, subst, ◌∙◌}
+use Rattle.std.specs.List.{All}
+use Rattle.box_lanes.specs.Lanes.{Fits32}
+use Rattle.box_lanes.proofs.Sides.{count_is, fit}
+use Rattle.box_lanes.proofs.table.BoxTable.len.Goals as goal
+
+pub returns-clause-count : goal.returns-clause-count
+returns-clause-count c = sym (sym (ap length c.self.view_is) ∙ count_is c.self.inside c.self.invariant)
+
+pub returns-clause-few : goal.returns-clause-few
+returns-clause-few c = c.self.invariant.few
+
+pub returns-clause-fits : goal.returns-clause-fits
+returns-clause-fits c = subst (λ bs. All Fits32 bs) c.self.view_is (fit c.self.inside c.self.invariant)

@@ -1,0 +1,150 @@
+//! The clashes among the members of a bucket.
+ghost use Rattle.std.specs.Prelude.{◌≡◌, ℕ, ◌+◌, ◌-◌, ◌*◌, ◌<◌, ◌≤◌, ◌++◌, length, slice_index, All, AllPairs, IfOk, OnOk};
+ghost use Rattle.std.specs.List.{flat_map};
+ghost use Rattle.bim_model.specs.Snapshots.{Version};
+ghost use Rattle.bucket_grid.specs.Cells.{members};
+ghost use Rattle.bucket_check.specs.Clashes.{is_cell, pair_if};
+ghost use Rattle.bucket_check.specs.Sets.{own_rule, number_at, own_places};
+
+use crate::pair::SetPair;
+use crate::room::Room;
+use crate::set::BucketSet;
+use crate::work::BucketWork;
+use bim_model::{Items, PER_MM, Shared, Steps, greatest_distance, rule_of};
+use bucket_grid::{Cell, Grid, owner_of};
+use clearance::solids_near;
+use std::alloc::{AllocError, Global};
+use std::sync::ledger::Ledger;
+
+fn is_cell(a: Cell, b: Cell) -> bool
+    ensures { result ≡ is_cell a b }
+{
+    a.x == b.x && a.y == b.y && a.z == b.z
+}
+
+// The rule by which two elements clash, where the cell owns them.
+fn own_rule<L: Ledger>(
+    grid: &Grid,
+    cell: Cell,
+    a: u32,
+    b: u32,
+    steps: &mut Steps<L>,
+) -> Option<u32>
+    requires a_in { a < length grid.now.boxes }
+    requires b_in { b < length grid.now.boxes }
+    ensures rule { result ≡ own_rule grid.now.version grid.now.boxes cell a b }
+    ensures steps { steps.new ≤ steps.old + 1 }
+{
+    let boxes = grid.boxes();
+    if !is_cell(owner_of(&boxes[a as usize], &boxes[b as usize]), cell) {
+        return None;
+    }
+    let first = grid.element(a as usize);
+    let second = grid.element(b as usize);
+    let rules = grid.rules();
+    match rule_of(rules, first, second, grid.same_model(a as usize, b as usize)) {
+        None => None,
+        Some(found) => {
+            if solids_near(first, second, found.distance * PER_MM as u32, steps) {
+                Some(found.rule)
+            } else {
+                None
+            }
+        }
+    }
+}
+
+// Adds the pair of two members by their places, where the cell owns it and they clash.
+fn add_pair<L: Ledger>(
+    grid: &Grid,
+    cell: Cell,
+    members: &[u32],
+    first: usize,
+    second: u32,
+    pairs: &mut Vec<SetPair>,
+    steps: &mut Steps<L>,
+) -> Result<(), AllocError>
+    requires first_in { first < length members.now }
+    requires second_in { second < length members.now }
+    requires few { length members.now ≤ 1000000 }
+    requires members_in { All (λ n. n < length grid.now.boxes) members.now }
+    ensures pairs { OnOk result (pairs.new.items ≡ pairs.old.items
+        ++ pair_if first second (own_rule grid.now.version grid.now.boxes cell (number_at members.now first) (number_at members.now second))) }
+    ensures steps { steps.new ≤ steps.old + 1 }
+{
+    match own_rule(grid, cell, members[first], members[second as usize], steps) {
+        None => Ok(()),
+        Some(rule) => {
+            pairs.push(SetPair {
+                a: first as u32,
+                b: second,
+                rule,
+            })?;
+            Ok(())
+        }
+    }
+}
+
+// Adds the pairs of one member with those at the places.
+fn add_row<L: Ledger>(
+    grid: &Grid,
+    cell: Cell,
+    members: &[u32],
+    first: usize,
+    places: &[u32],
+    pairs: &mut Vec<SetPair>,
+    steps: &mut Steps<L>,
+) -> Result<(), AllocError>
+    requires first_in { first < length members.now }
+    requires places_in { All (λ k. k < length members.now) places.now }
+    requires few { length members.now ≤ 1000000 }
+    requires members_in { All (λ n. n < length grid.now.boxes) members.now }
+    ensures pairs { OnOk result (pairs.new.items ≡ pairs.old.items
+        ++ flat_map (λ j. pair_if first j (own_rule grid.now.version grid.now.boxes cell (number_at members.now first) (number_at members.now j))) places.now) }
+    ensures steps { steps.new ≤ steps.old + length places.now }
+{
+    for place in places {
+        add_pair(grid, cell, members, first, *place, pairs, steps)?;
+    }
+    Ok(())
+}
+
+// The clashes that the cell owns, by places among its members.
+fn own_places<L: Ledger>(
+    alloc: Global,
+    grid: &Grid,
+    cell: Cell,
+    room: &mut Room,
+    steps: &mut Steps<L>,
+) -> Result<Vec<SetPair>, AllocError>
+    ensures pairs { IfOk result (λ pairs. pairs.items ≡ own_places grid.now cell) }
+    ensures steps { let m = length (members grid.now.boxes cell) in 2 * steps.new ≤ 2 * steps.old + m * (m - 1) }
+{
+    let boxes = grid.boxes();
+    let members = grid.members(cell);
+    let greatest = greatest_distance(grid.rules()) * PER_MM as u32;
+    room.table.refill(boxes, members)?;
+    let mut pairs = Vec::new(alloc);
+    for first in 0..members.len() {
+        let probe = &boxes[members[first] as usize];
+        room.table.later_within(first, probe, greatest, &mut room.places)?;
+        add_row(grid, cell, members, first, &room.places, &mut pairs, steps)?;
+    }
+    Ok(pairs)
+}
+
+/// Checks a bucket: the set has exactly the clashes of the version that the bucket owns, in the order of keys. Of m members at most
+/// m(m - 1)/2 pairs are tested exactly, each in one step. An error where memory is wanting. The room may be used again for any bucket.
+pub fn check<L: Ledger>(
+    alloc: Global,
+    work: BucketWork,
+    room: &mut Room,
+    steps: &mut Steps<L>,
+) -> Result<BucketSet, AllocError>
+    ensures work { IfOk result (λ set. set.work ≡ work) }
+    ensures steps { let m = length (members work.grid.boxes work.cell) in 2 * steps.new ≤ 2 * steps.old + m * (m - 1) }
+{
+    let pairs = own_places(alloc, work.grid.get(), work.cell, room, steps)?;
+    let pairs = Shared::new(alloc, Items::from_vec(pairs))?;
+    Ok(BucketSet::of(work, pairs))
+}

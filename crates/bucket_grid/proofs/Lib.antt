@@ -1,0 +1,15 @@
+pub mod Owners
+pub mod Members
+pub mod Nested
+pub mod Upto
+pub mod Among
+pub mod Parts
+pub mod Tables
+pub mod Zips
+pub mod Reach
+pub mod Lying
+pub mod Whole
+pub mod Found
+pub mod Rising
+pub mod Searching
+pub mod Alone

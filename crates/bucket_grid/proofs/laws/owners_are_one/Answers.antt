@@ -1,0 +1,5 @@
+use Rattle.bucket_grid.proofs.Alone.{one_owner}
+use Rattle.bucket_grid.proofs.laws.owners_are_one.Goals as goal
+
+pub returns : goal.returns
+returns c a b x y h k = one_owner a b x y h k

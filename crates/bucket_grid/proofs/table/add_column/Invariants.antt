@@ -1,0 +1,9 @@
+use Rattle.std.proofs.Common.{◌≡◌, ◌++◌, length}
+use Rattle.bucket_grid.specs.Dealt.{AreDealt}
+use Rattle.bucket_grid.specs.Table.{column}
+use Rattle.bucket_grid.proofs.table.add_column.Given as goal
+
+abbrev pub invariant-loop-place : goal.invariant-loop-place
+invariant-loop-place l = record {
+  so_far : l.buckets.items ≡ l.fn.buckets.items ++ column l.spans l.low l.place l.numbers;
+}

@@ -1,0 +1,19 @@
+//! What follows of the definitions alone.
+ghost use Rattle.std.specs.Prelude.{◌≡◌, ℕ};
+ghost use Rattle.bim_model.specs.Snapshots.{Version};
+ghost use Rattle.bim_model.specs.declared.geometry.Extent.{Extent};
+ghost use Rattle.bucket_grid.specs.Cells.{IsOwner};
+ghost use Rattle.bucket_grid.specs.Grids.{HasMemberships};
+ghost use Rattle.bucket_grid.specs.declared.cell.Cell.{Cell};
+
+/// A version has one number of memberships.
+pub fn memberships_are_one()
+    ensures { (version : Version) (m n : ℕ) → HasMemberships version m → HasMemberships version n → m ≡ n }
+{
+}
+
+/// Two boxes have one owner at most.
+pub fn owners_are_one()
+    ensures { (a b : Extent) (c d : Cell) → IsOwner c a b → IsOwner d a b → c ≡ d }
+{
+}

@@ -1,0 +1,28 @@
+//! The bucket of a cell.
+ghost use Rattle.std.specs.Prelude.{◌≡◌, ℕ, ◌<◌, ◌≤◌, length, slice_index_or, IfSome, IfNone, AllPairs};
+ghost use Rattle.bucket_grid.specs.Cells.{cell_cmp};
+ghost use Rattle.bucket_grid.specs.Search.{Rise, IsAt, IsNowhere};
+ghost use Rattle.bucket_grid.specs.declared.table.Bucket.{Bucket};
+
+use crate::cell::Cell;
+use crate::table::Bucket;
+use std::cmp::Ordering;
+
+/// The place of the cell among the buckets, which rise, or none where it is not there.
+pub fn place_of(buckets: &[Bucket], cell: Cell) -> Option<usize>
+    requires { Rise buckets.now }
+    ensures found { IfSome result (λ k. IsAt buckets.now cell k) }
+    ensures none { IfNone result (IsNowhere buckets.now cell) }
+{
+    let mut low = 0;
+    let mut high = buckets.len();
+    while low < high {
+        let middle = low + (high - low) / 2;
+        match buckets[middle].cell.cmp(&cell) {
+            Ordering::Equal => return Some(middle),
+            Ordering::Less => low = middle + 1,
+            Ordering::Greater => high = middle,
+        }
+    }
+    None
+}

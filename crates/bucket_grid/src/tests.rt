@@ -1,0 +1,208 @@
+//! Versions of few boxes, worked out by another program.
+use crate::{Cell, Grid, GridError, Member, has_few_elements};
+use bim_model::{
+    Element, Guid, Items, Model, NamedModel, PER_MM, Point, Rules, Shared, Snapshot, Text, Triangle,
+};
+use std::alloc::Global;
+use std::process::Abort;
+use std::test::Fail;
+
+/// A version, its models by rising name, each with the boxes of its elements in millimetres.
+type Boxes<'a> = &'a [(&'a str, &'a [[i32; 6]])];
+
+fn corner(x: i32, y: i32, z: i32) -> Option<Point> {
+    Some(Point {
+        x: x.checked_mul(PER_MM)?,
+        y: y.checked_mul(PER_MM)?,
+        z: z.checked_mul(PER_MM)?,
+    })
+}
+
+/// An element whose identifier rises with its place, with one triangle of this box.
+fn element(alloc: Global, place: usize, sides: [i32; 6]) -> Result<Element, Fail> {
+    let text = format!(in alloc; "{place:022}")?;
+    let low = corner(sides[0], sides[1], sides[2]).ok_or("a corner")?;
+    let high = corner(sides[3], sides[4], sides[5]).ok_or("a corner")?;
+    let mut triangles = Items::new(alloc);
+    triangles.push(Triangle {
+        a: low,
+        b: high,
+        c: low,
+    })?;
+    Ok(Element {
+        guid: Guid::read(text.as_bytes()).ok_or("an identifier")?,
+        class: Text::of(alloc, "IFCBEAM")?,
+        name: Text::of(alloc, "")?,
+        storey: None,
+        triangles,
+    })
+}
+
+fn model(alloc: Global, name: &str, boxes: &[[i32; 6]]) -> Result<NamedModel, Fail> {
+    let mut elements = Vec::new(alloc);
+    for (place, sides) in boxes.iter().enumerate() {
+        elements.push(element(alloc, place, *sides)?)?;
+    }
+    let model = Model::checked(alloc, elements)?.ok_or("a model")?;
+    Ok(NamedModel {
+        name: Text::of(alloc, name)?,
+        model: Shared::new(alloc, model)?,
+    })
+}
+
+fn version(alloc: Global, models: Boxes) -> Result<Snapshot, Fail> {
+    let rules = Shared::new(alloc, Rules::new(alloc))?;
+    let mut version = Snapshot::new(alloc, rules);
+    for (name, boxes) in models {
+        version = version.with_model(alloc, model(alloc, *name, *boxes)?)?;
+    }
+    Ok(version)
+}
+
+fn grid_of(rt: &impl Abort, alloc: Global, models: Boxes) -> Result<Result<Grid, GridError>, Fail> {
+    let version = Shared::new(alloc, version(alloc, models)?)?;
+    assert!(rt; has_few_elements(version.get().models()));
+    Ok(Grid::of(alloc, version))
+}
+
+/// The cells with two members or more, and the numbers of their members.
+#[test]
+fn buckets(rt: HostRuntime) -> Result<(), Fail> {
+    let alloc = rt.alloc();
+    let cases: [(Boxes, u64, &[([i32; 3], &[u32])]); 6] = [
+        (&[], 0, &[]),
+        (
+            &[("m", &[[2000; 6], [2000; 6]])],
+            2,
+            &[([0, 0, 0], &[0, 1])],
+        ),
+        (
+            &[(
+                "m",
+                &[
+                    [1000, 1000, 1000, 2999, 2999, 2999],
+                    [1000, 1000, 1000, 3000, 3000, 3000],
+                    [999, 999, 999, 2999, 2999, 2999],
+                ],
+            )],
+            17,
+            &[([0, 0, 0], &[0, 1, 2])],
+        ),
+        (
+            &[
+                ("a", &[[-800_000; 6], [800_000; 6]]),
+                ("b", &[[0; 6]]),
+            ],
+            24,
+            &[],
+        ),
+        (
+            &[
+                ("b", &[[-999, -1000, 1000, 1001, -1000, 3000]]),
+                (
+                    "m",
+                    &[
+                        [1001, -1000, -1000, 1001, 1000, 1000],
+                        [1000, 1001, 1001, 1000, 1001, 3002],
+                        [999, -999, -999, 999, -999, -999],
+                    ],
+                ),
+            ],
+            22,
+            &[
+                ([-1, -1, 0], &[0, 3]),
+                ([-1, 0, 0], &[0, 3]),
+                ([0, -1, -1], &[1, 3]),
+                ([0, -1, 0], &[0, 1, 3]),
+                ([0, 0, -1], &[1, 3]),
+                ([0, 0, 0], &[0, 1, 2, 3]),
+                ([0, 0, 1], &[0, 2]),
+            ],
+        ),
+        (
+            &[(
+                "a",
+                &[
+                    [-799_000, 799_999, 800_000, -799_000, 799_999, 800_000],
+                    [800_000, 800_000, 799_999, 800_000, 800_000, 799_999],
+                    [-799_000, 800_000, 799_001, -799_000, 800_000, 799_001],
+                ],
+            )],
+            16,
+            &[
+                ([-200, 199, 199], &[0, 2]),
+                ([-200, 199, 200], &[0, 2]),
+                ([-200, 200, 199], &[0, 2]),
+                ([-200, 200, 200], &[0, 2]),
+            ],
+        ),
+    ];
+    for (models, memberships, wanted) in cases {
+        let Ok(grid) = grid_of(&rt, alloc, models)? else {
+            return Err(Fail::from("no grid"));
+        };
+        assert_eq!(rt; grid.memberships(), memberships);
+        assert_eq!(rt; grid.buckets().len(), wanted.len());
+        for (place, (cell, members)) in wanted.iter().enumerate() {
+            assert!(rt; place < grid.buckets().len());
+            let bucket = &grid.buckets()[place];
+            let cell = Cell {
+                x: cell[0],
+                y: cell[1],
+                z: cell[2],
+            };
+            assert_eq!(rt; bucket.cell, cell);
+            assert_eq!(rt; grid.members(cell), *members);
+        }
+    }
+    Ok(())
+}
+
+/// As many memberships as there may be, and one more.
+#[test]
+fn too_spread(rt: HostRuntime) -> Result<(), Fail> {
+    let alloc = rt.alloc();
+    let wide = [1000, 1000, 1000, 498_999, 498_999, 510_999];
+    match grid_of(&rt, alloc, &[("m", &[wide])])? {
+        Ok(grid) => assert_eq!(rt; grid.memberships(), 2_000_000),
+        Err(_) => return Err(Fail::from("no grid")),
+    }
+    match grid_of(&rt, alloc, &[("m", &[wide, [2000; 6]])])? {
+        Err(GridError::TooSpread { count }) => assert_eq!(rt; count, 2_000_001),
+        _ => return Err(Fail::from("a grid")),
+    }
+    Ok(())
+}
+
+/// Elements, their places and the cells that own pairs of them.
+#[test]
+fn elements(rt: HostRuntime) -> Result<(), Fail> {
+    let alloc = rt.alloc();
+    let models: Boxes = &[
+        ("b", &[[-999, -1000, 1000, 1001, -1000, 3000]]),
+        (
+            "m",
+            &[
+                [1001, -1000, -1000, 1001, 1000, 1000],
+                [100_000; 6],
+            ],
+        ),
+    ];
+    let Ok(grid) = grid_of(&rt, alloc, models)? else {
+        return Err(Fail::from("no grid"));
+    };
+    assert_eq!(rt; grid.boxes().len(), 3);
+    assert_eq!(rt; grid.places().len(), 3);
+    assert_eq!(rt; grid.places()[2], Member { model: 1, element: 1 });
+    assert_eq!(rt; grid.element(1).guid.as_str(), "0000000000000000000000");
+    assert_eq!(rt; grid.model_of(1), 1);
+    assert_eq!(rt; grid.same_model(0, 1), false);
+    assert_eq!(rt; grid.same_model(1, 2), true);
+    assert_eq!(rt; grid.owner(0, 1), Some(Cell { x: 0, y: -1, z: 0 }));
+    assert_eq!(rt; grid.owner(0, 2), None);
+    assert_eq!(rt; grid.members(Cell { x: 9, y: 9, z: 9 }).len(), 0);
+    assert_eq!(rt; grid.models().len(), 2);
+    assert_eq!(rt; grid.rules().list().len(), 0);
+    assert_eq!(rt; grid.snapshot().models().len(), 2);
+    Ok(())
+}
