@@ -1,5 +1,5 @@
 -- Rules read one after the other.
-use Rattle.std.proofs.Common.{◌≡◌, ℕ, suc, ◌+◌, ◌<◌, ◌≤◌, Bool, true, false, ◌&&◌, List, [], ◌∷◌, ◌++◌, length, get_or, drop, Result, Ok, Err, is_some, refl, sym, ap, ap₂, ◌∙◌, arith, append-nil, append_assoc, drop-cons, add-one}
+use Rattle.std.proofs.Common.{◌≡◌, ℕ, suc, ◌+◌, ◌<◌, ◌≤◌, Bool, true, false, ◌&&◌, List, [], ◌∷◌, ◌++◌, length, get_or, drop, Result, Ok, Err, IsErrAnd, is_some, refl, sym, ap, ap₂, ◌∙◌, arith, append-nil, append_assoc, drop-cons, add-one}
 use Rattle.serde_json.specs.Find.{as_object}
 use Rattle.serde_json.specs.View.{view, items_view}
 use Rattle.serde_json.specs.Data.{Items, no_items, item}
@@ -48,11 +48,31 @@ count_is [] = refl
 count_is (v ∷ vs) = ap suc (count_is vs)
 
 -- whether the values from a place on are objects
-pub object_more : (values : List Value) (i : ℕ) (d : Value) → i < length values → are_objects (items_view (drop i values)) ≡ (is_some (as_object (view (get_or values i d))) && are_objects (items_view (drop (i + 1) values)))
-object_more values i d h = ap are_objects (from values i d h)
+object_more : (values : List Value) (i : ℕ) (v : Value) → i < length values → v ≡ get_or values i v
+    → are_objects (items_view (drop i values)) ≡ (is_some (as_object (view v)) && are_objects (items_view (drop (i + 1) values)))
+object_more values i v h e =
+    ap are_objects (from values i v h)
+    ∙ ap (λ x. is_some (as_object (view x)) && are_objects (items_view (drop (i + 1) values))) (sym e)
+
+-- one more is
+pub object_there : (values : List Value) (i : ℕ) (v : Value) (all : Bool) → i < length values → v ≡ get_or values i v → is_some (as_object (view v)) ≡ true
+    → are_objects (items_view (drop i values)) ≡ all → are_objects (items_view (drop (i + 1) values)) ≡ all
+object_there values i v all h e yes so_far =
+    sym (object_more values i v h e ∙ ap (λ b. b && are_objects (items_view (drop (i + 1) values))) yes) ∙ so_far
+
+-- one isn't
+pub object_missing : (values : List Value) (i : ℕ) (v : Value) (all : Bool) → i < length values → v ≡ get_or values i v → is_some (as_object (view v)) ≡ false
+    → are_objects (items_view (drop i values)) ≡ all → false ≡ all
+object_missing values i v all h e no so_far =
+    sym (object_more values i v h e ∙ ap (λ b. b && are_objects (items_view (drop (i + 1) values))) no) ∙ so_far
 
 -- the first fault is that of all
 pub fault_on : (values : List Value) (i : ℕ) (d : Value) (rules : List Rule) (error : RuleError) (all : Result (List Rule) RuleFault) → i < length values → IsFault error (rule_in i (view (get_or values i d)))
     → front rules (rules_from i (items_view (drop i values))) ≡ all → IsFault error all
 fault_on values i d rules (Fault fault) all h e so_far = rule_faulty values i d rules fault all h e so_far
 fault_on values i d rules Memory all h e so_far = tt
+
+-- an error that is passed on
+pub residual : {A : Type 0} (r : Result A RuleError) (e : RuleError) → IsErrAnd r (λ x. x ≡ e) → r ≡ Err e
+residual (Ok a) e h = absurd h
+residual (Err x) e h = ap (λ (y : RuleError). Err y) h

@@ -22,6 +22,7 @@ pub enum RuleError {
 
 impl From<AllocError> for RuleError {
     ghost from_gives = { λ _ e. e ≡ Memory };
+
     ghost use Rattle.std.specs.Prelude.{◌≡◌};
     ghost use Rattle.clash_rules.specs.declared.fault.RuleError.TheVariants.{Memory};
 

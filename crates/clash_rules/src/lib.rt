@@ -7,8 +7,6 @@ mod rules;
 #[cfg(test)]
 mod tests;
 
-
-
 pub use bim_model::rule_of;
 pub use fault::{RuleError, RuleFault};
 pub use rules::from_json;

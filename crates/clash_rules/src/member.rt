@@ -15,14 +15,14 @@ use serde_json::Value;
 use std::alloc::{AllocError, Global};
 
 /// What a rule says of the pairs that it fits, as it is spelled.
-#[derive(Clone, Copy, Debug, PartialEq, Eq)]
+#[derive(Clone, Copy)]
 pub enum Word {
     Clash,
     Ignore,
 }
 
 /// What stands as a rule's distance.
-#[derive(Clone, Copy, Debug, PartialEq, Eq)]
+#[derive(Clone, Copy)]
 pub enum Spelled {
     /// Nothing, or null.
     Absent,
@@ -35,7 +35,7 @@ pub enum Spelled {
 }
 
 /// The members of a rule that are words.
-#[derive(Clone, Copy, Debug, PartialEq, Eq)]
+#[derive(Clone, Copy)]
 pub struct Tests {
     pub storey: StoreyTest,
     pub models: ModelTest,
