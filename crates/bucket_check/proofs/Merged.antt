@@ -23,16 +23,18 @@ same_number : (a : ℤ) → int_eq a a ≡ true
 same_number a = (Decides-int_eq a a).1 refl
 
 pub same_cell : (c : Cell) → is_cell c c ≡ true
-same_cell c = and_from (int_eq c.x c.x) (int_eq c.y c.y && int_eq c.z c.z) (same_number c.x) (and_from (int_eq c.y c.y) (int_eq c.z c.z) (same_number c.y) (same_number c.z))
+same_cell c =
+    and_from (int_eq c.x c.x && int_eq c.y c.y) (int_eq c.z c.z) (and_from (int_eq c.x c.x) (int_eq c.y c.y) (same_number c.x) (same_number c.y))
+    (same_number c.z)
 
 abbrev cell : ℤ → ℤ → ℤ → Cell
 cell x y z = record { x = x; y = y; z = z }
 
 pub one_cell : (c d : Cell) → is_cell c d ≡ true → c ≡ d
 one_cell c d e =
-    let p = and_parts (int_eq c.x d.x) (int_eq c.y d.y && int_eq c.z d.z) e in
-    let q = and_parts (int_eq c.y d.y) (int_eq c.z d.z) p.1 in
-    ap (λ t. cell t c.y c.z) ((Decides-int_eq c.x d.x).0 p.0) ∙ ap (λ t. cell d.x t c.z) ((Decides-int_eq c.y d.y).0 q.0) ∙ ap (λ t. cell d.x d.y t) ((Decides-int_eq c.z d.z).0 q.1)
+    let p = and_parts (int_eq c.x d.x && int_eq c.y d.y) (int_eq c.z d.z) e in
+    let q = and_parts (int_eq c.x d.x) (int_eq c.y d.y) p.0 in
+    ap (λ t. cell t c.y c.z) ((Decides-int_eq c.x d.x).0 q.0) ∙ ap (λ t. cell d.x t c.z) ((Decides-int_eq c.y d.y).0 q.1) ∙ ap (λ t. cell d.x d.y t) ((Decides-int_eq c.z d.z).0 p.1)
 
 -- a clash that the cell owns
 abbrev pub IsOwn : Version → List Extent → Cell → SetPair → Type 0
@@ -62,3 +64,8 @@ merged version boxes few are all rising same =
       all = λ p is. (same p).1 (owner boxes p, owner_is_bucket rules subjects boxes few are p is, (own_list version boxes (owner boxes p)).all p (is, same_cell (owner boxes p)));
     })
     (clashes_list rules subjects)
+
+-- a pair is owned by one cell
+pub owned_once : (version : Version) (boxes : List Extent) (c d : Cell) (p : SetPair) → Contains (own_clashes version boxes c) p → Contains (own_clashes version boxes d) p → c ≡ d
+owned_once version boxes c d p h k =
+    sym (one_cell (owner boxes p) c ((own_list version boxes c).each p h).1) ∙ one_cell (owner boxes p) d ((own_list version boxes d).each p k).1

@@ -1,12 +1,13 @@
 -- A member's row: the places that the filter of boxes gives are enough.
-use Rattle.std.proofs.Common.{◌≡◌, ℕ, zero, suc, ◌+◌, ◌-◌, ◌*◌, ◌<◌, ◌≤◌, ◌⊎◌, inl, inr, max, leb, ltb, ◌&&◌, Bool, true, false, cond, List, [], ◌∷◌, ◌++◌, length, get_or, take, drop, map, filter, true≢false, Option, Some, None, refl, sym, ap, ap₂, subst, arith, ◌∙◌, append-nil, drop-cons, ℤ}
+use Rattle.std.proofs.Common.{◌≡◌, ℕ, zero, suc, ◌+◌, ◌-◌, ◌*◌, ◌<◌, ◌≤◌, ◌⊎◌, inl, inr, max, leb, ltb, ◌&&◌, Bool, true, false, cond, List, [], ◌∷◌, ◌++◌, length, get_or, take, drop, map, filter, true≢false, Option, Some, None, refl, sym, ap, ap₂, subst, arith, ◌∙◌, append-nil, drop-cons, add-one, unsigned_abs, ℤ}
 use Rattle.std.specs.List.{All, flat_map}
 use Rattle.std.specs.Str.{bytes_eq}
 use Rattle.std.proofs.lemmas.Bool.{cases_lt, and_parts, and_from, le-leb, leb-true, lt-leb}
-use Rattle.std.proofs.lemmas.Bool.Decides.{nat_tests}
+use Rattle.std.proofs.Math.Nat.{suc-mul, mul-suc, mul-le-mul_right}
 use Rattle.std.proofs.lemmas.List.{length-map, get_or-map, length-drop}
-use Rattle.std.proofs.lemmas.List.Elements.{filter-append}
+use Rattle.std.proofs.lemmas.List.Elements.{filter-append, All-filter, All-same}
 use Rattle.bim_model.specs.declared.geometry.Extent.{Extent}
+use Rattle.bim_model.specs.declared.geometry.TheConstants.{PER_MM}
 use Rattle.bim_model.specs.declared.rules.Rule.{Rule}
 use Rattle.bim_model.specs.declared.rules.Found.{Found}
 use Rattle.bim_model.specs.Rules.{greatest_distance}
@@ -25,8 +26,8 @@ use Rattle.bucket_grid.proofs.Zips.{zip_at}
 use Rattle.bucket_grid.specs.Table.{upto}
 use Rattle.bucket_grid.proofs.Parts.{all_upto}
 use Rattle.bucket_check.specs.declared.pair.SetPair.{SetPair}
-use Rattle.bucket_check.specs.Clashes.{in_grid_numbers, rule_between, clash_of, is_cell, pair_if}
-use Rattle.bucket_check.specs.Sets.{own_rule, number_at, found_among}
+use Rattle.bucket_check.specs.Clashes.{in_grid_numbers, rule_between, clash_of, is_cell, pair_if, row_by}
+use Rattle.bucket_check.specs.Sets.{own_rule, number_at, rule_at}
 use Rattle.bucket_check.proofs.Lists.{flat_same}
 use Rattle.bucket_check.proofs.Owned.{why}
 use Rattle.bucket_check.proofs.Known.{at_most}
@@ -53,6 +54,17 @@ later_more p xs s n h before (inr ge) =
 pub later_is : (p : Extent → Bool) (xs : List Extent) (s n : ℕ) → n ≤ length xs → part p xs s n ≡ filter (λ k. leb s k && p (box_at xs k)) (upto n)
 later_is p xs s zero h = part_none p xs s zero (omega arith)
 later_is p xs s (suc n) h = later_more p xs s n (omega arith) (later_is p xs s n (omega arith)) (cases_lt n s)
+
+-- the places behind one that the filter gives
+later_listed : (probe : Extent) (grow first : ℕ) (table : List Extent) → later_within probe grow first table ≡ filter (λ k. leb (first + 1) k && is_within probe grow (box_at table k)) (upto (length table))
+later_listed probe grow first table =
+    sym (part_all (is_within probe grow) table (first + 1) (length table) (omega arith)) ∙ later_is (is_within probe grow) table (first + 1) (length table) (omega arith)
+
+-- are places
+pub later_inside : (probe : Extent) (grow first : ℕ) (table : List Extent) → All (λ k. k < length table) (later_within probe grow first table)
+later_inside probe grow first table =
+    All-same (λ k. k < length table) _ _ (later_listed probe grow first table)
+    (All-filter (λ k. leb (first + 1) k && is_within probe grow (box_at table k)) (λ k. k < length table) (upto (length table)) (all_upto (λ k. k < length table) (length table) (λ i h. h)))
 
 -- ---- what is made of those that pass
 chosen_flat : {X Y : Type 0} (b : Bool) (x : X) (xs : List X) (f : X → List Y) → flat_map f (cond b (x ∷ xs) xs) ≡ cond b (f x) [] ++ flat_map f xs
@@ -87,57 +99,60 @@ cond_none : (b : Bool) (o : Option ℕ) → o ≡ None → cond b o None ≡ Non
 cond_none true o e = e
 cond_none false o e = refl
 
+-- the greatest distance of the rules, in grid numbers
+abbrev pub reach : Version → ℕ
+reach version = in_grid_numbers (greatest_distance version.rules)
+
 module _ (version : Version) (boxes : List Extent) (cell : Cell) (are : AreBoxes (subjects_of version.models) boxes) where
   abbrev subject : ℕ → Subject
   subject n = subject_at (subjects_of version.models) n
 
-  far_apart : (a b : ℕ) → a < length (subjects_of version.models) → b < length (subjects_of version.models) → is_within (box_at boxes a) (greatest_distance version.rules * 1) (box_at boxes b) ≡ false
+  is_box : (n : ℕ) → n < length (subjects_of version.models) → IsBoxOf (subject n) (box_at boxes n)
+  is_box n l = zip_at IsBoxOf (subjects_of version.models) boxes n nobody nowhere are l
+
+  far_apart : (a b : ℕ) → a < length (subjects_of version.models) → b < length (subjects_of version.models) → is_within (box_at boxes a) (reach version) (box_at boxes b) ≡ false
       → clash_of version.rules (subject a) (subject b) ≡ None
   far_apart a b h k off =
       none_by (clash_of version.rules (subject a) (subject b)) (λ r e.
-          let s = subject a in
-          let t = subject b in
-          let w = why (rule_between version.rules s t) s.element t.element r e in
-          let m = at_most version.rules s.element t.element (bytes_eq s.name t.name) w.found w.is in
-          let near = (elements_decided s.element t.element (in_grid_numbers w.found.distance)).0 w.near in
-          let close = elements_within s.element t.element (box_at boxes a) (box_at boxes b) (in_grid_numbers w.found.distance) (is_box a h) (is_box b k) near in
-          let yes = wider (box_at boxes a) (box_at boxes b) (in_grid_numbers w.found.distance) (greatest_distance version.rules * 1) (omega (arith, m)) close in
-          true≢false (sym yes ∙ off))
-    where
-      is_box : (n : ℕ) → n < length (subjects_of version.models) → IsBoxOf (subject n) (box_at boxes n)
-      is_box n l = zip_at IsBoxOf (subjects_of version.models) boxes n nobody nowhere are l
+      let s = subject a in
+      let t = subject b in
+      let w = why (rule_between version.rules s t) s.element t.element r e in
+      let m = at_most version.rules s.element t.element (bytes_eq s.name t.name) w.found w.is in
+      let near = (elements_decided s.element t.element (in_grid_numbers w.found.distance)).0 w.near in
+      let close = elements_within s.element t.element (box_at boxes a) (box_at boxes b) (in_grid_numbers w.found.distance) (is_box a h) (is_box b k) near in
+      let far : in_grid_numbers w.found.distance ≤ (reach version) = mul-le-mul_right (unsigned_abs PER_MM) m in
+      let yes = wider (box_at boxes a) (box_at boxes b) (in_grid_numbers w.found.distance) (reach version) far close in
+      true≢false (sym yes ∙ off))
 
-  far_rule : (a b : ℕ) → a < length (subjects_of version.models) → b < length (subjects_of version.models) → is_within (box_at boxes a) (greatest_distance version.rules * 1) (box_at boxes b) ≡ false → own_rule version boxes cell a b ≡ None
+  far_rule : (a b : ℕ) → a < length (subjects_of version.models) → b < length (subjects_of version.models) → is_within (box_at boxes a) (reach version) (box_at boxes b) ≡ false → own_rule version boxes cell a b ≡ None
   far_rule a b h k off = cond_none (is_cell (owner_of (box_at boxes a) (box_at boxes b)) cell) _ (far_apart a b h k off)
 
+module _ (version : Version) (boxes : List Extent) (cell : Cell) (are : AreBoxes (subjects_of version.models) boxes) (numbers : List ℕ) (in_it : All (λ n. n < length (subjects_of version.models)) numbers) (first : ℕ) (h : first < length numbers) where
+  abbrev pair : ℕ → List SetPair
+  pair j = pair_if first j (rule_at version boxes cell numbers first j)
+
+  -- a later member that the filter leaves out has no rule with it
+  same : (j : ℕ) → j < length numbers → cond (leb (first + 1) j && is_within (box_at boxes (number_at numbers first)) (reach version) (box_at boxes (number_at numbers j))) (pair j) [] ≡ cond (ltb first j) (pair j) []
+  same j l =
+      left_out (leb (first + 1) j) (is_within (box_at boxes (number_at numbers first)) (reach version) (box_at boxes (number_at numbers j))) (pair j)
+      (λ off. ap (pair_if first j) (far_rule version boxes cell are (number_at numbers first) (number_at numbers j) (in_it first 0 h) (in_it j 0 l) off))
+      ∙ ap (λ n. cond (leb n j) (pair j) []) (add-one first)
+
   -- the row of a member has what is found with it at all later places
-  pub row_is : (numbers : List ℕ) (table : List Extent) (first : ℕ) (probe : Extent) (grow : ℕ) (places : List ℕ)
-      → All (λ n. n < length (subjects_of version.models)) numbers → first < length numbers → table ≡ map (box_at boxes) numbers → probe ≡ box_at boxes (number_at numbers first) → grow ≡ greatest_distance version.rules * 1
-      → places ≡ later_within probe grow first table
-      → flat_map (λ j. pair_if first j (own_rule version boxes cell (number_at numbers first) (number_at numbers j))) places
-      ≡ flat_map (λ j. cond (ltb first j) (pair_if first j (own_rule version boxes cell (number_at numbers first) (number_at numbers j))) []) (upto (length numbers))
-  row_is numbers table first probe grow places in_it h t pr gr e =
-      let f : ℕ → List SetPair = λ j. pair_if first j (own_rule version boxes cell (number_at numbers first) (number_at numbers j)) in
-      let p : Extent → Bool = is_within probe grow in
-      let long : length table ≡ length numbers = ap length t ∙ length-map numbers (box_at boxes) in
-      let listed : places ≡ filter (λ k. leb (first + 1) k && p (box_at table k)) (upto (length numbers)) =
-      e ∙ sym (part_all p table (first + 1) (length table) (omega arith)) ∙ later_is p table (first + 1) (length table) (omega arith) ∙ ap (λ n. filter (λ k. leb (first + 1) k && p (box_at table k)) (upto n)) long in
-      ap (flat_map f) listed ∙ flat_filter f (λ k. leb (first + 1) k && p (box_at table k)) (upto (length numbers))
-      ∙ flat_same (λ j. cond (leb (first + 1) j && p (box_at table j)) (f j) []) (λ j. cond (ltb first j) (f j) []) (upto (length numbers))
-      (all_upto (λ j. cond (leb (first + 1) j && p (box_at table j)) (f j) [] ≡ cond (ltb first j) (f j) []) (length numbers) (λ j l. same j l))
-    where
-      tests : (j : ℕ) → leb (first + 1) j ≡ ltb first j
-      tests j = grind (arith, nat_tests)
-      read : (j : ℕ) → j < length numbers → box_at table j ≡ box_at boxes (number_at numbers j)
-      read j l = ap (λ m. box_at m j) t ∙ get_or-map (box_at boxes) numbers j 0 nowhere l
-      same : (j : ℕ) → j < length numbers
-          → cond (leb (first + 1) j && is_within probe grow (box_at table j)) (pair_if first j (own_rule version boxes cell (number_at numbers first) (number_at numbers j))) []
-          ≡ cond (ltb first j) (pair_if first j (own_rule version boxes cell (number_at numbers first) (number_at numbers j))) []
-      same j l =
-          left_out (leb (first + 1) j) (is_within probe grow (box_at table j)) _
-          (λ off. ap (pair_if first j) (far_rule (number_at numbers first) (number_at numbers j) (in_it first 0 h) (in_it j 0 l)
-          (sym (ap (λ b. is_within probe grow b) (read j l) ∙ ap (λ k. is_within k grow (box_at boxes (number_at numbers j))) pr ∙ ap (λ g. is_within (box_at boxes (number_at numbers first)) g (box_at boxes (number_at numbers j))) gr) ∙ off)))
-          ∙ ap (λ b. cond b (pair_if first j (own_rule version boxes cell (number_at numbers first) (number_at numbers j))) []) (tests j)
+  pub row_is : (table : List Extent) (probe : Extent) (grow : ℕ) (places : List ℕ) → table ≡ map (box_at boxes) numbers → probe ≡ box_at boxes (number_at numbers first) → grow ≡ (reach version) → places ≡ later_within probe grow first table
+      → flat_map pair places ≡ row_by (length numbers) (rule_at version boxes cell numbers) first
+  row_is table probe grow places t pr gr e =
+      let boxed : List Extent = map (box_at boxes) numbers in
+      let p : Extent → Bool = is_within (box_at boxes (number_at numbers first)) (reach version) in
+      let long : length boxed ≡ length numbers = length-map numbers (box_at boxes) in
+      let now : places ≡ later_within (box_at boxes (number_at numbers first)) (reach version) first boxed =
+      e ∙ ap (λ m. later_within probe grow first m) t ∙ ap (λ k. later_within k grow first boxed) pr ∙ ap (λ g. later_within (box_at boxes (number_at numbers first)) g first boxed) gr in
+      let listed : places ≡ filter (λ k. leb (first + 1) k && p (box_at boxed k)) (upto (length numbers)) =
+      now ∙ later_listed (box_at boxes (number_at numbers first)) (reach version) first boxed ∙ ap (λ n. filter (λ k. leb (first + 1) k && p (box_at boxed k)) (upto n)) long in
+      ap (flat_map pair) listed ∙ flat_filter pair (λ k. leb (first + 1) k && p (box_at boxed k)) (upto (length numbers))
+      ∙ flat_same (λ j. cond (leb (first + 1) j && p (box_at boxed j)) (pair j) []) (λ j. cond (ltb first j) (pair j) []) (upto (length numbers))
+      (all_upto (λ j. cond (leb (first + 1) j && p (box_at boxed j)) (pair j) [] ≡ cond (ltb first j) (pair j) []) (length numbers) (λ j l.
+      ap (λ b. cond (leb (first + 1) j && is_within (box_at boxes (number_at numbers first)) (reach version) b) (pair j) []) (get_or-map (box_at boxes) numbers j 0 nowhere l) ∙ same j l))
 
 -- ---- how many places there are
 pub count_places : {A : Type 0} (p : A → Bool) (n : ℕ) (xs : List A) → length (places_from n p xs) ≤ length xs
@@ -154,6 +169,17 @@ few_later probe grow first table =
     omega (arith, a, length-drop (first + 1) table)
 
 -- one row fewer to go
+last : (c n : ℕ) → c + n + n ≡ 2 * n + c
+last c n = omega arith
+
+triangle_by : (n k : ℕ) → n ≡ k + 1 → (n + 1) * n ≡ 2 * n + n * k
+triangle_by n k e =
+    let two : n * n ≡ n * k + n = ap (λ m. n * m) (e ∙ add-one k) ∙ mul-suc n k in
+    ap (λ m. m * n) (add-one n) ∙ suc-mul n n ∙ ap (λ m. m + n) two ∙ last (n * k) n
+
 pub triangle : (k : ℕ) → (k + 1) * (k + 1 - 1) ≡ 2 * k + k * (k - 1)
 triangle zero = refl
-triangle (suc k) = grind arith
+triangle (suc k) =
+    let up : suc k + 1 - 1 ≡ suc k = omega arith in
+    let down : suc k - 1 ≡ k = omega arith in
+    ap (λ m. (suc k + 1) * m) up ∙ triangle_by (suc k) k (omega arith) ∙ ap (λ m. 2 * suc k + suc k * m) (sym down)

@@ -13,8 +13,8 @@ use Rattle.bucket_grid.specs.Table.{upto}
 use Rattle.bucket_grid.proofs.Rising.{places_within}
 use Rattle.bucket_check.specs.declared.pair.SetPair.{SetPair}
 use Rattle.bucket_check.specs.Clashes.{pair_if, pairs_by}
-use Rattle.bucket_check.specs.Sets.{own_rule, number_at, found_among, own_places}
-use Rattle.bucket_check.proofs.Row.{count_places}
+use Rattle.bucket_check.specs.Sets.{rule_at, found_among, own_places}
+use Rattle.bucket_check.proofs.Row.{count_places, triangle}
 
 -- what was made for one more place
 pub row_more : (f : ℕ → List SetPair) (places : List ℕ) (i : ℕ) (first before after made : List SetPair) → i < length places → before ≡ first ++ flat_map f (take i places) → after ≡ before ++ made → made ≡ f (get_or places i 0)
@@ -68,8 +68,27 @@ all_rows grid cell numbers pairs m e = by m.are
     by (inl f) = e ∙ ap (found_among grid.version grid.boxes cell) f
     by (inr f) =
         e ∙ ap (found_among grid.version grid.boxes cell) f.0
-        ∙ sym (few_pairs (length (members grid.boxes cell)) (λ i j. own_rule grid.version grid.boxes cell (number_at (members grid.boxes cell) i) (number_at (members grid.boxes cell) j)) f.1)
+        ∙ sym (few_pairs (length (members grid.boxes cell)) (rule_at grid.version grid.boxes cell (members grid.boxes cell)) f.1)
 
 -- fewer members have no more pairs
 pub fewer_pairs : (m n : ℕ) → m ≤ n → m * (m - 1) ≤ n * (n - 1)
 fewer_pairs m n h = let k : m - 1 ≤ n - 1 = omega arith in mul-le-mul h k
+
+-- ---- the bound on steps, row by row
+-- no row yet
+pub no_row : (m : ℕ) → (m - 0) * (m - 0 - 1) ≡ m * (m - 1)
+no_row m = let e : m - 0 ≡ m = omega arith in ap (λ n. n * (n - 1)) e
+
+fewer_by : (k d old new row bound : ℕ) → d ≡ k + 1 → row ≤ k → new ≤ old + row → 2 * old + d * (d - 1) ≤ bound → 2 * new + k * (k - 1) ≤ bound
+fewer_by k d old new row bound e r s b =
+    let same : d * (d - 1) ≡ (k + 1) * (k + 1 - 1) = ap (λ n. n * (n - 1)) e in
+    let t = triangle k in
+    omega (arith, same, t)
+
+-- one row fewer to go
+pub fewer : (m i old new row bound : ℕ) → i < m → row ≤ m - (i + 1) → new ≤ old + row → 2 * old + (m - i) * (m - i - 1) ≤ bound → 2 * new + (m - (i + 1)) * (m - (i + 1) - 1) ≤ bound
+fewer m i old new row bound h r s b = fewer_by (m - (i + 1)) (m - i) old new row bound (omega arith) r s b
+
+-- and no more than all
+pub stopped : (m i old new row bound : ℕ) → i < m → row ≤ m - (i + 1) → new ≤ old + row → 2 * old + (m - i) * (m - i - 1) ≤ bound → 2 * new ≤ bound
+stopped m i old new row bound h r s b = let t = fewer m i old new row bound h r s b in omega (arith, t)

@@ -33,8 +33,8 @@ pairs_like : (n : ℕ) (f g : ℕ → ℕ → Option ℕ) → ((a b : ℕ) → a
 pairs_like n f g h =
     flat_same (λ a. flat_map (λ b. cond (ltb a b) (pair_if a b (f a b)) []) (upto n)) (λ a. flat_map (λ b. cond (ltb a b) (pair_if a b (g a b)) []) (upto n)) (upto n)
     (all_upto (λ a. flat_map (λ b. cond (ltb a b) (pair_if a b (f a b)) []) (upto n) ≡ flat_map (λ b. cond (ltb a b) (pair_if a b (g a b)) []) (upto n)) n (λ a k.
-        flat_same (λ b. cond (ltb a b) (pair_if a b (f a b)) []) (λ b. cond (ltb a b) (pair_if a b (g a b)) []) (upto n)
-        (all_upto (λ b. cond (ltb a b) (pair_if a b (f a b)) [] ≡ cond (ltb a b) (pair_if a b (g a b)) []) n (λ b l. ap (λ o. cond (ltb a b) (pair_if a b o) []) (h a b k l)))))
+    flat_same (λ b. cond (ltb a b) (pair_if a b (f a b)) []) (λ b. cond (ltb a b) (pair_if a b (g a b)) []) (upto n)
+    (all_upto (λ b. cond (ltb a b) (pair_if a b (f a b)) [] ≡ cond (ltb a b) (pair_if a b (g a b)) []) n (λ b l. ap (λ o. cond (ltb a b) (pair_if a b o) []) (h a b k l)))))
 
 -- ---- elements of the same class, storey and surface
 record Like (x y : Element) : Type 0 where

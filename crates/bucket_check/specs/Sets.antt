@@ -17,7 +17,8 @@ use Rattle.bucket_check.specs.Clashes.{clash_of, is_cell, pairs_by}
 abbrev pub own_rule : Version → List Extent → Cell → ℕ → ℕ → Option ℕ
 own_rule version boxes cell a b =
     cond (is_cell (owner_of (box_at boxes a) (box_at boxes b)) cell)
-    (clash_of version.rules (subject_at (subjects_of version.models) a) (subject_at (subjects_of version.models) b)) None
+    (clash_of version.rules (subject_at (subjects_of version.models) a) (subject_at (subjects_of version.models) b))
+    None
 
 -- the number of the member at a place
 abbrev pub number_at : List ℕ → ℕ → ℕ
@@ -27,8 +28,13 @@ number_at numbers place = slice_index numbers place
 abbrev pub pair_at : List ℕ → SetPair → SetPair
 pair_at numbers p = record { a = number_at numbers p.a; b = number_at numbers p.b; rule = p.rule }
 
+-- the rule of the members at two places
+abbrev pub rule_at : Version → List Extent → Cell → List ℕ → ℕ → ℕ → Option ℕ
+rule_at version boxes cell numbers i j = own_rule version boxes cell (number_at numbers i) (number_at numbers j)
+
+-- the clashes among these members that a cell owns, by their places
 abbrev pub found_among : Version → List Extent → Cell → List ℕ → List SetPair
-found_among version boxes cell numbers = pairs_by (length numbers) (λ i j. own_rule version boxes cell (number_at numbers i) (number_at numbers j))
+found_among version boxes cell numbers = pairs_by (length numbers) (rule_at version boxes cell numbers)
 
 -- the clashes that a cell owns, by the places of the elements among its members
 abbrev pub own_places : GridValue → Cell → List SetPair
@@ -53,4 +59,5 @@ subjects_at grid numbers = map (subject_at (subjects_of grid.version.models)) nu
 -- a cell of two grids of equal rules, with members of the same keys, classes, storeys and surfaces
 pub record IsUnmoved (before after : GridValue) (cell : Cell) : Type 0 where
   pub rules : before.version.rules ≡ after.version.rules
-  pub members : AllZip IsSame (subjects_at before (members before.boxes cell)) (subjects_at after (members after.boxes cell))
+  pub members :
+      AllZip IsSame (subjects_at before (members before.boxes cell)) (subjects_at after (members after.boxes cell))

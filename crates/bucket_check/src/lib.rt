@@ -9,7 +9,7 @@ mod set;
 mod work;
 
 pub use checks::check;
-pub use laws::{clashes_are_owned, found_is_owned, parts_are_clashes};
+pub use laws::{clashes_are_owned, clashes_are_owned_once, found_is_owned, parts_are_clashes};
 pub use pair::SetPair;
 pub use room::Room;
 pub use set::BucketSet;

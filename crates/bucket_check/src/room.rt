@@ -4,7 +4,8 @@ ghost use Rattle.std.specs.Prelude.{◌≡◌, []};
 use box_lanes::BoxTable;
 use std::alloc::Global;
 
-/// A worker's room: the boxes of the members of a bucket, and the places of some of them. What it holds says nothing.
+/// A worker's room: the boxes of the members of a bucket, and the places of some of them. What it holds says
+/// nothing.
 #[derive(Drop)]
 pub struct Room {
     pub(crate) table: BoxTable,

@@ -32,7 +32,9 @@ impl BucketSet {
     // The set of a work, with the pairs that its cell owns.
     pub(crate) fn of(work: BucketWork, pairs: Shared<Items<SetPair>>) -> BucketSet
         requires { pairs ≡ own_places work.grid work.cell }
-        ensures { result.work ≡ work }
+        ensures work { result.work ≡ work }
+        ensures pairs { result.pairs ≡ pairs }
+        ensures found { result.pairs ≡ own_places work.grid work.cell }
     {
         BucketSet { work, pairs }
     }
@@ -44,8 +46,8 @@ impl BucketSet {
         &self.work
     }
 
-    /// The pairs in the order of keys, by the places of the elements among the bucket's members, lent. They are exactly the clashes that the
-    /// bucket owns.
+    /// The pairs in the order of keys, by the places of the elements among the bucket's members, lent. They are exactly
+    /// the clashes that the bucket owns.
     pub fn pairs(&self) -> &[SetPair]
         ensures same { result.now ≡ self.now.pairs }
         ensures found { result.now ≡ own_places self.now.work.grid self.now.work.cell }
@@ -57,19 +59,18 @@ impl BucketSet {
         self.pairs.get().as_slice()
     }
 
-    /// The set of another work, on the same cell in a grid of equal rules where it has members of the same keys, classes, storeys and
-    /// surfaces. The list of its pairs is shared.
+    /// The set of another work, on the same cell in a grid of equal rules where it has members of the same keys,
+    /// classes, storeys and surfaces. The list of its pairs is shared.
     pub fn moved(&self, work: BucketWork) -> Result<BucketSet, AllocError>
         requires cell { work.cell ≡ self.now.work.cell }
         requires unmoved { IsUnmoved self.now.work.grid work.grid work.cell }
         ensures work { IfOk result (λ set. set.work ≡ work) }
         ensures pairs { IfOk result (λ set. set.pairs ≡ self.now.pairs) }
+        ensures found { IfOk result (λ set. set.pairs ≡ own_places work.grid work.cell) }
     {
         let _before = self.work.grid.get().boxes();
         let _after = work.grid.get().boxes();
-        Ok(BucketSet {
-            pairs: self.pairs.share()?,
-            work,
-        })
+        let pairs = self.pairs.share()?;
+        Ok(BucketSet::of(work, pairs))
     }
 }

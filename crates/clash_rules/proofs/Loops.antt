@@ -15,6 +15,11 @@ abbrev pub front : List Rule → Result (List Rule) RuleFault → Result (List R
 front rules (Err fault) = Err fault
 front rules (Ok rest) = Ok (rules ++ rest)
 
+-- no rules yet
+pub front_nil : (rest : Result (List Rule) RuleFault) → front [] rest ≡ rest
+front_nil (Err fault) = refl
+front_nil (Ok rules) = refl
+
 -- the values from a place on
 from : (values : List Value) (i : ℕ) (d : Value) → i < length values → items_view (drop i values) ≡ item (view (get_or values i d)) (items_view (drop (i + 1) values))
 from values i d h = ap items_view (drop-cons values i d h) ∙ ap (λ n. item (view (get_or values i d)) (items_view (drop n values))) (sym (add-one i))

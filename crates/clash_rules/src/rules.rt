@@ -33,6 +33,7 @@ fn push_rule(rules: &mut Vec<Rule>, rule: Rule) -> Result<(), AllocError>
 }
 
 // The rules that these values spell.
+#[tactic(auto, using(crate::proofs::Loops::front_nil))]
 fn rules_in(alloc: Global, items: &[Value]) -> Result<Vec<Rule>, RuleError>
     ensures read { IfOk result (λ rules. rules_from 0 (items_view items.now) ≡ Ok rules.items) }
     ensures fault { IfErr result (λ error. IsFault error (rules_from 0 (items_view items.now))) }

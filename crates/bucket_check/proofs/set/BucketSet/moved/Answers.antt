@@ -7,8 +7,8 @@ use Rattle.bucket_check.specs.Sets.{SetValue, own_places, IsUnmoved}
 use Rattle.bucket_check.proofs.Unmoved.{unmoved}
 use Rattle.bucket_check.proofs.set.BucketSet.moved.Goals as goal
 
-pub invariant_of-result : goal.invariant_of-result
-invariant_of-result c =
+pub of-requires : goal.of-requires
+of-requires c =
     let before = c.self.inside.work.grid in
     let after = c.args.work.grid in
     let cell = c.args.work.cell in
@@ -20,4 +20,4 @@ invariant_of-result c =
     (subst (λ (l : List Extent). AreBoxes (subjects_of c.get-2.result.now.version.models) l) c.boxes-after.ensures.boxes c.boxes-after.ensures.boxed) in
     let same : IsUnmoved before after cell = subst (λ (v : SetValue). IsUnmoved v.work.grid after cell) (sym c.self.view_is) c.requires.unmoved in
     let here : c.self.inside.work.cell ≡ cell = ap (λ (v : SetValue). v.work.cell) c.self.view_is ∙ sym c.requires.cell in
-    c.in_ok-share.ensures ∙ c.self.invariant ∙ ap (own_places before) here ∙ unmoved before after cell first second same
+    c.in_ok-pairs.ensures ∙ c.self.invariant ∙ ap (own_places before) here ∙ unmoved before after cell first second same
