@@ -16,7 +16,7 @@ use Rattle.bucket_grid.proofs.Zips.{zip_length}
 use Rattle.bucket_grid.proofs.Rising.{places_rise, places_within}
 use Rattle.bucket_check.specs.declared.pair.SetPair.{SetPair}
 use Rattle.bucket_check.specs.Clashes.{clash_of, is_cell, owner, own_clashes, pairs_by, IsBefore}
-use Rattle.bucket_check.specs.Sets.{own_rule, number_at, pair_at, found_among}
+use Rattle.bucket_check.specs.Sets.{own_rule, rule_at, number_at, pair_at, found_among}
 use Rattle.bucket_check.proofs.Lists.{Lists, lists_one}
 use Rattle.bucket_check.proofs.Pairs.{once, IsPairBy, pairs_list}
 use Rattle.bucket_check.proofs.Owned.{clash_owned, member}
@@ -63,7 +63,7 @@ module _ (version : Version) (boxes : List Extent) (cell : Cell) (few : IsRules 
   numbers = members boxes cell
 
   abbrev rule : ℕ → ℕ → Option ℕ
-  rule i j = own_rule version boxes cell (number_at numbers i) (number_at numbers j)
+  rule i j = rule_at version boxes cell numbers i j
 
   rises : AllPairs (λ (x y : ℕ). x < y) numbers
   rises = places_rise (holds cell) boxes numbers refl

@@ -26,7 +26,7 @@ use Rattle.bucket_grid.proofs.Rising.{places_within}
 use Rattle.bucket_check.specs.declared.pair.SetPair.{SetPair}
 use Rattle.bucket_check.proofs.Lists.{flat_same}
 use Rattle.bucket_check.specs.Clashes.{in_grid_numbers, rule_between, clash_by, clash_of, is_cell, pair_if, pairs_by}
-use Rattle.bucket_check.specs.Sets.{own_rule, number_at, own_places, IsSame, subjects_at, IsUnmoved}
+use Rattle.bucket_check.specs.Sets.{own_rule, rule_at, number_at, own_places, IsSame, subjects_at, IsUnmoved}
 
 -- rules that agree below n list the same pairs
 pairs_like : (n : ℕ) (f g : ℕ → ℕ → Option ℕ) → ((a b : ℕ) → a < n → b < n → f a b ≡ g a b) → pairs_by n f ≡ pairs_by n g
@@ -110,12 +110,12 @@ module _ (g h : GridValue) (cell : Cell) (first : AreBoxes (subjects_of g.versio
       (zip_at IsBoxOf (subjects_of g.version.models) g.boxes (number_at before i) nobody nowhere first (omega (arith, a, zip_length IsBoxOf (subjects_of g.version.models) g.boxes first)))
       (zip_at IsBoxOf (subjects_of h.version.models) h.boxes (number_at after i) nobody nowhere second (omega (arith, b, zip_length IsBoxOf (subjects_of h.version.models) h.boxes second)))
 
-  rules_like : (i j : ℕ) → i < length before → j < length before → own_rule g.version g.boxes cell (number_at before i) (number_at before j) ≡ own_rule h.version h.boxes cell (number_at after i) (number_at after j)
+  rules_like : (i j : ℕ) → i < length before → j < length before → rule_at g.version g.boxes cell before i j ≡ rule_at h.version h.boxes cell after i j
   rules_like i j k l =
       ap₂ (λ c o. cond c o None) (ap₂ (λ a b. is_cell (owner_of a b) cell) (boxed i k) (boxed j l))
       (clash_like g.version.rules h.version.rules _ _ _ _ same.rules (alike i k) (alike j l))
 
   pub unmoved : own_places g cell ≡ own_places h cell
   unmoved =
-      pairs_like (length before) (λ i j. own_rule g.version g.boxes cell (number_at before i) (number_at before j)) (λ i j. own_rule h.version h.boxes cell (number_at after i) (number_at after j)) rules_like
-      ∙ ap (λ n. pairs_by n (λ i j. own_rule h.version h.boxes cell (number_at after i) (number_at after j))) count
+      pairs_like (length before) (λ i j. rule_at g.version g.boxes cell before i j) (λ i j. rule_at h.version h.boxes cell after i j) rules_like
+      ∙ ap (λ n. pairs_by n (λ i j. rule_at h.version h.boxes cell after i j)) count
