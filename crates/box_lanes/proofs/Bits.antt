@@ -10,7 +10,7 @@ use Rattle.std.specs.List.{take-map}
 use Rattle.std.proofs.lemmas.List.{drop-map}
 use lib.Pow.{shr-shr}
 use lib.Lanes.{mask_l}
-use Rattle.box_lanes.specs.Places.{places_from}
+use Rattle.box_lanes.specs.Places.{places_from, part}
 use Rattle.box_lanes.proofs.Places.{places-append, Next}
 
 split : (c x p : ℕ) → 0 < p → c ≤ 1 → (c + 2 * x) % (p * 2) ≡ c + 2 * (x % p)
@@ -67,12 +67,8 @@ block_bits p xs at n count h k =
     ∙ ap (λ l. mask_l (map p l)) (take-take n 8 (drop at xs) h ∙ sym (take-take n (count - at) (drop at xs) (omega arith)) ∙ ap (take n) (sym (drop-take at (count - at) xs) ∙ ap (λ m. drop at (take m xs)) parts))
 
 module _ {A : Type 0} (p : A → Bool) where
-  -- the places, from one up to another, of the items that pass
-  abbrev pub part : List A → ℕ → ℕ → List ℕ
-  part xs from end = places_from from p (take (end - from) (drop from xs))
-
   -- one part and the next
-  pub part_more : (xs : List A) (a b c : ℕ) → a ≤ b → b ≤ c → c ≤ length xs → part xs a c ≡ part xs a b ++ part xs b c
+  pub part_more : (xs : List A) (a b c : ℕ) → a ≤ b → b ≤ c → c ≤ length xs → part p xs a c ≡ part p xs a b ++ part p xs b c
   part_more xs a b c h k l =
       let parts : b - a + (c - b) ≡ c - a = omega arith in
       let there : a + (b - a) ≡ b = omega arith in
@@ -80,19 +76,19 @@ module _ {A : Type 0} (p : A → Bool) where
       let shift : a + length (take (b - a) (drop a xs)) ≡ b = omega (arith, front) in
       ap (λ n. places_from a p (take n (drop a xs))) (sym parts) ∙ ap (places_from a p) (take-add (b - a) (c - b) (drop a xs))
       ∙ places-append p a (take (b - a) (drop a xs)) (take (c - b) (drop (b - a) (drop a xs)))
-      ∙ ap (λ l. part xs a b ++ l) (ap₂ (λ n m. places_from n p (take (c - b) m)) shift (drop-drop (b - a) a xs ∙ ap (λ n. drop n xs) there))
+      ∙ ap (λ l. part p xs a b ++ l) (ap₂ (λ n m. places_from n p (take (c - b) m)) shift (drop-drop (b - a) a xs ∙ ap (λ n. drop n xs) there))
 
   -- all from one place on
-  pub part_all : (xs : List A) (a c : ℕ) → length xs ≤ c → part xs a c ≡ places_from a p (drop a xs)
+  pub part_all : (xs : List A) (a c : ℕ) → length xs ≤ c → part p xs a c ≡ places_from a p (drop a xs)
   part_all xs a c h = ap (places_from a p) (take_all (c - a) (drop a xs) (omega (arith, length-drop a xs)))
 
   -- no place yet
-  pub part_none : (xs : List A) (a c : ℕ) → c ≤ a → part xs a c ≡ []
+  pub part_none : (xs : List A) (a c : ℕ) → c ≤ a → part p xs a c ≡ []
   part_none xs a c h =
       let none : c - a ≡ 0 = omega arith in
       ap (λ n. places_from a p (take n (drop a xs))) none
 
-  whole_part : (xs : List A) (place end : ℕ) → place ≤ end → end ≤ length xs → places_from 0 p (take end xs) ≡ places_from 0 p (take place xs) ++ part xs place end
+  whole_part : (xs : List A) (place end : ℕ) → place ≤ end → end ≤ length xs → places_from 0 p (take end xs) ≡ places_from 0 p (take place xs) ++ part p xs place end
   whole_part xs place end h k =
       let parts : place + (end - place) ≡ end = omega arith in
       let front : 0 + length (take place xs) ≡ place = omega (arith, length-take-le place xs (omega arith)) in
@@ -100,15 +96,15 @@ module _ {A : Type 0} (p : A → Bool) where
       ∙ places-append p 0 (take place xs) (take (end - place) (drop place xs)) ∙ ap (λ n. places_from 0 p (take place xs) ++ places_from n p (take (end - place) (drop place xs))) front
 
   -- the place that the lowest set bit gives is the next
-  pub part_next : (xs : List A) (from end place passed : ℕ) → from ≤ place → end ≤ length xs → Next p xs end place passed → part xs from (place + (passed + 1)) ≡ part xs from place ++ (place + passed) ∷ []
+  pub part_next : (xs : List A) (from end place passed : ℕ) → from ≤ place → end ≤ length xs → Next p xs end place passed → part p xs from (place + (passed + 1)) ≡ part p xs from place ++ (place + passed) ∷ []
   part_next xs from end place passed h k n =
       let on : place + (passed + 1) ≤ length xs = omega (arith, n.within) in
       part_more xs from place (place + (passed + 1)) h (omega arith) on
-      ∙ ap (λ l. part xs from place ++ l) (append_cancel_left (places_from 0 p (take place xs)) _ _ (sym (whole_part xs place (place + (passed + 1)) (omega arith) on) ∙ n.places))
+      ∙ ap (λ l. part p xs from place ++ l) (append_cancel_left (places_from 0 p (take place xs)) _ _ (sym (whole_part xs place (place + (passed + 1)) (omega arith) on) ∙ n.places))
 
   -- no place is left
-  pub part_done : (xs : List A) (from end place : ℕ) → from ≤ place → place ≤ end → end ≤ length xs → places_from 0 p (take end xs) ≡ places_from 0 p (take place xs) → part xs from end ≡ part xs from place
+  pub part_done : (xs : List A) (from end place : ℕ) → from ≤ place → place ≤ end → end ≤ length xs → places_from 0 p (take end xs) ≡ places_from 0 p (take place xs) → part p xs from end ≡ part p xs from place
   part_done xs from end place h k l e =
       part_more xs from place end h k l
-      ∙ ap (λ t. part xs from place ++ t) (append_cancel_left (places_from 0 p (take place xs)) _ _ (sym (whole_part xs place end k l) ∙ e ∙ sym (append-nil (places_from 0 p (take place xs)))))
-      ∙ append-nil (part xs from place)
+      ∙ ap (λ t. part p xs from place ++ t) (append_cancel_left (places_from 0 p (take place xs)) _ _ (sym (whole_part xs place end k l) ∙ e ∙ sym (append-nil (places_from 0 p (take place xs)))))
+      ∙ append-nil (part p xs from place)

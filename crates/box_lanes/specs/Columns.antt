@@ -1,5 +1,5 @@
 -- Boxes kept as one list for each side.
-use Rattle.std.specs.Prelude.{ℕ, ◌<◌, ◌≤◌, ◌^◌, ◌%◌, ◌≡◌, ℤ, List, [], ◌∷◌, map, take, length, All}
+use Rattle.std.specs.Prelude.{ℕ, ◌<◌, ◌≤◌, ◌^◌, ◌%◌, ◌≡◌, ◌++◌, ℤ, List, [], ◌∷◌, map, take, length, All}
 use Rattle.bim_model.specs.declared.geometry.Extent.{Extent}
 use Rattle.box_lanes.specs.declared.columns.Columns.{Columns}
 use Rattle.box_lanes.specs.declared.table.BoxTable.TheInside.{Inside}
@@ -14,7 +14,8 @@ boxes_of (a ∷ lx) (b ∷ ly) (c ∷ lz) [] hy hz = []
 boxes_of (a ∷ lx) (b ∷ ly) (c ∷ lz) (d ∷ hx) [] hz = []
 boxes_of (a ∷ lx) (b ∷ ly) (c ∷ lz) (d ∷ hx) (e ∷ hy) [] = []
 boxes_of (a ∷ lx) (b ∷ ly) (c ∷ lz) (d ∷ hx) (e ∷ hy) (f ∷ hz) =
-    record { low = record { x = a; y = b; z = c }; high = record { x = d; y = e; z = f } } ∷ boxes_of lx ly lz hx hy hz
+    record { low = record { x = a; y = b; z = c }; high = record { x = d; y = e; z = f } }
+    ∷ boxes_of lx ly lz hx hy hz
 
 -- each list has its side of every box, and the sides fit 32 bits
 pub record AreSides (columns : Columns) (boxes : List Extent) : Type 0 where
@@ -26,10 +27,20 @@ pub record AreSides (columns : Columns) (boxes : List Extent) : Type 0 where
   pub high_z_is : columns.z.high.items ≡ map (λ (b : Extent). b.high.z) boxes
   pub fits : All Fits32 boxes
 
+-- what these columns have, the others have with more boxes behind
+abbrev pub AreMore : Columns → Columns → List Extent → Type 0
+AreMore old new more = (boxes : List Extent) → AreSides old boxes → AreSides new (boxes ++ more)
+
+-- the sides of these boxes and of so many others behind them that all are a multiple of eight
+abbrev pub AreFilled : Columns → List Extent → Type 0
+AreFilled columns boxes =
+    (rest : List Extent) × AreSides columns (boxes ++ rest) × (length (boxes ++ rest) % 8 ≡ 0)
+
 -- all boxes of a table, with those behind its own
 abbrev pub all_in : Inside → List Extent
 all_in t =
-    boxes_of t.columns.x.low.items t.columns.y.low.items t.columns.z.low.items t.columns.x.high.items t.columns.y.high.items t.columns.z.high.items
+    boxes_of t.columns.x.low.items t.columns.y.low.items t.columns.z.low.items
+    t.columns.x.high.items t.columns.y.high.items t.columns.z.high.items
 
 -- the boxes of a table
 abbrev pub boxes_in : Inside → List Extent

@@ -1,7 +1,7 @@
 //! Boxes as one list for each side.
-ghost use Rattle.std.specs.Prelude.{◌≡◌, ◌+◌, ◌<◌, ◌%◌, ◌++◌, ◌∷◌, [], ℕ, List, length, map, All, OnOk};
+ghost use Rattle.std.specs.Prelude.{◌≡◌, ◌+◌, ◌<◌, ◌%◌, ◌++◌, ◌∷◌, [], List, length, map, All, OnOk};
 ghost use Rattle.bim_model.specs.declared.geometry.Extent.{Extent};
-ghost use Rattle.box_lanes.specs.Columns.{AreSides};
+ghost use Rattle.box_lanes.specs.Columns.{AreSides, AreMore, AreFilled};
 ghost use Rattle.box_lanes.specs.Places.{box_at};
 
 use bim_model::{Extent, Point};
@@ -95,7 +95,7 @@ impl Columns {
 
     // One more box.
     fn push(&mut self, extent: &Extent) -> Result<(), AllocError>
-        ensures { OnOk result ((boxes : List Extent) → AreSides self.old boxes → AreSides self.new (boxes ++ extent.now ∷ [])) }
+        ensures { OnOk result (AreMore self.old self.new (extent.now ∷ [])) }
     {
         self.x.push(extent.low.x, extent.high.x)?;
         self.y.push(extent.low.y, extent.high.y)?;
@@ -105,7 +105,7 @@ impl Columns {
 
     /// So many boxes more that all are a multiple of eight.
     pub fn pad(&mut self) -> Result<(), AllocError>
-        ensures { OnOk result ((boxes : List Extent) → AreSides self.old boxes → (rest : List Extent) × AreSides self.new (boxes ++ rest) × (length (boxes ++ rest) % 8 ≡ 0)) }
+        ensures { OnOk result ((boxes : List Extent) → AreSides self.old boxes → AreFilled self.new boxes) }
     {
         let origin = Point { x: 0, y: 0, z: 0 };
         let behind = Extent {

@@ -26,8 +26,8 @@ fn is_within(probe: &Extent, grow: u32, extent: &Extent) -> bool
         && is_close(low.z, high.z, probe.low.z, probe.high.z, grow)
 }
 
-/// The places, from 0 and rising, of the boxes whose gap to the probe is at most `grow` grid numbers on each axis, box
-/// by box. There are fewer than 2^32 boxes. An error where memory is wanting.
+/// The places, from 0 and rising, of the boxes whose gap to the probe is at most `grow` grid numbers on each axis,
+/// box by box. There are fewer than 2^32 boxes. An error where memory is wanting.
 pub fn places_within(
     alloc: Global,
     boxes: &[Extent],

@@ -3,8 +3,8 @@ ghost use Rattle.std.specs.Prelude.{◌≡◌, ◌+◌, ◌-◌, ◌*◌, ◌/�
 ghost use Rattle.std.specs.Simd.Lanes.{mask_l, chunk};
 ghost use Rattle.bim_model.specs.declared.geometry.Extent.{Extent};
 ghost use Rattle.bim_model.specs.Gaps.{is_within};
-ghost use Rattle.box_lanes.specs.Columns.{AreSides};
-ghost use Rattle.box_lanes.specs.Places.{box_at, places_from, places_within, later_within};
+ghost use Rattle.box_lanes.specs.Columns.{AreSides, AreFilled};
+ghost use Rattle.box_lanes.specs.Places.{box_at, places_from, part, places_within, later_within};
 ghost use Rattle.box_lanes.specs.Lanes.{meets, Fits32};
 
 use crate::columns::{Columns, LANES};
@@ -45,7 +45,8 @@ impl BoxTable {
         }
     }
 
-    /// A table of the boxes, of which there are fewer than 2^32: a place has 32 bits. An error where memory is wanting.
+    /// A table of the boxes, of which there are fewer than 2^32, since a place has 32 bits. An error where memory
+    /// is wanting.
     pub fn of(alloc: Global, boxes: &[Extent]) -> Result<BoxTable, AllocError>
         requires { length boxes.now < 2 ^ 32 }
         ensures { IfOk result (λ table. table ≡ boxes.now) }
@@ -59,8 +60,8 @@ impl BoxTable {
         })
     }
 
-    /// The boxes at these places, of which there are fewer than 2^32, in place of the boxes before. The room is used again. An error where
-    /// memory is wanting, which leaves no boxes.
+    /// The boxes at these places, of which there are fewer than 2^32, in place of the boxes before. The room is
+    /// used again. An error where memory is wanting, which leaves no boxes.
     pub fn refill(&mut self, boxes: &[Extent], places: &[u32]) -> Result<(), AllocError>
         requires within { All (λ n. n < length boxes.now) places.now }
         requires few { length places.now < 2 ^ 32 }
@@ -90,8 +91,8 @@ impl BoxTable {
         self.count
     }
 
-    /// The places, from 0 and rising, of the boxes whose gap to the probe is at most `grow` grid numbers on each axis.
-    /// Coordinates and `grow` may be any. An error where memory is wanting.
+    /// The places, from 0 and rising, of the boxes whose gap to the probe is at most `grow` grid numbers on each
+    /// axis. Coordinates and `grow` may be any. An error where memory is wanting.
     pub fn within(&self, alloc: Global, probe: &Extent, grow: u32) -> Result<Vec<u32>, AllocError>
         ensures { IfOk result (λ places. places.items ≡ places_within probe.now grow self.now) }
     {
@@ -102,7 +103,8 @@ impl BoxTable {
         Ok(places)
     }
 
-    /// The same of the boxes behind the place `first` alone, as the only places of the list. An error where memory is wanting.
+    /// The same of the boxes behind the place `first` alone, as the only places of the list. An error where memory
+    /// is wanting, which leaves some of them.
     pub fn later_within(
         &self,
         first: usize,
@@ -123,7 +125,8 @@ impl BoxTable {
     /// Adds the places of the boxes from the place `from` on that meet `reach`.
     fn add_from(&self, from: usize, reach: &Extent, places: &mut Vec<u32>) -> Result<(), AllocError>
         requires { from ≤ length self.now }
-        ensures { OnOk result (places.new.items ≡ places.old.items ++ places_from from (meets reach.now) (drop from self.now)) }
+        ensures { OnOk result (places.new.items
+            ≡ places.old.items ++ places_from from (meets reach.now) (drop from self.now)) }
     {
         let mut from = from;
         while from < self.count {
@@ -134,7 +137,8 @@ impl BoxTable {
         Ok(())
     }
 
-    /// Adds the places of those boxes from the place `from` up to `end`, all in one block of eight, that meet `reach`.
+    /// Adds the places of those boxes from the place `from` up to `end`, all in one block of eight, that meet
+    /// `reach`.
     #[inline(always)]
     fn add_block(
         &self,
@@ -146,7 +150,7 @@ impl BoxTable {
         requires from { from < end }
         requires end { end ≤ length self.now }
         requires block { end ≤ from / 8 * 8 + 8 }
-        ensures { OnOk result (places.new.items ≡ places.old.items ++ places_from from (meets reach.now) (take (end - from) (drop from self.now))) }
+        ensures { OnOk result (places.new.items ≡ places.old.items ++ part (meets reach.now) self.now from end) }
     {
         let mut lanes = self.bits(from, end, reach);
         if lanes == 0 {
@@ -163,8 +167,8 @@ impl BoxTable {
         Ok(())
     }
 
-    /// A bit for each of the boxes from the place `from` up to `end`, all in one block of eight, the first the lowest: whether the box meets
-    /// `reach`.
+    /// A bit for each of the boxes from the place `from` up to `end`, all in one block of eight, the first the
+    /// lowest: whether the box meets `reach`.
     #[inline(always)]
     fn bits(&self, from: usize, end: usize, reach: &Extent) -> u64
         requires from { from < end }
@@ -177,13 +181,14 @@ impl BoxTable {
         (whole & ((1 << (end - at)) - 1)) >> (from - at)
     }
 
-    /// A bit for each of the eight boxes from `at` on, the first the lowest: whether the box meets `reach`. Bits of boxes behind the table's
-    /// may be any.
+    /// A bit for each of the eight boxes from `at` on, the first the lowest: whether the box meets `reach`. Bits of
+    /// boxes behind the table's may be any.
     #[inline(always)]
     fn lanes(&self, at: usize, reach: &Extent) -> u64
         requires within { at < length self.now }
         requires block { at % 8 ≡ 0 }
-        ensures { (n : ℕ) → n ≤ 8 → at + n ≤ length self.now → result % 2 ^ n ≡ mask_l (map (meets reach.now) (take n (drop at self.now))) }
+        ensures { (n : ℕ) → n ≤ 8 → at + n ≤ length self.now
+            → result % 2 ^ n ≡ mask_l (map (meets reach.now) (take n (drop at self.now))) }
     {
         let columns = &self.columns;
         let x = i32x8::from_slice(&columns.x.low[at..]).simd_le(i32x8::splat(reach.high.x))
@@ -211,7 +216,7 @@ fn block_end(from: usize, count: usize) -> usize
 // The boxes at these places, and behind them so many others that all are a multiple of eight.
 fn fill(columns: &mut Columns, boxes: &[Extent], places: &[u32]) -> Result<(), AllocError>
     requires { All (λ n. n < length boxes.now) places.now }
-    ensures { OnOk result (AreSides columns.old [] → (rest : List Extent) × AreSides columns.new (map (box_at boxes.now) places.now ++ rest) × (length (map (box_at boxes.now) places.now ++ rest) % 8 ≡ 0)) }
+    ensures { OnOk result (AreSides columns.old [] → AreFilled columns.new (map (box_at boxes.now) places.now)) }
 {
     columns.extend_by(boxes, places)?;
     columns.pad()?;

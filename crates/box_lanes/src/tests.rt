@@ -46,8 +46,8 @@ fn finds(
     Ok(())
 }
 
-/// Three boxes apart on one axis each; two boxes beyond each side of a probe, the second a grid number farther;
-/// boxes at the ends of the coordinates, in a block of eight and after it.
+/// Three boxes apart on one axis each; two boxes beyond each side of a probe, the second a grid number farther; boxes
+/// at the ends of the coordinates, in a block of eight and after it.
 #[test]
 fn by_hand(rt: HostRuntime) -> Result<(), Fail> {
     let three = [[0, 0, 0, 1, 1, 1], [5, 0, 0, 6, 1, 1], [0, 0, 9, 1, 1, 10]];

@@ -13,3 +13,5 @@ pub mod Found
 pub mod Rising
 pub mod Searching
 pub mod Alone
+pub mod Points
+pub mod Near

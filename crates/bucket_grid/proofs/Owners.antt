@@ -1,5 +1,5 @@
 -- The cell of two boxes is the least that holds both, and boxes that lie within a metre of each other have one.
-use Rattle.std.proofs.Common.{◌≡◌, ℕ, ◌+◌, ◌*◌, ◌/◌, ◌≤◌, ◌<◌, ℤ, pos, negsuc, ◌+ℤ◌, ◌-ℤ◌, ◌*ℤ◌, ◌≤ℤ◌, int_le, Bool, true, ◌&&◌, refl, sym, subst, arith}
+use Rattle.std.proofs.Common.{◌≡◌, ℕ, ◌+◌, ◌*◌, ◌/◌, ◌≤◌, ◌<◌, ℤ, pos, negsuc, ◌+ℤ◌, ◌-ℤ◌, ◌*ℤ◌, ◌≤ℤ◌, int_le, Bool, true, false, true≢false, ◌&&◌, refl, sym, ap, ◌∙◌, subst, arith}
 use Rattle.std.specs.Int.{int_div_euclid, int_max}
 use Rattle.std.specs.Ordering.{int_cmp, ordering_then}
 use Rattle.std.specs.declared.cmp.Ordering.TheVariants.{Less, Equal, Greater}
@@ -109,3 +109,22 @@ owner_of_both a b k h l =
     let y = both_on _ _ _ _ k.y p.1 q.1 in
     let z = both_on _ _ _ _ k.z p.2 q.2 in
     record { holds_a = three _ _ _ x.0 y.0 z.0; holds_b = three _ _ _ x.1 y.1 z.1; least = least_of a b }
+
+abbrev cell : ℤ → ℤ → ℤ → Cell
+cell x y z = record { x = x; y = y; z = z }
+
+-- cells of the same numbers are one
+pub same_cell : (c d : Cell) → c.x ≡ d.x → c.y ≡ d.y → c.z ≡ d.z → c ≡ d
+same_cell c d e f g = ap (λ t. cell t c.y c.z) e ∙ ap (λ t. cell d.x t c.z) f ∙ ap (λ t. cell d.x d.y t) g
+
+-- the cell of the later first cells, where it holds both boxes
+pub owned : (a b : Extent) (c : Cell) (r : Bool) → c ≡ owner_of a b → r ≡ (holds c a && holds c b) → r ≡ true → IsOwner c a b
+owned a b c r e h t =
+    let p = and_parts (holds c a) (holds c b) (sym h ∙ t) in
+    subst (λ (k : Cell). IsOwner k a b) (sym e) (owner_of_both a b c p.0 p.1)
+
+-- where it doesn't, no cell does
+pub unowned : (a b : Extent) (c : Cell) (r : Bool) → c ≡ owner_of a b → r ≡ (holds c a && holds c b) → r ≡ false → (k : Cell) → holds k a ≡ true → holds k b ≡ true → ⊥
+unowned a b c r e h t k x y =
+    let o : IsOwner c a b = subst (λ (k : Cell). IsOwner k a b) (sym e) (owner_of_both a b k x y) in
+    true≢false (sym (and_from (holds c a) (holds c b) o.holds_a o.holds_b) ∙ sym h ∙ t)

@@ -16,7 +16,7 @@ use Rattle.bim_model.specs.Points.{grid_limit, IsGridPoint}
 use Rattle.bim_model.specs.Keys.{Subject, in_model}
 use Rattle.box_lanes.specs.Places.{nowhere}
 use Rattle.bucket_grid.specs.Subjects.{nobody, IsBoxOf}
-use Rattle.bucket_grid.specs.Places.{IsGridBox}
+use Rattle.bucket_grid.specs.Places.{IsInOrder, IsGridBox}
 use Rattle.bucket_grid.proofs.Zips.{zip_append, zip_at, zip_length}
 
 in_reach : (n : ℤ) → (pos 0 -ℤ farthest) ≤ℤ n → n ≤ℤ farthest → unsigned_abs n ≤ grid_limit
@@ -38,6 +38,13 @@ ordered : (f : Point → ℤ) (ts : List Triangle) (low high : ℤ) → 0 < leng
 ordered f [] low high h a b = absurd (omega arith)
 ordered f (t ∷ ts) low high h a b = through low (f t.a) high (a zero low (omega arith)) (b zero high (omega arith))
 
+pub in_order : (ts : List Triangle) (k : Extent) → 0 < length ts → IsExtentOf ts k → IsInOrder k
+in_order ts k some b = record {
+  x = ordered (λ (p : Point). p.x) ts k.low.x k.high.x some b.low_x.bound b.high_x.bound;
+  y = ordered (λ (p : Point). p.y) ts k.low.y k.high.y some b.low_y.bound b.high_y.bound;
+  z = ordered (λ (p : Point). p.z) ts k.low.z k.high.z some b.low_z.bound b.high_z.bound;
+}
+
 near_box : (e : Element) (k : Extent) → IsModelled e → IsExtentOf e.triangles k → IsGridBox k
 near_box e k m b =
     let ps = corners_of e.triangles in
@@ -46,9 +53,7 @@ near_box e k m b =
     let z : (i : ℕ) (d : Point) → i < length ps → unsigned_abs (get_or ps i d).z ≤ grid_limit = λ i d l. in_reach _ (m.near i d l).z_low (m.near i d l).z_high in
     record {
       low = record { x_in = reached (λ (p : Point). p.x) ps k.low.x x b.low_x.reached; y_in = reached (λ (p : Point). p.y) ps k.low.y y b.low_y.reached; z_in = reached (λ (p : Point). p.z) ps k.low.z z b.low_z.reached };
-      order_x = ordered (λ (p : Point). p.x) e.triangles k.low.x k.high.x m.some b.low_x.bound b.high_x.bound;
-      order_y = ordered (λ (p : Point). p.y) e.triangles k.low.y k.high.y m.some b.low_y.bound b.high_y.bound;
-      order_z = ordered (λ (p : Point). p.z) e.triangles k.low.z k.high.z m.some b.low_z.bound b.high_z.bound;
+      order = in_order e.triangles k m.some b;
       high = record { x_in = reached (λ (p : Point). p.x) ps k.high.x x b.high_x.reached; y_in = reached (λ (p : Point). p.y) ps k.high.y y b.high_y.reached; z_in = reached (λ (p : Point). p.z) ps k.high.z z b.high_z.reached };
     }
 

@@ -81,8 +81,8 @@ column_rises : (zs : List Span) (low : Cell) (depth : ℕ) (ns : List ℕ) → A
 column_rises zs low depth ns =
     flat_pairs R (λ k b. b.cell ≡ with_z low k) (λ k. if_bucket (with_z low k) (among zs k ns)) depth
     (λ j k b c lt e f.
-        less_z b.cell.x c.cell.x b.cell.y c.cell.y b.cell.z c.cell.z (along low.x _ _ (ap (λ (t : Cell). t.x) e) (ap (λ (t : Cell). t.x) f)) (along low.y _ _ (ap (λ (t : Cell). t.y) e) (ap (λ (t : Cell). t.y) f))
-        (further low.z b.cell.z c.cell.z j k lt (ap (λ (t : Cell). t.z) e) (ap (λ (t : Cell). t.z) f)))
+    less_z b.cell.x c.cell.x b.cell.y c.cell.y b.cell.z c.cell.z (along low.x _ _ (ap (λ (t : Cell). t.x) e) (ap (λ (t : Cell). t.x) f)) (along low.y _ _ (ap (λ (t : Cell). t.y) e) (ap (λ (t : Cell). t.y) f))
+    (further low.z b.cell.z c.cell.z j k lt (ap (λ (t : Cell). t.z) e) (ap (λ (t : Cell). t.z) f)))
     (λ k. one_all (λ b. b.cell ≡ with_z low k) (with_z low k) (among zs k ns) refl)
     (λ k lt. one_pairs (with_z low k) (among zs k ns))
 
@@ -167,13 +167,12 @@ first_member boxes c h =
     (get_or l 0 0, All-filter p (λ i. i < length boxes) (upto (length boxes)) (all_upto (λ i. i < length boxes) (length boxes) (λ i lt. lt)) 0 0 some, filter_passes p (upto (length boxes)) 0 0 some)
 
 module _ (boxes : List Extent) (xs ys zs : List Span) (low : Cell) (long width depth : ℕ)
-  (x : AreSpans low.x (λ n. first_cell (box_at boxes n).low.x) (λ n. last_cell (box_at boxes n).high.x) (length boxes) xs)
-  (y : AreSpans low.y (λ n. first_cell (box_at boxes n).low.y) (λ n. last_cell (box_at boxes n).high.y) (length boxes) ys)
-  (z : AreSpans low.z (λ n. first_cell (box_at boxes n).low.z) (λ n. last_cell (box_at boxes n).high.z) (length boxes) zs)
-  (in_x : (n : ℕ) → n < length boxes → (span_at xs n).last < long)
-  (in_y : (n : ℕ) → n < length boxes → (span_at ys n).last < width)
-  (in_z : (n : ℕ) → n < length boxes → (span_at zs n).last < depth) where
-
+    (x : AreSpans low.x (λ n. first_cell (box_at boxes n).low.x) (λ n. last_cell (box_at boxes n).high.x) (length boxes) xs)
+    (y : AreSpans low.y (λ n. first_cell (box_at boxes n).low.y) (λ n. last_cell (box_at boxes n).high.y) (length boxes) ys)
+    (z : AreSpans low.z (λ n. first_cell (box_at boxes n).low.z) (λ n. last_cell (box_at boxes n).high.z) (length boxes) zs)
+    (in_x : (n : ℕ) → n < length boxes → (span_at xs n).last < long)
+    (in_y : (n : ℕ) → n < length boxes → (span_at ys n).last < width)
+    (in_z : (n : ℕ) → n < length boxes → (span_at zs n).last < depth) where
   abbrev numbers : List ℕ
   numbers = upto (length boxes)
 
@@ -184,17 +183,17 @@ module _ (boxes : List Extent) (xs ys zs : List Span) (low : Cell) (long width d
       ∙ filter-filter (λ n. covers k (span_at zs n)) (λ n. covers i (span_at xs n) && covers j (span_at ys n)) numbers
       ∙ filter_on (λ n. covers i (span_at xs n) && covers j (span_at ys n) && covers k (span_at zs n)) (λ n. holds (at low i j k) (box_at boxes n)) numbers
       (all_upto _ (length boxes) (λ n lt.
-          same_tests _ _ _ _ _ _
-          (covered low.x _ _ (low.x +ℤ pos i) i (span_at xs n) (x.first_is n lt) (x.last_is n lt) refl)
-          (covered low.y _ _ (low.y +ℤ pos j) j (span_at ys n) (y.first_is n lt) (y.last_is n lt) refl)
-          (covered low.z _ _ (low.z +ℤ pos k) k (span_at zs n) (z.first_is n lt) (z.last_is n lt) refl)))
+      same_tests _ _ _ _ _ _
+      (covered low.x _ _ (low.x +ℤ pos i) i (span_at xs n) (x.first_is n lt) (x.last_is n lt) refl)
+      (covered low.y _ _ (low.y +ℤ pos j) j (span_at ys n) (y.first_is n lt) (y.last_is n lt) refl)
+      (covered low.z _ _ (low.z +ℤ pos k) k (span_at zs n) (z.first_is n lt) (z.last_is n lt) refl)))
       ∙ sym (members_upto boxes (at low i j k))
 
   slab_at : (P : Bucket → Type 0) → ((c : Cell) (ns : List ℕ) → ns ≡ members boxes c → All P (if_bucket c ns)) → All P (table xs ys zs low long width depth numbers)
   slab_at P h =
       flat_all P (λ i. slab ys zs (with_x low i) width depth (among xs i numbers)) long (λ i a.
-          flat_all P (λ j. column zs (with_y (with_x low i) j) depth (among ys j (among xs i numbers))) width (λ j b.
-              flat_all P (λ k. if_bucket (at low i j k) (among zs k (among ys j (among xs i numbers)))) depth (λ k d. h (at low i j k) _ (dealt_members i j k))))
+      flat_all P (λ j. column zs (with_y (with_x low i) j) depth (among ys j (among xs i numbers))) width (λ j b.
+      flat_all P (λ k. if_bucket (at low i j k) (among zs k (among ys j (among xs i numbers)))) depth (λ k d. h (at low i j k) _ (dealt_members i j k))))
 
   pub table_is : IsTable boxes (table xs ys zs low long width depth numbers)
   table_is = record {

@@ -1,7 +1,8 @@
 -- Cells of four metres, and which elements are members of which cell.
 --
--- A coordinate lies in the cell of its quotient by the cell's side. A box is held by each cell that has a point of it when it is
--- grown by a metre on each side: on each axis the cells from that of its grown low side to that of its grown high side.
+-- A coordinate lies in the cell of its quotient by the cell's side, rounded down. A box is held by each cell that
+-- has a point of it when it is grown by a metre on each side: on each axis the cells from that of its grown low side
+-- to that of its grown high side.
 use Rattle.std.specs.Prelude.{◌≡◌, ℕ, ◌+◌, ◌*◌, ◌≤◌, ℤ, ◌+ℤ◌, ◌-ℤ◌, int_le, Bool, true, ◌&&◌, List, length, sum_by}
 use Rattle.std.specs.Int.{int_div_euclid, int_max}
 use Rattle.std.specs.Ordering.{int_cmp, ordering_then}
@@ -31,7 +32,8 @@ is_in low high i = int_le (first_cell low) i && int_le i (last_cell high)
 
 -- the cell holds the box: the box is a member of it
 abbrev pub holds : Cell → Extent → Bool
-holds c box = is_in box.low.x box.high.x c.x && is_in box.low.y box.high.y c.y && is_in box.low.z box.high.z c.z
+holds c box =
+    is_in box.low.x box.high.x c.x && is_in box.low.y box.high.y c.y && is_in box.low.z box.high.z c.z
 
 -- the members of a cell, by their numbers in the list of all boxes, rising
 abbrev pub members : List Extent → Cell → List ℕ

@@ -20,7 +20,8 @@ pub record GridValue : Type 0 where
   pub buckets : List Bucket
 
 -- the places and boxes are those of the version's elements, and the buckets are theirs
-pub record IsGrid (version : Version) (places : List Member) (boxes : List Extent) (buckets : List Bucket) : Type 0 where
+pub record IsGrid (version : Version) (places : List Member) (boxes : List Extent) (buckets : List Bucket)
+    : Type 0 where
   pub placed : AllZip (IsPlace version.models) (subjects_of version.models) places
   pub boxed : AreBoxes (subjects_of version.models) boxes
   pub near : All IsGridBox boxes

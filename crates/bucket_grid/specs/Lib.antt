@@ -6,3 +6,4 @@ pub mod Places
 pub mod Axes
 pub mod Grids
 pub mod Search
+pub mod Laws

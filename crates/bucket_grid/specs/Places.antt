@@ -16,10 +16,14 @@ pub record IsPlace (models : List NamedModel) (s : Subject) (p : Member) : Type 
   pub same : s.model ≡ p.model
   pub name_is : s.name ≡ named.name
 
--- a box of the grid, low before high on each axis
+-- a box that isn't turned round: low at or before high on each axis
+pub record IsInOrder (e : Extent) : Type 0 where
+  pub x : e.low.x ≤ℤ e.high.x
+  pub y : e.low.y ≤ℤ e.high.y
+  pub z : e.low.z ≤ℤ e.high.z
+
+-- a box of the grid that isn't turned round
 pub record IsGridBox (e : Extent) : Type 0 where
   pub low : IsGridPoint e.low
   pub high : IsGridPoint e.high
-  pub order_x : e.low.x ≤ℤ e.high.x
-  pub order_y : e.low.y ≤ℤ e.high.y
-  pub order_z : e.low.z ≤ℤ e.high.z
+  pub order : IsInOrder e

@@ -5,13 +5,16 @@ use Rattle.bucket_grid.specs.declared.cell.Cell.{Cell}
 use Rattle.bucket_grid.specs.declared.table.Bucket.{Bucket}
 use Rattle.bucket_grid.specs.Cells.{cell_cmp}
 
+-- the cells of the buckets rise strictly
 abbrev pub Rise : List Bucket → Type 0
 Rise buckets = AllPairs (λ (b c : Bucket). cell_cmp b.cell c.cell ≡ Less) buckets
 
+-- the cell stands at the place k
 pub record IsAt (buckets : List Bucket) (cell : Cell) (k : ℕ) : Type 0 where
   pub within : k < length buckets
   pub is : (d : Bucket) → (slice_index_or buckets k d).cell ≡ cell
 
+-- no bucket is of the cell
 abbrev pub IsNowhere : List Bucket → Cell → Type 0
 IsNowhere buckets cell = Any (λ (b : Bucket). b.cell ≡ cell) buckets → ⊥
 
@@ -20,4 +23,5 @@ pub record Between (buckets : List Bucket) (cell : Cell) (low high : ℕ) : Type
   pub ends : high ≤ length buckets
   pub order : low ≤ high
   pub below : (k : ℕ) (d : Bucket) → k < low → cell_cmp (slice_index_or buckets k d).cell cell ≡ Less
-  pub above : (k : ℕ) (d : Bucket) → high ≤ k → k < length buckets → cell_cmp (slice_index_or buckets k d).cell cell ≡ Greater
+  pub above : (k : ℕ) (d : Bucket) → high ≤ k → k < length buckets
+      → cell_cmp (slice_index_or buckets k d).cell cell ≡ Greater

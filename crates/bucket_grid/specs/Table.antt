@@ -22,23 +22,31 @@ among spans k numbers = filter (λ n. covers k (span_at spans n)) numbers
 abbrev pub if_bucket : Cell → List ℕ → List Bucket
 if_bucket cell numbers = cond (nat_le 2 (length numbers)) (record { cell = cell; members = numbers } ∷ []) []
 
+-- the cell so many places on along x
 abbrev pub with_x : Cell → ℕ → Cell
 with_x low k = record { x = low.x +ℤ pos k; y = low.y; z = low.z }
 
+-- .. along y
 abbrev pub with_y : Cell → ℕ → Cell
 with_y low k = record { x = low.x; y = low.y +ℤ pos k; z = low.z }
 
+-- .. along z
 abbrev pub with_z : Cell → ℕ → Cell
 with_z low k = record { x = low.x; y = low.y; z = low.z +ℤ pos k }
 
+-- the buckets among so many cells along z
 abbrev pub column : List Span → Cell → ℕ → List ℕ → List Bucket
 column zs low depth numbers = flat_map (λ k. if_bucket (with_z low k) (among zs k numbers)) (upto depth)
 
+-- .. among so many columns along y
 abbrev pub slab : List Span → List Span → Cell → ℕ → ℕ → List ℕ → List Bucket
-slab ys zs low width depth numbers = flat_map (λ k. column zs (with_y low k) depth (among ys k numbers)) (upto width)
+slab ys zs low width depth numbers =
+    flat_map (λ k. column zs (with_y low k) depth (among ys k numbers)) (upto width)
 
+-- .. among so many slabs along x
 abbrev pub table : List Span → List Span → List Span → Cell → ℕ → ℕ → ℕ → List ℕ → List Bucket
-table xs ys zs low long width depth numbers = flat_map (λ k. slab ys zs (with_x low k) width depth (among xs k numbers)) (upto long)
+table xs ys zs low long width depth numbers =
+    flat_map (λ k. slab ys zs (with_x low k) width depth (among xs k numbers)) (upto long)
 
 -- a cell's number on an axis, from which others are counted
 abbrev pub IsLow : ℤ → Type 0

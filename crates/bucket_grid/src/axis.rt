@@ -1,11 +1,9 @@
 //! The cells of one axis that hold each box.
-ghost use Rattle.std.specs.Prelude.{◌≡◌, ◌+◌, ◌<◌, ◌≤◌, ◌≤ℤ◌, pos, ◌-ℤ◌, ◌+ℤ◌, unsigned_abs, take, length, IfOk, All};
+ghost use Rattle.std.specs.Prelude.{◌≡◌, ◌≤◌, ◌≤ℤ◌, pos, ◌-ℤ◌, ◌+ℤ◌, unsigned_abs, IfOk, All};
 ghost use Rattle.bucket_grid.specs.Cells.{first_cell, last_cell};
 ghost use Rattle.bucket_grid.specs.Places.{IsGridBox};
-ghost use Rattle.box_lanes.specs.Places.{box_at};
-ghost use Rattle.bucket_grid.specs.Axes.{low_on, high_on, LieIn, span_on};
+ghost use Rattle.bucket_grid.specs.Axes.{low_on, high_on, LieIn, span_on, AreSpansOn};
 ghost use Rattle.bucket_grid.specs.Dealt.{IsSpan};
-ghost use Rattle.bucket_grid.specs.Table.{AreSpans};
 
 use crate::cell::{first_cell, last_cell};
 use crate::lists::Span;
@@ -107,7 +105,7 @@ pub fn spans_on(
     requires low { unsigned_abs range.low ≤ 2100 }
     requires few { range.count ≤ 4201 }
     requires lie { LieIn axis range.low ((range.low +ℤ pos range.count) -ℤ pos 1) boxes.now }
-    ensures are { IfOk result (λ made. AreSpans range.low (λ n. first_cell (low_on axis (box_at boxes.now n))) (λ n. last_cell (high_on axis (box_at boxes.now n))) (length boxes.now) made) }
+    ensures are { IfOk result (λ made. AreSpansOn axis range.low boxes.now made) }
     ensures spans { IfOk result (λ made. All (IsSpan range.count) made) }
 {
     let mut spans = Vec::with_capacity(alloc, boxes.len())?;

@@ -44,6 +44,7 @@ pub enum GridError {
 
 impl From<AllocError> for GridError {
     ghost from_gives = { λ _ e. e ≡ Memory };
+
     ghost use Rattle.bucket_grid.specs.declared.grid.GridError.TheVariants.{Memory};
 
     fn from(_: AllocError) -> GridError {
@@ -68,9 +69,15 @@ impl Model for Grid {
 
     ghost Value = { GridValue };
 
-    ghost view = { λ g. record { version = g.snapshot; places = g.places.items; boxes = g.boxes.items; buckets = g.buckets.items } };
+    ghost view = { λ g. record {
+      version = g.snapshot;
+      places = g.places.items;
+      boxes = g.boxes.items;
+      buckets = g.buckets.items;
+    } };
 
-    ghost invariant = { λ g. IsGrid g.snapshot g.places.items g.boxes.items g.buckets.items × (g.count ≡ memberships g.boxes.items) };
+    ghost invariant = { λ g. IsGrid g.snapshot g.places.items g.boxes.items g.buckets.items
+        × (g.count ≡ memberships g.boxes.items) };
 }
 
 // The pairs of a cell and a member.
@@ -141,12 +148,15 @@ fn buckets_of(alloc: Global, boxes: &[Extent]) -> Result<Vec<Bucket>, AllocError
 }
 
 impl Grid {
-    /// The grid of a version of at most 1,000,000 elements. Nothing is placed where the memberships are too many.
+    /// The grid of a version of at most 1,000,000 elements. `TooSpread` where its memberships exceed 2,000,000:
+    /// they are counted first, and then nothing is placed. `Memory` where memory is wanting.
     pub fn of(alloc: Global, snapshot: Shared<Snapshot>) -> Result<Grid, GridError>
         requires { length (subjects_of snapshot.models) ≤ MOST_ELEMENTS }
         ensures version { IfOk result (λ made. made.version ≡ snapshot) }
-        ensures few { IfOk result (λ made. (count : ℕ) → HasMemberships snapshot count → count ≤ MOST_MEMBERSHIPS) }
-        ensures spread { (count : ℕ) → result ≡ Err (TooSpread count) → HasMemberships snapshot count × (MOST_MEMBERSHIPS < count) }
+        ensures few { IfOk result (λ _. (count : ℕ)
+            → HasMemberships snapshot count → count ≤ MOST_MEMBERSHIPS) }
+        ensures spread { (count : ℕ) → result ≡ Err (TooSpread count)
+            → HasMemberships snapshot count × (MOST_MEMBERSHIPS < count) }
     {
         let Gathered { places, boxes } = gather(alloc, snapshot.get().models())?;
         let count = memberships_of(&boxes);
@@ -221,7 +231,8 @@ impl Grid {
     /// Where the elements stand by number, lent.
     pub fn places(&self) -> &[Member]
         ensures places { result.now ≡ self.now.places }
-        ensures placed { AllZip (IsPlace self.now.version.models) (subjects_of self.now.version.models) result.now }
+        ensures placed { let models = self.now.version.models in
+            AllZip (IsPlace models) (subjects_of models) result.now }
     {
         self.places.as_slice()
     }
@@ -250,7 +261,8 @@ impl Grid {
     pub fn same_model(&self, a: usize, b: usize) -> bool
         requires first { a < length self.now.places }
         requires second { b < length self.now.places }
-        ensures { result ≡ bytes_eq (subject_at (subjects_of self.now.version.models) a).name (subject_at (subjects_of self.now.version.models) b).name }
+        ensures { let subjects = subjects_of self.now.version.models in
+            result ≡ bytes_eq (subject_at subjects a).name (subject_at subjects b).name }
     {
         let _models = self.models();
         self.model_of(a) == self.model_of(b)
@@ -260,8 +272,10 @@ impl Grid {
 // The element at that place.
 fn element_at(models: &[NamedModel], place: Member) -> &Element
     requires model { place.model < length models.now }
-    requires element { (d : NamedModel) → place.element < length (slice_index_or models.now place.model d).model }
-    ensures element { (d : NamedModel) (e : Element) → result.now ≡ slice_index_or (slice_index_or models.now place.model d).model place.element e }
+    requires element { (d : NamedModel)
+        → place.element < length (slice_index_or models.now place.model d).model }
+    ensures element { (d : NamedModel) (e : Element)
+        → result.now ≡ slice_index_or (slice_index_or models.now place.model d).model place.element e }
     ensures modelled { IsModelled result.now }
 {
     let elements = models[place.model].model.get().elements();
@@ -273,8 +287,10 @@ impl Grid {
     pub fn owner(&self, a: u32, b: u32) -> Option<Cell>
         requires first { a < length self.now.boxes }
         requires second { b < length self.now.boxes }
-        ensures some { IfSome result (λ cell. IsOwner cell (box_at self.now.boxes a) (box_at self.now.boxes b)) }
-        ensures none { IfNone result ((cell : Cell) → holds cell (box_at self.now.boxes a) ≡ true → holds cell (box_at self.now.boxes b) ≡ true → ⊥) }
+        ensures some { let boxes = self.now.boxes in
+            IfSome result (λ cell. IsOwner cell (box_at boxes a) (box_at boxes b)) }
+        ensures none { let boxes = self.now.boxes in IfNone result ((cell : Cell)
+            → holds cell (box_at boxes a) ≡ true → holds cell (box_at boxes b) ≡ true → ⊥) }
     {
         let boxes = self.boxes();
         shared_cell(&boxes[a as usize], &boxes[b as usize])

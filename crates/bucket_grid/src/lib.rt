@@ -15,7 +15,10 @@ mod tests;
 
 pub use cell::{Cell, GROWTH, SIDE};
 pub use grid::{Grid, GridError, MOST_ELEMENTS, MOST_MEMBERSHIPS};
-pub use laws::{memberships_are_one, owners_are_one};
+pub use laws::{
+    cells_hold_points, close_boxes_have_an_owner, memberships_are_one, near_elements_have_an_owner,
+    owners_are_one,
+};
 pub use owner::{owner_of, shared_cell};
 pub use subjects::{Member, has_few_elements};
 pub use table::Bucket;

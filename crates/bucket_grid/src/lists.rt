@@ -58,7 +58,8 @@ impl Lists {
     /// Adds a number at the end of a list.
     pub fn add(&mut self, list: usize, number: u32) -> Result<(), AllocError>
         requires { list < length self.old }
-        ensures { OnOk result (self.new ≡ slice_set self.old list (slice_index_or self.old list [] ++ number ∷ [])) }
+        ensures { OnOk result (self.new
+            ≡ slice_set self.old list (slice_index_or self.old list [] ++ number ∷ [])) }
     {
         self.lists[list].push(number)?;
         Ok(())

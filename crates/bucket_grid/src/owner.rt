@@ -1,5 +1,5 @@
 //! The cell that owns two boxes.
-ghost use Rattle.std.specs.Prelude.{◌≡◌, ◌&&◌, int_le, true, ℤ, IfSome, IfNone};
+ghost use Rattle.std.specs.Prelude.{◌≡◌, ◌&&◌, true, IfSome, IfNone};
 ghost use Rattle.std.specs.Int.{int_max};
 ghost use Rattle.bucket_grid.specs.Axes.{low_on, high_on};
 ghost use Rattle.bucket_grid.specs.Cells.{holds, is_in, owner_of, IsOwner};
@@ -17,8 +17,8 @@ fn later(a: i32, b: i32) -> i32
     if b < a { a } else { b }
 }
 
-/// On each axis the later of the first cells of two boxes: the least cell that holds both, if one does. It is a quick form of the owner for
-/// boxes that are known to share a cell.
+/// On each axis the later of the first cells of two boxes: the least cell that holds both, if one does. It is a
+/// quick form of the owner for boxes that are known to share a cell.
 pub fn owner_of(a: &Extent, b: &Extent) -> Cell
     requires a_in { IsGridBox a.now }
     requires b_in { IsGridBox b.now }
@@ -46,7 +46,18 @@ fn holds(cell: Cell, extent: &Extent) -> bool
     requires { IsGridBox extent.now }
     ensures { result ≡ holds cell extent.now }
 {
-    is_on(Axis::X, extent, cell.x) && is_on(Axis::Y, extent, cell.y) && is_on(Axis::Z, extent, cell.z)
+    is_on(Axis::X, extent, cell.x)
+        && is_on(Axis::Y, extent, cell.y)
+        && is_on(Axis::Z, extent, cell.z)
+}
+
+// Whether the cell holds both boxes.
+fn hold_both(cell: Cell, a: &Extent, b: &Extent) -> bool
+    requires a_in { IsGridBox a.now }
+    requires b_in { IsGridBox b.now }
+    ensures { result ≡ (holds cell a.now && holds cell b.now) }
+{
+    holds(cell, a) && holds(cell, b)
 }
 
 /// The least cell that holds both boxes, or none where no cell does.
@@ -57,7 +68,7 @@ pub fn shared_cell(a: &Extent, b: &Extent) -> Option<Cell>
     ensures none { IfNone result ((cell : Cell) → holds cell a.now ≡ true → holds cell b.now ≡ true → ⊥) }
 {
     let cell = owner_of(a, b);
-    if holds(cell, a) && holds(cell, b) {
+    if hold_both(cell, a, b) {
         Some(cell)
     } else {
         None

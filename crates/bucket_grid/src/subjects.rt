@@ -1,9 +1,9 @@
 //! The elements of a version in the order of their keys.
-ghost use Rattle.std.specs.Prelude.{◌≡◌, ◌<◌, ◌≤◌, ◌↔◌, ◌++◌, slice_index_or, List, length, IsTrue, IfOk, OnOk, All};
+ghost use Rattle.std.specs.Prelude.{◌≡◌, ◌<◌, ◌≤◌, ◌↔◌, ◌++◌, List, length, IsTrue, IfOk, OnOk, All};
 ghost use Rattle.std.specs.List.{AllZip};
 ghost use Rattle.bim_model.specs.declared.named_model.NamedModel.{NamedModel};
-ghost use Rattle.bim_model.specs.Keys.{Subject, in_model, subjects_of};
-ghost use Rattle.bucket_grid.specs.Subjects.{AreBoxes, IsBoxOf};
+ghost use Rattle.bim_model.specs.Keys.{Subject, subjects_of};
+ghost use Rattle.bucket_grid.specs.Subjects.{AreBoxes, IsBoxOf, of_model};
 ghost use Rattle.bucket_grid.specs.Places.{IsPlace, IsGridBox};
 
 use crate::grid::MOST_ELEMENTS;
@@ -24,8 +24,9 @@ fn add_places(
     places: &mut Vec<Member>,
 ) -> Result<(), AllocError>
     requires { model < length models.now }
-    ensures { OnOk result ((d : NamedModel) (s : List Subject) → AllZip (IsPlace models.now) s places.old.items
-        → AllZip (IsPlace models.now) (s ++ in_model model (slice_index_or models.now model d).name (slice_index_or models.now model d).model) places.new.items) }
+    ensures { OnOk result ((d : NamedModel) (s : List Subject)
+        → AllZip (IsPlace models.now) s places.old.items
+        → AllZip (IsPlace models.now) (s ++ of_model models.now model d) places.new.items) }
 {
     let elements = models[model].model.get().elements();
     for element in 0..elements.len() {
@@ -35,14 +36,10 @@ fn add_places(
 }
 
 // Adds the boxes of the elements of a model.
-fn add_boxes(
-    models: &[NamedModel],
-    model: usize,
-    boxes: &mut Vec<Extent>,
-) -> Result<(), AllocError>
+fn add_boxes(models: &[NamedModel], model: usize, boxes: &mut Vec<Extent>) -> Result<(), AllocError>
     requires { model < length models.now }
     ensures boxes { OnOk result ((d : NamedModel) (s : List Subject) → AllZip IsBoxOf s boxes.old.items
-        → AllZip IsBoxOf (s ++ in_model model (slice_index_or models.now model d).name (slice_index_or models.now model d).model) boxes.new.items) }
+        → AllZip IsBoxOf (s ++ of_model models.now model d) boxes.new.items) }
     ensures near { OnOk result (All IsGridBox boxes.old.items → All IsGridBox boxes.new.items) }
 {
     let extents = models[model].model.get().extents();
@@ -61,7 +58,8 @@ pub struct Gathered {
 
 /// The elements of these models in the order of their keys.
 pub fn gather(alloc: Global, models: &[NamedModel]) -> Result<Gathered, AllocError>
-    ensures places { IfOk result (λ made. AllZip (IsPlace models.now) (subjects_of models.now) made.places.items) }
+    ensures places { IfOk result (λ made.
+        AllZip (IsPlace models.now) (subjects_of models.now) made.places.items) }
     ensures boxes { IfOk result (λ made. AreBoxes (subjects_of models.now) made.boxes.items) }
     ensures near { IfOk result (λ made. All IsGridBox made.boxes.items) }
     ensures count { IfOk result (λ made. length made.boxes.items ≡ length (subjects_of models.now)) }

@@ -83,7 +83,8 @@ fn add_column(
     requires among { IsAmong spans.now numbers.now (length lists.old) }
     requires low { IsLow low.z }
     requires few { length lists.old ≤ 1000000 }
-    ensures buckets { OnOk result (buckets.new.items ≡ buckets.old.items ++ column spans.now low (length lists.old) numbers.now) }
+    ensures buckets { OnOk result (buckets.new.items
+        ≡ buckets.old.items ++ column spans.now low (length lists.old) numbers.now) }
     ensures count { OnOk result (length lists.new ≡ length lists.old) }
 {
     deal(lists, numbers, spans)?;
@@ -117,7 +118,8 @@ fn add_slab(
     requires low_z { IsLow low.z }
     requires few_y { length ys.old ≤ 1000000 }
     requires few_z { length zs.old ≤ 1000000 }
-    ensures buckets { OnOk result (buckets.new.items ≡ buckets.old.items ++ slab axes.now.y axes.now.z low (length ys.old) (length zs.old) numbers.now) }
+    ensures buckets { OnOk result (buckets.new.items ≡ buckets.old.items
+        ++ slab axes.now.y axes.now.z low (length ys.old) (length zs.old) numbers.now) }
     ensures count_y { OnOk result (length ys.new ≡ length ys.old) }
     ensures count_z { OnOk result (length zs.new ≡ length zs.old) }
 {
@@ -146,7 +148,8 @@ pub fn table_of(
     requires few_x { counts.0 ≤ 1000000 }
     requires few_y { counts.1 ≤ 1000000 }
     requires few_z { counts.2 ≤ 1000000 }
-    ensures { IfOk result (λ buckets. buckets.items ≡ table axes.now.x axes.now.y axes.now.z low counts.0 counts.1 counts.2 numbers.now) }
+    ensures { IfOk result (λ buckets. buckets.items
+        ≡ table axes.now.x axes.now.y axes.now.z low counts.0 counts.1 counts.2 numbers.now) }
 {
     let mut xs = Lists::of(alloc, counts.0)?;
     let mut ys = Lists::of(alloc, counts.1)?;
@@ -155,7 +158,15 @@ pub fn table_of(
     deal(&mut xs, numbers, axes.x.as_slice())?;
     for place in 0..xs.count() {
         let slab = with_x(low, place);
-        add_slab(alloc, slab, xs.get(place), axes, &mut ys, &mut zs, &mut buckets)?;
+        add_slab(
+            alloc,
+            slab,
+            xs.get(place),
+            axes,
+            &mut ys,
+            &mut zs,
+            &mut buckets,
+        )?;
     }
     Ok(buckets)
 }

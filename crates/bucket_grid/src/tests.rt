@@ -65,109 +65,51 @@ fn grid_of(rt: &impl Abort, alloc: Global, models: Boxes) -> Result<Result<Grid,
     Ok(Grid::of(alloc, version))
 }
 
-/// The cells with two members or more, and the numbers of their members.
+/// The bucket at a place has this cell and these members.
+fn is_bucket(rt: &impl Abort, grid: &Grid, place: usize, cell: [i32; 3], members: &[u32]) {
+    let cell = Cell {
+        x: cell[0],
+        y: cell[1],
+        z: cell[2],
+    };
+    assert!(rt; place < grid.buckets().len());
+    assert_eq!(rt; grid.buckets()[place].cell, cell);
+    assert_eq!(rt; grid.members(cell), members);
+}
+
+/// Four boxes of two models with sides a millimetre beside the faces of cells.
 #[test]
 fn buckets(rt: HostRuntime) -> Result<(), Fail> {
-    let alloc = rt.alloc();
-    let cases: [(Boxes, u64, &[([i32; 3], &[u32])]); 6] = [
-        (&[], 0, &[]),
-        (
-            &[("m", &[[2000; 6], [2000; 6]])],
-            2,
-            &[([0, 0, 0], &[0, 1])],
-        ),
-        (
-            &[(
-                "m",
-                &[
-                    [1000, 1000, 1000, 2999, 2999, 2999],
-                    [1000, 1000, 1000, 3000, 3000, 3000],
-                    [999, 999, 999, 2999, 2999, 2999],
-                ],
-            )],
-            17,
-            &[([0, 0, 0], &[0, 1, 2])],
-        ),
-        (
-            &[
-                ("a", &[[-800_000; 6], [800_000; 6]]),
-                ("b", &[[0; 6]]),
-            ],
-            24,
-            &[],
-        ),
-        (
-            &[
-                ("b", &[[-999, -1000, 1000, 1001, -1000, 3000]]),
-                (
-                    "m",
-                    &[
-                        [1001, -1000, -1000, 1001, 1000, 1000],
-                        [1000, 1001, 1001, 1000, 1001, 3002],
-                        [999, -999, -999, 999, -999, -999],
-                    ],
-                ),
-            ],
-            22,
-            &[
-                ([-1, -1, 0], &[0, 3]),
-                ([-1, 0, 0], &[0, 3]),
-                ([0, -1, -1], &[1, 3]),
-                ([0, -1, 0], &[0, 1, 3]),
-                ([0, 0, -1], &[1, 3]),
-                ([0, 0, 0], &[0, 1, 2, 3]),
-                ([0, 0, 1], &[0, 2]),
-            ],
-        ),
-        (
-            &[(
-                "a",
-                &[
-                    [-799_000, 799_999, 800_000, -799_000, 799_999, 800_000],
-                    [800_000, 800_000, 799_999, 800_000, 800_000, 799_999],
-                    [-799_000, 800_000, 799_001, -799_000, 800_000, 799_001],
-                ],
-            )],
-            16,
-            &[
-                ([-200, 199, 199], &[0, 2]),
-                ([-200, 199, 200], &[0, 2]),
-                ([-200, 200, 199], &[0, 2]),
-                ([-200, 200, 200], &[0, 2]),
-            ],
-        ),
+    let first: &[[i32; 6]] = &[[-999, -1000, 1000, 1001, -1000, 3000]];
+    let second: &[[i32; 6]] = &[
+        [1001, -1000, -1000, 1001, 1000, 1000],
+        [1000, 1001, 1001, 1000, 1001, 3002],
+        [999, -999, -999, 999, -999, -999],
     ];
-    for (models, memberships, wanted) in cases {
-        let Ok(grid) = grid_of(&rt, alloc, models)? else {
-            return Err(Fail::from("no grid"));
-        };
-        assert_eq!(rt; grid.memberships(), memberships);
-        assert_eq!(rt; grid.buckets().len(), wanted.len());
-        for (place, (cell, members)) in wanted.iter().enumerate() {
-            assert!(rt; place < grid.buckets().len());
-            let bucket = &grid.buckets()[place];
-            let cell = Cell {
-                x: cell[0],
-                y: cell[1],
-                z: cell[2],
-            };
-            assert_eq!(rt; bucket.cell, cell);
-            assert_eq!(rt; grid.members(cell), *members);
-        }
-    }
+    let Ok(grid) = grid_of(&rt, rt.alloc(), &[("b", first), ("m", second)])? else {
+        return Err(Fail::from("no grid"));
+    };
+    assert_eq!(rt; grid.memberships(), 22);
+    assert_eq!(rt; grid.buckets().len(), 7);
+    is_bucket(&rt, &grid, 0, [-1, -1, 0], &[0, 3]);
+    is_bucket(&rt, &grid, 1, [-1, 0, 0], &[0, 3]);
+    is_bucket(&rt, &grid, 2, [0, -1, -1], &[1, 3]);
+    is_bucket(&rt, &grid, 3, [0, -1, 0], &[0, 1, 3]);
+    is_bucket(&rt, &grid, 4, [0, 0, -1], &[1, 3]);
+    is_bucket(&rt, &grid, 5, [0, 0, 0], &[0, 1, 2, 3]);
+    is_bucket(&rt, &grid, 6, [0, 0, 1], &[0, 2]);
     Ok(())
 }
 
 /// As many memberships as there may be, and one more.
 #[test]
 fn too_spread(rt: HostRuntime) -> Result<(), Fail> {
-    let alloc = rt.alloc();
     let wide = [1000, 1000, 1000, 498_999, 498_999, 510_999];
-    match grid_of(&rt, alloc, &[("m", &[wide])])? {
+    match grid_of(&rt, rt.alloc(), &[("m", &[wide])])? {
         Ok(grid) => assert_eq!(rt; grid.memberships(), 2_000_000),
         Err(_) => return Err(Fail::from("no grid")),
     }
-    match grid_of(&rt, alloc, &[("m", &[wide, [2000; 6]])])? {
+    match grid_of(&rt, rt.alloc(), &[("m", &[wide, [2000; 6]])])? {
         Err(GridError::TooSpread { count }) => assert_eq!(rt; count, 2_000_001),
         _ => return Err(Fail::from("a grid")),
     }
@@ -177,23 +119,20 @@ fn too_spread(rt: HostRuntime) -> Result<(), Fail> {
 /// Elements, their places and the cells that own pairs of them.
 #[test]
 fn elements(rt: HostRuntime) -> Result<(), Fail> {
-    let alloc = rt.alloc();
-    let models: Boxes = &[
-        ("b", &[[-999, -1000, 1000, 1001, -1000, 3000]]),
-        (
-            "m",
-            &[
-                [1001, -1000, -1000, 1001, 1000, 1000],
-                [100_000; 6],
-            ],
-        ),
-    ];
-    let Ok(grid) = grid_of(&rt, alloc, models)? else {
+    let first: &[[i32; 6]] = &[[-999, -1000, 1000, 1001, -1000, 3000]];
+    let second: &[[i32; 6]] = &[[1001, -1000, -1000, 1001, 1000, 1000], [100_000; 6]];
+    let Ok(grid) = grid_of(&rt, rt.alloc(), &[("b", first), ("m", second)])? else {
         return Err(Fail::from("no grid"));
     };
     assert_eq!(rt; grid.boxes().len(), 3);
     assert_eq!(rt; grid.places().len(), 3);
-    assert_eq!(rt; grid.places()[2], Member { model: 1, element: 1 });
+    assert_eq!(rt;
+        grid.places()[2],
+        Member {
+            model: 1,
+            element: 1
+        }
+    );
     assert_eq!(rt; grid.element(1).guid.as_str(), "0000000000000000000000");
     assert_eq!(rt; grid.model_of(1), 1);
     assert_eq!(rt; grid.same_model(0, 1), false);

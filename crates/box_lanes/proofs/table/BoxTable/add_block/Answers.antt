@@ -5,7 +5,8 @@ use lib.Count.{count_trailing_zeros}
 use lib.Lanes.{mask_l}
 use Rattle.box_lanes.specs.Lanes.{meets}
 use Rattle.box_lanes.proofs.Places.{next, finished}
-use Rattle.box_lanes.proofs.Bits.{part, part_none, part_next, part_done}
+use Rattle.box_lanes.specs.Places.{part}
+use Rattle.box_lanes.proofs.Bits.{part_none, part_next, part_done}
 use Rattle.box_lanes.proofs.table.BoxTable.add_block.Goals as goal
 
 pub loop-lanes-init : goal.loop-lanes-init

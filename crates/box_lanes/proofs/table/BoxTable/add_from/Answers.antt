@@ -2,7 +2,8 @@ use Rattle.std.proofs.Common.{◌≡◌, ◌≤◌, ◌++◌, List, length, sym,
 use Rattle.bim_model.specs.declared.geometry.Extent.{Extent}
 use Rattle.box_lanes.proofs.Sides.{count_is}
 use Rattle.box_lanes.specs.Lanes.{meets}
-use Rattle.box_lanes.proofs.Bits.{part, part_none, part_more, part_all}
+use Rattle.box_lanes.specs.Places.{part}
+use Rattle.box_lanes.proofs.Bits.{part_none, part_more, part_all}
 use Rattle.box_lanes.proofs.table.BoxTable.add_from.Goals as goal
 
 pub loop-from-init : goal.loop-from-init

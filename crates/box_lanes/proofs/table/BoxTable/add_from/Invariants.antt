@@ -1,6 +1,6 @@
 use Rattle.std.proofs.Common.{◌≡◌, ◌++◌, ◌≤◌, ◌-◌, length}
 use Rattle.box_lanes.specs.Lanes.{meets}
-use Rattle.box_lanes.proofs.Bits.{part}
+use Rattle.box_lanes.specs.Places.{part}
 use Rattle.box_lanes.proofs.table.BoxTable.add_from.Given as goal
 
 abbrev pub invariant-loop-from : goal.invariant-loop-from
