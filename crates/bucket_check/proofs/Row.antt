@@ -16,9 +16,9 @@ use Rattle.bim_model.specs.Snapshots.{Version}
 use Rattle.bim_model.specs.Keys.{Subject, subjects_of}
 use Rattle.clearance.proofs.Decided.{elements_decided}
 use Rattle.clearance.proofs.Surfaces.{elements_within}
-use Rattle.box_lanes.specs.Places.{places_from, later_within, box_at, nowhere}
+use Rattle.box_lanes.specs.Places.{places_from, part, later_within, box_at, nowhere}
 use Rattle.box_lanes.proofs.Places.{places-cons}
-use Rattle.box_lanes.proofs.Bits.{part, part_more, part_all, part_none}
+use Rattle.box_lanes.proofs.Bits.{part_more, part_all, part_none}
 use Rattle.bucket_grid.specs.declared.cell.Cell.{Cell}
 use Rattle.bucket_grid.specs.Cells.{owner_of}
 use Rattle.bucket_grid.specs.Subjects.{subject_at, nobody, IsBoxOf, AreBoxes}
