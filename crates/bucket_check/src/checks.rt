@@ -69,13 +69,9 @@ fn clash_of<L: Ledger>(grid: &Grid, a: u32, b: u32, steps: &mut Steps<L>) -> Opt
     let _boxes = grid.boxes();
     let first = grid.element(a as usize);
     let second = grid.element(b as usize);
+    let same_model = grid.same_model(a as usize, b as usize);
     let rules = grid.rules();
-    match rule_of(
-        rules,
-        first,
-        second,
-        grid.same_model(a as usize, b as usize),
-    ) {
+    match rule_of(rules, first, second, same_model) {
         None => None,
         Some(found) => rule_if_near(found, first, second, steps),
     }

@@ -6,6 +6,8 @@ mod laws;
 mod pair;
 mod room;
 mod set;
+#[cfg(test)]
+mod tests;
 mod work;
 
 pub use checks::check;
