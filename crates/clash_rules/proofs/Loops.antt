@@ -62,14 +62,14 @@ object_more values i v h e =
 -- one more is
 pub object_there : (values : List Value) (i : ℕ) (v : Value) (all : Bool) → i < length values → v ≡ get_or values i v → is_some (as_object (view v)) ≡ true
     → are_objects (items_view (drop i values)) ≡ all → are_objects (items_view (drop (i + 1) values)) ≡ all
-object_there values i v all h e yes so_far =
-    sym (object_more values i v h e ∙ ap (λ b. b && are_objects (items_view (drop (i + 1) values))) yes) ∙ so_far
+object_there values i v all h e is so_far =
+    sym (object_more values i v h e ∙ ap (λ b. b && are_objects (items_view (drop (i + 1) values))) is) ∙ so_far
 
 -- one isn't
 pub object_missing : (values : List Value) (i : ℕ) (v : Value) (all : Bool) → i < length values → v ≡ get_or values i v → is_some (as_object (view v)) ≡ false
     → are_objects (items_view (drop i values)) ≡ all → false ≡ all
-object_missing values i v all h e no so_far =
-    sym (object_more values i v h e ∙ ap (λ b. b && are_objects (items_view (drop (i + 1) values))) no) ∙ so_far
+object_missing values i v all h e off so_far =
+    sym (object_more values i v h e ∙ ap (λ b. b && are_objects (items_view (drop (i + 1) values))) off) ∙ so_far
 
 -- the first fault is that of all
 pub fault_on : (values : List Value) (i : ℕ) (d : Value) (rules : List Rule) (error : RuleError) (all : Result (List Rule) RuleFault) → i < length values → IsFault error (rule_in i (view (get_or values i d)))

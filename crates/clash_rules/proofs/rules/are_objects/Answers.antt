@@ -10,13 +10,13 @@ use Rattle.clash_rules.proofs.rules.are_objects.Goals as goal
 pub loop-item-preserved : goal.loop-item-preserved
 loop-item-preserved c =
     let l = c.loop-item in
-    object_there c.args.items.now l.item-index c.item-item.result _ c.loop-item-test.true c.item-item.is (sym c.is_object.ensures ∙ c.if-is_object.true) l.invariant
+    object_there c.args.items.now l.item-index c.item-item.result _ c.loop-item-test.true c.item-item.is (sym c.is_object.ensures ∙ c.if-not-is_object.false) l.invariant
 
 -- a value isn't
-pub returns-then-is_object : goal.returns-then-is_object
-returns-then-is_object c =
+pub returns-then-not-is_object : goal.returns-then-not-is_object
+returns-then-not-is_object c =
     let l = c.loop-item in
-    object_missing c.args.items.now l.item-index c.item-item.result _ c.loop-item-test.true c.item-item.is (sym c.is_object.ensures ∙ c.if-is_object.false) l.invariant
+    object_missing c.args.items.now l.item-index c.item-item.result _ c.loop-item-test.true c.item-item.is (sym c.is_object.ensures ∙ c.if-not-is_object.true) l.invariant
 
 pub returns : goal.returns
 returns c =
