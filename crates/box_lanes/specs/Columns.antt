@@ -1,5 +1,5 @@
 -- Boxes kept as one list for each side.
-use Rattle.std.specs.Prelude.{ℕ, ◌<◌, ◌≤◌, ◌^◌, ◌%◌, ◌≡◌, ◌++◌, ℤ, List, [], ◌∷◌, map, take, length, All}
+use Rattle.std.specs.Prelude.{◌<◌, ◌≤◌, ◌^◌, ◌%◌, ◌≡◌, ◌++◌, ℤ, List, [], ◌∷◌, map, take, length, All}
 use Rattle.bim_model.specs.declared.geometry.Extent.{Extent}
 use Rattle.box_lanes.specs.declared.columns.Columns.{Columns}
 use Rattle.box_lanes.specs.declared.table.BoxTable.TheInside.{Inside}

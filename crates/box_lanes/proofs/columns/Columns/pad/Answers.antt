@@ -1,4 +1,4 @@
-use Rattle.std.proofs.Common.{◌≡◌, ◌+◌, ◌%◌, ℕ, List, [], ◌++◌, length, subst, sym, ap, refl, ◌∙◌, arith, append-nil}
+use Rattle.std.proofs.Common.{◌%◌, [], length, subst, sym, ap, refl, ◌∙◌, arith, append-nil}
 use Rattle.std.proofs.lemmas.List.{length-append, length-map}
 use Rattle.bim_model.specs.declared.geometry.Extent.{Extent}
 use Rattle.box_lanes.specs.Columns.{AreSides}

@@ -1,5 +1,4 @@
-use Rattle.std.proofs.Common.{◌≡◌, ◌≤◌, ◌++◌, List, length, sym, ap, ◌∙◌, arith, append_assoc, append-nil}
-use Rattle.bim_model.specs.declared.geometry.Extent.{Extent}
+use Rattle.std.proofs.Common.{◌≤◌, ◌++◌, length, sym, ap, ◌∙◌, arith, append_assoc, append-nil}
 use Rattle.box_lanes.proofs.Sides.{count_is}
 use Rattle.box_lanes.specs.Lanes.{meets}
 use Rattle.box_lanes.specs.Places.{part}

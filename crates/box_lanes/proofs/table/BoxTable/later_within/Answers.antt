@@ -1,6 +1,5 @@
-use Rattle.std.proofs.Common.{◌≡◌, ◌+◌, ◌++◌, [], drop, subst, ap, ◌∙◌}
+use Rattle.std.proofs.Common.{◌≡◌, ◌+◌, ◌++◌, drop, ap, ◌∙◌}
 use Rattle.std.proofs.lemmas.List.Elements.{All-weaker, All-drop}
-use Rattle.std.specs.List.{All}
 use Rattle.bim_model.specs.Gaps.{is_within}
 use Rattle.box_lanes.specs.Lanes.{meets, Fits32}
 use Rattle.box_lanes.specs.Places.{places_from}

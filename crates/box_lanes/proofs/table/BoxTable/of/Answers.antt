@@ -1,4 +1,4 @@
-use Rattle.std.proofs.Common.{◌≡◌, length, refl}
+use Rattle.std.proofs.Common.{refl}
 use Rattle.box_lanes.proofs.Sides.{is_table, table_is}
 use Rattle.box_lanes.proofs.table.BoxTable.of.Goals as goal
 

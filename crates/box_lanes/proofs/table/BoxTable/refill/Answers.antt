@@ -1,4 +1,4 @@
-use Rattle.std.proofs.Common.{◌≡◌, ◌<◌, ◌^◌, ℕ, map, length, sym, subst}
+use Rattle.std.proofs.Common.{◌<◌, ◌^◌, map, sym, subst}
 use Rattle.std.proofs.lemmas.List.{length-map}
 use Rattle.box_lanes.specs.Places.{box_at}
 use Rattle.box_lanes.proofs.Sides.{is_table, table_is}

@@ -1,11 +1,9 @@
 use Rattle.std.proofs.Common.{◌≡◌, ◌++◌, ap, ◌∙◌}
 use Rattle.std.proofs.lemmas.List.Elements.{All-weaker}
-use Rattle.std.specs.List.{All}
 use Rattle.bim_model.specs.Gaps.{is_within}
 use Rattle.box_lanes.specs.Lanes.{meets, Fits32}
 use Rattle.box_lanes.specs.Places.{places_from}
 use Rattle.box_lanes.proofs.Places.{places_agree}
-use Rattle.std.proofs.Common.{subst}
 use Rattle.box_lanes.proofs.table.BoxTable.within.Goals as goal
 
 pub returns : goal.returns
