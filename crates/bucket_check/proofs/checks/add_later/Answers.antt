@@ -38,9 +38,9 @@ returns-clause-pairs g c =
 pub returns-clause-steps : goal.returns-clause-steps
 returns-clause-steps g c =
     let listed = c.deref.ensures.value ∙ c.in_ok-later_within.ensures in
-    omega (arith, c.in_ok-add_row.ensures.steps, ap length listed, few_later _ _ c.args.first c.args.room.now.table, ap length c.requires.table, length-map c.args.members.now (box_at c.args.grid.now.boxes))
+    omega (arith, c.in_ok-add_row.ensures.steps, ap length listed, few_later (box_at c.boxes-boxes.result.now (number_at c.args.members.now c.args.first)) c.args.greatest c.args.first c.args.room.now.table, ap length c.requires.table, length-map c.args.members.now (box_at c.args.grid.now.boxes))
 
 pub returns-in_err-add_row-clause-steps : goal.returns-in_err-add_row-clause-steps
 returns-in_err-add_row-clause-steps g c =
     let listed = c.deref.ensures.value ∙ c.in_ok-later_within.ensures in
-    omega (arith, c.in_err-add_row.ensures.steps, ap length listed, few_later _ _ c.args.first c.args.room.now.table, ap length c.requires.table, length-map c.args.members.now (box_at c.args.grid.now.boxes))
+    omega (arith, c.in_err-add_row.ensures.steps, ap length listed, few_later (box_at c.boxes-boxes.result.now (number_at c.args.members.now c.args.first)) c.args.greatest c.args.first c.args.room.now.table, ap length c.requires.table, length-map c.args.members.now (box_at c.args.grid.now.boxes))

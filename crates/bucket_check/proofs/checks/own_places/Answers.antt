@@ -8,7 +8,7 @@ use Rattle.bucket_check.proofs.checks.own_places.Goals as goal
 pub found_among-requires-clause-few : goal.found_among-requires-clause-few
 found_among-requires-clause-few g c =
     let m = members_are c.args.grid.now.boxes c.args.cell c.members-members.result.now c.members-members.ensures.bucket c.members-members.ensures.none in
-    omega (arith, m.few, ap length c.boxes-_boxes.ensures.boxes, c.boxes-_boxes.ensures.small)
+    omega (arith, m.few, ap length c.boxes-boxes.ensures.boxes, c.boxes-boxes.ensures.small)
 
 pub found_among-requires-clause-members_in : goal.found_among-requires-clause-members_in
 found_among-requires-clause-members_in g c =
