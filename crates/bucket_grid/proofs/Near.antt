@@ -1,5 +1,5 @@
 -- Elements that are near at the distance of their rule have boxes that are close, and close boxes have one owner.
-use Rattle.std.proofs.Common.{◌≡◌, ℕ, ◌+◌, ◌*◌, ◌<◌, ◌≤◌, max, leb, ◌&&◌, ℤ, pos, negsuc, ◌+ℤ◌, ◌-ℤ◌, ◌≤ℤ◌, unsigned_abs, Bool, true, false, cond, List, [], ◌∷◌, length, All, Option, Some, None, refl, sym, ap, subst, arith}
+use Rattle.std.proofs.Common.{◌≡◌, ℕ, ◌+◌, ◌*◌, ◌<◌, ◌≤◌, leb, ℤ, pos, negsuc, ◌+ℤ◌, ◌-ℤ◌, ◌≤ℤ◌, unsigned_abs, Bool, true, false, cond, List, [], ◌∷◌, length, All, Option, Some, None, subst, arith}
 use Rattle.std.proofs.lemmas.Int.{ints}
 use Rattle.std.proofs.lemmas.Bool.{and_parts, leb-true}
 use Rattle.std.proofs.lemmas.List.Elements.{All-head, All-tail}
@@ -18,9 +18,8 @@ use Rattle.bim_model.specs.Boxes.{IsExtentOf}
 use Rattle.bim_model.specs.Gaps.{gap, is_within}
 use Rattle.clearance.specs.Near.{ListsNear, ElementsNear}
 use Rattle.clearance.proofs.Surfaces.{elements_within}
-use Rattle.bucket_grid.specs.declared.cell.Cell.{Cell}
 use Rattle.bucket_grid.specs.declared.cell.TheConstants.{GROWTH}
-use Rattle.bucket_grid.specs.Cells.{owner_of, IsOwner}
+use Rattle.bucket_grid.specs.Cells.{owner_of}
 use Rattle.bucket_grid.specs.Places.{IsInOrder}
 use Rattle.bucket_grid.specs.Laws.{HaveOneOwner}
 use Rattle.bucket_grid.proofs.Owners.{Close, CloseBoxes, owner_is_least}

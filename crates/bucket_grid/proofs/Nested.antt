@@ -1,7 +1,7 @@
 -- Lists in a list, seen through the vectors that keep them.
 use Rattle.std.proofs.Common.{◌≡◌, ℕ, ◌+◌, ◌<◌, ◌≤◌, ◌⊎◌, inl, inr, List, [], ◌∷◌, ◌++◌, length, get_or, set, map, sym, ap, subst, arith, ◌∙◌}
 use Rattle.std.proofs.lemmas.Bool.{cases_eq, cases_lt}
-use Rattle.std.proofs.lemmas.List.{map-set, get_or-map, length-map, length-set, get_or-set_same, get_or-set_other, get_or_past}
+use Rattle.std.proofs.lemmas.List.{map-set, get_or-map, length-map, get_or-set_same, get_or-set_other, get_or_past}
 
 module _ {V : Type 0} (f : V → List ℕ) where
   pub within : (l : List V) (now : List (List ℕ)) (i : ℕ) → map f l ≡ now → i < length now → i < length l

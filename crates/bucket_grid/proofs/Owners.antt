@@ -1,8 +1,8 @@
 -- The cell of two boxes is the least that holds both, and boxes that lie within a metre of each other have one.
-use Rattle.std.proofs.Common.{◌≡◌, ℕ, ◌+◌, ◌*◌, ◌/◌, ◌≤◌, ◌<◌, ℤ, pos, negsuc, ◌+ℤ◌, ◌-ℤ◌, ◌*ℤ◌, ◌≤ℤ◌, int_le, Bool, true, false, true≢false, ◌&&◌, refl, sym, ap, ◌∙◌, subst, arith}
-use Rattle.std.specs.Int.{int_div_euclid, int_max}
+use Rattle.std.proofs.Common.{◌≡◌, ℤ, pos, negsuc, ◌+ℤ◌, ◌-ℤ◌, ◌≤ℤ◌, int_le, Bool, true, false, true≢false, ◌&&◌, sym, ap, ◌∙◌, subst, arith}
+use Rattle.std.specs.Int.{int_max}
 use Rattle.std.specs.Ordering.{int_cmp, ordering_then}
-use Rattle.std.specs.declared.cmp.Ordering.TheVariants.{Less, Equal, Greater}
+use Rattle.std.specs.declared.cmp.Ordering.TheVariants.{Greater}
 use Rattle.std.proofs.lemmas.Int.{ints, clamps}
 use Rattle.std.proofs.lemmas.Bool.{and_parts, and_from}
 use Rattle.bim_model.specs.declared.geometry.Extent.{Extent}

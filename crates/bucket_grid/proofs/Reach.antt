@@ -1,5 +1,5 @@
 -- The boxes of a model's elements, and that they lie in reach.
-use Rattle.std.proofs.Common.{◌≡◌, ℕ, zero, suc, ◌+◌, ◌<◌, ◌≤◌, ℤ, pos, ◌-ℤ◌, ◌≤ℤ◌, unsigned_abs, List, [], ◌∷◌, ◌++◌, length, get_or, map, All, refl, sym, ap, subst, arith, ◌∙◌}
+use Rattle.std.proofs.Common.{◌≡◌, ℕ, zero, ◌<◌, ◌≤◌, ℤ, pos, ◌-ℤ◌, ◌≤ℤ◌, unsigned_abs, List, [], ◌∷◌, ◌++◌, length, get_or, map, All, sym, subst, arith, ◌∙◌}
 use Rattle.std.specs.List.{Contains, AllZip}
 use Rattle.std.proofs.lemmas.Int.{ints}
 use Rattle.std.proofs.lemmas.List.{get_or-map, length-map, get_or_default}
@@ -12,9 +12,8 @@ use Rattle.bim_model.specs.declared.named_model.NamedModel.{NamedModel}
 use Rattle.bim_model.specs.Boxes.{corners_of, IsExtentOf}
 use Rattle.bim_model.specs.Models.{farthest, IsInReach, IsModelled, IsModel}
 use Rattle.bim_model.specs.Models as boxes
-use Rattle.bim_model.specs.Points.{grid_limit, IsGridPoint}
+use Rattle.bim_model.specs.Points.{grid_limit}
 use Rattle.bim_model.specs.Keys.{Subject, in_model}
-use Rattle.box_lanes.specs.Places.{nowhere}
 use Rattle.bucket_grid.specs.Subjects.{nobody, IsBoxOf}
 use Rattle.bucket_grid.specs.Places.{IsInOrder, IsGridBox}
 use Rattle.bucket_grid.proofs.Zips.{zip_append, zip_at, zip_length}

@@ -1,12 +1,12 @@
 -- The table that is built of spans has the buckets of the boxes.
-use Rattle.std.proofs.Common.{◌≡◌, ℕ, zero, suc, ◌+◌, ◌<◌, ◌≤◌, ◌⊎◌, inl, inr, Bool, true, false, ◌&&◌, cond, leb, int_le, ℤ, pos, negsuc, ◌+ℤ◌, ◌-ℤ◌, ◌≤ℤ◌, ◌<ℤ◌, List, [], ◌∷◌, ◌++◌, length, get_or, take, filter, refl, sym, ap, ap₂, subst, arith, ◌∙◌, zero-add}
-use Rattle.std.specs.List.{All, Any, AllPairs, flat_map}
+use Rattle.std.proofs.Common.{◌≡◌, ℕ, zero, suc, ◌<◌, ◌≤◌, Bool, true, false, ◌&&◌, cond, leb, int_le, ℤ, pos, negsuc, ◌+ℤ◌, ◌-ℤ◌, ◌≤ℤ◌, ◌<ℤ◌, List, [], ◌∷◌, ◌++◌, length, get_or, take, filter, refl, sym, ap, ap₂, subst, arith, ◌∙◌}
+use Rattle.std.specs.List.{All, Any, AllPairs}
 use Rattle.std.specs.Ordering.{int_cmp, ordering_then}
 use Rattle.std.specs.declared.cmp.Ordering.TheVariants.{Less}
 use Rattle.std.proofs.Math.Seq.{take-length}
 use Rattle.std.proofs.Common.{add-one}
 use Rattle.std.proofs.lemmas.Int.{ints}
-use Rattle.std.proofs.lemmas.Bool.{and_parts, and_from, le-leb, leb-true}
+use Rattle.std.proofs.lemmas.Bool.{and_parts, le-leb, leb-true}
 use Rattle.std.proofs.lemmas.List.Elements.{All-nil, All-cons, All-filter, All-weaker, filter-append, filter_passes}
 use Rattle.bim_model.specs.declared.geometry.Extent.{Extent}
 use Rattle.box_lanes.specs.Places.{places_from, box_at, nowhere}
@@ -14,10 +14,10 @@ use Rattle.box_lanes.proofs.Places.{places_more}
 use Rattle.bucket_grid.specs.declared.cell.Cell.{Cell}
 use Rattle.bucket_grid.specs.declared.lists.Span.{Span}
 use Rattle.bucket_grid.specs.declared.table.Bucket.{Bucket}
-use Rattle.bucket_grid.specs.Cells.{first_cell, last_cell, is_in, holds, members, cell_cmp, IsBucket}
+use Rattle.bucket_grid.specs.Cells.{first_cell, last_cell, holds, members, cell_cmp, IsBucket}
 use Rattle.bucket_grid.specs.Dealt.{covers, span_at}
 use Rattle.bucket_grid.specs.Table.{upto, among, if_bucket, with_x, with_y, with_z, column, slab, table, AreSpans, IsTable}
-use Rattle.bucket_grid.proofs.Parts.{flat_suc, flat_all, flat_any, flat_pairs, all_upto, filter_on, filter-filter}
+use Rattle.bucket_grid.proofs.Parts.{flat_all, flat_any, flat_pairs, all_upto, filter_on, filter-filter}
 
 -- the places that pass, among the numbers
 pub places_upto : (p : Extent → Bool) (boxes : List Extent) (n : ℕ) → n ≤ length boxes → places_from 0 p (take n boxes) ≡ filter (λ i. p (box_at boxes i)) (upto n)

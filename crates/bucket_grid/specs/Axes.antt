@@ -1,5 +1,5 @@
 -- The sides of boxes on an axis.
-use Rattle.std.specs.Prelude.{◌≡◌, ℕ, ◌+◌, ◌≤◌, ℤ, pos, ◌+ℤ◌, ◌-ℤ◌, ◌≤ℤ◌, List, length, All}
+use Rattle.std.specs.Prelude.{ℕ, ◌+◌, ℤ, ◌-ℤ◌, ◌≤ℤ◌, List, length, All}
 use borrow.Author.Differences.{up}
 use Rattle.bim_model.specs.declared.geometry.Extent.{Extent}
 use Rattle.bucket_grid.specs.declared.axis.Axis.{Axis}

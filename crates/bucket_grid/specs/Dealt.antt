@@ -1,5 +1,5 @@
 -- Numbers dealt into lists: each into the lists of its span.
-use Rattle.std.specs.Prelude.{◌≡◌, ℕ, ◌+◌, ◌<◌, ◌≤◌, ◌^◌, nat_le, Bool, ◌&&◌, List, [], length, slice_index_or, All, filter}
+use Rattle.std.specs.Prelude.{◌≡◌, ℕ, ◌<◌, ◌≤◌, ◌^◌, nat_le, Bool, ◌&&◌, List, [], length, slice_index_or, All, filter}
 use Rattle.bucket_grid.specs.declared.lists.Span.{Span}
 
 -- the span has the place k

@@ -1,5 +1,5 @@
 -- A grid: a version, the boxes of its elements by number, and its buckets.
-use Rattle.std.specs.Prelude.{◌≡◌, ℕ, ◌≤◌, ◌<◌, List, length, All}
+use Rattle.std.specs.Prelude.{◌≡◌, ℕ, ◌≤◌, List, length, All}
 use Rattle.std.specs.List.{AllZip}
 use Rattle.bim_model.specs.declared.geometry.Extent.{Extent}
 use Rattle.bim_model.specs.Snapshots.{Version}

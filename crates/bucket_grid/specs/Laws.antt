@@ -1,5 +1,5 @@
 -- Laws of cells, members and owners.
-use Rattle.std.specs.Prelude.{◌≡◌, ◌↔◌, ◌*◌, ℕ, ℤ, pos, ◌+ℤ◌, ◌-ℤ◌, ◌*ℤ◌, ◌≤ℤ◌, ◌<ℤ◌, unsigned_abs, true, IsTrue, Bool, List, Some}
+use Rattle.std.specs.Prelude.{◌≡◌, ◌↔◌, ◌*◌, ℕ, pos, ◌+ℤ◌, ◌-ℤ◌, ◌*ℤ◌, ◌≤ℤ◌, ◌<ℤ◌, unsigned_abs, true, IsTrue, Bool, List, Some}
 use Rattle.bim_model.specs.declared.geometry.TheConstants.{PER_MM}
 use Rattle.bim_model.specs.declared.geometry.Point.{Point}
 use Rattle.bim_model.specs.declared.geometry.Extent.{Extent}
@@ -12,7 +12,7 @@ use Rattle.bim_model.specs.Gaps.{is_within}
 use Rattle.clearance.specs.Near.{ElementsNear}
 use Rattle.bucket_grid.specs.declared.cell.Cell.{Cell}
 use Rattle.bucket_grid.specs.declared.cell.TheConstants.{SIDE, GROWTH}
-use Rattle.bucket_grid.specs.Cells.{holds, owner_of, IsOwner}
+use Rattle.bucket_grid.specs.Cells.{holds, IsOwner}
 use Rattle.bucket_grid.specs.Places.{IsInOrder}
 
 -- a point of the box when it is grown by a metre on each side

@@ -1,5 +1,5 @@
-use Rattle.std.proofs.Common.{◌≡◌, ℕ, arith}
-use Rattle.std.proofs.lemmas.Int.{ints, clamps}
+use Rattle.std.proofs.Common.{arith}
+use Rattle.std.proofs.lemmas.Int.{ints}
 use Rattle.box_lanes.specs.Places.{nowhere}
 use Rattle.bucket_grid.proofs.Lying.{lie_more, lie_all}
 use Rattle.bucket_grid.proofs.axis.range_on.Goals as goal

@@ -1,4 +1,4 @@
-use Rattle.std.proofs.Common.{◌≡◌, ◌≤◌, take, unsigned_abs, All}
+use Rattle.std.proofs.Common.{◌≤◌, take, unsigned_abs, All}
 use Rattle.bucket_grid.specs.Axes.{LieIn}
 use Rattle.bucket_grid.specs.Places.{IsGridBox}
 use Rattle.bucket_grid.proofs.axis.range_on.Given as goal

@@ -1,4 +1,3 @@
-use Rattle.std.proofs.Common.{◌≡◌, ℕ, arith}
 use Rattle.std.proofs.lemmas.List.Elements.{All-push, All-same}
 use Rattle.bucket_grid.specs.Dealt.{IsSpan}
 use Rattle.bucket_grid.proofs.Lying.{spans_more}

@@ -1,4 +1,4 @@
-use Rattle.std.proofs.Common.{◌≡◌, take, length, All}
+use Rattle.std.proofs.Common.{All}
 use Rattle.bucket_grid.specs.Cells.{first_cell, last_cell}
 use Rattle.box_lanes.specs.Places.{box_at}
 use Rattle.bucket_grid.specs.Axes.{low_on, high_on}

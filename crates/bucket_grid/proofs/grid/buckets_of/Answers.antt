@@ -1,4 +1,4 @@
-use Rattle.std.proofs.Common.{◌≡◌, ℕ, length, ◌∙◌}
+use Rattle.std.proofs.Common.{length, ◌∙◌}
 use Rattle.bucket_grid.proofs.Whole.{among_all, whole}
 use Rattle.bucket_grid.proofs.grid.buckets_of.Goals as goal
 

@@ -1,4 +1,4 @@
-use Rattle.std.proofs.Common.{◌≡◌, ℕ, ℤ, ap₂, ◌∙◌, rules}
+use Rattle.std.proofs.Common.{◌≡◌, ℤ, ap₂, ◌∙◌, rules}
 use Rattle.std.specs.Int.{w32, int_max}
 use Rattle.std.proofs.lemmas.Int.{to_z-of_z}
 use mir.Val.{SFits, to_z, of_z}

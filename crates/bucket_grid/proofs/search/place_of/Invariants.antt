@@ -1,4 +1,4 @@
-use Rattle.std.proofs.Common.{ℕ, ◌-◌}
+use Rattle.std.proofs.Common.{◌-◌}
 use Rattle.bucket_grid.specs.Search.{Between}
 use Rattle.bucket_grid.proofs.search.place_of.Given as goal
 

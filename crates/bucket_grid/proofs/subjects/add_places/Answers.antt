@@ -1,4 +1,4 @@
-use Rattle.std.proofs.Common.{◌≡◌, ◌<◌, ◌≤◌, ℕ, length, ap, sym, ◌∙◌, arith}
+use Rattle.std.proofs.Common.{◌≡◌, length, ap, sym, ◌∙◌, arith}
 use Rattle.bim_model.specs.declared.named_model.NamedModel.{NamedModel}
 use Rattle.bucket_grid.proofs.Zips.{placed_more, placed_all}
 use Rattle.bucket_grid.proofs.subjects.add_places.Goals as goal

@@ -1,4 +1,4 @@
-use Rattle.std.proofs.Common.{◌≡◌, ◌++◌, take, List, get_or}
+use Rattle.std.proofs.Common.{◌++◌, take, List, get_or}
 use Rattle.std.specs.List.{AllZip}
 use Rattle.bim_model.specs.declared.named_model.NamedModel.{NamedModel}
 use Rattle.bim_model.specs.Keys.{Subject, in_model}

@@ -1,4 +1,4 @@
-use Rattle.std.proofs.Common.{◌≡◌, List, [], take, length, ap, sym, subst, arith}
+use Rattle.std.proofs.Common.{List, [], sym, subst, arith}
 use Rattle.std.specs.List.{AllZip}
 use Rattle.std.proofs.lemmas.List.{take_all}
 use Rattle.bim_model.specs.declared.named_model.NamedModel.{NamedModel}

@@ -1,4 +1,4 @@
-use Rattle.std.proofs.Common.{◌≡◌, take, All}
+use Rattle.std.proofs.Common.{take, All}
 use Rattle.std.specs.List.{AllZip}
 use Rattle.bim_model.specs.Keys.{subjects_of}
 use Rattle.bucket_grid.specs.Subjects.{IsBoxOf}

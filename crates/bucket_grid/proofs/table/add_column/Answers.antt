@@ -1,4 +1,4 @@
-use Rattle.std.proofs.Common.{◌≡◌, ℕ, ap₂, refl}
+use Rattle.std.proofs.Common.{ap₂, refl}
 use Rattle.bucket_grid.specs.Table.{if_bucket, with_z, among}
 use Rattle.bucket_grid.proofs.Upto.{upto_more}
 use Rattle.bucket_grid.proofs.Among.{dealt_at}

@@ -1,5 +1,4 @@
-use Rattle.std.proofs.Common.{◌≡◌, ◌++◌, length}
-use Rattle.bucket_grid.specs.Dealt.{AreDealt}
+use Rattle.std.proofs.Common.{◌≡◌, ◌++◌}
 use Rattle.bucket_grid.specs.Table.{column}
 use Rattle.bucket_grid.proofs.table.add_column.Given as goal
 

@@ -1,4 +1,4 @@
-use Rattle.std.proofs.Common.{◌≡◌, ℕ, length, sym, ◌∙◌}
+use Rattle.std.proofs.Common.{length, sym, ◌∙◌}
 use Rattle.bucket_grid.specs.Table.{column, with_y, among}
 use Rattle.bucket_grid.proofs.Upto.{upto_more}
 use Rattle.bucket_grid.proofs.Among.{fewer, renamed, dealt_at, same_four}

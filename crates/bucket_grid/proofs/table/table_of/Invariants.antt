@@ -1,4 +1,4 @@
-use Rattle.std.proofs.Common.{◌≡◌, ◌++◌, length}
+use Rattle.std.proofs.Common.{◌≡◌, length}
 use Rattle.bucket_grid.specs.Table.{table}
 use Rattle.bucket_grid.proofs.table.table_of.Given as goal
 

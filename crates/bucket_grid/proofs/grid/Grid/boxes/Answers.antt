@@ -1,4 +1,4 @@
-use Rattle.std.proofs.Common.{◌≡◌, ℕ, length, ap, sym, subst, ◌∙◌}
+use Rattle.std.proofs.Common.{◌≡◌, length, ap, sym, ◌∙◌}
 use Rattle.bucket_grid.specs.Subjects.{IsBoxOf}
 use Rattle.bucket_grid.specs.Places.{IsPlace}
 use Rattle.bucket_grid.specs.Grids.{GridValue}

@@ -1,4 +1,4 @@
-use Rattle.std.proofs.Common.{◌≡◌, ◌<◌, ℕ, List, length, get_or, refl, ap, sym, subst, ◌∙◌}
+use Rattle.std.proofs.Common.{◌≡◌, ◌<◌, List, length, get_or, refl, ap, sym, subst, ◌∙◌}
 use Rattle.bim_model.specs.Snapshots.{Version}
 use Rattle.bim_model.specs.declared.named_model.NamedModel.{NamedModel}
 use Rattle.bucket_grid.specs.Places.{IsPlace}

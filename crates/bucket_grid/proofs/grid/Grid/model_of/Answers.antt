@@ -1,4 +1,4 @@
-use Rattle.std.proofs.Common.{◌≡◌, ◌<◌, ℕ, length, refl, ap, sym, subst, ◌∙◌}
+use Rattle.std.proofs.Common.{◌<◌, length, refl, ap, sym, subst, ◌∙◌}
 use Rattle.bucket_grid.specs.Places.{IsPlace}
 use Rattle.bucket_grid.proofs.Zips.{zip_length}
 use Rattle.bucket_grid.proofs.Found.{place_at}

@@ -1,4 +1,3 @@
-use Rattle.std.proofs.Common.{◌≡◌, ℕ, List, ap}
 use Rattle.bucket_grid.proofs.Nested.{put_in}
 use Rattle.bucket_grid.proofs.lists.Lists.add.Goals as goal
 

@@ -1,4 +1,4 @@
-use Rattle.std.proofs.Common.{◌≡◌, ℕ, arith, sym, ◌∙◌}
+use Rattle.std.proofs.Common.{arith, sym, ◌∙◌}
 use Rattle.std.proofs.lemmas.List.{length-set}
 use Rattle.bucket_grid.proofs.Nested.{cleared_more, cleared_all}
 use Rattle.bucket_grid.proofs.lists.Lists.clear.Goals as goal
