@@ -1,0 +1,10 @@
+pub mod Lists
+pub mod Pairs
+pub mod Owned
+pub mod Merged
+pub mod Local
+pub mod Row
+pub mod Known
+pub mod Tested
+pub mod Steps
+pub mod Unmoved

@@ -1,0 +1,3 @@
+pub mod Clashes
+pub mod Sets
+pub mod Laws
