@@ -43,15 +43,15 @@ module _ {K : Type 0} (P : K → Type 0) where
 
   param_step-all : (r : RowsOf K) (path : List ℕ) → AllKeys r → AllKeys (param_step r path).1
   unfolding param_step
-  param_step-all r path all = by (ltb 0 (length s)) (has_slash path)
+  param_step-all r path all =
+      by (ltb 0 (length (longest_suffix (segment path) r))) (has_slash path)
+      (length (segment path) - length (longest_suffix (segment path) r)) (length path)
     where
-      s : List ℕ
-      s = longest_suffix (segment path) r
-
-      by : (u v : Bool) → AllKeys (cond {A = ℕ × RowsOf K} u (length (segment path) - length s, with_suffix s r) (cond v (0, []) (length path, r))).1
-      by true v = with_suffix-all s r all
-      by false true = tt
-      by false false = all
+      by : (u v : Bool) (n m : ℕ)
+          → AllKeys (cond {A = ℕ × RowsOf K} u (n, with_suffix (longest_suffix (segment path) r) r) (cond v (0, []) (m, r))).1
+      by true v n m = with_suffix-all (longest_suffix (segment path) r) r all
+      by false true n m = tt
+      by false false n m = all
 
   or_else-all : (x y : Option K) → IfKey x → IfKey y → IfKey (or_else x y)
   or_else-all None y a b = b
