@@ -20,12 +20,12 @@ pub struct Routes {
 }
 
 impl Model for Routes {
-    ghost use Rattle.std.specs.Prelude.{◌≡◌};
+    ghost use Rattle.std.specs.Prelude.{◌≡◌, ⊤};
     ghost use Rattle.bcf_http.specs.Paths.{table};
 
-    ghost Value = { Unit {0} };
+    ghost Value = { ⊤ };
 
-    ghost view = { λ r. tt };
+    ghost view = { λ _. tt };
 
     ghost invariant = { λ r. r.router ≡ table };
 }
