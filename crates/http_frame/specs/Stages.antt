@@ -42,6 +42,7 @@ awaited_of plan.Absent = Sized 0
 awaited_of (plan.Sized n) = Sized n
 awaited_of (plan.Chunked most) = Chunked (record { part = Size (Digits 0) 0; room = most; filled = 0 })
 
+-- the same of a request whose head has just come
 abbrev pub pending_of : GoodHead → Pending
 pending_of good = record { facts = good.facts; owes = good.owes; body = awaited_of good.plan }
 
@@ -49,16 +50,19 @@ pending_of good = record { facts = good.facts; owes = good.owes; body = awaited_
 abbrev pub IsSized : ℕ → Framing → Type 0
 IsSized n how = ((how ≡ absent) × (n ≡ 0)) ⊎ (how ≡ sized n)
 
--- what is behind the head: the items from the place on; chunks that were taken and those items; or a body, whole, and those items
+-- what is behind the head: the items from the place on; chunks that were taken and those; or a body and those
 abbrev pub IsBodyAt : Awaited → RequestHead → List ℕ → List ℕ → ℕ → Type 0
 IsBodyAt (Sized n) head behind items at = IsSized n (framing head) × (behind ≡ drop at items)
 IsBodyAt (Chunked c) head behind items at =
     (framing head ≡ chunked)
-    × ((taken : List ℕ) × (behind ≡ taken ++ drop at items) × IsReading (most_body head) taken (take c.filled items) c.part c.room)
-IsBodyAt (Whole filled) head behind items at = ReadsBody (most_body head) (framing head) behind (take filled items) (drop at items)
+    × ((taken : List ℕ) × (behind ≡ taken ++ drop at items)
+    × IsReading (most_body head) taken (take c.filled items) c.part c.room)
+IsBodyAt (Whole filled) head behind items at =
+    ReadsBody (most_body head) (framing head) behind (take filled items) (drop at items)
 
 -- the bytes are a good head of which that is kept, and the body so far
-pub record IsBodyOf (facts : HeadFacts) (body : Awaited) (items : List ℕ) (at : ℕ) (bytes : List ℕ) : Type 0 where
+pub record IsBodyOf (facts : HeadFacts) (body : Awaited) (items : List ℕ) (at : ℕ) (bytes : List ℕ)
+    : Type 0 where
   pub head : RequestHead
   pub behind : List ℕ
   pub good : HasGoodHead bytes head behind
@@ -85,7 +89,8 @@ IsFilled (Whole filled) at = filled ≤ at
 -- the places are in the buffer, and the watch is that of its bytes
 abbrev pub IsSafe : Stage → List ℕ → ℕ → Type 0
 IsSafe (Head watch) items at =
-    (at ≤ length items) × (watch.seen ≤ length (front (drop at items))) × IsWatch watch (take watch.seen (front (drop at items)))
+    (at ≤ length items) × (watch.seen ≤ length (front (drop at items)))
+    × IsWatch watch (take watch.seen (front (drop at items)))
 IsSafe (Body p) items at = (at ≤ length items) × IsFilled p.body at
 IsSafe (Failed fault) items at = at ≤ length items
 
@@ -93,21 +98,27 @@ IsSafe (Failed fault) items at = at ≤ length items
 unfoldable pub Steps : Stage → List ℕ → ℕ → Stepped → List ℕ → Type 0
 Steps stage old at stepped new =
     (bytes : List ℕ) (told : Bool) → StandsAt stage old at bytes told
-    → (rest : List ℕ) × (mark : Bool) × Answers bytes told stepped.answer rest mark × StandsAt stepped.stage new stepped.at rest mark
+    → (rest : List ℕ) × (mark : Bool) × Answers bytes told stepped.answer rest mark
+    × StandsAt stepped.stage new stepped.at rest mark
 
 -- for whatever bytes it stood it stands still
 unfoldable pub Keeps : Stage → List ℕ → ℕ → List ℕ → ℕ → Type 0
-Keeps stage old at new place = (bytes : List ℕ) (told : Bool) → StandsAt stage old at bytes told → StandsAt stage new place bytes told
+Keeps stage old at new place =
+    (bytes : List ℕ) (told : Bool) → StandsAt stage old at bytes told → StandsAt stage new place bytes told
 
 -- for whatever bytes it stood it stands for these and then the piece
 unfoldable pub Grows : Stage → List ℕ → ℕ → List ℕ → List ℕ → Type 0
-Grows stage old at new piece = (bytes : List ℕ) (told : Bool) → StandsAt stage old at bytes told → StandsAt stage new at (bytes ++ piece) told
+Grows stage old at new piece =
+    (bytes : List ℕ) (told : Bool) → StandsAt stage old at bytes told
+    → StandsAt stage new at (bytes ++ piece) told
 
+-- a fault was met
 abbrev pub is_failed : Stage → Bool
 is_failed (Head watch) = false
 is_failed (Body p) = false
 is_failed (Failed fault) = true
 
+-- at the front of a line, behind empty lines alone
 abbrev pub is_before : Spot → Bool
 is_before spot.Before = true
 is_before spot.BeforeCr = false

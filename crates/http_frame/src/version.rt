@@ -52,7 +52,8 @@ fn line_start(bytes: &[u8]) -> usize
 // Where the first line ends.
 fn line_end(bytes: &[u8]) -> Option<usize>
     ensures none { IfNone result (line_at bytes.now ≡ None) }
-    ensures some { IfSome result (λ end. (end ≤ length bytes.now) × (line_at bytes.now ≡ Some (take end bytes.now))) }
+    ensures some { IfSome result (λ end. (end ≤ length bytes.now)
+        × (line_at bytes.now ≡ Some (take end bytes.now))) }
 {
     for (at, b) in bytes.iter().enumerate() {
         if *b == b'\n' {
