@@ -7,6 +7,7 @@ use crate::laws::{
 };
 use crate::types::{FrameError, FrameStep, HttpRequest};
 use std::alloc::{AllocError, Global};
+use std::process::Abort;
 use std::test::Fail;
 
 // Method, target, version, user, whether it closes, whether the body is encoded, and the body.
