@@ -1,5 +1,5 @@
 pub mod Reading
-pub mod Forms
+pub mod Texts
 pub mod Routers
 pub mod Parts
 pub mod Queries

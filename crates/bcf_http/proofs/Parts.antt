@@ -12,7 +12,7 @@ use Rattle.matchit.proofs.OnLiterals.{matchit_on_literals}
 use Rattle.bcf_http.specs.declared.paths.RoutePath.{RoutePath}
 use Rattle.bcf_http.specs.Paths.{table}
 use Rattle.bcf_http.specs.Places.{parts_by}
-use Rattle.bcf_http.proofs.Forms.{ascii}
+use Rattle.bcf_http.proofs.Texts.{ascii}
 use Rattle.bcf_http.proofs.Routers.{AllKeys, found}
 
 part_is_ascii : (bytes : List ℕ) (start end : ℕ) → IsAscii bytes → IsAscii (part_of bytes start end)

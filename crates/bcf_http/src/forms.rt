@@ -20,7 +20,7 @@ pub fn are_ascii(path: &[u8]) -> bool
     path.iter().all(|byte| byte.is_ascii())
 }
 
-#[tactic(auto, unfolding(crate::specs::Forms::identifier_in), using(crate::proofs::Forms::none_in))]
+#[tactic(auto, unfolding(crate::specs::Forms::identifier_in), using(crate::proofs::Texts::none_in))]
 fn identifier_in(text: &str) -> Option<u128>
     ensures { result ≡ identifier_in text.now }
 {
