@@ -1,6 +1,21 @@
+pub mod Lines
+pub mod HeadLaws
+pub mod BodyLaws
+pub mod EventLaws
+pub mod Room
+pub mod Scanned
+pub mod Started
+pub mod Watching
+pub mod StepLaws
+pub mod SizeLaws
+pub mod OpenLaws
+pub mod Versions
+pub mod Told
 pub mod Digits
-pub mod Names
-mod Rows
-pub mod Simple
-pub mod Framing
-pub mod OneReading
+pub mod Seeing
+pub mod TrailerLaws
+pub mod Reading
+pub mod Advancing
+pub mod Opened
+pub mod Standing
+pub mod Keeping

@@ -1,3 +1,15 @@
-pub mod Routes
 pub mod Heads
-pub mod Requests
+pub mod Bodies
+pub mod Events
+pub mod Judged
+pub mod Scan
+pub mod Watched
+pub mod Steps
+pub mod Sizes
+pub mod Facts
+pub mod Lines
+pub mod Told
+pub mod Seen
+pub mod Chunks
+pub mod Stages
+pub mod Framers

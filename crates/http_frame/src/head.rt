@@ -1,23 +1,73 @@
-//! The request heads that are served so far.
-ghost use Rattle.std.specs.Prelude.{◌≡◌, ◌≤◌, ℕ, List, length, take, map, All, Option, None, Some, IfSome, IfNone};
-ghost use Rattle.std.specs.List.{list_all};
+//! What a whole head says.
+ghost use Rattle.std.specs.Prelude.{◌≡◌, ◌≤◌, ◌==◌, ◌&&◌, ◌||◌, ℕ, true, IfOk, Some, None, length, map, take, All, codes, bytes_eq, nat_lt, if◌then◌else◌};
+ghost use Rattle.std.specs.List.{list_all, list_any};
 ghost use Rattle.std.specs.Char.{is_ascii_digit};
-ghost use Rattle.httparse.specs.Grammar.{RequestHead};
+ghost use Rattle.std.specs.Str.Parse.{digits_value};
 ghost use Rattle.httparse.specs.Spans.{IsHeaderWithin, IsWithin, header_bytes, span_bytes};
-ghost use Rattle.http_frame.specs.Heads.{small_number, is_named, no_length, body_length, length_of_two, route_length, simple_length, begins_blank, IsSimple, Finds};
+ghost use Rattle.http1.specs.Text.{eq_ignore_case};
+ghost use Rattle.http1.specs.Fields.{elements_named, has_option};
+ghost use Rattle.http_frame.specs.Heads.{starts_with, are_digits, sized, chunked, badly, framing_by};
+ghost use Rattle.http_frame.specs.Facts.{has_value, has_other_value, values_at};
+ghost use Rattle.http_frame.specs.Told.{most_by, plan_of, lacks_host, checked_by, facts_at, asks_at, has_body};
 
-use crate::limits::MOST_BODY;
-use crate::route::{Route, route_of};
-use bim_model::MOST_UPLOAD;
-use httparse::Status;
-use httparse::spans::{EMPTY_HEADER_SPAN, HeaderSpan, RequestSpans, Span, parse_request};
+use crate::facts::{
+    Only, any_other_value, any_value, count_named, lists_close, only_named, user_of,
+};
+use crate::types::FrameFault;
+use bim_model::{Bytes, Text};
+use httparse::spans::{HeaderSpan, RequestSpans};
+use std::alloc::{AllocError, Global};
 
-/// A served head: where its method and its target stand in its block, and how many bytes its body has.
+/// What is kept of a head while its body comes.
+#[derive(Drop)]
+pub struct HeadFacts {
+    pub method: Bytes,
+    pub target: Bytes,
+    pub minor: u8,
+    pub user: Text,
+    pub close: bool,
+    pub encoded: bool,
+}
+
+/// How the body comes.
 #[derive(Clone, Copy, Debug, PartialEq, Eq)]
-pub struct SimpleHead {
-    pub method: Span,
-    pub target: Span,
-    pub length: usize,
+pub enum Plan {
+    Absent,
+    /// So many bytes.
+    Sized(usize),
+    /// Chunks of so many bytes together, at most.
+    Chunked(usize),
+}
+
+/// The most bytes of a model's body, and of any other.
+const MOST_MODEL: usize = 33_554_432;
+
+const MOST_BODY: usize = 4_194_304;
+
+// The most fields of a head.
+const MOST_FIELDS: usize = 64;
+
+fn is_same(bytes: &[u8], wanted: &[u8]) -> bool
+    ensures { result ≡ bytes_eq bytes.now wanted.now }
+{
+    bytes == wanted
+}
+
+fn starts_with(text: &[u8], bytes: &[u8]) -> bool
+    ensures { result ≡ starts_with text.now bytes.now }
+{
+    bytes.starts_with(text)
+}
+
+fn most_body(method: &[u8], target: &[u8]) -> usize
+    ensures most { result ≡ most_by method.now target.now }
+    ensures small { result ≤ 33554432 }
+{
+    if is_same(method, b"PUT") && starts_with(b"/coord/1/", target) {
+        MOST_MODEL
+    } else {
+        MOST_BODY
+    }
 }
 
 fn are_digits(text: &[u8]) -> bool
@@ -26,157 +76,152 @@ fn are_digits(text: &[u8]) -> bool
     text.iter().all(|b| b.is_ascii_digit())
 }
 
-// The number that 1 to so many digits write, up to a number.
-#[tactic(auto, using(crate::proofs::Digits::one_more, crate::proofs::Digits::small_power), unfolding(crate::specs::Heads::small_number))]
-fn small_number(digits: usize, most: usize, text: &[u8]) -> Option<usize>
-    requires { digits ≤ 8 }
-    ensures { result ≡ small_number digits most text.now }
+// The number that the digits write, where it is not above the most.
+fn number_up_to(text: &[u8], most: usize) -> Option<usize>
+    requires digits { list_all is_ascii_digit text.now ≡ true }
+    requires most { most ≤ 33554432 }
+    ensures { result ≡ (if nat_lt most (digits_value 10 text.now) then None else Some (digits_value 10 text.now)) }
 {
-    if text.is_empty() || text.len() > digits || !are_digits(text) {
-        return None;
-    }
     let mut value = 0;
     for b in text {
         value = value * 10 + (*b - b'0') as usize;
+        if value > most {
+            return None;
+        }
     }
-    if value <= most { Some(value) } else { None }
+    Some(value)
 }
 
-#[tactic(auto, unfolding(crate::specs::Heads::is_named))]
-fn is_named(wanted: &[u8], block: &[u8], header: &HeaderSpan) -> bool
-    requires { IsHeaderWithin (length block.now) header.now }
-    ensures { result ≡ is_named wanted.now (header_bytes block.now header.now) }
+// From the lone value of Content-Length.
+fn sized_plan(text: &[u8], most: usize) -> Result<Plan, FrameFault>
+    requires { most ≤ 33554432 }
+    ensures { result ≡ plan_of most (if are_digits text.now then sized (digits_value 10 text.now) else badly) }
 {
-    header.name.of(block).eq_ignore_ascii_case(wanted)
+    if text.is_empty() {
+        return Err(FrameFault::BadLength);
+    }
+    if !are_digits(text) {
+        return Err(FrameFault::BadLength);
+    }
+    match number_up_to(text, most) {
+        Some(length) => Ok(Plan::Sized(length)),
+        None => Err(FrameFault::BodyTooLong),
+    }
 }
 
-fn length_of_two(
-    digits: usize,
-    most: usize,
+#[tactic(auto, unfolding(http1::specs::Text::eq_ignore_case))]
+fn is_chunked(text: &[u8], minor: u8) -> bool
+    ensures { result ≡ (eq_ignore_case text.now (codes "chunked") && minor == 1) }
+{
+    text.eq_ignore_ascii_case(b"chunked") && minor == 1
+}
+
+// From the lone value of Transfer-Encoding.
+fn chunked_plan(text: &[u8], minor: u8, most: usize) -> Result<Plan, FrameFault>
+    ensures { result ≡ plan_of most (if eq_ignore_case text.now (codes "chunked") && minor == 1 then chunked else badly) }
+{
+    if is_chunked(text, minor) {
+        Ok(Plan::Chunked(most))
+    } else {
+        Err(FrameFault::BadLength)
+    }
+}
+
+fn plan_of(block: &[u8], headers: &[HeaderSpan], minor: u8, most: usize) -> Result<Plan, FrameFault>
+    requires headers { All (IsHeaderWithin (length block.now)) headers.now }
+    requires most { most ≤ 33554432 }
+    ensures { result ≡ plan_of most (framing_by (values_at (codes "content-length") block.now headers.now) (values_at (codes "transfer-encoding") block.now headers.now) minor) }
+{
+    let lengths = only_named(b"content-length", block, headers);
+    let codings = only_named(b"transfer-encoding", block, headers);
+    match lengths {
+        Only::Absent => match codings {
+            Only::Absent => Ok(Plan::Absent),
+            Only::Once(coding) => chunked_plan(coding.of(block), minor, most),
+            Only::Repeated => Err(FrameFault::BadLength),
+        },
+        Only::Once(length) => match codings {
+            Only::Absent => sized_plan(length.of(block), most),
+            Only::Once(_) => Err(FrameFault::BadLength),
+            Only::Repeated => Err(FrameFault::BadLength),
+        },
+        Only::Repeated => Err(FrameFault::BadLength),
+    }
+}
+
+fn lacks_host(minor: u8, block: &[u8], headers: &[HeaderSpan]) -> bool
+    requires { All (IsHeaderWithin (length block.now)) headers.now }
+    ensures { result ≡ lacks_host minor (values_at (codes "host") block.now headers.now) }
+{
+    minor == 1 && count_named(b"host", block, headers) != 1
+}
+
+/// How the body comes behind a whole head, or the head's first fault.
+#[tactic(auto, unfolding(crate::specs::Told::checked_by))]
+pub fn checked(
     block: &[u8],
-    first: &HeaderSpan,
-    second: &HeaderSpan,
-) -> Option<usize>
-    requires digits { digits ≤ 8 }
-    requires first { IsHeaderWithin (length block.now) first.now }
-    requires second { IsHeaderWithin (length block.now) second.now }
-    ensures { result
-        ≡ length_of_two digits most (header_bytes block.now first.now) (header_bytes block.now second.now) }
-{
-    if is_named(b"host", block, first) && is_named(b"content-length", block, second) {
-        return small_number(digits, most, second.value.of(block));
-    }
-    if is_named(b"content-length", block, first) && is_named(b"host", block, second) {
-        return small_number(digits, most, first.value.of(block));
-    }
-    None
-}
-
-fn no_length(block: &[u8], headers: &[HeaderSpan]) -> Option<usize>
-    requires { All (IsHeaderWithin (length block.now)) headers.now }
-    ensures { result ≡ no_length (map (header_bytes block.now) headers.now) }
-{
-    match headers {
-        [only] => {
-            if is_named(b"host", block, only) {
-                Some(0)
-            } else {
-                None
-            }
-        }
-        _ => None,
-    }
-}
-
-fn body_length(digits: usize, most: usize, block: &[u8], headers: &[HeaderSpan]) -> Option<usize>
-    requires digits { digits ≤ 8 }
-    requires headers { All (IsHeaderWithin (length block.now)) headers.now }
-    ensures { result ≡ body_length digits most (map (header_bytes block.now) headers.now) }
-{
-    match headers {
-        [first, second] => length_of_two(digits, most, block, first, second),
-        _ => None,
-    }
-}
-
-fn route_length(route: Route, block: &[u8], headers: &[HeaderSpan]) -> Option<usize>
-    requires { All (IsHeaderWithin (length block.now)) headers.now }
-    ensures { result ≡ route_length route (map (header_bytes block.now) headers.now) }
-{
-    match route {
-        Route::MakeTopic => body_length(5, MOST_BODY, block, headers),
-        Route::ListTopics => no_length(block, headers),
-        Route::PutModel { .. } => body_length(8, MOST_UPLOAD, block, headers),
-        Route::NewestVersion => no_length(block, headers),
-    }
-}
-
-#[tactic(auto, unfolding(crate::specs::Heads::simple_length))]
-fn simple_length(block: &[u8], spans: &RequestSpans, headers: &[HeaderSpan]) -> Option<usize>
+    spans: &RequestSpans,
+    headers: &[HeaderSpan],
+) -> Result<Plan, FrameFault>
     requires method { IsWithin (length block.now) spans.now.method }
     requires target { IsWithin (length block.now) spans.now.path }
     requires headers { All (IsHeaderWithin (length block.now)) headers.now }
-    ensures { result
-        ≡ simple_length (span_bytes block.now spans.now.method) (span_bytes block.now spans.now.path)
-        spans.now.version (map (header_bytes block.now) headers.now) }
+    ensures { result ≡ checked_by (span_bytes block.now spans.now.method) (span_bytes block.now spans.now.path) spans.now.version (length headers.now) (map (header_bytes block.now) headers.now) }
 {
-    if spans.version != 1 {
-        return None;
+    if lacks_host(spans.version, block, headers) {
+        return Err(FrameFault::BadHead);
     }
-    match route_of(spans.method.of(block), spans.path.of(block)) {
-        Some(route) => route_length(route, block, headers),
-        None => None,
+    if headers.len() > MOST_FIELDS {
+        return Err(FrameFault::HeadTooLong);
     }
+    let most = most_body(spans.method.of(block), spans.path.of(block));
+    plan_of(block, headers, spans.version, most)
 }
 
-fn begins_blank(block: &[u8]) -> bool
-    ensures { result ≡ begins_blank block.now }
-{
-    match block {
-        [] => false,
-        [first, ..] => *first == b'\r' || *first == b'\n',
-    }
-}
-
-/// The head that a block is, if it is exactly one that is served.
-pub fn simple_head(block: &[u8]) -> Option<SimpleHead>
-    ensures some { IfSome result (λ found. (head : RequestHead) × Finds block.now found head) }
-    ensures none { IfNone result ((head : RequestHead) (length : ℕ) → IsSimple block.now head length → ⊥) }
-{
-    if begins_blank(block) {
-        return None;
-    }
-    let mut headers = [EMPTY_HEADER_SPAN; 4];
-    match parse_request(block, &mut headers) {
-        Ok(Status::Complete(spans)) => {
-            if spans.len == block.len() {
-                found_in(block, &spans, &headers[..spans.headers])
-            } else {
-                None
-            }
-        }
-        Ok(Status::Partial) => None,
-        Err(_) => None,
-    }
-}
-
-fn found_in(block: &[u8], spans: &RequestSpans, headers: &[HeaderSpan]) -> Option<SimpleHead>
+/// What is kept of a whole head.
+#[tactic(auto, unfolding(crate::specs::Told::facts_at))]
+pub fn facts_of(
+    alloc: Global,
+    block: &[u8],
+    spans: &RequestSpans,
+    headers: &[HeaderSpan],
+) -> Result<HeadFacts, AllocError>
     requires method { IsWithin (length block.now) spans.now.method }
     requires target { IsWithin (length block.now) spans.now.path }
     requires headers { All (IsHeaderWithin (length block.now)) headers.now }
-    ensures some { IfSome result (λ found. (found.method ≡ spans.now.method) × (found.target ≡ spans.now.path)
-        × (simple_length (span_bytes block.now spans.now.method) (span_bytes block.now spans.now.path)
-        spans.now.version (map (header_bytes block.now) headers.now) ≡ Some found.length)) }
-    ensures none { IfNone result (
-        simple_length (span_bytes block.now spans.now.method) (span_bytes block.now spans.now.path)
-        spans.now.version (map (header_bytes block.now) headers.now) ≡ None) }
+    ensures { IfOk result (λ facts. facts ≡ facts_at block.now spans.now headers.now) }
 {
-    match simple_length(block, spans, headers) {
-        Some(length) => Some(SimpleHead {
-            method: spans.method,
-            target: spans.path,
-            length,
-        }),
-        None => None,
+    Ok(HeadFacts {
+        method: Bytes::of(alloc, spans.method.of(block))?,
+        target: Bytes::of(alloc, spans.path.of(block))?,
+        minor: spans.version,
+        user: user_of(alloc, block, headers)?,
+        close: closes(spans.version, block, headers),
+        encoded: any_other_value(b"content-encoding", b"identity", block, headers),
+    })
+}
+
+fn closes(minor: u8, block: &[u8], headers: &[HeaderSpan]) -> bool
+    requires { All (IsHeaderWithin (length block.now)) headers.now }
+    ensures { result ≡ (minor == 0 || has_option (codes "close") (elements_named (codes "connection") (map (header_bytes block.now) headers.now))) }
+{
+    minor == 0 || lists_close(block, headers)
+}
+
+fn has_body(plan: Plan) -> bool
+    ensures { result ≡ has_body plan }
+{
+    match plan {
+        Plan::Absent => false,
+        Plan::Sized(_) => true,
+        Plan::Chunked(_) => true,
     }
+}
+
+/// Whether a whole head asks for `100 Continue`, and has a body.
+pub fn asks(minor: u8, block: &[u8], headers: &[HeaderSpan], plan: Plan) -> bool
+    requires { All (IsHeaderWithin (length block.now)) headers.now }
+    ensures { result ≡ asks_at minor block.now headers.now plan }
+{
+    minor == 1 && any_value(b"expect", b"100-continue", block, headers) && has_body(plan)
 }

@@ -1,17 +1,26 @@
 //! HTTP/1.1 requests from bytes, however these are cut into pieces (RFC 9112).
 #![tactic(auto)]
 
+mod chunks;
+mod facts;
 mod framer;
 mod head;
+mod judge;
 mod laws;
-mod limits;
-mod route;
+mod seen;
+mod size_line;
+mod stage;
+mod steps;
+mod types;
+mod version;
+mod walk;
+mod watch;
 
-pub use framer::{FrameError, FrameFault, FrameStep, Framer, HttpRequest, Look};
-pub use head::{SimpleHead, simple_head};
-pub use laws::{bytes_have_one_reading, readings_exclude_each_other};
-pub use limits::{MOST_BODY, MOST_HEAD};
-pub use route::{Route, route_of};
+pub use framer::Framer;
+pub use laws::{
+    a_whole_line_may_become_a_head, answers_are_the_events, bytes_have_one_reading, readings_stay,
+};
+pub use types::{FrameError, FrameFault, FrameStep, HttpRequest};
 
 #[cfg(test)]
 mod tests;

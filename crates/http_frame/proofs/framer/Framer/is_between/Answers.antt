@@ -1,0 +1,27 @@
+use Rattle.std.proofs.Common.{◌∙◌, ap, subst}
+use Rattle.http_frame.specs.declared.stage.Stage.{Stage}
+use Rattle.http_frame.specs.declared.walk.Spot.TheVariants.{Before}
+use Rattle.http_frame.specs.Framers.{Stands}
+use Rattle.http_frame.specs.Scan.{spot_run}
+use Rattle.http_frame.specs.Stages.{StandsAt, is_before}
+use Rattle.http_frame.proofs.Keeping.{head_between, body_between, failed_between}
+use Rattle.http_frame.proofs.framer.Framer.is_between.Goals as goal
+
+pub returns-in-Head : goal.returns-in-Head
+unfolding Stands
+returns-in-Head c = λ bytes told x rest.
+    let y = subst (λ (s : Stage). StandsAt s c.args.self.now.buf.items c.args.self.now.at bytes told) c.in-Head.is x in
+    head_between bytes c.args.self.now.buf.items c.args.self.now.at c.is_before.result y.1
+    (c.is_before.ensures ∙ ap is_before (c.walk_on.ensures ∙ ap (spot_run Before) c.tail.ensures))
+
+pub returns-in-Body : goal.returns-in-Body
+unfolding Stands
+returns-in-Body c = λ bytes told x rest.
+    body_between c.in-Body.field-0 c.args.self.now.buf.items c.args.self.now.at bytes told
+    (subst (λ (s : Stage). StandsAt s c.args.self.now.buf.items c.args.self.now.at bytes told) c.in-Body.is x)
+
+pub returns-in-Failed : goal.returns-in-Failed
+unfolding Stands
+returns-in-Failed c = λ bytes told x rest.
+    failed_between c.in-Failed.field-0 c.args.self.now.buf.items c.args.self.now.at bytes told
+    (subst (λ (s : Stage). StandsAt s c.args.self.now.buf.items c.args.self.now.at bytes told) c.in-Failed.is x) rest

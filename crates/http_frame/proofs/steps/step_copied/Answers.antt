@@ -1,0 +1,10 @@
+use Rattle.std.proofs.Common.{refl}
+use Rattle.http_frame.proofs.Standing.{copied_step, memory_step}
+use Rattle.http_frame.proofs.steps.step_copied.Goals as goal
+
+pub returns-in-Ok-clause-step : goal.returns-in-Ok-clause-step
+returns-in-Ok-clause-step c =
+    copied_step c.args.facts c.args.count c.args.at c.args.buf.now.items _ c.in-Ok.body c.request_of.result c.in-Ok.ensures c.requires c.request_of.ensures
+
+pub returns-in-Err-clause-step : goal.returns-in-Err-clause-step
+returns-in-Err-clause-step c = memory_step _ c.args.buf.now.items c.args.buf.now.items c.args.at refl
