@@ -24,15 +24,15 @@ use Rattle.bim_session.proofs.Sessions.{Takes_new, Answered_grown, answered_last
 use Rattle.bim_server.specs.Loop.{ServerState, SoFar, with_turn, stamp_of}
 
 -- an answer without a turn
-pub alone_answers : (h : List Entry) (last top moment : ℕ) (request : HttpRequest) (close : Bool) (bytes : List ℕ)
-    → AnswersAlone moment request close bytes → Answers 1 h last top moment request close bytes []
-alone_answers h last top moment request close bytes (inl refuses) = inl (record {
+pub alone_answers : (projects : ℕ) (h : List Entry) (last top moment : ℕ) (request : HttpRequest) (close : Bool) (bytes : List ℕ)
+    → AnswersAlone moment request close bytes → Answers projects h last top moment request close bytes []
+alone_answers projects h last top moment request close bytes (inl refuses) = inl (record {
   refusal = refuses.refusal;
   refused = refuses.refused;
   response = refuses.response;
   none = refl;
 })
-alone_answers h last top moment request close bytes (inr lacks) = inr (inr (record { response = lacks; idle = inl refl }))
+alone_answers projects h last top moment request close bytes (inr lacks) = inr (inr (record { response = lacks; idle = inl refl }))
 
 -- the step of a call at the next turn
 abbrev pub step_of : ServerState → BookRequest → Step
@@ -52,64 +52,64 @@ nothing_put : (h : List Entry) (stamp : Stamp) (name : List ℕ) (model : List E
 nothing_put h stamp name model None nothing = refl
 nothing_put h stamp name model (Some p) nothing = absurd nothing
 
-nothing_added : (h : List Entry) (stamp : Stamp) (call : BookRequest) → ChangesNothing (body_of 1 h call) → added_by 1 h stamp call ≡ []
-nothing_added h stamp (ListTopics id) nothing = nothing_asked stamp (project_of 1 id)
-nothing_added h stamp (PostTopic id body author weight) nothing = nothing_posted h stamp body author weight (project_of 1 id) nothing
-nothing_added h stamp (Upload id name model) nothing = nothing_put h stamp name model (project_of 1 id) nothing
-nothing_added h stamp (ReadVersion id wanted) nothing = nothing_asked stamp (project_of 1 id)
+nothing_added : (n : ℕ) (h : List Entry) (stamp : Stamp) (call : BookRequest) → ChangesNothing (body_of n h call) → added_by n h stamp call ≡ []
+nothing_added n h stamp (ListTopics id) nothing = nothing_asked stamp (project_of n id)
+nothing_added n h stamp (PostTopic id body author weight) nothing = nothing_posted h stamp body author weight (project_of n id) nothing
+nothing_added n h stamp (Upload id name model) nothing = nothing_put h stamp name model (project_of n id) nothing
+nothing_added n h stamp (ReadVersion id wanted) nothing = nothing_asked stamp (project_of n id)
 
 -- the next turn is taken by a call
 pub turn_next : (server : ServerState) (last : ℕ) (request : HttpRequest) (call : BookRequest) (moment : ℕ) → Means moment request call
     → IsBefore (server.turns + 1) server.history → last ≤ server.turns
-    → TakesTurn 1 (with_turn call server).history last (server.turns + 1) moment request (step_of server call ∷ [])
+    → TakesTurn server.projects (with_turn call server).history last (server.turns + 1) moment request (step_of server call ∷ [])
 turn_next server last request call moment means earlier le = record {
   step = step_of server call;
   one = refl;
   above = omega arith;
   within = omega arith;
-  takes = Takes_new 1 server.history moment request (step_of server call) means earlier;
+  takes = Takes_new server.projects server.history moment request (step_of server call) means earlier;
 }
 
 -- the answer to a call at the next turn
 pub called_answers : (server : ServerState) (last : ℕ) (request : HttpRequest) (close : Bool) (bytes : List ℕ) (call : BookRequest) (moment : ℕ) (receipt : BookReceipt)
     → Means moment request call → IsBefore (server.turns + 1) server.history → last ≤ server.turns
-    → receipt.turn ≡ server.turns + 1 → receipt.reply ≡ reply_of 1 server.history call
+    → receipt.turn ≡ server.turns + 1 → receipt.reply ≡ reply_of server.projects server.history call
     → AnswersCall (Ok receipt) (kind_of request) close bytes
-    → Answers 1 (with_turn call server).history last (server.turns + 1) moment request close bytes (step_of server call ∷ [])
+    → Answers server.projects (with_turn call server).history last (server.turns + 1) moment request close bytes (step_of server call ∷ [])
 unfolding turn_next
 called_answers server last request close bytes call moment receipt means earlier le turn reply (inl response) =
-    let own : AreOf (server.turns + 1) (added_by 1 server.history (stamp_of (server.turns + 1)) call) = added_of 1 server.history (stamp_of (server.turns + 1)) call in
+    let own : AreOf (server.turns + 1) (added_by server.projects server.history (stamp_of (server.turns + 1)) call) = added_of server.projects server.history (stamp_of (server.turns + 1)) call in
     let at : at_turn (server.turns + 1) (with_turn call server).history ≡ server.history = at_turn-new (server.turns + 1) server.history _ earlier own in
-    let here : receipt.reply ≡ reply_of 1 (at_turn (server.turns + 1) (with_turn call server).history) call = reply ∙ ap (λ h. reply_of 1 h call) (sym at) in
-    let booked : IsResponse (answer.Book (reply_of 1 (at_turn (server.turns + 1) (with_turn call server).history) call)) (kind_of request) (Some receipt.turn) close bytes =
+    let here : receipt.reply ≡ reply_of server.projects (at_turn (server.turns + 1) (with_turn call server).history) call = reply ∙ ap (λ h. reply_of server.projects h call) (sym at) in
+    let booked : IsResponse (answer.Book (reply_of server.projects (at_turn (server.turns + 1) (with_turn call server).history) call)) (kind_of request) (Some receipt.turn) close bytes =
     subst (λ (r : BookReply). IsResponse (answer.Book r) (kind_of request) (Some receipt.turn) close bytes) here response in
     inr (inl (record {
       taken = turn_next server last request call moment means earlier le;
-      response = subst (λ (t : ℕ). IsResponse (answer.Book (reply_of 1 (at_turn (server.turns + 1) (with_turn call server).history) call)) (kind_of request) (Some t) close bytes) turn booked;
+      response = subst (λ (t : ℕ). IsResponse (answer.Book (reply_of server.projects (at_turn (server.turns + 1) (with_turn call server).history) call)) (kind_of request) (Some t) close bytes) turn booked;
     }))
 called_answers server last request close bytes call moment receipt means earlier le turn reply (inr quiet) =
-    let own : AreOf (server.turns + 1) (added_by 1 server.history (stamp_of (server.turns + 1)) call) = added_of 1 server.history (stamp_of (server.turns + 1)) call in
-    let nothing : ChangesNothing (body_of 1 server.history call) = subst (λ (r : BookReply). ChangesNothing r.body) reply quiet.0 in
+    let own : AreOf (server.turns + 1) (added_by server.projects server.history (stamp_of (server.turns + 1)) call) = added_of server.projects server.history (stamp_of (server.turns + 1)) call in
+    let nothing : ChangesNothing (body_of server.projects server.history call) = subst (λ (r : BookReply). ChangesNothing r.body) reply quiet.0 in
     inr (inr (record {
       response = quiet.1;
       idle = inr (record {
         taken = turn_next server last request call moment means earlier le;
-        idle = of_turn-new (server.turns + 1) server.history _ earlier own ∙ nothing_added server.history (stamp_of (server.turns + 1)) call nothing;
+        idle = of_turn-new (server.turns + 1) server.history _ earlier own ∙ nothing_added server.projects server.history (stamp_of (server.turns + 1)) call nothing;
       });
     }))
 
 -- what was answered stays so after the next turn
 pub answered_next : (w a : Outside) (old : TalkState) (server : ServerState) (call : BookRequest) (so : SoFar w a old server)
-    → Answered 1 (with_turn call server).history (server.turns + 1) 0 0 so.requests so.asked so.out so.steps
+    → Answered server.projects (with_turn call server).history (server.turns + 1) 0 0 so.requests so.asked so.out so.steps
 answered_next w a old server call so =
-    let own : AreOf (server.turns + 1) (added_by 1 server.history (stamp_of (server.turns + 1)) call) = added_of 1 server.history (stamp_of (server.turns + 1)) call in
-    Answered_grown 1 server.history _ server.turns (server.turns + 1) 0 0 so.requests so.asked so.out so.steps so.answered (omega arith)
+    let own : AreOf (server.turns + 1) (added_by server.projects server.history (stamp_of (server.turns + 1)) call) = added_of server.projects server.history (stamp_of (server.turns + 1)) call in
+    Answered_grown server.projects server.history _ server.turns (server.turns + 1) 0 0 so.requests so.asked so.out so.steps so.answered (omega arith)
     (above_of (server.turns + 1) server.turns _ (omega arith) own)
 
 pub run_next : (w a : Outside) (old : TalkState) (server : ServerState) (call : BookRequest) (so : SoFar w a old server)
-    → IsRun 1 (so.steps ++ step_of server call ∷ []) (with_turn call server).history
+    → IsRun server.projects (so.steps ++ step_of server call ∷ []) (with_turn call server).history
 run_next w a old server call so =
-    Runs_push 1 [] [] so.steps server.history (step_of server call) so.run (follows_one so.steps (step_of server call) server.turns so.one_thread so.count refl)
+    Runs_push server.projects [] [] so.steps server.history (step_of server call) so.run (follows_one so.steps (step_of server call) server.turns so.one_thread so.count refl)
 
 pub one_next : (w a : Outside) (old : TalkState) (server : ServerState) (call : BookRequest) (so : SoFar w a old server) → IsOneThread (so.steps ++ step_of server call ∷ [])
 one_next w a old server call so = one_push so.steps (step_of server call) so.one_thread refl
@@ -119,4 +119,4 @@ pub count_next : (w a : Outside) (old : TalkState) (server : ServerState) (call 
 count_next w a old server call so = length-append so.steps (step_of server call ∷ []) ∙ ap (λ n. n + 1) so.count
 
 pub last_of : (w a : Outside) (old : TalkState) (server : ServerState) (so : SoFar w a old server) → last_turn 0 so.steps ≤ server.turns
-last_of w a old server so = answered_last 1 server.history server.turns 0 0 so.requests so.asked so.out so.steps so.answered (omega arith)
+last_of w a old server so = answered_last server.projects server.history server.turns 0 0 so.requests so.asked so.out so.steps so.answered (omega arith)

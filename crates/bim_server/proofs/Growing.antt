@@ -18,8 +18,8 @@ use Rattle.bim_server.specs.Loop.{ServerState, LeavesBy, IsQuiet, SoFar}
 pub quiet_trans : (a b c : Outside) → IsQuiet a b → IsQuiet b c → IsQuiet a c
 quiet_trans a b c p q = (q.0 ∙ p.0, q.1 ∙ p.1)
 
-pub so_far_start : (w : Outside) → SoFar w w fresh (record { history = []; turns = 0 })
-so_far_start w = record {
+pub so_far_start : (w : Outside) (projects : ℕ) → SoFar w w fresh (record { projects = projects; history = []; turns = 0 })
+so_far_start w projects = record {
   input = [];
   moments = [];
   output = [];
@@ -49,28 +49,28 @@ so_far_start w = record {
 }
 
 -- what is known of a session that is not leaving
-pub leaves_none : (h : List Entry) (last top : ℕ) (ended : Bool) (fed rest : List ℕ) (served : ℕ) (late tail : List ℕ) (o : Option SessionEnd)
-    → o ≡ None → LeavesBy h last top ended fed rest served late tail o → (rest ≡ fed) × (served < most_requests) × (late ≡ []) × (tail ≡ [])
-leaves_none h last top ended fed rest served late tail None e leaves = leaves
-leaves_none h last top ended fed rest served late tail (Some x) e leaves = cc
+pub leaves_none : (n : ℕ) (h : List Entry) (last top : ℕ) (ended : Bool) (fed rest : List ℕ) (served : ℕ) (late tail : List ℕ) (o : Option SessionEnd)
+    → o ≡ None → LeavesBy n h last top ended fed rest served late tail o → (rest ≡ fed) × (served < most_requests) × (late ≡ []) × (tail ≡ [])
+leaves_none n h last top ended fed rest served late tail None e leaves = leaves
+leaves_none n h last top ended fed rest served late tail (Some x) e leaves = cc
 
-pub leaves_some : (h : List Entry) (last top : ℕ) (ended : Bool) (fed rest : List ℕ) (served : ℕ) (late tail : List ℕ) (o : Option SessionEnd) (x : SessionEnd)
-    → o ≡ Some x → LeavesBy h last top ended fed rest served late tail o → Ends 1 h last top ended rest served x [] late tail []
-leaves_some h last top ended fed rest served late tail None x e leaves = cc
-leaves_some h last top ended fed rest served late tail (Some y) x e leaves =
-    let same : y ≡ x = cc in subst (λ (z : SessionEnd). Ends 1 h last top ended rest served z [] late tail []) same leaves
+pub leaves_some : (n : ℕ) (h : List Entry) (last top : ℕ) (ended : Bool) (fed rest : List ℕ) (served : ℕ) (late tail : List ℕ) (o : Option SessionEnd) (x : SessionEnd)
+    → o ≡ Some x → LeavesBy n h last top ended fed rest served late tail o → Ends n h last top ended rest served x [] late tail []
+leaves_some n h last top ended fed rest served late tail None x e leaves = cc
+leaves_some n h last top ended fed rest served late tail (Some y) x e leaves =
+    let same : y ≡ x = cc in subst (λ (z : SessionEnd). Ends n h last top ended rest served z [] late tail []) same leaves
 
-leaves_here : (h : List Entry) (last top : ℕ) (ended : Bool) (fed : List ℕ) (served : ℕ) (o : Option SessionEnd)
-    → o ≡ None → served < most_requests → LeavesBy h last top ended fed fed served [] [] o
-leaves_here h last top ended fed served None e lt = (refl, lt, refl, refl)
-leaves_here h last top ended fed served (Some x) e lt = cc
+leaves_here : (p : ℕ) (h : List Entry) (last top : ℕ) (ended : Bool) (fed : List ℕ) (served : ℕ) (o : Option SessionEnd)
+    → o ≡ None → served < most_requests → LeavesBy p h last top ended fed fed served [] [] o
+leaves_here p h last top ended fed served None e lt = (refl, lt, refl, refl)
+leaves_here p h last top ended fed served (Some x) e lt = cc
 
-leaves_after : (h : List Entry) (last top : ℕ) (ended : Bool) (fed : List ℕ) (n k : ℕ) → n ≡ k → k ≤ most_requests
-    → LeavesBy h last top ended fed fed k [] [] (leaving_after n)
-leaves_after h last top ended fed n k e le = by_test (n == most_requests) (eqb_tells n most_requests)
+leaves_after : (p : ℕ) (h : List Entry) (last top : ℕ) (ended : Bool) (fed : List ℕ) (n k : ℕ) → n ≡ k → k ≤ most_requests
+    → LeavesBy p h last top ended fed fed k [] [] (leaving_after n)
+leaves_after p h last top ended fed n k e le = by_test (n == most_requests) (eqb_tells n most_requests)
   where
     by_test : (b : Bool) → ((n == most_requests ≡ true) × (n ≡ most_requests)) ⊎ ((n == most_requests ≡ false) × (n ≢ most_requests))
-        → LeavesBy h last top ended fed fed k [] [] (leaving_after n)
+        → LeavesBy p h last top ended fed fed k [] [] (leaving_after n)
     by_test b (inl is) = rw is.0 (e, sym e ∙ is.1, refl, refl, refl, refl)
     by_test b (inr other) = rw other.0 (refl, below, refl, refl)
       where
@@ -81,7 +81,7 @@ leaves_after h last top ended fed n k e le = by_test (n == most_requests) (eqb_t
 pub open_of : (w a : Outside) (old : TalkState) (server : ServerState) (so : SoFar w a old server) → old.leaving ≡ None
     → (so.rest ≡ old.rest) × (length so.requests < most_requests) × (so.late ≡ []) × (so.tail ≡ [])
 open_of w a old server so here =
-    leaves_none server.history (last_turn 0 so.steps) server.turns a.source.ended old.rest so.rest (length so.requests) so.late so.tail old.leaving here so.leaving
+    leaves_none server.projects server.history (last_turn 0 so.steps) server.turns a.source.ended old.rest so.rest (length so.requests) so.late so.tail old.leaving here so.leaving
 
 -- how few requests were answered
 pub room_of : (w a : Outside) (old : TalkState) (server : ServerState) (so : SoFar w a old server) → old.leaving ≡ None → length so.requests < most_requests
@@ -153,7 +153,7 @@ so_far_fed w a b old server piece so here going gave quiet at_end = record {
   few = so.few;
   most = so.most;
   ended_is = piece_ends old piece b.source.ended going at_end;
-  leaving = leaves_here server.history (last_turn 0 so.steps) server.turns b.source.ended (with_piece piece old).rest (length so.requests)
+  leaving = leaves_here server.projects server.history (last_turn 0 so.steps) server.turns b.source.ended (with_piece piece old).rest (length so.requests)
       (with_piece piece old).leaving (piece_leaving old piece ∙ here) (room_of w a old server so here);
 }
 
@@ -161,10 +161,10 @@ so_far_fed w a b old server piece so here going gave quiet at_end = record {
 pub so_far_push : (w a b : Outside) (old new : TalkState) (server server' : ServerState)
     (so : SoFar w a old server) (m : ℕ) (request : HttpRequest) (bytes : List ℕ) (first : List Step)
     → old.leaving ≡ None → Begins old.rest request new.rest
-    → Answers 1 server'.history (last_turn 0 so.steps) server'.turns m request (closes_after (old.served + 1)) bytes first
-    → IsRun 1 (so.steps ++ first) server'.history → IsOneThread (so.steps ++ first) → length (so.steps ++ first) ≡ server'.turns
+    → Answers server'.projects server'.history (last_turn 0 so.steps) server'.turns m request (closes_after (old.served + 1)) bytes first
+    → IsRun server'.projects (so.steps ++ first) server'.history → IsOneThread (so.steps ++ first) → length (so.steps ++ first) ≡ server'.turns
     → IsBefore (server'.turns + 1) server'.history
-    → Answered 1 server'.history server'.turns 0 0 so.requests so.asked so.out so.steps
+    → Answered server'.projects server'.history server'.turns 0 0 so.requests so.asked so.out so.steps
     → server'.turns ≤ length so.requests + 1
     → Exchanges a b [] (m ∷ []) bytes → IsQuiet a b → b.source.ended ≡ a.source.ended
     → new.served ≡ old.served + 1 → new.waits ≡ None → new.ended ≡ old.ended → new.leaving ≡ leaving_after (old.served + 1)
@@ -194,13 +194,13 @@ so_far_push w a b old new server server' so m request bytes first here begins an
       one_thread = one;
       count = count;
       earlier = earlier;
-      answered = Answered_push 1 server'.history server'.turns 0 0 so.requests so.asked so.out so.steps m request bytes first answered
-          (subst (λ (c : Bool). Answers 1 server'.history (last_turn 0 so.steps) server'.turns m request c bytes first) close answers);
+      answered = Answered_push server'.projects server'.history server'.turns 0 0 so.requests so.asked so.out so.steps m request bytes first answered
+          (subst (λ (c : Bool). Answers server'.projects server'.history (last_turn 0 so.steps) server'.turns m request c bytes first) close answers);
       served = served ∙ omega (arith, number, grown);
       idle = idle;
       few = omega (arith, few, grown);
       most = omega (arith, room, grown);
       ended_is = λ e. over ∙ so.ended_is (sym going ∙ e);
-      leaving = subst (λ (o : Option SessionEnd). LeavesBy server'.history (last_turn 0 (so.steps ++ first)) server'.turns b.source.ended new.rest new.rest (length (so.requests ++ request ∷ [])) [] [] o) (sym leaving)
-          (leaves_after server'.history (last_turn 0 (so.steps ++ first)) server'.turns b.source.ended new.rest (old.served + 1) (length (so.requests ++ request ∷ [])) (omega (arith, number, grown)) (omega (arith, room, grown)));
+      leaving = subst (λ (o : Option SessionEnd). LeavesBy server'.projects server'.history (last_turn 0 (so.steps ++ first)) server'.turns b.source.ended new.rest new.rest (length (so.requests ++ request ∷ [])) [] [] o) (sym leaving)
+          (leaves_after server'.projects server'.history (last_turn 0 (so.steps ++ first)) server'.turns b.source.ended new.rest (old.served + 1) (length (so.requests ++ request ∷ [])) (omega (arith, number, grown)) (omega (arith, room, grown)));
     }

@@ -4,6 +4,7 @@ pub mod Events
 pub mod Ending
 pub mod Stepping
 pub mod Fuel
-pub mod Times
+pub mod Numbers
+pub mod Grammar
 pub mod Statuses
 pub mod Calling

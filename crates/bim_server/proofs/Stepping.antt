@@ -53,7 +53,7 @@ read_no_write k n e = cc
 -- after a read that failed
 read_failed : (w : Outside) (s s' : SourceSeen) (x : SinkSeen) (u v : ClockSeen) (old : TalkState) (server : ServerState) (so : SoFar w (outside s x u) old server)
     → old.leaving ≡ None → IsUnfinished old.rest → SourceGives s s' [] → Rose s.faults s'.faults → ClockGives u v [] → EndsEmpty s'
-    → Replays 1 w (outside s' x v) (end.ReadFault old.served)
+    → Replays server.projects w (outside s' x v) (end.ReadFault old.served)
 read_failed w s s' x u v old server so here less gives rose told empty =
     finish_same w (outside s x u) (outside s' x v) old server so [] [] [] (end.ReadFault old.served) here (read_exchange s s' x u v [] [] gives told) empty
     (one_fault s.faults s'.faults (IsReadFault (end.ReadFault old.served)) rose (old.served, refl))
@@ -74,15 +74,15 @@ goes_read w s s' x u v moments old mid new server (End e) so told talks reading 
     number : mid.served ≡ old.served
     number = ap (λ (z : TalkState). z.served) talks.4
 
-    of_kind : EndsReading s s' mid reading.0 e → Replays 1 w (outside s' x v) e
+    of_kind : EndsReading s s' mid reading.0 e → Replays server.projects w (outside s' x v) e
     of_kind (inl failed) =
         let is : e ≡ end.ReadFault old.served = failed.0 ∙ ap end.ReadFault number in
-        subst (λ (z : SessionEnd). Replays 1 w (outside s' x v) z) (sym is)
+        subst (λ (z : SessionEnd). Replays server.projects w (outside s' x v) z) (sym is)
         (read_failed w s s' x u v old server so talks.1 talks.3 (subst (λ (b : List ℕ). SourceGives s s' b) failed.1 reading.1) failed.2
         (no_moments u v moments talks.0 told) empty)
     of_kind (inr memory) =
         let is : e ≡ end.Memory old.served = memory.0 ∙ ap end.Memory number in
-        subst (λ (z : SessionEnd). Replays 1 w (outside s' x v) z) (sym is)
+        subst (λ (z : SessionEnd). Replays server.projects w (outside s' x v) z) (sym is)
         (finish_memory w (outside s x u) (outside s' x v) old server so reading.0 talks.1
         (read_exchange s s' x u v reading.0 [] reading.1 (no_moments u v moments talks.0 told)) (memory.1, refl) empty)
 
@@ -94,7 +94,7 @@ wrote_alone : (w : Outside) (s : SourceSeen) (x y : SinkSeen) (u v : ClockSeen) 
 wrote_alone w s x y u v m old new server request bytes so told here begins alone is wrote quiet =
     let same : so.steps ++ [] ≡ so.steps = append-nil so.steps in
     so_far_push w (outside s x u) (outside s y v) old new server server so m request bytes [] here begins
-    (alone_answers server.history (last_turn 0 so.steps) server.turns m request (closes_after (old.served + 1)) bytes alone)
+    (alone_answers server.projects server.history (last_turn 0 so.steps) server.turns m request (closes_after (old.served + 1)) bytes alone)
     (rw same so.run) (rw same so.one_thread) (rw same so.count) so.earlier so.answered (let few = so.few in omega arith)
     (write_exchange s x y u v (m ∷ []) bytes told wrote) (refl, quiet) refl
     (ap (λ (z : TalkState). z.served) is) (ap (λ (z : TalkState). z.waits) is) (ap (λ (z : TalkState). z.ended) is) (ap (λ (z : TalkState). z.leaving) is)
@@ -143,7 +143,7 @@ write_no_read k n e = cc
 wrote_part : (w : Outside) (s : SourceSeen) (x y : SinkSeen) (u v : ClockSeen) (moments : List ℕ) (old : TalkState) (server : ServerState)
     (so : SoFar w (outside s x u) old server) (bytes : List ℕ) → ClockGives u v moments
     → old.leaving ≡ None → WritesFront x y bytes → EndsEmpty s
-    → IsNext 1 server.history (last_turn 0 so.steps) server.turns old.rest (length so.requests) moments bytes [] → Replays 1 w (outside s y v) (end.WriteFault old.served)
+    → IsNext server.projects server.history (last_turn 0 so.steps) server.turns old.rest (length so.requests) moments bytes [] → Replays server.projects w (outside s y v) (end.WriteFault old.served)
 wrote_part w s x y u v moments old server so bytes told here front empty next =
     finish_same w (outside s x u) (outside s y v) old server so [] moments front.0 (end.WriteFault old.served) here
     (write_exchange s x y u v moments front.0 told front.4) empty
@@ -152,20 +152,20 @@ wrote_part w s x y u v moments old server so bytes told here front empty next =
       so.served,
       room_of w (outside s x u) old server so here,
       refl,
-      (front.1, front.3, subst (λ (b : List ℕ). IsNext 1 server.history (last_turn 0 so.steps) server.turns old.rest (length so.requests) moments b []) front.2 next),
+      (front.1, front.3, subst (λ (b : List ℕ). IsNext server.projects server.history (last_turn 0 so.steps) server.turns old.rest (length so.requests) moments b []) front.2 next),
     )
 
 -- what comes next where the talk wrote it by itself
 next_alone : (w a : Outside) (moments : List ℕ) (old new : TalkState) (server : ServerState) (bytes : List ℕ) (so : SoFar w a old server) → Talks moments old (Write bytes) new
-    → IsNext 1 server.history (last_turn 0 so.steps) server.turns old.rest (length so.requests) moments bytes []
+    → IsNext server.projects server.history (last_turn 0 so.steps) server.turns old.rest (length so.requests) moments bytes []
 next_alone w a moments old new server bytes so (here, inl one) = inl (
   one.0,
   one.1,
   new.rest,
   one.2,
   one.3,
-  subst (λ (c : Bool). Answers 1 server.history (last_turn 0 so.steps) server.turns one.0 one.1 c bytes []) (ap (λ n. closes_after (n + 1)) so.served)
-      (alone_answers server.history (last_turn 0 so.steps) server.turns one.0 one.1 (closes_after (old.served + 1)) bytes one.4),
+  subst (λ (c : Bool). Answers server.projects server.history (last_turn 0 so.steps) server.turns one.0 one.1 c bytes []) (ap (λ n. closes_after (n + 1)) so.served)
+      (alone_answers server.projects server.history (last_turn 0 so.steps) server.turns one.0 one.1 (closes_after (old.served + 1)) bytes one.4),
 )
 next_alone w a moments old new server bytes so (here, inr fault) = inr (new.rest, fault.0, fault.1, refl)
 
@@ -184,7 +184,7 @@ pub goes_write : (w : Outside) (s : SourceSeen) (x y : SinkSeen) (u v : ClockSee
 goes_write w s x y u v moments old new server bytes Again so told talks wrote empty =
     wrote_whole w s x y u v moments old new server bytes so told talks wrote.0 wrote.1
 goes_write w s x y u v moments old new server bytes (End e) so told talks writing empty =
-    subst (λ (z : SessionEnd). Replays 1 w (outside s y v) z) (sym writing.0)
+    subst (λ (z : SessionEnd). Replays server.projects w (outside s y v) z) (sym writing.0)
     (wrote_part w s x y u v moments old server so bytes told talks.0 writing.1 empty
     (next_alone w (outside s x u) moments old new server bytes so talks))
 
@@ -222,7 +222,7 @@ so_far_told w s x u v old server told so = record {
 
 -- after the end of a talk
 pub goes_leave : (w : Outside) (s : SourceSeen) (x : SinkSeen) (u v : ClockSeen) (moments : List ℕ) (old new : TalkState) (server : ServerState) (e : SessionEnd)
-    → SoFar w (outside s x u) old server → ClockGives u v moments → Talks moments old (Leave e) new → IsOwnEnd e → EndsEmpty s → Replays 1 w (outside s x v) e
+    → SoFar w (outside s x u) old server → ClockGives u v moments → Talks moments old (Leave e) new → IsOwnEnd e → EndsEmpty s → Replays server.projects w (outside s x v) e
 goes_leave w s x u v moments old new server e so told (none, inl leaving, same) own empty =
     finish_leaving w (outside s x v) old server (so_far_told w s x u v old server (no_moments u v moments none told) so) e leaving own empty
 goes_leave w s x u v moments old new server e so told (none, inr met, same) own empty =
@@ -230,9 +230,9 @@ goes_leave w s x u v moments old new server e so told (none, inr met, same) own 
 
 -- after want of memory for what comes next
 pub goes_lacks : (w : Outside) (s : SourceSeen) (x : SinkSeen) (u v : ClockSeen) (moments : List ℕ) (old new : TalkState) (server : ServerState) (n : ℕ)
-    → SoFar w (outside s x u) old server → ClockGives u v moments → Lacks moments old new → n ≡ old.served → EndsEmpty s → Replays 1 w (outside s x v) (end.Memory n)
+    → SoFar w (outside s x u) old server → ClockGives u v moments → Lacks moments old new → n ≡ old.served → EndsEmpty s → Replays server.projects w (outside s x v) (end.Memory n)
 goes_lacks w s x u v moments old new server n so told lacks is empty =
-    subst (λ (k : ℕ). Replays 1 w (outside s x v) (end.Memory k)) (sym is)
+    subst (λ (k : ℕ). Replays server.projects w (outside s x v) (end.Memory k)) (sym is)
     (finish_lacks w (outside s x u) (outside s x v) old new server so moments lacks (read_exchange s s x u v [] moments (gives_none s) told) (refl, refl) empty)
 
 -- the state of a talk whose call waits
@@ -273,7 +273,7 @@ wrote_called w s x y u v m old mid new server server' request call (Err error) b
     let whole : SoFar w (outside s y v) new server =
     so_far_push w (outside s x u) (outside s y v) old new server server so m request bytes [] here
     (subst (λ (r : List ℕ). Begins old.rest request r) (sym rest) begins)
-    (alone_answers server.history (last_turn 0 so.steps) server.turns m request (closes_after (old.served + 1)) bytes (inr close))
+    (alone_answers server.projects server.history (last_turn 0 so.steps) server.turns m request (closes_after (old.served + 1)) bytes (inr close))
     (rw same so.run) (rw same so.one_thread) (rw same so.count) so.earlier so.answered (let few = so.few in omega arith)
     (write_exchange s x y u v (m ∷ []) bytes told wrote) (refl, quiet) refl
     (ap (λ (z : TalkState). z.served) new_is ∙ ap (λ n. n + 1) number) (ap (λ (z : TalkState). z.waits) new_is)
@@ -285,7 +285,7 @@ wrote_called w s x y u v m old mid new server server' request call (Err error) b
 lacked_called : (w : Outside) (s : SourceSeen) (x : SinkSeen) (u v : ClockSeen) (m : ℕ) (old mid : TalkState) (server server' : ServerState)
     (request : HttpRequest) (call : BookRequest) (receipt : Result BookReceipt AllocError)
     → SoFar w (outside s x u) old server → ClockGives u v (m ∷ []) → old.leaving ≡ None → Begins old.rest request mid.rest → Means m request call
-    → Calls call server receipt server' → EndsEmpty s → Replays 1 w (outside s x v) (end.Memory old.served)
+    → Calls call server receipt server' → EndsEmpty s → Replays server.projects w (outside s x v) (end.Memory old.served)
 lacked_called w s x u v m old mid server server' request call (Err error) so told here begins means calls empty =
     finish_own w (outside s x u) (outside s x v) old server so [] (m ∷ []) (end.Memory old.served) here (memory_own old.served)
     (read_exchange s s x u v [] (m ∷ []) (gives_none s) told) (refl, refl) empty (
@@ -319,12 +319,12 @@ cut_called : (w : Outside) (s : SourceSeen) (x y : SinkSeen) (u v : ClockSeen) (
     (request : HttpRequest) (call : BookRequest) (receipt : Result BookReceipt AllocError) (bytes : List ℕ)
     → SoFar w (outside s x u) old server → ClockGives u v (m ∷ []) → old.leaving ≡ None → Begins old.rest request mid.rest → Means m request call
     → Calls call server receipt server' → AnswersCall receipt (kind_of request) (closes_after (old.served + 1)) bytes → WritesFront x y bytes → EndsEmpty s
-    → Replays 1 w (outside s y v) (end.WriteFault old.served)
+    → Replays server.projects w (outside s y v) (end.WriteFault old.served)
 cut_called w s x y u v m old mid server server' request call (Ok receipt) bytes so told here begins means calls answers front empty =
     let a : Outside = outside s x u in
     let close : AnswersCall (Ok receipt) (kind_of request) (closes_after (length so.requests + 1)) bytes =
     subst (λ (k : ℕ). AnswersCall (Ok receipt) (kind_of request) (closes_after (k + 1)) bytes) so.served answers in
-    let next : IsNext 1 (with_turn call server).history (last_turn 0 so.steps) (server.turns + 1) old.rest (length so.requests) (m ∷ []) bytes (step_of server call ∷ []) =
+    let next : IsNext server.projects (with_turn call server).history (last_turn 0 so.steps) (server.turns + 1) old.rest (length so.requests) (m ∷ []) bytes (step_of server call ∷ []) =
     inl (
       m,
       request,
@@ -342,13 +342,18 @@ cut_called w s x y u v m old mid server server' request call (Ok receipt) bytes 
       so.served,
       room_of w a old server so here,
       refl,
-      (front.1, front.3, subst (λ (b : List ℕ). IsNext 1 (with_turn call server).history (last_turn 0 so.steps) (server.turns + 1) old.rest (length so.requests) (m ∷ []) b (step_of server call ∷ [])) front.2 next),
+      (front.1, front.3, subst (λ (b : List ℕ). IsNext server.projects (with_turn call server).history (last_turn 0 so.steps) (server.turns + 1) old.rest (length so.requests) (m ∷ []) b (step_of server call ∷ [])) front.2 next),
     )
 cut_called w s x y u v m old mid server server' request call (Err error) bytes so told here begins means calls answers front empty =
     let close : IsResponse answer.Memory (kind_of request) None (closes_after (length so.requests + 1)) bytes =
     subst (λ (k : ℕ). IsResponse answer.Memory (kind_of request) None (closes_after (k + 1)) bytes) so.served answers in
     wrote_part w s x y u v (m ∷ []) old server so bytes told here front empty
-    (inl (m, request, mid.rest, refl, begins, alone_answers server.history (last_turn 0 so.steps) server.turns m request (closes_after (length so.requests + 1)) bytes (inr close)))
+    (inl (m, request, mid.rest, refl, begins, alone_answers server.projects server.history (last_turn 0 so.steps) server.turns m request (closes_after (length so.requests + 1)) bytes (inr close)))
+
+same_projects : (call : BookRequest) (server server' : ServerState) (receipt : Result BookReceipt AllocError) → Calls call server receipt server'
+    → server'.projects ≡ server.projects
+same_projects call server server' (Ok receipt) calls = ap (λ (z : ServerState). z.projects) calls.2
+same_projects call server server' (Err error) calls = ap (λ (z : ServerState). z.projects) calls
 
 -- after a call of the book
 pub goes_call : (w : Outside) (s : SourceSeen) (x y : SinkSeen) (u v : ClockSeen) (moments : List ℕ) (old mid new : TalkState) (server server' : ServerState) (call : BookRequest) (result : Progress)
@@ -358,7 +363,8 @@ goes_call w s x y u v moments old mid new server server' call Again so told (her
     let kind : called.0 ≡ kind_of one.1 = waiting mid.rest (kind_of one.1) called.0 old mid one.5 called.1 in
     wrote_called w s x y u v one.0 old mid new server server' one.1 call called.2 called.3 so (subst (λ (m : List ℕ). ClockGives u v m) one.2 told) here one.3 one.4 one.5 called.4 earlier
     (subst (λ (k : ReplyKind). AnswersCall called.2 k (closes_after (mid.served + 1)) called.3) kind called.5) called.6 called.7 called.8
-goes_call w s x y u v moments old mid new server server' call (End e) so told (here, one) earlier called empty = of_kind called.4
+goes_call w s x y u v moments old mid new server server' call (End e) so told (here, one) earlier called empty =
+    subst (λ (n : ℕ). Replays n w (outside s y v) e) (sym (same_projects call server server' called.2 called.3)) (of_kind called.4)
   where
     kind : called.0 ≡ kind_of one.1
     kind = waiting mid.rest (kind_of one.1) called.0 old mid one.5 called.1
@@ -371,17 +377,17 @@ goes_call w s x y u v moments old mid new server server' call (End e) so told (h
 
     of_kind : ((e ≡ end.Memory mid.served) × (y ≡ x))
         ⊎ ((bytes : List ℕ) × AnswersCall called.2 called.0 (closes_after (mid.served + 1)) bytes × (e ≡ end.WriteFault mid.served) × WritesFront x y bytes)
-        → Replays 1 w (outside s y v) e
+        → Replays server.projects w (outside s y v) e
     of_kind (inl memory) =
         let is : e ≡ end.Memory old.served = memory.0 ∙ ap end.Memory number in
-        let whole : Replays 1 w (outside s x v) (end.Memory old.served) =
+        let whole : Replays server.projects w (outside s x v) (end.Memory old.served) =
         lacked_called w s x u v one.0 old mid server server' one.1 call called.2 so asked here one.3 one.4 called.3 empty in
-        subst (λ (z : SessionEnd). Replays 1 w (outside s y v) z) (sym is)
-        (subst (λ (z : SinkSeen). Replays 1 w (outside s z v) (end.Memory old.served)) (sym memory.1) whole)
+        subst (λ (z : SessionEnd). Replays server.projects w (outside s y v) z) (sym is)
+        (subst (λ (z : SinkSeen). Replays server.projects w (outside s z v) (end.Memory old.served)) (sym memory.1) whole)
     of_kind (inr cut) =
         let is : e ≡ end.WriteFault old.served = cut.2 ∙ ap end.WriteFault number in
         let answers : AnswersCall called.2 (kind_of one.1) (closes_after (old.served + 1)) cut.0 =
         subst (λ (k : ℕ). AnswersCall called.2 (kind_of one.1) (closes_after (k + 1)) cut.0) number
         (subst (λ (k : ReplyKind). AnswersCall called.2 k (closes_after (mid.served + 1)) cut.0) kind cut.1) in
-        subst (λ (z : SessionEnd). Replays 1 w (outside s y v) z) (sym is)
+        subst (λ (z : SessionEnd). Replays server.projects w (outside s y v) z) (sym is)
         (cut_called w s x y u v one.0 old mid server server' one.1 call called.2 cut.0 so asked here one.3 one.4 called.3 answers cut.3 empty)

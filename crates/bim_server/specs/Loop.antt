@@ -20,8 +20,9 @@ use Rattle.bim_server.specs.Writes.{WritesFront}
 use Rattle.bim_server.specs.declared.session.Progress.{Progress}
 use Rattle.bim_server.specs.declared.session.Progress.TheVariants.{Again, End}
 
--- what contracts see of a one-thread book: its history, and how many turns were taken
+-- what contracts see of a one-thread book: how many projects it has, its history, and how many turns were taken
 pub record ServerState : Type 0 where
+  pub projects : ℕ
   pub history : List Entry
   pub turns : ℕ
 
@@ -31,17 +32,21 @@ stamp_of turn = record { turn = turn; pass = 0; call = turn }
 
 -- the next turn is taken by a request
 abbrev pub with_turn : BookRequest → ServerState → ServerState
-with_turn request s = record { history = s.history ++ added_by 1 s.history (stamp_of (s.turns + 1)) request; turns = s.turns + 1 }
+with_turn request s = record {
+  projects = s.projects;
+  history = s.history ++ added_by s.projects s.history (stamp_of (s.turns + 1)) request;
+  turns = s.turns + 1;
+}
 
 -- a call takes the next turn and is answered at the history so far, or nothing happens
 abbrev pub Calls : BookRequest → ServerState → Result BookReceipt AllocError → ServerState → Type 0
-Calls request old (Ok receipt) new = (receipt.turn ≡ old.turns + 1) × (receipt.reply ≡ reply_of 1 old.history request) × (new ≡ with_turn request old)
+Calls request old (Ok receipt) new = (receipt.turn ≡ old.turns + 1) × (receipt.reply ≡ reply_of old.projects old.history request) × (new ≡ with_turn request old)
 Calls request old (Err e) new = new ≡ old
 
 -- a session goes on, or it ends so once all is written
-abbrev pub LeavesBy : List Entry → ℕ → ℕ → Bool → List ℕ → List ℕ → ℕ → List ℕ → List ℕ → Option SessionEnd → Type 0
-LeavesBy history last top ended fed rest served late tail None = (rest ≡ fed) × (served < most_requests) × (late ≡ []) × (tail ≡ [])
-LeavesBy history last top ended fed rest served late tail (Some e) = Ends 1 history last top ended rest served e [] late tail []
+abbrev pub LeavesBy : ℕ → List Entry → ℕ → ℕ → Bool → List ℕ → List ℕ → ℕ → List ℕ → List ℕ → Option SessionEnd → Type 0
+LeavesBy projects history last top ended fed rest served late tail None = (rest ≡ fed) × (served < most_requests) × (late ≡ []) × (tail ≡ [])
+LeavesBy projects history last top ended fed rest served late tail (Some e) = Ends projects history last top ended rest served e [] late tail []
 
 -- no read and no write has failed
 abbrev pub IsQuiet : Outside → Outside → Type 0
@@ -64,22 +69,22 @@ pub record SoFar (before now : Outside) (talk : TalkState) (server : ServerState
   pub moments_are : moments ≡ asked ++ late
   pub output_is : output ≡ out ++ tail
   pub reads : Reads input requests rest
-  pub run : IsRun 1 steps server.history
+  pub run : IsRun server.projects steps server.history
   pub one_thread : IsOneThread steps
   pub count : length steps ≡ server.turns
   pub earlier : IsBefore (server.turns + 1) server.history
-  pub answered : Answered 1 server.history server.turns 0 0 requests asked out steps
+  pub answered : Answered server.projects server.history server.turns 0 0 requests asked out steps
   pub served : talk.served ≡ length requests
   pub idle : talk.waits ≡ None
   pub few : server.turns ≤ length requests
   pub most : length requests ≤ most_requests
   pub ended_is : talk.ended ≡ true → IsTrue now.source.ended
-  pub leaving : LeavesBy server.history (last_turn 0 steps) server.turns now.source.ended talk.rest rest (length requests) late tail talk.leaving
+  pub leaving : LeavesBy server.projects server.history (last_turn 0 steps) server.turns now.source.ended talk.rest rest (length requests) late tail talk.leaving
 
 -- where a session stands after one step of it
 abbrev pub Goes : Outside → Outside → Progress → TalkState → ServerState → Type 0
 Goes before now Again talk server = SoFar before now talk server
-Goes before now (End e) talk server = Replays 1 before now e
+Goes before now (End e) talk server = Replays server.projects before now e
 
 -- how a read ends a session: it failed, or memory was wanting for its piece
 abbrev pub EndsReading : SourceSeen → SourceSeen → TalkState → List ℕ → SessionEnd → Type 0

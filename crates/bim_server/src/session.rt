@@ -1,5 +1,5 @@
 //! One session over one source and one sink, with a one-thread book.
-ghost use Rattle.std.specs.Prelude.{◌≡◌, ◌<◌, ◌^◌, ◌+◌, false, None, IsSome};
+ghost use Rattle.std.specs.Prelude.{◌≡◌, ◌<◌, ◌≤◌, ◌^◌, ◌+◌, false, None, IsSome};
 ghost use Rattle.bim_io.specs.Seen.{Outside, outside};
 ghost use Rattle.federation_book.specs.History.{IsBefore};
 ghost use Rattle.bim_session.specs.Replay.{Replays, status_of};
@@ -9,7 +9,7 @@ use crate::one_thread::OneThread;
 use crate::sinks::write_whole;
 use bim_io::{Clock, Sink, Source};
 use bim_session::{SessionEnd, Talk, Want};
-use federation_book::BookRequest;
+use federation_book::{BookRequest, MOST_PROJECTS};
 use std::alloc::Global;
 
 /// Whether a session goes on after a step.
@@ -73,6 +73,7 @@ fn call_book<K: Sink>(
     requires turns { server.old.turns < 2 ^ 63 }
     ensures step { Called call (K.seen sink.old) (K.seen sink.new) talk.old server.old result talk.new server.new }
     ensures earlier { IsBefore (server.new.turns + 1) server.new.history }
+    ensures projects { server.new.projects ≡ server.old.projects }
 {
     let served = talk.served();
     let receipt = server.call(call);
@@ -96,6 +97,7 @@ fn take_step<S: Source, K: Sink, C: Clock>(
     requires turns { server.old.turns < 2 ^ 63 }
     ensures step { (before : Outside) → SoFar before (outside (S.seen source.old) (K.seen sink.old) (C.seen clock.old)) talk.old server.old
         → Goes before (outside (S.seen source.new) (K.seen sink.new) (C.seen clock.new)) result talk.new server.new }
+    ensures projects { server.new.projects ≡ server.old.projects }
     ensures smaller { result ≡ Progress.Again → fuel talk.new < fuel talk.old }
 {
     let served = talk.served();
@@ -108,20 +110,23 @@ fn take_step<S: Source, K: Sink, C: Clock>(
     }
 }
 
-/// Reads requests, and answers them, until the session ends.
+/// Reads requests, and answers them over a book of so many projects, until the session ends.
 pub fn run_session<S: Source, K: Sink, C: Clock>(
     alloc: Global,
+    projects: u32,
     source: &mut S,
     sink: &mut K,
     clock: &mut C,
 ) -> SessionEnd
-    ensures { Replays 1 (outside (S.seen source.old) (K.seen sink.old) (C.seen clock.old))
+    requires some { 1 ≤ projects }
+    requires few { projects ≤ MOST_PROJECTS }
+    ensures { Replays projects (outside (S.seen source.old) (K.seen sink.old) (C.seen clock.old))
         (outside (S.seen source.new) (K.seen sink.new) (C.seen clock.new)) result }
 {
     let Ok(mut talk) = Talk::new(alloc) else {
         return SessionEnd::Memory { served: 0 };
     };
-    let Ok(mut server) = OneThread::new(alloc) else {
+    let Ok(mut server) = OneThread::new(alloc, projects) else {
         return SessionEnd::Memory { served: 0 };
     };
     'steps: loop {

@@ -165,6 +165,10 @@ fn words_outside_the_grammar_print_the_usage(rt: HostRuntime) -> Result<(), Fail
     assert_words(&rt, alloc, &["replay", "--at", "253402207200"], 0, b"")?;
     assert_words(&rt, alloc, &["replay", "--at", "253402207201"], 2, usage)?;
     assert_words(&rt, alloc, &["replay", "--at", "+5"], 2, usage)?;
+    assert_words(&rt, alloc, &["replay", "--projects", "8", "--at=5"], 0, b"")?;
+    assert_words(&rt, alloc, &["replay", "--projects", "9"], 2, usage)?;
+    assert_words(&rt, alloc, &["replay", "--at", "5", "--at", "6"], 2, usage)?;
+    assert_words(&rt, alloc, &["replay", "--help"], 2, usage)?;
     assert_words(&rt, alloc, &["check"], 2, usage)?;
     assert_words(&rt, alloc, &[], 2, usage)
 }

@@ -1,11 +1,16 @@
+use Rattle.std.proofs.Common.{ap}
+use Rattle.bim_server.specs.Loop.{ServerState}
 use Rattle.bim_server.proofs.Ending.{nothing_done, so_far_fresh}
 use Rattle.bim_server.proofs.session.run_session.Goals as goal
 
 pub returns-in_default : goal.returns-in_default
-returns-in_default g c = nothing_done _ (g.met.S.Source.at_end c.args.source.now)
+returns-in_default g c = nothing_done _ c.args.projects (g.met.S.Source.at_end c.args.source.now)
 
 pub returns-in_default-new : goal.returns-in_default-new
-returns-in_default-new g c = nothing_done _ (g.met.S.Source.at_end c.args.source.now)
+returns-in_default-new g c = nothing_done _ c.args.projects (g.met.S.Source.at_end c.args.source.now)
 
 pub steps-init : goal.steps-init
-steps-init g c = so_far_fresh _ c.in-Ok.talk c.in-Ok-new.server c.in-Ok.ensures c.in-Ok-new.ensures
+steps-init g c = record {
+  so_far = so_far_fresh _ c.args.projects c.in-Ok.talk c.in-Ok-new.server c.in-Ok.ensures c.in-Ok-new.ensures;
+  projects = ap (λ (s : ServerState). s.projects) c.in-Ok-new.ensures;
+}
