@@ -1,9 +1,10 @@
 pub mod Known
+pub mod SoFar
 pub mod Growing
 pub mod Events
 pub mod Ending
 pub mod Stepping
-pub mod Fuel
+pub mod Running
 pub mod Numbers
 pub mod Grammar
 pub mod Statuses

@@ -176,20 +176,12 @@ Answered_push s (q ∷ events) moments out steps event asked bytes first answere
           (subst (λ (z : Standing). AnswersEvent z event asked bytes first) (behind_past s q events steps answered.4 answered.5 answered.8) one),
     )
 
--- the next step of a history takes a request where its entries are those that the request adds
-pub turn_new : (s : Standing) (history : List Entry) (m : ℕ) (r : HttpRequest) (step : Step)
-    → s.history ≡ history ++ added_by s.projects history step.stamp step.request → Means m r step.request
-    → IsBefore step.stamp.turn history → s.last < step.stamp.turn → step.stamp.turn ≤ s.top → TakesTurn (asking s m r) (step ∷ [])
-turn_new s history m r step is means before above within =
-    let added : List Entry = added_by s.projects history step.stamp step.request in
-    let own : AreOf step.stamp.turn added = added_of s.projects history step.stamp step.request in
-    record {
-      step = step;
-      one = refl;
-      above = above;
-      within = within;
-      means = means;
-      entry = subst (λ (h : List Entry). of_turn step.stamp.turn h ≡ added_by s.projects (at_turn step.stamp.turn h) step.stamp step.request) (sym is)
-          (of_turn-new step.stamp.turn history added before own
-          ∙ ap (λ es. added_by s.projects es step.stamp step.request) (sym (at_turn-new step.stamp.turn history added before own)));
-    }
+-- the entries of the next step of a history are those that its request adds
+pub entry_new : (projects : ℕ) (history : List Entry) (step : Step) → IsBefore step.stamp.turn history
+    → (let more : List Entry = history ++ added_by projects history step.stamp step.request in
+    of_turn step.stamp.turn more ≡ added_by projects (at_turn step.stamp.turn more) step.stamp step.request)
+entry_new projects history step before =
+    let added : List Entry = added_by projects history step.stamp step.request in
+    let own : AreOf step.stamp.turn added = added_of projects history step.stamp step.request in
+    of_turn-new step.stamp.turn history added before own
+    ∙ ap (λ es. added_by projects es step.stamp step.request) (sym (at_turn-new step.stamp.turn history added before own))

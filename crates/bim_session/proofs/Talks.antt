@@ -94,7 +94,8 @@ faulted old new f fault (Write bytes) c here steps writes is = λ rest told stan
     let a = steps rest told stands in
     let same : new.framer ≡ f = ap (λ (s : TalkState). s.framer) is in
     let state : new ≡ with_fault fault (with_framer new.framer old) = is ∙ ap (λ (g : Framer). with_fault fault (with_framer g old)) (sym same) in
-    ([], clock_none c, (here, inr (inr (fault, refl, (a.2.0, a.2.1), writes, state))))
+    let now : Stands new.framer rest told = subst (λ (g : Framer). Stands g rest told) (sym same) (stands_at f a.0 rest a.1 told a.2.2 a.2.3 a.3) in
+    ([], clock_none c, (here, inr (inr (fault, (refl, now), (a.2.0, a.2.1), writes, state))))
 faulted old new f fault (Call call) c here steps writes is = absurd writes
 faulted old new f fault (Leave e) c here steps writes is = absurd writes
 

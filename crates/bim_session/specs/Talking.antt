@@ -168,8 +168,8 @@ AnswersOne rest told moments old bytes new =
 -- the fault is answered in which the bytes end, and ends the talk
 abbrev pub AnswersFault : List ℕ → Bool → List ℕ → TalkState → List ℕ → TalkState → Type 0
 AnswersFault rest told moments old bytes new =
-    (fault : FrameFault) × (moments ≡ []) × Spells rest told [] (frame.bad fault) × IsFaultResponse fault bytes
-    × (new ≡ with_fault fault (with_framer new.framer old))
+    (fault : FrameFault) × TakesNone rest told moments new.framer × Spells rest told [] (frame.bad fault)
+    × IsFaultResponse fault bytes × (new ≡ with_fault fault (with_framer new.framer old))
 
 -- What a talk that stood for these bytes wants next, for which it asked for these moments: one for the request that it
 -- took, if it took one.

@@ -1,6 +1,7 @@
 use Rattle.std.proofs.Common.{ap}
 use Rattle.bim_server.specs.Loop.{ServerState}
-use Rattle.bim_server.proofs.Ending.{nothing_done, so_far_fresh}
+use Rattle.bim_server.proofs.Ending.{nothing_done}
+use Rattle.bim_server.proofs.Running.{starts}
 use Rattle.bim_server.proofs.session.run_session.Goals as goal
 
 pub returns-in_default : goal.returns-in_default
@@ -11,6 +12,6 @@ returns-in_default-new g c = nothing_done _ c.args.projects (g.met.S.Source.at_e
 
 pub steps-init : goal.steps-init
 steps-init g c = record {
-  so_far = so_far_fresh _ c.args.projects c.in-Ok.talk c.in-Ok-new.server c.in-Ok.ensures c.in-Ok-new.ensures;
+  so_far = starts _ c.args.projects c.in-Ok.talk c.in-Ok-new.server c.in-Ok.ensures.stands c.in-Ok.ensures.fresh c.in-Ok-new.ensures;
   projects = ap (λ (s : ServerState). s.projects) c.in-Ok-new.ensures;
 }
