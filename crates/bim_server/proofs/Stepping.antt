@@ -384,8 +384,7 @@ wrote_called w a b old mid new server server' so call waiting (Ok receipt) bytes
     let whole : SoFar w b new (with_turn call server) =
     so_far_push w a b old new server (with_turn call server) so (frame.request x.one.request) x.one.later false x.moments bytes (step_of server call ∷ []) x.here
     (x.one.settled, (x.one.later, x.one.next, (refl, refl)))
-    (subst (λ (g : Framer). Stands g x.one.later false) (sym (ap (λ (z : TalkState). z.framer) new_is)) x.one.stands)
-    (
+    (subst (λ (g : Framer). Stands g x.one.later false) (sym (ap (λ (z : TalkState). z.framer) new_is)) x.one.stands) (
       x.one.moment,
       x.one.one,
       called_answers server so.events so.steps x.one.moment x.one.request call receipt bytes x.means so.earlier (last_of w a old server so) calls.0 calls.1 close,

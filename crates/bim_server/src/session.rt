@@ -131,6 +131,7 @@ pub fn run_session<S: Source, K: Sink, C: Clock>(
     let Ok(mut server) = OneThread::new(alloc, projects) else {
         return SessionEnd::Memory { served: 0 };
     };
+    // No session comes near so many steps: each one answers, or reads a piece of a request whose bytes are bounded.
     'steps: for _ in 0..u64::MAX {
         match take_step(&mut talk, &mut server, source, sink, clock) {
             Progress::Again => {}

@@ -142,13 +142,11 @@ requested old new f m r (Write bytes) a b here steps gives wants = λ rest told 
       gives,
       (
         here,
-        inr (
-          inl (
-            took m r f new.framer rest told (steps rest told stands) same,
-            wants.0,
-            wants.1 ∙ ap (λ (g : Framer). with_answer (closes_after r (old.served + 1)) (with_framer g old)) (sym same),
-          ),
-        ),
+        inr (inl (
+          took m r f new.framer rest told (steps rest told stands) same,
+          wants.0,
+          wants.1 ∙ ap (λ (g : Framer). with_answer (closes_after r (old.served + 1)) (with_framer g old)) (sym same),
+        )),
       ),
     )
 requested old new f m r (Leave e) a b here steps gives wants = absurd wants
