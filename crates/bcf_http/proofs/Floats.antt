@@ -11,7 +11,9 @@ use Rattle.federation_book.specs.declared.types.BookFault.TheVariants.{NoProject
 use Rattle.bcf_json.specs.Trees.{IsTopicTree, AreTopicTrees, topic_tree}
 use Rattle.bcf_json.specs.declared.body.BodyFault.TheVariants.{Title}
 use Rattle.bcf_http.specs.declared.calls.RequestFault.{RequestFault}
-use Rattle.bcf_http.specs.declared.calls.RequestFault.TheVariants.{NotBuilt, BadJson, Body}
+use Rattle.bcf_http.specs.declared.calls.RequestFault.TheVariants.{NoRoute, Method, Encoding, Query, BadJson, Body}
+use Rattle.http_frame.specs.declared.types.FrameFault.{FrameFault}
+use Rattle.http_frame.specs.declared.types.FrameFault.TheVariants as frame
 use Rattle.bcf_http.specs.declared.answers.Answer.{Answer}
 use Rattle.bcf_http.specs.declared.answers.Answer.TheVariants as answer
 use Rattle.bim_model.specs.declared.upload.UploadFault.{UploadFault}
@@ -23,9 +25,9 @@ use Rattle.bim_model.specs.declared.rules.Rule.{Rule}
 use Rattle.bim_model.specs.declared.rules.RuleKind.{RuleKind}
 use Rattle.bim_model.specs.declared.rules.RuleKind.TheVariants.{Clash, Ignore}
 use Rattle.bcf_http.specs.Rules.{storey_tree, class_text, storeys_text, models_text, clash_tree, ignore_tree, kind_tree, rule_items}
-use Rattle.bcf_http.specs.UploadFaults.{error_tree, error_at, error_of, error_to, error_many, upload_fault_tree}
+use Rattle.bcf_http.specs.UploadFaults.{error_tree, error_at, error_of, error_to, error_many, error_named, upload_fault_tree}
 use Rattle.bcf_http.specs.Versions.{length_tree, box_tree, element_tree, model_tree, version_tree, changed_tree, AreElementTrees, AreModelTrees}
-use Rattle.bcf_http.specs.Answers.{IsReplyTree, IsAnswerTree, IsAnswerText, request_fault_tree}
+use Rattle.bcf_http.specs.Answers.{IsReplyTree, IsAnswerTree, IsAnswerText, request_fault_tree, frame_fault_tree}
 
 topic_has_none : (user date guid serial title : List ℕ) → has_float (topic_tree user date guid serial title) ≡ false
 unfolding topic_tree
@@ -50,6 +52,10 @@ to_has_none code name id to = refl
 many_has_none : (code name what : List ℕ) → has_float (error_many code name what) ≡ false
 unfolding error_many
 many_has_none code name what = refl
+
+named_has_none : (code name what : List ℕ) → has_float (error_named code name what) ≡ false
+unfolding error_named
+named_has_none code name what = refl
 
 upload_has_none : (f : UploadFault) → has_float (upload_fault_tree f) ≡ false
 upload_has_none fault.NotPart21 = error_has_none _ _
@@ -146,15 +152,26 @@ reply_has_none project (reply.Version version newest snapshot) tree is =
 reply_has_none project (reply.Refused NoProject) tree is = ap has_float is ∙ error_has_none _ _
 
 fault_has_none : (fault : RequestFault) → has_float (request_fault_tree fault) ≡ false
-fault_has_none NotBuilt = error_has_none _ _
+fault_has_none NoRoute = error_has_none _ _
+fault_has_none (Method row) = error_has_none _ _
+fault_has_none Encoding = error_has_none _ _
+fault_has_none (Query name) = named_has_none _ _ _
 fault_has_none BadJson = error_has_none _ _
 fault_has_none (Body Title) = error_has_none _ _
+
+frame_has_none : (fault : FrameFault) → has_float (frame_fault_tree fault) ≡ false
+frame_has_none frame.BadHead = error_has_none _ _
+frame_has_none frame.HeadTooLong = error_has_none _ _
+frame_has_none frame.BadLength = error_has_none _ _
+frame_has_none frame.BodyTooLong = error_has_none _ _
+frame_has_none frame.BadChunk = error_has_none _ _
+frame_has_none frame.Version = error_has_none _ _
 
 has_none : (project : ℕ) (a : Answer) (tree : Data) → IsAnswerTree project a tree → has_float tree ≡ false
 has_none project (answer.Book reply) tree is = reply_has_none project reply.body tree is
 has_none project (answer.Refused fault) tree is = ap has_float is ∙ fault_has_none fault
 has_none project (answer.Built fault) tree is = ap has_float is ∙ upload_has_none fault
-has_none project (answer.Frame fault) tree is = ap has_float is ∙ error_has_none _ _
+has_none project (answer.Frame fault) tree is = ap has_float is ∙ frame_has_none fault
 has_none project answer.Memory tree is = ap has_float is ∙ error_has_none _ _
 
 pub text_stated : (project : ℕ) (a : Answer) (tree : Data) (r : Result (String Global) AllocError) → IsAnswerTree project a tree

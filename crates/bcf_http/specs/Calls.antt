@@ -1,5 +1,5 @@
 -- What a request asks for, of the request alone.
-use Rattle.std.specs.Prelude.{◌≡◌, ℕ, List, length, Bool, true, false, if◌then◌else◌, Option, Some, None, Result, Ok, Err, option_and_then, ⊤}
+use Rattle.std.specs.Prelude.{◌≡◌, ℕ, ◌/◌, ◌^◌, ◌==◌, List, length, Bool, false, not, if◌then◌else◌, Option, Some, None, Result, Ok, Err, option_and_then, codes, bytes_eq, ⊤}
 use Rattle.std.specs.Str.{is_utf8}
 use Rattle.serde_json.specs.Data.{Data}
 use Rattle.serde_json.specs.Read.{read}
@@ -8,26 +8,25 @@ use Rattle.serde_json.specs.declared.value.Value.{Value}
 use Rattle.bim_model.specs.Identifiers.{identifier}
 use Rattle.bim_model.specs.declared.topic.TopicBody.{TopicBody}
 use Rattle.bim_model.specs.declared.topic.Author.{Author}
-use Rattle.http_frame.specs.declared.framer.HttpRequest.{HttpRequest}
-use Rattle.http_frame.specs.declared.route.Route.{Route}
-use Rattle.http_frame.specs.declared.route.Route.TheVariants as route
-use Rattle.http_frame.specs.Routes.{route_of}
-use Rattle.httparse.specs.Spans.{span_bytes}
+use Rattle.bim_model.specs.declared.upload.Mode.{Mode}
+use Rattle.http_frame.specs.declared.types.HttpRequest.{HttpRequest}
 use Rattle.federation_book.specs.declared.types.BookRequest.TheVariants.{ListTopics, PostTopic, ReadVersion}
-use Rattle.federation_book.specs.declared.types.Wanted.TheVariants.{Newest}
 use Rattle.bcf_json.specs.declared.body.BodyFault.{BodyFault}
-use Rattle.bcf_json.specs.Bodies.{is_object, asks_unbuilt, topic_body}
+use Rattle.bcf_json.specs.Bodies.{is_object, topic_body}
+use Rattle.bcf_http.specs.declared.paths.RoutePath.{RoutePath}
+use Rattle.bcf_http.specs.declared.paths.RoutePath.TheVariants as row
+use Rattle.bcf_http.specs.declared.query.QueryName.TheVariants.{Grid}
 use Rattle.bcf_http.specs.declared.calls.RequestFault.{RequestFault}
-use Rattle.bcf_http.specs.declared.calls.RequestFault.TheVariants.{NotBuilt, BadJson, Body}
+use Rattle.bcf_http.specs.declared.calls.RequestFault.TheVariants.{NoRoute, Method, Encoding, Query, BadJson, Body}
 use Rattle.bcf_http.specs.declared.calls.Refusal.{Refusal}
 use Rattle.bcf_http.specs.declared.calls.Refusal.TheVariants.{Fault, Memory}
 use Rattle.bcf_http.specs.declared.calls.HttpCall.{HttpCall}
 use Rattle.bcf_http.specs.declared.calls.HttpCall.TheVariants.{Ask, Build}
 use Rattle.bcf_http.specs.declared.calls.ReplyKind.{ReplyKind}
-
--- the identifier of the first project
-abbrev pub first_project : ℕ
-first_project = identifier 1 0
+use Rattle.bcf_http.specs.Paths.{has_method}
+use Rattle.bcf_http.specs.Targets.{query_of}
+use Rattle.bcf_http.specs.Queries.{grid_asked}
+use Rattle.bcf_http.specs.Places.{Place, topics, model, version, row_of, project_at, place_of}
 
 abbrev pub if_object : Data → Option Data
 if_object tree = if is_object tree then Some tree else None
@@ -40,33 +39,45 @@ abbrev pub with_fault : Result TopicBody BodyFault → Result TopicBody RequestF
 with_fault (Ok body) = Ok body
 with_fault (Err fault) = Err (Body fault)
 
--- the topic that an object asks for, or its first fault
-abbrev pub served_topic : Data → Result TopicBody RequestFault
-served_topic tree = if asks_unbuilt tree then Err NotBuilt else with_fault (topic_body tree)
-
--- the topic that a body asks for, or its first fault: no object, then a member that is not served yet, then the title
+-- the topic that a body asks for, or its first fault: no object, then the title
 abbrev pub topic_asked : Option Data → Result TopicBody RequestFault
 topic_asked None = Err BadJson
-topic_asked (Some tree) = served_topic tree
+topic_asked (Some tree) = with_fault (topic_body tree)
 
 abbrev pub author_of : ℕ → HttpRequest → Author
 author_of moment request = record { user = request.user; moment = moment }
 
-abbrev pub post_call : ℕ → HttpRequest → Result TopicBody RequestFault → Result HttpCall RequestFault
-post_call moment request (Ok body) = Ok (Ask (PostTopic first_project body (author_of moment request) (length request.body)))
-post_call moment request (Err fault) = Err fault
+abbrev pub post_call : ℕ → HttpRequest → ℕ → Result TopicBody RequestFault → Result HttpCall RequestFault
+post_call moment request project (Ok body) = Ok (Ask (PostTopic project body (author_of moment request) (length request.body)))
+post_call moment request project (Err fault) = Err fault
 
--- what is asked for by a route: a call of the book, or a model that is to be built of the body and put under its name
-abbrev pub asked_for : ℕ → HttpRequest → Option Route → Result HttpCall RequestFault
-asked_for moment request None = Err NotBuilt
-asked_for moment request (Some route.MakeTopic) = post_call moment request (topic_asked (object_of request.body))
-asked_for moment request (Some route.ListTopics) = Ok (Ask (ListTopics first_project))
-asked_for moment request (Some (route.PutModel name mode)) = Ok (Build first_project (span_bytes request.target name) mode request.body)
-asked_for moment request (Some route.NewestVersion) = Ok (Ask (ReadVersion first_project Newest))
+-- what is asked of the topics of a project: one more by POST, else all of them
+abbrev pub topics_call : ℕ → HttpRequest → ℕ → Result HttpCall RequestFault
+topics_call moment request project =
+    if bytes_eq request.method (codes "POST") then post_call moment request project (topic_asked (object_of request.body))
+    else Ok (Ask (ListTopics project))
 
--- what a request asks for at a moment, or the first fault that the request alone decides; what is no served route is refused
+-- a model is to be built of the body, and put into the project under its name
+abbrev pub model_call : HttpRequest → ℕ → List ℕ → Option Mode → Result HttpCall RequestFault
+model_call request project name None = Err (Query Grid)
+model_call request project name (Some mode) = Ok (Build project name mode request.body)
+
+-- what is asked for at a place, by a method of its row
+abbrev pub call_at : ℕ → HttpRequest → Place → Result HttpCall RequestFault
+call_at moment request (topics project) = topics_call moment request project
+call_at moment request (model project name) = model_call request project name (grid_asked (query_of request.target))
+call_at moment request (version project wanted) = Ok (Ask (ReadVersion project wanted))
+
+-- the same of any request that names the place: its method comes before the encoding of its body, and this before all else
+abbrev pub asked_at : ℕ → HttpRequest → Option Place → Result HttpCall RequestFault
+asked_at moment request None = Err NoRoute
+asked_at moment request (Some place) =
+    if not (has_method (row_of place) request.method) then Err (Method (row_of place))
+    else (if request.encoded then Err Encoding else call_at moment request place)
+
+-- what a request asks for at a moment, or the first fault that the request alone decides
 unfoldable pub asked_by : ℕ → HttpRequest → Result HttpCall RequestFault
-asked_by moment request = asked_for moment request (route_of request.method request.target)
+asked_by moment request = asked_at moment request (place_of request.target)
 
 -- the answer is what is meant, or want of memory
 abbrev pub IsAskedAs : Result HttpCall Refusal → Result HttpCall RequestFault → Type 0
@@ -74,17 +85,27 @@ IsAskedAs (Ok call) meant = meant ≡ Ok call
 IsAskedAs (Err (Fault fault)) meant = meant ≡ Err fault
 IsAskedAs (Err Memory) meant = ⊤
 
+-- the number of the project whose own identifier this is, or 0
+unfoldable pub number_of : ℕ → ℕ
+number_of id = let n = id / 2 ^ 96 in if id == identifier n 0 then n else 0
+
 -- success is answered 201: something is made
-abbrev pub creates : Option Route → Bool
-creates None = false
-creates (Some route.MakeTopic) = true
-creates (Some route.ListTopics) = false
-creates (Some (route.PutModel name mode)) = true
-creates (Some route.NewestVersion) = false
+abbrev pub creates : List ℕ → RoutePath → Bool
+creates method row.Topics = bytes_eq method (codes "POST")
+creates method row.Model = bytes_eq method (codes "PUT")
+creates method row.Version = false
+
+abbrev pub is_head : HttpRequest → Bool
+is_head request = bytes_eq request.method (codes "HEAD")
+
+abbrev pub kind_at : HttpRequest → Option Place → ReplyKind
+kind_at request None = record { project = 0; created = false; head = is_head request }
+kind_at request (Some place) =
+    record { project = number_of (project_at place); created = creates request.method (row_of place); head = is_head request }
 
 -- what a response needs of its request
 unfoldable pub kind_of : HttpRequest → ReplyKind
-kind_of request = record { project = 1; created = creates (route_of request.method request.target); head = false }
+kind_of request = kind_at request (place_of request.target)
 
 -- what it needs where there is no request
 abbrev pub no_kind : ReplyKind

@@ -1,3 +1,8 @@
+pub mod Paths
+pub mod Targets
+pub mod Forms
+pub mod Places
+pub mod Queries
 pub mod Calls
 pub mod Responses
 pub mod Answers

@@ -1,8 +1,10 @@
 -- Responses, byte for byte (RFC 9112, 4 and 6; RFC 9110, 15).
-use Rattle.std.specs.Prelude.{ℕ, ◌++◌, ◌==◌, List, [], ◌∷◌, length, Bool, if◌then◌else◌, Option, Some, None, unwrap_or, codes, decimal}
+use Rattle.std.specs.Prelude.{ℕ, ◌++◌, List, [], length, Bool, if◌then◌else◌, Option, Some, None, unwrap_or, codes, decimal}
 use Rattle.http.specs.StatusCode.{code_digits, reason_phrase}
 use Rattle.serde_json.specs.Data.{Data}
 use Rattle.serde_json.specs.Written.{compact_text}
+use Rattle.bcf_http.specs.declared.paths.RoutePath.{RoutePath}
+use Rattle.bcf_http.specs.Paths.{joined, methods_of}
 
 -- the status, with the phrase that the crate http gives to it
 unfoldable pub status_line : ℕ → List ℕ
@@ -11,14 +13,10 @@ status_line status = codes "HTTP/1.1 " ++ code_digits status ++ codes " " ++ unw
 abbrev pub type_line : List ℕ
 type_line = codes "Content-Type: application/json\r\n"
 
-abbrev pub joined : List (List ℕ) → List ℕ
-joined [] = []
-joined (m ∷ []) = m
-joined (m ∷ n ∷ ms) = m ++ codes ", " ++ joined (n ∷ ms)
-
--- the methods that are allowed, where another was asked for
-unfoldable pub allow_line : ℕ → List (List ℕ) → List ℕ
-allow_line status methods = if status == 405 then codes "Allow: " ++ joined methods ++ codes "\r\n" else []
+-- the methods of the row, where it lacks the one that was asked for
+unfoldable pub allow_line : Option RoutePath → List ℕ
+allow_line None = []
+allow_line (Some row) = codes "Allow: " ++ joined (methods_of row) ++ codes "\r\n"
 
 -- the turn that the request took, if it took one
 unfoldable pub turn_line : Option ℕ → List ℕ
@@ -36,14 +34,14 @@ abbrev pub body_part : Bool → List ℕ → List ℕ
 body_part head text = if head then [] else text
 
 -- the lines before the body, for a turn or none
-unfoldable pub head_text : Option ℕ → Bool → ℕ → List (List ℕ) → ℕ → List ℕ
-head_text turn close status methods length =
-    status_line status ++ type_line ++ allow_line status methods ++ turn_line turn ++ close_line close ++ length_line length
+unfoldable pub head_text : Option ℕ → Bool → ℕ → Option RoutePath → ℕ → List ℕ
+head_text turn close status allow length =
+    status_line status ++ type_line ++ allow_line allow ++ turn_line turn ++ close_line close ++ length_line length
 
 -- the response with this text as its body
-unfoldable pub response_text : Option ℕ → Bool → Bool → ℕ → List (List ℕ) → List ℕ → List ℕ
-response_text turn close head status methods text = head_text turn close status methods (length text) ++ body_part head text
+unfoldable pub response_text : Option ℕ → Bool → Bool → ℕ → Option RoutePath → List ℕ → List ℕ
+response_text turn close head status allow text = head_text turn close status allow (length text) ++ body_part head text
 
 -- the response whose body is the tree as compact text, as serde_json writes it
-abbrev pub response_bytes : Option ℕ → Bool → Bool → ℕ → List (List ℕ) → Data → List ℕ
-response_bytes turn close head status methods tree = response_text turn close head status methods (compact_text tree)
+abbrev pub response_bytes : Option ℕ → Bool → Bool → ℕ → Option RoutePath → Data → List ℕ
+response_bytes turn close head status allow tree = response_text turn close head status allow (compact_text tree)

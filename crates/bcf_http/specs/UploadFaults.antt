@@ -35,6 +35,11 @@ unfoldable pub error_many : List ℕ → List ℕ → List ℕ → Data
 error_many code name what =
     object (member (codes "code") (string code) (member (codes "message") (string (message code name)) (member (codes "what") (string what) no_members)))
 
+-- an error of something by its name
+unfoldable pub error_named : List ℕ → List ℕ → List ℕ → Data
+error_named code name what =
+    object (member (codes "code") (string code) (member (codes "message") (string (message code name)) (member (codes "name") (string what) no_members)))
+
 abbrev pub many_word : Many → List ℕ
 many_word many.Bytes = codes "bytes"
 many_word many.Instances = codes "instances"

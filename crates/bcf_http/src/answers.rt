@@ -1,8 +1,9 @@
 //! From answers to responses.
-ghost use Rattle.std.specs.Prelude.{◌≡◌, ◌≢◌, IfOk, string_bytes};
-ghost use Rattle.bcf_http.specs.Answers.{IsResponse, IsAnswerText, reply_status, fault_status, status_of};
+ghost use Rattle.std.specs.Prelude.{◌≡◌, IfOk, string_bytes};
+ghost use Rattle.bcf_http.specs.Answers.{IsResponse, IsAnswerText, reply_status, fault_status, frame_status, status_of, allow_of};
 
 use crate::calls::{ReplyKind, RequestFault};
+use crate::paths::RoutePath;
 use crate::responses::response;
 use crate::trees::answer_out;
 use bcf_json::BodyFault;
@@ -24,8 +25,7 @@ pub enum Answer {
 }
 
 fn reply_status(created: bool, reply: &ReplyBody) -> StatusCode
-    ensures status { result ≡ reply_status created reply.now }
-    ensures other { result ≢ 405 }
+    ensures { result ≡ reply_status created reply.now }
 {
     match reply {
         ReplyBody::TopicIs(_) => {
@@ -49,26 +49,60 @@ fn reply_status(created: bool, reply: &ReplyBody) -> StatusCode
 }
 
 fn fault_status(fault: RequestFault) -> StatusCode
-    ensures status { result ≡ fault_status fault }
-    ensures other { result ≢ 405 }
+    ensures { result ≡ fault_status fault }
 {
     match fault {
-        RequestFault::NotBuilt => StatusCode::NOT_IMPLEMENTED,
+        RequestFault::NoRoute => StatusCode::NOT_FOUND,
+        RequestFault::Method { .. } => StatusCode::METHOD_NOT_ALLOWED,
+        RequestFault::Encoding => StatusCode::UNSUPPORTED_MEDIA_TYPE,
+        RequestFault::Query { .. } => StatusCode::BAD_REQUEST,
         RequestFault::BadJson => StatusCode::BAD_REQUEST,
         RequestFault::Body(BodyFault::Title) => StatusCode::UNPROCESSABLE_ENTITY,
     }
 }
 
+fn frame_status(fault: FrameFault) -> StatusCode
+    ensures { result ≡ frame_status fault }
+{
+    match fault {
+        FrameFault::BadHead => StatusCode::BAD_REQUEST,
+        FrameFault::HeadTooLong => StatusCode::REQUEST_HEADER_FIELDS_TOO_LARGE,
+        FrameFault::BadLength => StatusCode::BAD_REQUEST,
+        FrameFault::BodyTooLong => StatusCode::PAYLOAD_TOO_LARGE,
+        FrameFault::BadChunk => StatusCode::BAD_REQUEST,
+        FrameFault::Version => StatusCode::HTTP_VERSION_NOT_SUPPORTED,
+    }
+}
+
 fn status_of(created: bool, answer: &Answer) -> StatusCode
-    ensures status { result ≡ status_of created answer.now }
-    ensures other { result ≢ 405 }
+    ensures { result ≡ status_of created answer.now }
 {
     match answer {
         Answer::Book(reply) => reply_status(created, &reply.body),
         Answer::Refused(fault) => fault_status(*fault),
         Answer::Built(_) => StatusCode::UNPROCESSABLE_ENTITY,
-        Answer::Frame(_) => StatusCode::NOT_IMPLEMENTED,
+        Answer::Frame(fault) => frame_status(*fault),
         Answer::Memory => StatusCode::SERVICE_UNAVAILABLE,
+    }
+}
+
+// The row whose methods are told.
+fn allow_of(answer: &Answer) -> Option<RoutePath>
+    ensures { result ≡ allow_of answer.now }
+{
+    match answer {
+        Answer::Book(_) => None,
+        Answer::Refused(fault) => match fault {
+            RequestFault::NoRoute => None,
+            RequestFault::Method { path } => Some(*path),
+            RequestFault::Encoding => None,
+            RequestFault::Query { .. } => None,
+            RequestFault::BadJson => None,
+            RequestFault::Body(_) => None,
+        },
+        Answer::Built(_) => None,
+        Answer::Frame(_) => None,
+        Answer::Memory => None,
     }
 }
 
@@ -80,8 +114,8 @@ fn text_of(alloc: Global, project: u32, answer: &Answer) -> Result<String, Alloc
     tree.to_string(alloc)
 }
 
-/// The response to a request of this kind: it prints the turn, if there is one, and `Connection: close` where the
-/// connection is closed behind it.
+/// The response to a request of this kind: it prints the methods that are allowed, where another was asked for, the turn, if
+/// there is one, and `Connection: close` where the connection is closed behind it; no body, where the method is HEAD.
 pub fn to_response(
     alloc: Global,
     answer: &Answer,
@@ -93,5 +127,6 @@ pub fn to_response(
 {
     let text = text_of(alloc, kind.project, answer)?;
     let status = status_of(kind.created, answer);
-    response(alloc, turn, close, kind.head, status, text.as_str())
+    let allow = allow_of(answer);
+    response(alloc, turn, close, kind.head, status, allow, text.as_str())
 }

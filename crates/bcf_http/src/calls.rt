@@ -1,26 +1,36 @@
 //! From requests to calls of the book.
-ghost use Rattle.std.specs.Prelude.{◌≡◌, length, option_and_then, IfOk};
-ghost use Rattle.std.specs.Str.{IsUtf8};
-ghost use Rattle.httparse.specs.Spans.{IsWithin, span_bytes};
+ghost use Rattle.std.specs.Prelude.{◌≡◌, option_and_then};
 ghost use Rattle.serde_json.specs.View.{view};
 ghost use Rattle.serde_json.specs.Read.{read};
 ghost use Rattle.bim_model.specs.Moments.{IsMoment};
-ghost use Rattle.bcf_json.specs.Bodies.{is_object};
-ghost use Rattle.bcf_http.specs.Calls.{first_project, object_of, if_object, served_topic, topic_asked, post_call, creates, asked_by, IsAskedAs, IsTreeOf, IsTopicAs, kind_of, no_kind};
+ghost use Rattle.bcf_http.specs.Queries.{grid_asked};
+ghost use Rattle.bcf_http.specs.Targets.{query_of};
+ghost use Rattle.bcf_http.specs.Calls.{object_of, if_object, with_fault, topic_asked, post_call, topics_call, model_call, asked_by, number_of, creates, IsAskedAs, IsTreeOf, IsTopicAs, kind_of, no_kind};
+ghost use Rattle.bcf_json.specs.Bodies.{topic_body};
 
-use bcf_json::{BodyError, BodyFault, asks_unbuilt, topic_in};
+use crate::paths::{RoutePath, has_method, is_same};
+use crate::query::{QueryName, grid_asked};
+use crate::resource::Resource;
+use crate::routes::Routes;
+use crate::target::split_target;
+use bcf_json::{BodyError, BodyFault, topic_in};
 use bim_model::{Author, Bytes, Mode, Moment, Text, TopicBody, id_of};
-use federation_book::{BookRequest, Wanted};
-use http_frame::{HttpRequest, Route, route_of};
-use httparse::spans::Span;
+use federation_book::BookRequest;
+use http_frame::HttpRequest;
 use serde_json::Value;
-use std::alloc::{AllocError, Global};
+use std::alloc::Global;
 
 /// A fault of a request that the request alone decides.
 #[derive(Clone, Copy, Debug, PartialEq, Eq)]
 pub enum RequestFault {
-    /// H0: what the first line asks for, or a member of the body, is not served yet. It ends the session.
-    NotBuilt,
+    /// H7: the target names nothing.
+    NoRoute,
+    /// H8: what it names hasn't the method. The response tells the methods of its row.
+    Method { path: RoutePath },
+    /// H12: the body is encoded.
+    Encoding,
+    /// H11: a parameter of the query stands twice, or has a value that it may not have.
+    Query { name: QueryName },
     /// H9: the body is no JSON text, or no object.
     BadJson,
     /// A fault of the body's members.
@@ -72,28 +82,43 @@ impl ReplyKind {
     }
 }
 
-fn creates(route: Option<Route>) -> bool
-    ensures { result ≡ creates route }
+// The number of the project whose own identifier this is, or 0.
+#[tactic(auto, unfolding(crate::specs::Calls::number_of))]
+fn number_of(id: u128) -> u32
+    ensures { result ≡ number_of id }
 {
-    match route {
-        Some(Route::MakeTopic) => true,
-        Some(Route::ListTopics) => false,
-        Some(Route::PutModel { .. }) => true,
-        Some(Route::NewestVersion) => false,
-        None => false,
+    let number = (id >> 96) as u32;
+    if id == id_of(number, 0) { number } else { 0 }
+}
+
+fn creates(method: &[u8], row: RoutePath) -> bool
+    ensures { result ≡ creates method.now row }
+{
+    match row {
+        RoutePath::Topics => is_same(method, "POST"),
+        RoutePath::Model => is_same(method, "PUT"),
+        RoutePath::Version => false,
     }
 }
 
 /// What the response needs of the request.
 #[tactic(auto, unfolding(crate::specs::Calls::kind_of))]
-pub fn kind_of(request: &HttpRequest) -> ReplyKind
+pub fn kind_of(routes: &Routes, request: &HttpRequest) -> ReplyKind
     ensures { result ≡ kind_of request.now }
 {
-    let route = route_of(request.method.as_slice(), request.target.as_slice());
-    ReplyKind {
-        project: 1,
-        created: creates(route),
-        head: false,
+    let method = request.method.as_slice();
+    let head = is_same(method, "HEAD");
+    match routes.resource_of(request.target.as_slice()) {
+        Some(resource) => ReplyKind {
+            project: number_of(resource.project()),
+            created: creates(method, resource.row()),
+            head,
+        },
+        None => ReplyKind {
+            project: 0,
+            created: false,
+            head,
+        },
     }
 }
 
@@ -136,12 +161,9 @@ fn object_in(alloc: Global, text: &str) -> Result<Value, Refusal>
 }
 
 // The topic that an object asks for.
-fn served_topic(alloc: Global, tree: &Value) -> Result<TopicBody, Refusal>
-    ensures { IsTopicAs result (served_topic (view tree.now)) }
+fn topic_of(alloc: Global, tree: &Value) -> Result<TopicBody, Refusal>
+    ensures { IsTopicAs result (with_fault (topic_body (view tree.now))) }
 {
-    if asks_unbuilt(tree) {
-        return Err(Refusal::Fault(RequestFault::NotBuilt));
-    }
     match topic_in(alloc, tree) {
         Ok(body) => Ok(body),
         Err(BodyError::Fault(fault)) => Err(Refusal::Fault(RequestFault::Body(fault))),
@@ -154,58 +176,66 @@ fn topic_asked(alloc: Global, body: &[u8]) -> Result<TopicBody, Refusal>
     ensures { IsTopicAs result (topic_asked (object_of body.now)) }
 {
     match object_of(alloc, body) {
-        Ok(tree) => served_topic(alloc, &tree),
+        Ok(tree) => topic_of(alloc, &tree),
         Err(refusal) => Err(refusal),
     }
 }
 
 // The call that makes a topic of the body.
-fn post_call(alloc: Global, request: HttpRequest, moment: u64) -> Result<HttpCall, Refusal>
+fn post_call(
+    alloc: Global,
+    request: HttpRequest,
+    moment: u64,
+    project: u128,
+) -> Result<HttpCall, Refusal>
     requires { IsMoment moment }
-    ensures { IsAskedAs result (post_call moment request (topic_asked (object_of request.body))) }
+    ensures { IsAskedAs result (post_call moment request project (topic_asked (object_of request.body))) }
 {
     let HttpRequest { user, body, .. } = request;
     match topic_asked(alloc, body.as_slice()) {
         Ok(topic) => Ok(HttpCall::Ask(BookRequest::PostTopic {
-            project: id_of(1, 0),
+            project,
             body: topic,
             author: Author {
                 user,
                 moment: Moment::new(moment),
             },
-            weight: body.as_slice().len() as u64,
+            weight: body.len() as u64,
         })),
         Err(refusal) => Err(refusal),
     }
 }
 
-// The name of a model, which stands in the target.
-fn name_of(alloc: Global, target: &[u8], name: Span) -> Result<Text, AllocError>
-    requires within { IsWithin (length target.now) name }
-    requires text { IsUtf8 (span_bytes target.now name) }
-    ensures { IfOk result (λ text. text ≡ span_bytes target.now name) }
+// What is asked of the topics of a project.
+fn topics_call(
+    alloc: Global,
+    request: HttpRequest,
+    moment: u64,
+    project: u128,
+) -> Result<HttpCall, Refusal>
+    requires { IsMoment moment }
+    ensures { IsAskedAs result (topics_call moment request project) }
 {
-    match str::from_utf8(name.of(target)) {
-        Ok(text) => Text::of(alloc, text),
-        Err(_) => unreachable!(),
+    if is_same(request.method.as_slice(), "POST") {
+        return post_call(alloc, request, moment, project);
     }
+    Ok(HttpCall::Ask(BookRequest::ListTopics { project }))
 }
 
 // The model that is to be built of the body.
 fn build_call(
     alloc: Global,
     request: HttpRequest,
-    name: Span,
+    project: u128,
+    name: Text,
     mode: Mode,
 ) -> Result<HttpCall, Refusal>
-    requires within { IsWithin (length request.target) name }
-    requires text { IsUtf8 (span_bytes request.target name) }
-    ensures { IsAskedAs result (Ok (HttpCall.Build first_project (span_bytes request.target name) mode request.body)) }
+    ensures { IsAskedAs result (Ok (HttpCall.Build project name mode request.body)) }
 {
-    let HttpRequest { target, body, .. } = request;
-    match name_of(alloc, target.as_slice(), name) {
-        Ok(name) => Ok(HttpCall::Build {
-            project: id_of(1, 0),
+    let HttpRequest { body, .. } = request;
+    match Bytes::from_vec(alloc, body.into_vec()) {
+        Ok(body) => Ok(HttpCall::Build {
+            project,
             name,
             mode,
             body,
@@ -214,21 +244,56 @@ fn build_call(
     }
 }
 
-/// What a request asks for at a moment, in seconds since 1970; or the first fault that the request alone decides.
+// What is asked for by the query of a model's target.
+fn model_call(
+    alloc: Global,
+    request: HttpRequest,
+    project: u128,
+    name: Text,
+) -> Result<HttpCall, Refusal>
+    ensures { IsAskedAs result (model_call request project name (grid_asked (query_of request.target))) }
+{
+    let (_, query) = split_target(request.target.as_slice());
+    match grid_asked(alloc, query) {
+        Ok(Some(mode)) => build_call(alloc, request, project, name, mode),
+        Ok(None) => Err(Refusal::Fault(RequestFault::Query {
+            name: QueryName::Grid,
+        })),
+        Err(_) => Err(Refusal::Memory),
+    }
+}
+
+/// What a request asks for at a moment, in seconds since 1970; or the first fault that the request alone decides: that its
+/// target names nothing, that this hasn't the method, that the body is encoded, the query, the body.
 #[tactic(auto, unfolding(crate::specs::Calls::asked_by))]
-pub fn to_call(alloc: Global, request: HttpRequest, moment: u64) -> Result<HttpCall, Refusal>
+pub fn to_call(
+    alloc: Global,
+    routes: &Routes,
+    request: HttpRequest,
+    moment: u64,
+) -> Result<HttpCall, Refusal>
     requires { IsMoment moment }
     ensures { IsAskedAs result (asked_by moment request) }
 {
-    let project = id_of(1, 0);
-    match route_of(request.method.as_slice(), request.target.as_slice()) {
-        None => Err(Refusal::Fault(RequestFault::NotBuilt)),
-        Some(Route::MakeTopic) => post_call(alloc, request, moment),
-        Some(Route::ListTopics) => Ok(HttpCall::Ask(BookRequest::ListTopics { project })),
-        Some(Route::PutModel { name, mode }) => build_call(alloc, request, name, mode),
-        Some(Route::NewestVersion) => Ok(HttpCall::Ask(BookRequest::ReadVersion {
+    let Some(resource) = routes.resource_of(request.target.as_slice()) else {
+        return Err(Refusal::Fault(RequestFault::NoRoute));
+    };
+    let path = resource.row();
+    if !has_method(path, request.method.as_slice()) {
+        return Err(Refusal::Fault(RequestFault::Method { path }));
+    }
+    if request.encoded {
+        return Err(Refusal::Fault(RequestFault::Encoding));
+    }
+    match resource {
+        Resource::Topics { project } => topics_call(alloc, request, moment, project),
+        Resource::Model { project, name } => match Text::of(alloc, name) {
+            Ok(name) => model_call(alloc, request, project, name),
+            Err(_) => Err(Refusal::Memory),
+        },
+        Resource::Version { project, wanted } => Ok(HttpCall::Ask(BookRequest::ReadVersion {
             project,
-            version: Wanted::Newest,
+            version: wanted,
         })),
     }
 }

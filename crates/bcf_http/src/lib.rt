@@ -3,14 +3,23 @@
 
 mod answers;
 mod calls;
+mod forms;
+mod paths;
+mod query;
+mod resource;
 mod responses;
+mod routes;
 mod rules;
+mod target;
 mod trees;
 mod upload_faults;
 mod versions;
 
 pub use answers::{Answer, to_response};
 pub use calls::{HttpCall, Refusal, ReplyKind, RequestFault, kind_of, to_call};
+pub use paths::RoutePath;
+pub use query::QueryName;
+pub use routes::Routes;
 
 #[cfg(test)]
 mod tests;

@@ -1,7 +1,8 @@
 //! Responses, byte for byte (RFC 9112, 4 and 6).
-ghost use Rattle.std.specs.Prelude.{◌≡◌, ◌≢◌, [], IfOk, string_bytes};
+ghost use Rattle.std.specs.Prelude.{◌≡◌, IfOk, string_bytes};
 ghost use Rattle.bcf_http.specs.Responses.{status_line, allow_line, turn_line, close_line, length_line, head_text, body_part, response_text};
 
+use crate::paths::{RoutePath, methods_text};
 use bim_model::Bytes;
 use http::StatusCode;
 use std::alloc::{AllocError, Global};
@@ -19,14 +20,18 @@ fn status_line(alloc: Global, status: StatusCode) -> Result<String, AllocError>
     Ok(text)
 }
 
-// The line of the methods that are allowed, for a status that has none.
+// The line of the methods of a row, if one is to be told.
 #[tactic(auto, unfolding(crate::specs::Responses::allow_line))]
-fn allow_line(status: StatusCode) -> &'static str
-    requires { status ≢ 405 }
-    ensures { result.now ≡ allow_line status [] }
+fn allow_line(alloc: Global, allow: Option<RoutePath>) -> Result<String, AllocError>
+    ensures { IfOk result (λ s. string_bytes s ≡ allow_line allow) }
 {
-    let _code = status.as_u16();
-    ""
+    match allow {
+        Some(row) => {
+            let methods = methods_text(row);
+            format!(in alloc; "Allow: {methods}\r\n")
+        }
+        None => Ok(String::new(alloc)),
+    }
 }
 
 #[tactic(auto, unfolding(crate::specs::Responses::turn_line))]
@@ -59,28 +64,28 @@ fn body_part(head: bool, text: &str) -> &str
     if head { "" } else { text }
 }
 
-// The lines before the body, where no `Allow` is needed.
+// The lines before the body.
 #[tactic(auto, unfolding(crate::specs::Responses::head_text))]
 fn head_text(
     alloc: Global,
     turn: Option<u64>,
     close: bool,
     status: StatusCode,
+    allow: Option<RoutePath>,
     length: usize,
 ) -> Result<String, AllocError>
-    requires { status ≢ 405 }
-    ensures { IfOk result (λ s. string_bytes s ≡ head_text turn close status [] length) }
+    ensures { IfOk result (λ s. string_bytes s ≡ head_text turn close status allow length) }
 {
     let mut text = status_line(alloc, status)?;
     text.push_str("Content-Type: application/json\r\n")?;
-    text.push_str(allow_line(status))?;
+    text.push_str(allow_line(alloc, allow)?.as_str())?;
     text.push_str(turn_line(alloc, turn)?.as_str())?;
     text.push_str(close_line(close))?;
     text.push_str(length_line(alloc, length)?.as_str())?;
     Ok(text)
 }
 
-/// The bytes of a response that needs no `Allow`, with this text as its body; none where it replies to HEAD.
+/// The bytes of a response with this text as its body; without it where it replies to HEAD.
 #[tactic(auto, unfolding(crate::specs::Responses::response_text))]
 pub fn response(
     alloc: Global,
@@ -88,12 +93,12 @@ pub fn response(
     close: bool,
     head: bool,
     status: StatusCode,
+    allow: Option<RoutePath>,
     body: &str,
 ) -> Result<Bytes, AllocError>
-    requires { status ≢ 405 }
-    ensures { IfOk result (λ bytes. bytes ≡ response_text turn close head status [] body.now) }
+    ensures { IfOk result (λ bytes. bytes ≡ response_text turn close head status allow body.now) }
 {
-    let mut text = head_text(alloc, turn, close, status, body.len())?;
+    let mut text = head_text(alloc, turn, close, status, allow, body.len())?;
     text.push_str(body_part(head, body))?;
     Bytes::from_vec(alloc, text.into_bytes())
 }

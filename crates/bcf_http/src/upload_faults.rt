@@ -1,7 +1,7 @@
 //! The faults of an upload as JSON values.
 ghost use Rattle.std.specs.Prelude.{◌≡◌, ◌++◌, codes, string_bytes, IfOk};
 ghost use Rattle.serde_json.specs.View.{view};
-ghost use Rattle.bcf_http.specs.UploadFaults.{message, error_tree, error_at, error_of, error_to, error_many, many_word, upload_fault_tree};
+ghost use Rattle.bcf_http.specs.UploadFaults.{message, error_tree, error_at, error_of, error_to, error_many, error_named, many_word, upload_fault_tree};
 
 use bim_model::{Many, UploadFault};
 use serde_json::{Value, json};
@@ -56,6 +56,15 @@ fn error_many(alloc: Global, code: &str, name: &str, what: &str) -> Result<Value
 {
     let text = message(alloc, code, name)?;
     json!(in alloc; { "code": code, "message": text.as_str(), "what": what })
+}
+
+/// An error of something by its name.
+#[tactic(auto, unfolding(crate::specs::UploadFaults::error_named))]
+pub fn error_named(alloc: Global, code: &str, name: &str, what: &str) -> Result<Value, AllocError>
+    ensures { IfOk result (λ v. view v ≡ error_named code.now name.now what.now) }
+{
+    let text = message(alloc, code, name)?;
+    json!(in alloc; { "code": code, "message": text.as_str(), "name": what })
 }
 
 fn many_word(many: Many) -> &'static str

@@ -1,6 +1,5 @@
 -- The bodies of topics that come in (BCF API 3.0, Topic Services), as the JSON data that serde_json reads.
-use Rattle.std.specs.Prelude.{◌≡◌, ℕ, ◌&&◌, ◌||◌, List, length, Bool, true, false, not, nat_lt, nat_le, if◌then◌else◌, Option, Some, None, Result, Ok, Err, option_and_then, codes, ⊤}
-use Rattle.std.specs.Option.{option_map_or}
+use Rattle.std.specs.Prelude.{◌≡◌, ℕ, ◌&&◌, List, length, Bool, true, false, nat_lt, nat_le, if◌then◌else◌, Option, Some, None, Result, Ok, Err, option_and_then, codes, ⊤}
 use Rattle.serde_json.specs.Data.{Data, null, boolean, number, string, array, object}
 use Rattle.serde_json.specs.Find.{get, as_str}
 use Rattle.bim_model.specs.declared.limits.TheConstants.{MOST_TITLE}
@@ -17,25 +16,6 @@ is_object (number n) = false
 is_object (string s) = false
 is_object (array ds) = false
 is_object (object ms) = true
-
-abbrev pub is_null : Data → Bool
-is_null null = true
-is_null (boolean b) = false
-is_null (number n) = false
-is_null (string s) = false
-is_null (array ds) = false
-is_null (object ms) = false
-
--- the member is there; one that is null counts as absent
-unfoldable pub is_there : List ℕ → Data → Bool
-is_there name tree = option_map_or (λ d. not (is_null d)) (get name tree) false
-
--- a member of a topic that is not served yet is there
-unfoldable pub asks_unbuilt : Data → Bool
-asks_unbuilt tree =
-    is_there (codes "topic_type") tree || is_there (codes "topic_status") tree || is_there (codes "priority") tree
-    || is_there (codes "assigned_to") tree || is_there (codes "stage") tree || is_there (codes "description") tree
-    || is_there (codes "index") tree || is_there (codes "labels") tree || is_there (codes "due_date") tree
 
 -- a title has 1 to 1,024 bytes
 abbrev pub if_title : List ℕ → Option (List ℕ)

@@ -1,7 +1,7 @@
 //! The bodies that come in.
-ghost use Rattle.std.specs.Prelude.{◌≡◌, codes, Option, option_map};
+ghost use Rattle.std.specs.Prelude.{◌≡◌, option_map};
 ghost use Rattle.serde_json.specs.View.{view};
-ghost use Rattle.bcf_json.specs.Bodies.{is_there, title_of, asks_unbuilt, topic_body, IsReadAs};
+ghost use Rattle.bcf_json.specs.Bodies.{title_of, topic_body, IsReadAs};
 
 use bim_model::{MOST_TITLE, Text, TopicBody};
 use serde_json::Value;
@@ -19,48 +19,6 @@ pub enum BodyFault {
 pub enum BodyError {
     Fault(BodyFault),
     Memory,
-}
-
-#[tactic(auto, unfolding(crate::specs::Bodies::is_there))]
-fn is_there(tree: &Value, name: &str) -> bool
-    ensures { result ≡ is_there name.now (view tree.now) }
-{
-    match tree.get(name) {
-        Some(value) => !value.is_null(),
-        None => false,
-    }
-}
-
-/// Whether a member of a topic is there, and not null, that is not served yet: any but the title.
-#[tactic(auto, unfolding(crate::specs::Bodies::asks_unbuilt))]
-pub fn asks_unbuilt(tree: &Value) -> bool
-    ensures { result ≡ asks_unbuilt (view tree.now) }
-{
-    if is_there(tree, "topic_type") {
-        return true;
-    }
-    if is_there(tree, "topic_status") {
-        return true;
-    }
-    if is_there(tree, "priority") {
-        return true;
-    }
-    if is_there(tree, "assigned_to") {
-        return true;
-    }
-    if is_there(tree, "stage") {
-        return true;
-    }
-    if is_there(tree, "description") {
-        return true;
-    }
-    if is_there(tree, "index") {
-        return true;
-    }
-    if is_there(tree, "labels") {
-        return true;
-    }
-    is_there(tree, "due_date")
 }
 
 #[tactic(auto, unfolding(crate::specs::Bodies::title_of))]
@@ -82,7 +40,8 @@ fn title_of(tree: &Value) -> Option<&str>
     }
 }
 
-/// The topic that a body asks for, or the body's first fault.
+/// The topic that a body asks for, or the body's first fault. Members other than the title are passed over, and one that is null counts
+/// as absent.
 pub fn topic_in(alloc: Global, tree: &Value) -> Result<TopicBody, BodyError>
     ensures { IsReadAs result (topic_body (view tree.now)) }
 {

@@ -5,7 +5,7 @@ mod body;
 mod date;
 mod tree;
 
-pub use body::{BodyError, BodyFault, asks_unbuilt, topic_in};
+pub use body::{BodyError, BodyFault, topic_in};
 pub use date::date_out;
 pub use tree::{identifier_out, topic_out, topics_out};
 

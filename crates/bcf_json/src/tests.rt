@@ -1,5 +1,5 @@
 //! Topics in and out, against texts written by hand.
-use crate::body::{BodyError, BodyFault, asks_unbuilt, topic_in};
+use crate::body::{BodyError, BodyFault, topic_in};
 use crate::date::date_out;
 use crate::tree::{identifier_out, topic_out, topics_out};
 use bim_model::{Author, Moment, Text, Topic, TopicBody};
@@ -25,6 +25,7 @@ fn reads_titles(rt: HostRuntime) -> Result<(), Fail> {
         (r#"{"title":"Pipe"}"#, "Pipe"),
         (r#"{"title":"\u00e9\ud83d\ude00"}"#, "é😀"),
         (r#"{"title":"first","title":"last"}"#, "last"),
+        (r#"{"due_date":7,"title":"Pipe","labels":null}"#, "Pipe"),
         (r#"{"title":""}"#, "B3"),
         (r#"{"title":null}"#, "B3"),
         (r#"{"title":7}"#, "B3"),
@@ -41,29 +42,6 @@ fn reads_titles(rt: HostRuntime) -> Result<(), Fail> {
             reading(alloc, text.as_str())?.as_str() == title.as_str(),
             read
         );
-    }
-    Ok(())
-}
-
-#[test]
-fn sees_members_that_are_not_served(rt: HostRuntime) -> Result<(), Fail> {
-    let alloc = rt.alloc();
-    let cases = [
-        (r#"{"title":"Pipe","guid":"x","comment":1}"#, false),
-        (r#"{"topic_type":"Clash"}"#, true),
-        (r#"{"topic_status":""}"#, true),
-        (r#"{"priority":0}"#, true),
-        (r#"{"assigned_to":{}}"#, true),
-        (r#"{"stage":[]}"#, true),
-        (r#"{"description":false}"#, true),
-        (r#"{"index":1}"#, true),
-        (r#"{"labels":["a"]}"#, true),
-        (r#"{"due_date":"2024-05-01"}"#, true),
-        (r#"{"due_date":null,"labels":null,"index":null}"#, false),
-    ];
-    for (text, wanted) in cases {
-        let tree = Value::from_str(alloc, text)?;
-        assert_eq!(rt; asks_unbuilt(&tree), wanted, "at {text}");
     }
     Ok(())
 }

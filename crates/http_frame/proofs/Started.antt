@@ -3,6 +3,7 @@ use Rattle.std.proofs.Common.{◌≡◌, ℕ, ◌+◌, ◌≤◌, ◌==◌, ◌|
 use Rattle.std.proofs.lemmas.List.{append_cancel_right}
 use Rattle.std.proofs.lemmas.List.Elements.{All-head, All-tail}
 use Rattle.std.proofs.lemmas.Bool.{ne_eqb}
+<<<<<<< HEAD
 use Rattle.httparse.specs.Grammar.{RequestHead, LineEnd, crlf, lf, print_end, print_blank, print_version, ReadsSection, ReadsRequest, HasNoRequest, NeverHasRequest, MayBecomeRequest}
 use Rattle.httparse.specs.Pieces.{RequestStart, Stops, is_newline}
 use Rattle.httparse.proofs.PieceLemmas.{RequestStart_deterministic, Stops_token}
@@ -12,6 +13,17 @@ use Rattle.http_frame.specs.Heads.{before, begins_lf, line_at, first_line}
 use Rattle.http_frame.specs.Scan.{run, IsOpen, after_lf, after_line, Parts, IsStarted}
 use Rattle.http_frame.proofs.Lines.{token_no_lf, uri_no_lf, may_is_head}
 use Rattle.http_frame.proofs.Scanned.{open_may, open_none, dead_is_never, done_is_section}
+=======
+use Rattle.httparse.specs.Grammar.{LineEnd, crlf, lf, print_end, print_blank, print_version, ReadsSection, HasNoRequest, NeverHasRequest, MayBecomeRequest}
+use Rattle.httparse.specs.Pieces.{RequestStart, Stops, is_newline}
+use Rattle.httparse.proofs.PieceLemmas.{RequestStart_deterministic, Stops_token}
+use Rattle.httparse.proofs.GrammarLemmas.{request_pieces, request_from_pieces, request_tree, request_head}
+use Rattle.http_frame.specs.declared.walk.Place.TheVariants.{Start}
+use Rattle.http_frame.specs.Heads.{before, begins_lf, line_at, first_line}
+use Rattle.http_frame.specs.Scan.{run, IsOpen, after_lf, after_line, Parts, IsStarted}
+use Rattle.http_frame.proofs.Lines.{token_no_lf, uri_no_lf, may_is_head}
+use Rattle.http_frame.proofs.Scanned.{open_may, open_none}
+>>>>>>> d3a2f64c447a9412882609b548d124a6d66e4926
 
 -- ---- the bytes behind the first line
 
@@ -140,6 +152,7 @@ open_has_hope bytes (p, x) o never =
     let r = open_may (after_line bytes) o in
     let start = RequestStart_deterministic.append p bytes (after_line bytes) r.0 x in
     never r.0 (request_head (p, (r.1, r.2))) r.3 (request_from_pieces (bytes ++ r.0) (p, (r.1, r.2)) r.3 (after_line bytes ++ r.0, start, r.4))
+<<<<<<< HEAD
 
 -- where the scan is dead, no head comes, whatever follows
 pub dead_has_no_hope : (bytes l : List ℕ) → first_line bytes ≡ Some l → run Start (after_line bytes) ≡ Dead → NeverHasRequest bytes
@@ -154,3 +167,5 @@ pub done_has_head : (bytes : List ℕ) → IsStarted bytes → run Start (after_
 done_has_head bytes (p, x) done =
     let s = done_is_section (after_line bytes) done in
     (request_head (p, (s.0, s.1)), s.2, request_from_pieces bytes (p, (s.0, s.1)) s.2 (after_line bytes, x, s.3))
+=======
+>>>>>>> d3a2f64c447a9412882609b548d124a6d66e4926

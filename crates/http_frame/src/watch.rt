@@ -72,7 +72,8 @@ impl Watch {
         requires within { self.seen ≤ length front.now }
         requires watch { IsWatch self (take self.seen front.now) }
         ensures look { IsLook front.now headers.new result.1 }
-        ensures watch { result.1 ≡ Look.Unfinished → (result.0.seen ≡ length front.now) × IsWatch result.0 front.now }
+        ensures watch { result.1 ≡ Look.Unfinished
+            → (result.0.seen ≡ length front.now) × IsWatch result.0 front.now }
     {
         let spot = walk_on(self.spot, tail(front, self.seen));
         let watch = Watch {

@@ -1,0 +1,129 @@
+//! The parameters of a path by their forms.
+ghost use Rattle.std.specs.Prelude.{◌≡◌, option_map};
+ghost use Rattle.std.specs.List.{list_all};
+ghost use Rattle.std.specs.Char.{is_ascii};
+ghost use Rattle.matchit.specs.Params.{AllText};
+ghost use Rattle.bcf_http.specs.Forms.{identifier_in, is_name_char, is_name, wanted_in};
+ghost use Rattle.bcf_http.specs.Places.{place_lent, parts_of, project_in, name_in, version_in, place_for, place_by};
+
+use crate::paths::{RoutePath, is_same};
+use crate::resource::Resource;
+use bim_model::MOST_NAME;
+use federation_book::Wanted;
+use matchit::Params;
+use uuid::Uuid;
+
+/// Whether a path has ASCII characters alone.
+pub fn are_ascii(path: &[u8]) -> bool
+    ensures { result ≡ list_all is_ascii path.now }
+{
+    path.iter().all(|byte| byte.is_ascii())
+}
+
+#[tactic(auto, unfolding(crate::specs::Forms::identifier_in), using(crate::proofs::Forms::none_in))]
+fn identifier_in(text: &str) -> Option<u128>
+    ensures { result ≡ identifier_in text.now }
+{
+    match Uuid::parse_str(text) {
+        Ok(id) => Some(id.as_u128()),
+        Err(_) => None,
+    }
+}
+
+fn is_name_char(byte: u8) -> bool
+    ensures { result ≡ is_name_char byte }
+{
+    byte.is_ascii_alphanumeric() || byte == b'_' || byte == b'.' || byte == b'-'
+}
+
+fn are_name_chars(text: &[u8]) -> bool
+    ensures { result ≡ list_all is_name_char text.now }
+{
+    text.iter().all(|byte| is_name_char(*byte))
+}
+
+#[tactic(auto, unfolding(crate::specs::Forms::is_name))]
+fn is_name(text: &[u8]) -> bool
+    ensures { result ≡ is_name text.now }
+{
+    !text.is_empty() && text.len() <= MOST_NAME && are_name_chars(text)
+}
+
+fn wanted_in(text: &str) -> Option<Wanted>
+    ensures { result ≡ wanted_in text.now }
+{
+    if is_same(text.as_bytes(), "newest") {
+        Some(Wanted::Newest)
+    } else {
+        None
+    }
+}
+
+// The identifier of the project.
+fn project_in(params: &Params<'_, '_>) -> Option<u128>
+    requires { AllText (parts_of params.now) }
+    ensures { result ≡ project_in (parts_of params.now) }
+{
+    match params.get("p") {
+        Some(text) => identifier_in(text),
+        None => None,
+    }
+}
+
+// The name of a model.
+fn name_in<'t>(params: &Params<'_, 't>) -> Option<&'t str>
+    requires { AllText (parts_of params.now) }
+    ensures { option_map (λ name. name.now) result ≡ name_in (parts_of params.now) }
+{
+    match params.get("name") {
+        Some(text) => {
+            if is_name(text.as_bytes()) {
+                Some(text)
+            } else {
+                None
+            }
+        }
+        None => None,
+    }
+}
+
+// The version that is wanted.
+fn version_in(params: &Params<'_, '_>) -> Option<Wanted>
+    requires { AllText (parts_of params.now) }
+    ensures { result ≡ version_in (parts_of params.now) }
+{
+    match params.get("v") {
+        Some(text) => wanted_in(text),
+        None => None,
+    }
+}
+
+// What the parameters name on a row for a project.
+fn resource_for<'t>(row: RoutePath, params: &Params<'_, 't>, project: u128) -> Option<Resource<'t>>
+    requires { AllText (parts_of params.now) }
+    ensures { option_map place_lent result ≡ place_for row (parts_of params.now) project }
+{
+    match row {
+        RoutePath::Topics => Some(Resource::Topics { project }),
+        RoutePath::Model => match name_in(params) {
+            Some(name) => Some(Resource::Model { project, name }),
+            None => None,
+        },
+        RoutePath::Version => match version_in(params) {
+            Some(wanted) => Some(Resource::Version { project, wanted }),
+            None => None,
+        },
+    }
+}
+
+/// What the parameters name on a row, where each has its form: an identifier that `uuid` reads, a name of 1 to 64
+/// characters of `A-Za-z0-9_.-`, `newest`.
+pub fn resource_by<'t>(row: RoutePath, params: &Params<'_, 't>) -> Option<Resource<'t>>
+    requires { AllText (parts_of params.now) }
+    ensures { option_map place_lent result ≡ place_by row (parts_of params.now) }
+{
+    match project_in(params) {
+        Some(project) => resource_for(row, params, project),
+        None => None,
+    }
+}
