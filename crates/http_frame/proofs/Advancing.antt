@@ -1,9 +1,5 @@
 -- Readings of a buffer, one after another.
-<<<<<<< HEAD
-use Rattle.std.proofs.Common.{◌≡◌, ℕ, ◌+◌, ◌-◌, ◌<◌, ◌≤◌, Bool, true, false, List, [], ◌∷◌, ◌++◌, length, take, drop, get_or, refl, sym, ap, ◌∙◌, arith, append_assoc, add-one, drop-cons, subst}
-=======
 use Rattle.std.proofs.Common.{◌≡◌, ℕ, ◌+◌, ◌-◌, ◌<◌, ◌≤◌, true, false, List, [], ◌∷◌, ◌++◌, length, take, drop, get_or, refl, sym, ap, ◌∙◌, arith, append_assoc, add-one, drop-cons, subst}
->>>>>>> d3a2f64c447a9412882609b548d124a6d66e4926
 use Rattle.std.proofs.lemmas.List.{append-nil, take-append-drop, drop-drop, length-take-le, length-drop}
 use Rattle.http_frame.specs.declared.types.FrameFault.{FrameFault}
 use Rattle.http_frame.specs.declared.chunks.Part.{Part}

@@ -1,20 +1,10 @@
 -- What a framer keeps while bytes are fed and let go.
-<<<<<<< HEAD
-use Rattle.std.proofs.Common.{◌≡◌, ℕ, ◌+◌, ◌<◌, ◌≤◌, ◌==◌, ◌↔◌, Bool, true, false, List, [], ◌∷◌, ◌++◌, length, take, drop, if◌then◌else◌, Option, Some, None, Result, Ok, Err, refl, sym, ap, ◌∙◌, arith, append_assoc, inl, inr, ◌⊎◌, subst}
-use Rattle.std.specs.Prelude.{OnOk, OnErr}
-use Rattle.std.proofs.lemmas.Bool.{eqb-true}
-use Rattle.std.proofs.lemmas.List.{append-nil, length-append, length-drop, take_all, take-append-le, drop-append-le}
-use Rattle.httparse.specs.Grammar.{RequestHead, LineEnd, crlf, lf, print_blank}
-use Rattle.http_frame.specs.declared.types.FrameFault.{FrameFault}
-use Rattle.http_frame.specs.declared.head.HeadFacts.{HeadFacts}
-=======
 use Rattle.std.proofs.Common.{◌≡◌, ℕ, ◌+◌, ◌<◌, ◌≤◌, ◌==◌, ◌↔◌, Bool, true, false, List, [], ◌∷◌, ◌++◌, length, take, drop, if◌then◌else◌, Some, None, Result, Ok, Err, refl, sym, ap, ◌∙◌, arith, append_assoc, subst}
 use Rattle.std.specs.Prelude.{OnOk, OnErr}
 use Rattle.std.proofs.lemmas.Bool.{eqb-true}
 use Rattle.std.proofs.lemmas.List.{length-append, length-drop, take_all, take-append-le, drop-append-le}
 use Rattle.httparse.specs.Grammar.{RequestHead, LineEnd, crlf, lf, print_blank}
 use Rattle.http_frame.specs.declared.types.FrameFault.{FrameFault}
->>>>>>> d3a2f64c447a9412882609b548d124a6d66e4926
 use Rattle.http_frame.specs.declared.watch.Watch.{Watch}
 use Rattle.http_frame.specs.declared.walk.Spot.{Spot}
 use Rattle.http_frame.specs.declared.walk.Spot.TheVariants.{Before, BeforeCr, Line, Fields}
@@ -31,30 +21,17 @@ use Rattle.http_frame.specs.declared.stage.Stage.{Stage}
 use Rattle.http_frame.specs.declared.stage.Stage.TheVariants.{Head, Body, Failed}
 use Rattle.http_frame.specs.Heads.{front, first_line, framing, most_body, most_head, HasGoodHead}
 use Rattle.http_frame.specs.Bodies.{ReadsBody}
-<<<<<<< HEAD
-use Rattle.http_frame.specs.Events.{Fails, IsRest, IsBlank, IsTold}
-use Rattle.http_frame.specs.Scan.{spot_step, spot_run, IsAsked}
-use Rattle.http_frame.specs.Watched.{is_early, IsWatch}
-use Rattle.http_frame.specs.Seen.{IsSeen}
-use Rattle.http_frame.specs.Chunks.{IsReading}
-use Rattle.http_frame.specs.Stages.{awaited_of, pending_of, IsBodyAt, IsBodyOf, IsOwed, StandsAt, IsFilled, IsSafe, Keeps, Grows, is_failed, is_before}
-=======
 use Rattle.http_frame.specs.Events.{IsRest, IsBlank}
 use Rattle.http_frame.specs.Scan.{spot_step, spot_run}
 use Rattle.http_frame.specs.Watched.{is_early, IsWatch}
 use Rattle.http_frame.specs.Seen.{IsSeen}
 use Rattle.http_frame.specs.Chunks.{IsReading}
 use Rattle.http_frame.specs.Stages.{awaited_of, pending_of, IsBodyAt, IsOwed, StandsAt, IsFilled, IsSafe, Keeps, Grows, is_failed, is_before}
->>>>>>> d3a2f64c447a9412882609b548d124a6d66e4926
 use Rattle.http_frame.proofs.Lines.{head_line}
 use Rattle.http_frame.proofs.HeadLaws.{front_more, good_stays}
 use Rattle.http_frame.proofs.BodyLaws.{body_stays}
 use Rattle.http_frame.proofs.EventLaws.{fails_stays, asks_stays, told_stays, fails_settles, settled}
-<<<<<<< HEAD
-use Rattle.http_frame.proofs.Watching.{late_is_some, early_is_none}
-=======
 use Rattle.http_frame.proofs.Watching.{early_is_none}
->>>>>>> d3a2f64c447a9412882609b548d124a6d66e4926
 
 -- ---- bytes are let go
 

@@ -1,19 +1,6 @@
 -- Chunked bodies that have not come whole.
 use Rattle.std.proofs.Common.{◌≡◌, ℕ, zero, ◌<◌, ◌≤◌, List, ◌++◌, length, sym, ap, ◌∙◌, arith, inl, inr, subst}
 use Rattle.httparse.specs.Ascii.{crlf_bytes}
-<<<<<<< HEAD
-use Rattle.httparse.specs.Grammar.{ChunkLine, chunk_size, ReadsSection}
-use Rattle.http_frame.specs.declared.walk.Place.TheVariants.{Start}
-use Rattle.http_frame.specs.Scan.{run, IsOpen}
-use Rattle.http_frame.proofs.Scanned.{open_may, open_none}
-use Rattle.std.proofs.lemmas.List.{take_all}
-use Rattle.http_frame.specs.declared.types.FrameFault.{FrameFault}
-use Rattle.http_frame.specs.declared.size_line.SizeSpot.TheVariants.{Digits, Whole, Wrong}
-use Rattle.http_frame.specs.Heads.{chunked, most_head, front}
-use Rattle.http_frame.specs.Bodies.{ReadsSize, ReadsChunk, ReadsChunks, room_left, ReadsLast, ReadsTrailers, ReadsBody, HasBadTrailer, LacksEnd, FailsInChunk, FailsInBody}
-use Rattle.http_frame.specs.Sizes.{size_run}
-use Rattle.http_frame.proofs.BodyLaws.{size_unique, never_now, chunks_unique, fails_is_terminal, last_is_terminal, last_unique, last_is_no_chunk, over_is_not_last, lacks_is_not_last, bad_more, bad_is_no_section}
-=======
 use Rattle.httparse.specs.Grammar.{ChunkLine, chunk_size}
 use Rattle.http_frame.specs.declared.types.FrameFault.{FrameFault}
 use Rattle.http_frame.specs.declared.size_line.SizeSpot.TheVariants.{Digits, Whole, Wrong}
@@ -21,7 +8,6 @@ use Rattle.http_frame.specs.Heads.{chunked}
 use Rattle.http_frame.specs.Bodies.{ReadsSize, ReadsChunk, ReadsChunks, room_left, ReadsLast, ReadsTrailers, ReadsBody, LacksEnd, FailsInChunk, FailsInBody}
 use Rattle.http_frame.specs.Sizes.{size_run}
 use Rattle.http_frame.proofs.BodyLaws.{size_unique, never_now, chunks_unique, fails_is_terminal, last_is_terminal}
->>>>>>> d3a2f64c447a9412882609b548d124a6d66e4926
 use Rattle.http_frame.proofs.SizeLaws.{right_is_whole, not_wrong_may_be_right}
 
 -- behind whole chunks: no chunk within the room, no fault and no end
@@ -80,35 +66,3 @@ data_open room last l behind reads some fits part ends = record {
     fault f (inr (inl ((k, rest, x, more), e))) = over room (chunk_size k) (chunk_size l) (ap chunk_size (size_unique last k l rest behind x reads).0) more fits
     fault f (inr (inr (inl (x, e)))) = ends x
     fault f (inr (inr (inr (rest, (k, x, nil), how)))) = empty (chunk_size l) (sym (ap chunk_size (size_unique last k l rest behind x reads).0) ∙ nil) some
-<<<<<<< HEAD
-
--- in the trailers
-pub trailers_open : (room : ℕ) (last rest : List ℕ) → ReadsLast last rest → length rest < most_head → IsOpen (run Start rest) → IsOpenAt room last
-trailers_open room last rest end short o = record {
-  no_chunk = λ c r x fits. last_is_no_chunk last rest c r end x;
-  no_fault = λ f x. fault f x;
-  no_end = λ t r l y. open_none t y.fields y.last r (subst (λ (v : List ℕ). IsOpen (run Start v)) (last_unique last rest t end l) o) y.reads;
-}
-  where
-    whole : (rest : List ℕ) → length rest < most_head → front rest ≡ rest
-    whole rest short = take_all most_head rest (omega arith)
-
-    not_bad : (text : List ℕ) → IsOpen (run Start text) → HasBadTrailer text → ⊥
-    not_bad text o bad = let r = open_may text o in bad_is_no_section (text ++ r.0) r.1 r.2 r.3 (bad_more text r.0 bad) r.4
-
-    fault : (f : FrameFault) → FailsInChunk room last f → ⊥
-    fault f (inl x) = never_now last end.0 rest x.0 end.1
-    fault f (inr (inl x)) = over_is_not_last room last rest x.0 end
-    fault f (inr (inr (inl x))) = lacks_is_not_last room last rest x.0 end
-    fault f (inr (inr (inr (other, l, inl bad)))) =
-        let e = last_unique last other rest l end in
-        not_bad rest o (subst (λ (v : List ℕ). HasBadTrailer v) (ap front e ∙ whole rest short) bad.0)
-    fault f (inr (inr (inr (other, l, inr (inl long, e))))) =
-        let same = last_unique last other rest l end in
-        let n : length other ≡ length rest = ap length same in
-        let full : most_head ≤ length other = long.0 in
-        absurd (omega arith)
-    fault f (inr (inr (inr (other, l, inr (inr (fields, ending, q, reads, fits, many), e))))) =
-        open_none rest fields ending q o (subst (λ (v : List ℕ). ReadsSection v fields ending q) (last_unique last other rest l end) reads)
-=======
->>>>>>> d3a2f64c447a9412882609b548d124a6d66e4926

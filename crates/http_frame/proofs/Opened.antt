@@ -1,11 +1,6 @@
 -- Where a reading of a chunked body stops for want of bytes, no body and no fault has come.
-<<<<<<< HEAD
-use Rattle.std.proofs.Common.{◌≡◌, ℕ, zero, suc, ◌+◌, ◌<◌, ◌≤◌, ◌⊎◌, List, [], ◌∷◌, ◌++◌, length, refl, sym, ap, ◌∙◌, arith, inl, inr, subst}
-use Rattle.std.proofs.lemmas.List.{append-nil, length-append}
-=======
 use Rattle.std.proofs.Common.{◌≡◌, ℕ, suc, ◌+◌, ◌<◌, ◌≤◌, ◌⊎◌, List, [], ◌∷◌, ◌++◌, length, refl, sym, ap, ◌∙◌, arith, inl, inr, subst}
 use Rattle.std.proofs.lemmas.List.{length-append}
->>>>>>> d3a2f64c447a9412882609b548d124a6d66e4926
 use Rattle.httparse.specs.Ascii.{crlf_bytes}
 use Rattle.httparse.specs.Grammar.{ChunkLine, chunk_size, ReadsSection, HasNoSection}
 use Rattle.http_frame.specs.declared.types.FrameFault.{FrameFault}
@@ -14,15 +9,9 @@ use Rattle.http_frame.specs.declared.size_line.SizeSpot.TheVariants.{Digits, Who
 use Rattle.http_frame.specs.declared.chunks.Part.{Part}
 use Rattle.http_frame.specs.declared.chunks.Part.TheVariants.{Size, Data, Lf, Trailers}
 use Rattle.http_frame.specs.Heads.{chunked, most_head, front}
-<<<<<<< HEAD
-use Rattle.http_frame.specs.Bodies.{ReadsSize, ReadsChunks, room_left, ReadsLast, ReadsTrailers, ReadsBody, HasBadTrailer, LacksEnd, FailsInChunk, FailsInBody}
-use Rattle.http_frame.specs.Sizes.{size_run}
-use Rattle.http_frame.specs.Chunks.{IsInLine, IsInChunk, IsInTrailers, IsPart, IsReading}
-=======
 use Rattle.http_frame.specs.Bodies.{ReadsSize, room_left, ReadsLast, ReadsBody, HasBadTrailer, LacksEnd, FailsInChunk, FailsInBody}
 use Rattle.http_frame.specs.Sizes.{size_run}
 use Rattle.http_frame.specs.Chunks.{IsInLine, IsInChunk, IsPart, IsReading}
->>>>>>> d3a2f64c447a9412882609b548d124a6d66e4926
 use Rattle.http_frame.proofs.BodyLaws.{size_unique, never_now, same_cut, last_unique, last_is_no_chunk, over_is_not_last, lacks_is_not_last}
 use Rattle.http_frame.proofs.OpenLaws.{IsOpenAt, open_no_body, open_no_fault, size_open, data_open}
 use Rattle.http_frame.proofs.Seeing.{short_front}
@@ -38,11 +27,7 @@ line_opened : (all : ℕ) (last : List ℕ) (s : SizeSpot) → s ≡ size_run (D
 line_opened all last s at is = size_open all last (λ e. inside s is (at ∙ e)) (λ e. not_ended s is (at ∙ e))
 
 -- so few bytes stand behind the line that no chunk and its CR LF can
-<<<<<<< HEAD
-few_behind : (begun after c r : List ℕ) (size left : ℕ) → size ≡ length begun + left → length after < 2 → length after ≡ 0 ⊎ (left ≡ 0)
-=======
 few_behind : (begun after c r : List ℕ) (size left : ℕ) → size ≡ length begun + left → length after < 2 → (length after ≡ 0) ⊎ (left ≡ 0)
->>>>>>> d3a2f64c447a9412882609b548d124a6d66e4926
     → begun ++ after ≡ c ++ (crlf_bytes ++ r) → length c ≡ size → ⊥
 few_behind begun after c r size left is few how e n =
     let a : length (begun ++ after) ≡ length begun + length after = length-append begun after in
@@ -58,11 +43,7 @@ abbrev CanEnd : List ℕ → Type 0
 CanEnd after = (more : List ℕ) × (rest : List ℕ) × (after ++ more ≡ crlf_bytes ++ rest)
 
 ends_well : (room : ℕ) (last begun after : List ℕ) (left : ℕ) (l : ChunkLine) → ReadsSize last l (begun ++ after) → chunk_size l ≡ length begun + left
-<<<<<<< HEAD
-    → length after ≡ 0 ⊎ (left ≡ 0) → CanEnd after → LacksEnd room last → ⊥
-=======
     → (length after ≡ 0) ⊎ (left ≡ 0) → CanEnd after → LacksEnd room last → ⊥
->>>>>>> d3a2f64c447a9412882609b548d124a6d66e4926
 ends_well room last begun after left l reads size how can lacks =
     let same = size_unique last lacks.line l (lacks.content ++ lacks.after) (begun ++ after) lacks.reads reads in
     let n : length lacks.content ≡ length begun + left = sym lacks.size_is ∙ ap chunk_size same.0 ∙ size in
@@ -80,11 +61,7 @@ ends_well room last begun after left l reads size how can lacks =
     nil_of [] e = refl
     nil_of (x ∷ xs) e = absurd (omega arith)
 
-<<<<<<< HEAD
-chunk_opened : (all room left : ℕ) (last begun after : List ℕ) → IsInChunk all room left last begun after → length after < 2 → length after ≡ 0 ⊎ (left ≡ 0) → CanEnd after
-=======
 chunk_opened : (all room left : ℕ) (last begun after : List ℕ) → IsInChunk all room left last begun after → length after < 2 → (length after ≡ 0) ⊎ (left ≡ 0) → CanEnd after
->>>>>>> d3a2f64c447a9412882609b548d124a6d66e4926
     → IsOpenAt all last
 chunk_opened all room left last begun after x few how can =
     let fits : chunk_size x.line ≤ all = let f : room + chunk_size x.line ≡ all = x.fits in omega arith in

@@ -1,38 +1,20 @@
 -- A chunked body byte by byte.
-<<<<<<< HEAD
-use Rattle.std.proofs.Common.{◌≡◌, ℕ, zero, suc, ◌+◌, ◌-◌, ◌*◌, ◌^◌, ◌<◌, ◌≤◌, ◌==◌, min, Bool, true, false, List, [], ◌∷◌, ◌++◌, length, take, drop, if◌then◌else◌, Option, Some, None, All, refl, sym, ap, ◌∙◌, arith, append_assoc, inl, inr, ◌⊎◌, subst}
-=======
 use Rattle.std.proofs.Common.{◌≡◌, ℕ, zero, suc, ◌+◌, ◌-◌, ◌*◌, ◌^◌, ◌<◌, ◌≤◌, ◌==◌, min, Bool, true, false, List, [], ◌∷◌, ◌++◌, length, take, if◌then◌else◌, Option, Some, None, refl, sym, ap, ◌∙◌, arith, append_assoc, inl, inr, ◌⊎◌, subst}
->>>>>>> d3a2f64c447a9412882609b548d124a6d66e4926
 use Rattle.std.specs.Prelude.{nat_lt, nat_le, ◌||◌, ◌&&◌}
 use Rattle.std.specs.Int.{is_in_range}
 use Rattle.std.specs.List.{flat_map}
 use Rattle.std.specs.Char.{is_ascii_hexdigit, digit_value}
 use Rattle.std.specs.Str.Parse.{digits_value, AllDigits}
-<<<<<<< HEAD
-use Rattle.std.proofs.lemmas.Bool.{eqb-true, ne_eqb}
-use Rattle.std.proofs.lemmas.Int.Digits.{digits_value_push, digits_value-lt}
-use Rattle.std.proofs.Math.Nat.{pow-le-pow_right}
-use Rattle.std.proofs.lemmas.List.{append-nil, length-append, take-append-drop, drop-drop, length-take-le, length-drop}
-=======
 use Rattle.std.proofs.lemmas.Bool.{eqb-true}
 use Rattle.std.proofs.lemmas.Int.Digits.{digits_value_push, digits_value-lt}
 use Rattle.std.proofs.Math.Nat.{pow-le-pow_right}
 use Rattle.std.proofs.lemmas.List.{append-nil, length-append}
->>>>>>> d3a2f64c447a9412882609b548d124a6d66e4926
 use Rattle.std.proofs.lemmas.List.Elements.{All-head, All-tail, All-nil}
 use Rattle.std.proofs.lemmas.Grind.{flat_map-append}
 use Rattle.std.proofs.Math.Seq.{take-append_seam}
 use Rattle.httparse.specs.Ascii.{crlf_bytes}
-<<<<<<< HEAD
-use Rattle.httparse.specs.Grammar.{AllPass, ChunkLine, chunk_size, print_chunk_line, print_extension, ReadsChunkLine, IsField}
-use Rattle.http_frame.specs.declared.types.FrameFault.{FrameFault}
-use Rattle.http_frame.specs.declared.types.FrameFault.TheVariants.{HeadTooLong, BodyTooLong, BadChunk}
-use Rattle.http_frame.specs.declared.walk.Place.{Place}
-=======
 use Rattle.httparse.specs.Grammar.{AllPass, ChunkLine, chunk_size, print_chunk_line, print_extension, IsField}
 use Rattle.http_frame.specs.declared.types.FrameFault.TheVariants.{BodyTooLong, BadChunk}
->>>>>>> d3a2f64c447a9412882609b548d124a6d66e4926
 use Rattle.http_frame.specs.declared.walk.Place.TheVariants as place
 use Rattle.http_frame.specs.declared.size_line.SizeSpot.{SizeSpot}
 use Rattle.http_frame.specs.declared.size_line.SizeSpot.TheVariants.{Digits, Extension, Cr, Whole, Wrong}
@@ -40,19 +22,11 @@ use Rattle.http_frame.specs.declared.chunks.Part.{Part}
 use Rattle.http_frame.specs.declared.chunks.Part.TheVariants.{Size, Data, Lf, Trailers}
 use Rattle.http_frame.specs.declared.chunks.ChunkStep.{ChunkStep}
 use Rattle.http_frame.specs.declared.chunks.ChunkStep.TheVariants as to
-<<<<<<< HEAD
-use Rattle.http_frame.specs.Heads.{chunked, line_at, most_head}
-use Rattle.http_frame.specs.Bodies.{ReadsSize, ReadsChunk, ReadsChunks, room_left, ReadsLast, ReadsTrailers, ReadsBody, Exceeds, LacksEnd, FailsInChunk, FailsInBody}
-use Rattle.http_frame.specs.Scan as scan
-use Rattle.http_frame.specs.Sizes.{size_step, size_run}
-use Rattle.http_frame.specs.Chunks.{value_step, size_turn, chunk_step, trailer_turn, data_left, hex_front, IsInLine, IsInChunk, IsInTrailers, IsPart, IsReading}
-=======
 use Rattle.http_frame.specs.Heads.{chunked}
 use Rattle.http_frame.specs.Bodies.{ReadsSize, ReadsChunk, ReadsChunks, room_left, ReadsLast, ReadsBody, FailsInBody}
 use Rattle.http_frame.specs.Scan as scan
 use Rattle.http_frame.specs.Sizes.{size_step, size_run}
 use Rattle.http_frame.specs.Chunks.{value_step, size_turn, chunk_step, trailer_turn, data_left, hex_front, IsInLine, IsInChunk, IsInTrailers, IsReading}
->>>>>>> d3a2f64c447a9412882609b548d124a6d66e4926
 use Rattle.http_frame.proofs.BodyLaws.{size_more, chunks_more, last_more}
 use Rattle.http_frame.proofs.HeadLaws.{take_past}
 use Rattle.http_frame.proofs.SizeLaws.{size_run-append, run_wrong, line_text, right_is_whole, wrong_is_never, whole_is_right}
@@ -356,11 +330,7 @@ some_chunk most text content last cs l value room true test some at is left read
     (cs, last, at, inr (inl ((l, [], reads, more), refl)))
 some_chunk most text content last cs l value room false test some at is left reads size =
     let fits = le_of room value test in
-<<<<<<< HEAD
-    let size_is : chunk_size l ≡ length [] + value = size ∙ zero_plus value in record {
-=======
     let size_is : chunk_size l ≡ 0 + value = size ∙ zero_plus value in record {
->>>>>>> d3a2f64c447a9412882609b548d124a6d66e4926
       contents = cs;
       last = last;
       begun = [];

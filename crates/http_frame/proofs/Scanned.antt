@@ -207,18 +207,3 @@ done_is_section text e = subst (λ (t : List ℕ). IsSection t) (append-nil text
 
 pub open_none : (text : List ℕ) (fs : List Field) (last : LineEnd) (rest : List ℕ) → IsOpen (run Start text) → ReadsSection text fs last rest → ⊥
 open_none text fs last rest o x = subst (λ (p : Place). IsOpen p) (section_is_done text fs last rest x) o
-<<<<<<< HEAD
-
-run_dead : (t : List ℕ) → run Dead t ≡ Dead
-run_dead [] = refl
-run_dead (b ∷ t) = run_dead t
-
--- behind a byte that no field line has there, no section comes, whatever follows
-pub dead_is_never : (text more : List ℕ) (fs : List Field) (last : LineEnd) (rest : List ℕ) → run Start text ≡ Dead → ReadsSection (text ++ more) fs last rest → ⊥
-dead_is_never text more fs last rest e x =
-    apart (sym (section_is_done (text ++ more) fs last rest x) ∙ run-append Start text more ∙ ap (λ p. run p more) e ∙ run_dead more)
-  where
-    apart : Done ≡ Dead → ⊥
-    apart e = cc
-=======
->>>>>>> d3a2f64c447a9412882609b548d124a6d66e4926

@@ -1,45 +1,25 @@
 -- From what the parser tells of the front of a request to what its bytes tell.
-<<<<<<< HEAD
-use Rattle.std.proofs.Common.{◌≡◌, ℕ, ◌<◌, ◌≤◌, Bool, true, false, List, ◌++◌, length, map, take, drop, min, Option, Some, None, All, Result, Ok, Err, refl, sym, ap, ◌∙◌, arith, inl, inr, subst}
-use Rattle.std.proofs.lemmas.List.{take-append-drop, length-map, length-take, take_all}
-use Rattle.std.proofs.lemmas.List.Elements.{All-weaker}
-use Rattle.std.specs.Prelude.{IfOk, AllocError}
-=======
 use Rattle.std.proofs.Common.{◌≡◌, ℕ, ◌<◌, ◌≤◌, Bool, true, false, List, ◌++◌, length, map, take, drop, min, Some, Result, Ok, Err, refl, sym, ap, ◌∙◌, arith, inl, inr, subst}
 use Rattle.std.proofs.lemmas.List.{take-append-drop, length-map, length-take, take_all}
 use Rattle.std.proofs.lemmas.List.Elements.{All-weaker}
 use Rattle.std.specs.Prelude.{IfOk}
 use Rattle.std.specs.declared.alloc.AllocError.{AllocError}
->>>>>>> d3a2f64c447a9412882609b548d124a6d66e4926
 use Rattle.std.proofs.Math.Seq.{drop-append_seam}
 use Rattle.httparse.specs.declared.spans.Span.{Span}
 use Rattle.httparse.specs.declared.spans.HeaderSpan.{HeaderSpan}
 use Rattle.httparse.specs.declared.spans.RequestSpans.{RequestSpans}
-<<<<<<< HEAD
-use Rattle.httparse.specs.Grammar.{RequestHead, Field, print_request, ReadsRequest, HasNoRequest}
-use Rattle.httparse.specs.Spans.{IsWithin, IsHeaderWithin, IsRequestWithin, IsRequestAt, IsRequestOf, name_and_value, header_bytes, span_bytes}
-use Rattle.httparse.proofs.GrammarLemmas.{ReadsRequest-append}
-use Rattle.http_frame.specs.declared.types.FrameFault.{FrameFault}
-use Rattle.http_frame.specs.declared.types.FrameFault.TheVariants.{BadHead, HeadTooLong, Version}
-=======
 use Rattle.httparse.specs.Grammar.{RequestHead, print_request, ReadsRequest, HasNoRequest}
 use Rattle.httparse.specs.Spans.{IsWithin, IsHeaderWithin, IsRequestWithin, IsRequestAt, IsRequestOf, name_and_value, header_bytes}
 use Rattle.httparse.proofs.GrammarLemmas.{ReadsRequest-append}
 use Rattle.http_frame.specs.declared.types.FrameFault.{FrameFault}
 use Rattle.http_frame.specs.declared.types.FrameFault.TheVariants.{HeadTooLong}
 use Rattle.http_frame.specs.declared.head.HeadFacts.{HeadFacts}
->>>>>>> d3a2f64c447a9412882609b548d124a6d66e4926
 use Rattle.http_frame.specs.declared.head.Plan.{Plan}
 use Rattle.http_frame.specs.declared.seen.Seen.{Seen}
 use Rattle.http_frame.specs.declared.seen.Seen.TheVariants.{Unfinished, Fault, Good}
 use Rattle.http_frame.specs.declared.watch.Watch.{Watch}
-<<<<<<< HEAD
-use Rattle.http_frame.specs.Heads.{most_head, front, first_line, has_other_version, most_body, framing, fault_of, HasOtherVersion, IsHopeless, HasHead, HasGoodHead, FailsInHead}
-use Rattle.http_frame.specs.Told.{checked_by, facts_at, asks_at, IsFactsOf, IsAskingAs}
-=======
 use Rattle.http_frame.specs.Heads.{most_head, front, first_line, has_other_version, most_body, framing, fault_of, HasOtherVersion, IsHopeless, HasHead, FailsInHead}
 use Rattle.http_frame.specs.Told.{checked_by, IsFactsOf, IsAskingAs}
->>>>>>> d3a2f64c447a9412882609b548d124a6d66e4926
 use Rattle.http_frame.specs.Watched.{IsWatch}
 use Rattle.http_frame.specs.Seen.{IsPlaced, IsHeadAt, IsSeen, checked_at}
 use Rattle.http_frame.proofs.Told.{IsChecked, is_checked, is_facts, is_asking}
@@ -139,11 +119,7 @@ head_seen bytes headers spans (Good g) (h, at) within small fits is =
           whole = subst (λ (n : ℕ). HasHead bytes h (drop n bytes)) (sym len) whole;
           good = checked.0;
         },
-<<<<<<< HEAD
-        subst (λ f. IsFactsOf f h) (sym is.1) (is_facts (front bytes) spans found h at.method at.path at.version at.fields),
-=======
         subst (λ (f : HeadFacts). IsFactsOf f h) (sym is.1) (is_facts (front bytes) spans found h at.method at.path at.version at.fields),
->>>>>>> d3a2f64c447a9412882609b548d124a6d66e4926
         checked.1,
         subst (λ (b : Bool). IsAskingAs h b) (sym is.2) (is_asking (front bytes) found spans.version h g.plan at.version at.fields checked.1),
       ),

@@ -1,9 +1,5 @@
 -- The steps of a framer.
-<<<<<<< HEAD
-use Rattle.std.proofs.Common.{◌≡◌, ℕ, zero, ◌+◌, ◌-◌, ◌<◌, ◌≤◌, Bool, true, false, List, [], ◌∷◌, ◌++◌, length, take, drop, Result, Ok, Err, refl, sym, ap, ◌∙◌, arith, append_assoc, inl, inr, ◌⊎◌, subst}
-=======
 use Rattle.std.proofs.Common.{◌≡◌, ℕ, ◌+◌, ◌-◌, ◌<◌, ◌≤◌, Bool, true, false, List, [], ◌∷◌, ◌++◌, length, take, drop, Ok, Err, refl, sym, ap, ◌∙◌, arith, append_assoc, inl, inr, subst}
->>>>>>> d3a2f64c447a9412882609b548d124a6d66e4926
 use Rattle.std.proofs.lemmas.List.{append-nil, take-append-drop, drop-drop, length-take-le, length-drop, take_all}
 use Rattle.std.proofs.Math.ListN.{drop_of_length-le}
 use Rattle.httparse.specs.Grammar.{RequestHead}
@@ -21,22 +17,13 @@ use Rattle.http_frame.specs.declared.chunks.Chunks.{Chunks}
 use Rattle.http_frame.specs.declared.chunks.Taken.{Taken}
 use Rattle.http_frame.specs.declared.chunks.ChunkEnd.{ChunkEnd}
 use Rattle.http_frame.specs.declared.chunks.ChunkEnd.TheVariants as end
-<<<<<<< HEAD
-use Rattle.http_frame.specs.declared.size_line.SizeSpot.TheVariants.{Digits}
-use Rattle.http_frame.specs.declared.chunks.Part.TheVariants.{Size}
-=======
->>>>>>> d3a2f64c447a9412882609b548d124a6d66e4926
 use Rattle.http_frame.specs.declared.stage.Awaited.{Awaited}
 use Rattle.http_frame.specs.declared.stage.Awaited.TheVariants.{Sized, Chunked, Whole}
 use Rattle.http_frame.specs.declared.stage.Pending.{Pending}
 use Rattle.http_frame.specs.declared.stage.Stage.{Stage}
 use Rattle.http_frame.specs.declared.stage.Stage.TheVariants.{Head, Body, Failed}
 use Rattle.http_frame.specs.declared.steps.Stepped.{Stepped}
-<<<<<<< HEAD
-use Rattle.http_frame.specs.Heads.{Framing, absent, sized, chunked, badly, framing, most_body, user_of, closes, is_encoded, HasGoodHead, FailsInHead}
-=======
 use Rattle.http_frame.specs.Heads.{Framing, chunked, framing, most_body, HasGoodHead, FailsInHead}
->>>>>>> d3a2f64c447a9412882609b548d124a6d66e4926
 use Rattle.http_frame.specs.Bodies.{ReadsBody, FailsInBody}
 use Rattle.http_frame.specs.Events.{Begins, Fails, Asks, IsRest, IsTold}
 use Rattle.http_frame.specs.Told.{IsPlan, IsFactsOf, IsAskingAs}
@@ -45,10 +32,6 @@ use Rattle.http_frame.specs.Chunks.{IsReading, IsTaken, Advances}
 use Rattle.http_frame.specs.Stages.{request_by, awaited_of, pending_of, IsSized, IsBodyAt, IsBodyOf, IsOwed, StandsAt, Steps}
 use Rattle.http_frame.proofs.HeadLaws.{good_unique, good_is_no_fault}
 use Rattle.http_frame.proofs.BodyLaws.{body_stays, body_fault_stays}
-<<<<<<< HEAD
-use Rattle.http_frame.proofs.EventLaws.{fails_stays, asks_stays, told_stays, fails_settles, settled}
-=======
->>>>>>> d3a2f64c447a9412882609b548d124a6d66e4926
 use Rattle.http_frame.proofs.StepLaws.{body_to_come}
 use Rattle.http_frame.proofs.Opened.{reading_goes_on}
 
@@ -58,18 +41,12 @@ pub memory_step : (stage : Stage) (items new : List ℕ) (at : ℕ) → new ≡ 
 unfolding Steps
 memory_step stage items new at same = λ bytes told x. (bytes, told, (refl, refl), subst (λ (i : List ℕ). StandsAt stage i at bytes told) (sym same) x)
 
-<<<<<<< HEAD
-pub failed_step : (fault : FrameFault) (items : List ℕ) (at : ℕ) → Steps (Failed fault) items at (record { stage = Failed fault; at = at; answer = Err (Fault fault) }) items
-unfolding Steps
-failed_step fault items at = λ bytes told x. (bytes, told, (x.0, x.1, refl, refl), x)
-=======
 pub failed_step : (stage : Stage) (fault : FrameFault) (items : List ℕ) (at : ℕ) → stage ≡ Failed fault
     → Steps stage items at (record { stage = Failed fault; at = at; answer = Err (Fault fault) }) items
 unfolding Steps
 failed_step stage fault items at is = λ bytes told x.
     let y : StandsAt (Failed fault) items at bytes told = subst (λ (s : Stage). StandsAt s items at bytes told) is x in
     (bytes, told, (y.0, y.1, refl, refl), y)
->>>>>>> d3a2f64c447a9412882609b548d124a6d66e4926
 
 -- one step after a change that leaves the bytes the same
 pub steps_after : (a b : Stage) (old mid new : List ℕ) (at place : ℕ) (r : Stepped) → ((bytes : List ℕ) (told : Bool) → StandsAt a old at bytes told → StandsAt b mid place bytes told)
@@ -288,12 +265,8 @@ same_end e d most text items taken is x = subst (λ (v : ChunkEnd). IsTaken most
 take_twice : (n : ℕ) (xs ys : List ℕ) → ys ≡ take n xs → n ≤ length xs → (take n ys ≡ take n xs) × (drop n ys ≡ [])
 take_twice n xs ys e fits =
     let size : length ys ≡ n = ap length e ∙ length-take-le n xs fits in
-<<<<<<< HEAD
-    (take_all n ys (omega arith) ∙ e, drop_of_length-le ys (omega arith))
-=======
     let fits_here : length ys ≤ n = omega arith in
     (take_all n ys fits_here ∙ e, drop_of_length-le ys fits_here)
->>>>>>> d3a2f64c447a9412882609b548d124a6d66e4926
 
 pub chunked_more : (facts : HeadFacts) (chunks : Chunks) (at : ℕ) (items mid new : List ℕ) (taken : Taken)
     → Advances items (record { chunks = chunks; at = at; end = end.More }) mid taken → taken.end ≡ end.More → length mid ≤ taken.at → taken.chunks.filled ≤ length mid

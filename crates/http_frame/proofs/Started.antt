@@ -3,17 +3,6 @@ use Rattle.std.proofs.Common.{◌≡◌, ℕ, ◌+◌, ◌≤◌, ◌==◌, ◌|
 use Rattle.std.proofs.lemmas.List.{append_cancel_right}
 use Rattle.std.proofs.lemmas.List.Elements.{All-head, All-tail}
 use Rattle.std.proofs.lemmas.Bool.{ne_eqb}
-<<<<<<< HEAD
-use Rattle.httparse.specs.Grammar.{RequestHead, LineEnd, crlf, lf, print_end, print_blank, print_version, ReadsSection, ReadsRequest, HasNoRequest, NeverHasRequest, MayBecomeRequest}
-use Rattle.httparse.specs.Pieces.{RequestStart, Stops, is_newline}
-use Rattle.httparse.proofs.PieceLemmas.{RequestStart_deterministic, Stops_token}
-use Rattle.httparse.proofs.GrammarLemmas.{request_pieces, request_from_pieces, request_tree, request_head}
-use Rattle.http_frame.specs.declared.walk.Place.TheVariants.{Start, Done, Dead}
-use Rattle.http_frame.specs.Heads.{before, begins_lf, line_at, first_line}
-use Rattle.http_frame.specs.Scan.{run, IsOpen, after_lf, after_line, Parts, IsStarted}
-use Rattle.http_frame.proofs.Lines.{token_no_lf, uri_no_lf, may_is_head}
-use Rattle.http_frame.proofs.Scanned.{open_may, open_none, dead_is_never, done_is_section}
-=======
 use Rattle.httparse.specs.Grammar.{LineEnd, crlf, lf, print_end, print_blank, print_version, ReadsSection, HasNoRequest, NeverHasRequest, MayBecomeRequest}
 use Rattle.httparse.specs.Pieces.{RequestStart, Stops, is_newline}
 use Rattle.httparse.proofs.PieceLemmas.{RequestStart_deterministic, Stops_token}
@@ -23,7 +12,6 @@ use Rattle.http_frame.specs.Heads.{before, begins_lf, line_at, first_line}
 use Rattle.http_frame.specs.Scan.{run, IsOpen, after_lf, after_line, Parts, IsStarted}
 use Rattle.http_frame.proofs.Lines.{token_no_lf, uri_no_lf, may_is_head}
 use Rattle.http_frame.proofs.Scanned.{open_may, open_none}
->>>>>>> d3a2f64c447a9412882609b548d124a6d66e4926
 
 -- ---- the bytes behind the first line
 
@@ -152,20 +140,3 @@ open_has_hope bytes (p, x) o never =
     let r = open_may (after_line bytes) o in
     let start = RequestStart_deterministic.append p bytes (after_line bytes) r.0 x in
     never r.0 (request_head (p, (r.1, r.2))) r.3 (request_from_pieces (bytes ++ r.0) (p, (r.1, r.2)) r.3 (after_line bytes ++ r.0, start, r.4))
-<<<<<<< HEAD
-
--- where the scan is dead, no head comes, whatever follows
-pub dead_has_no_hope : (bytes l : List ℕ) → first_line bytes ≡ Some l → run Start (after_line bytes) ≡ Dead → NeverHasRequest bytes
-dead_has_no_hope bytes l line dead more h rest reads =
-    let pieces = request_pieces (bytes ++ more) h rest reads in
-    let p : Parts = (request_tree h).0 in
-    let here : pieces.0 ≡ after_line bytes ++ more = sym (after_start p (bytes ++ more) pieces.0 pieces.1) ∙ after_more bytes more l line in
-    dead_is_never (after_line bytes) more h.fields h.last rest dead (subst (λ (t : List ℕ). ReadsSection t h.fields h.last rest) here pieces.2)
-
--- where it is done, a head of the grammar has come
-pub done_has_head : (bytes : List ℕ) → IsStarted bytes → run Start (after_line bytes) ≡ Done → (h : RequestHead) × (rest : List ℕ) × ReadsRequest bytes h rest
-done_has_head bytes (p, x) done =
-    let s = done_is_section (after_line bytes) done in
-    (request_head (p, (s.0, s.1)), s.2, request_from_pieces bytes (p, (s.0, s.1)) s.2 (after_line bytes, x, s.3))
-=======
->>>>>>> d3a2f64c447a9412882609b548d124a6d66e4926

@@ -1,27 +1,14 @@
 -- What a framer answers are the events that all the bytes spell, in their order.
-<<<<<<< HEAD
-use Rattle.std.proofs.Common.{◌≡◌, ℕ, ◌<◌, ◌≤◌, Bool, true, false, List, [], ◌∷◌, ◌++◌, length, Ok, Err, Some, refl, sym, ap, ◌∙◌, arith, append_assoc, inl, inr, subst}
-=======
 use Rattle.std.proofs.Common.{◌≡◌, ℕ, ◌<◌, ◌≤◌, Bool, true, false, List, [], ◌∷◌, ◌++◌, length, Ok, Err, refl, sym, ap, ◌∙◌, arith, append_assoc, inl, inr, subst}
->>>>>>> d3a2f64c447a9412882609b548d124a6d66e4926
 use Rattle.std.proofs.lemmas.List.{append-nil, length-append}
 use Rattle.httparse.specs.Grammar.{RequestHead, HasNoRequest}
 use Rattle.http_frame.specs.declared.types.HttpRequest.{HttpRequest}
 use Rattle.http_frame.specs.declared.types.FrameFault.{FrameFault}
-<<<<<<< HEAD
-use Rattle.http_frame.specs.declared.types.FrameFault.TheVariants.{BadHead, HeadTooLong}
-use Rattle.http_frame.specs.declared.types.FrameStep.TheVariants.{More, Continue, Request}
-use Rattle.http_frame.specs.declared.types.FrameError.TheVariants.{Fault, Memory}
-use Rattle.http_frame.specs.Heads.{Framing, sized, most_head, front, fault_of, framing, most_body, HasOtherVersion, IsHopeless, HasHead, HasGoodHead}
-use Rattle.http_frame.specs.Bodies.{ReadsBody, FailsInBody}
-use Rattle.http_frame.specs.Events.{Begins, Fails, Asks, Event, continue, request, Ending, between, within, bad, IsRest, IsTold, Spells}
-=======
 use Rattle.http_frame.specs.declared.types.FrameStep.TheVariants.{More, Continue, Request}
 use Rattle.http_frame.specs.declared.types.FrameError.TheVariants.{Fault, Memory}
 use Rattle.http_frame.specs.Heads.{Framing, sized, most_head, front, framing, most_body, HasOtherVersion, IsHopeless, HasGoodHead}
 use Rattle.http_frame.specs.Bodies.{ReadsBody, FailsInBody}
 use Rattle.http_frame.specs.Events.{Begins, Fails, Asks, Event, continue, request, Ending, IsRest, IsTold, Spells}
->>>>>>> d3a2f64c447a9412882609b548d124a6d66e4926
 use Rattle.http_frame.specs.Steps.{Act, fed, answered, Runs, given, told_by}
 use Rattle.http_frame.proofs.HeadLaws.{head_is_some, good_unique, good_is_no_fault}
 use Rattle.http_frame.proofs.EventLaws.{begins_unique, begins_stays, asks_stays, begins_settles, told_not, ends_not}
@@ -65,14 +52,6 @@ more_is_none_left bytes told [] e t n x = refl
 more_is_none_left bytes told (continue ∷ es) e t n x = absurd (told_not told bytes t x.0 x.1)
 more_is_none_left bytes told (request r ∷ es) e t n x = absurd (n.0 r x.1.0 x.1.1)
 
-<<<<<<< HEAD
-pub none_left_is_more : (bytes : List ℕ) (told : Bool) (e : Ending) → ((f : FrameFault) → e ≡ bad f → ⊥) → Spells bytes told [] e → IsTold told bytes × IsRest bytes
-none_left_is_more bytes told between n x = (x.0, x.1.0)
-none_left_is_more bytes told within n x = (x.0, x.1.0)
-none_left_is_more bytes told (bad f) n x = absurd (n f refl)
-
-=======
->>>>>>> d3a2f64c447a9412882609b548d124a6d66e4926
 -- ---- what is known of the head decides the step
 
 no_head_no_good : (bytes : List ℕ) → HasNoRequest (front bytes) → (h : RequestHead) (rest : List ℕ) → HasGoodHead bytes h rest → ⊥
@@ -89,18 +68,6 @@ unfinished_is_rest bytes short version none hope =
     fault f (inl (inr (n, inr (inr (h, r, x, d))))) = head_is_some bytes h r x none
     fault f (inr (h, r, good, x)) = no_head_no_good bytes none h r good
 
-<<<<<<< HEAD
-pub full_is_too_long : (bytes : List ℕ) → most_head ≤ length bytes → ¬ (HasOtherVersion bytes) → HasNoRequest (front bytes) → ¬ (IsHopeless bytes) → Fails bytes HeadTooLong
-full_is_too_long bytes full version none hope = inl (inr (version, inr (inl ((full, none, hope), refl))))
-
-pub hopeless_is_bad : (bytes : List ℕ) → ¬ (HasOtherVersion bytes) → IsHopeless bytes → Fails bytes BadHead
-hopeless_is_bad bytes version hopeless = inl (inr (version, inl (hopeless, refl)))
-
-pub head_with_fault : (bytes : List ℕ) (h : RequestHead) (rest : List ℕ) (f : FrameFault) → ¬ (HasOtherVersion bytes) → HasHead bytes h rest → fault_of h ≡ Some f → Fails bytes f
-head_with_fault bytes h rest f version head fault = inl (inr (version, inr (inr (h, rest, head, fault))))
-
-=======
->>>>>>> d3a2f64c447a9412882609b548d124a6d66e4926
 -- a body of a stated length that has not come whole
 pub body_to_come : (bytes : List ℕ) (h : RequestHead) (rest : List ℕ) (n : ℕ) → HasGoodHead bytes h rest → framing h ≡ sized n → length rest < n → IsRest bytes
 body_to_come bytes h rest n good how lacks =

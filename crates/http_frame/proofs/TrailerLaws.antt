@@ -1,9 +1,5 @@
 -- Trailers byte by byte.
-<<<<<<< HEAD
-use Rattle.std.proofs.Common.{◌≡◌, ℕ, suc, ◌+◌, ◌<◌, ◌≤◌, ◌==◌, ◌||◌, min, Bool, true, false, List, [], ◌∷◌, ◌++◌, length, if◌then◌else◌, Option, Some, None, IsSome, All, refl, sym, ap, ◌∙◌, arith, append_assoc, eq-eqb, inl, inr, ◌⊎◌, subst}
-=======
 use Rattle.std.proofs.Common.{◌≡◌, ℕ, ◌+◌, ◌<◌, ◌≤◌, ◌==◌, min, Bool, true, false, List, [], ◌∷◌, ◌++◌, length, if◌then◌else◌, Option, Some, None, IsSome, All, refl, sym, ap, ◌∙◌, arith, append_assoc, eq-eqb, inl, inr, ◌⊎◌, subst}
->>>>>>> d3a2f64c447a9412882609b548d124a6d66e4926
 use Rattle.std.specs.Prelude.{nat_lt, nat_le}
 use Rattle.std.specs.List.{flat_map}
 use Rattle.std.proofs.lemmas.Bool.{eqb-true, ne_eqb}

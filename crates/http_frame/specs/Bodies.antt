@@ -8,11 +8,7 @@ use Rattle.http_frame.specs.declared.types.FrameFault.{FrameFault}
 use Rattle.http_frame.specs.declared.types.FrameFault.TheVariants.{HeadTooLong, BodyTooLong, BadChunk}
 use Rattle.http_frame.specs.Heads.{Framing, absent, sized, chunked, badly, most_head, front, line_at}
 
-<<<<<<< HEAD
--- a line before a chunk: of the lines of `httparse`, one without blanks, with up to 8 digits and an extension of up to 256 bytes
-=======
 -- a line before a chunk: one of `httparse` without blanks, of up to 8 digits and 256 bytes of extension
->>>>>>> d3a2f64c447a9412882609b548d124a6d66e4926
 pub record IsSizeLine (l : ChunkLine) : Type 0 where
   pub no_pad : l.pad ≡ []
   pub few : length l.digits ≤ 8
@@ -39,13 +35,9 @@ pub record ReadsChunk (text content rest : List ℕ) : Type 0 where
 abbrev pub ReadsChunks : ℕ → List ℕ → List (List ℕ) → List ℕ → Type 0
 ReadsChunks most text [] rest = text ≡ rest
 ReadsChunks most text (content ∷ contents) rest =
-<<<<<<< HEAD
-    (length content ≤ most) × ((behind : List ℕ) × ReadsChunk text content behind × ReadsChunks (most - length content) behind contents rest)
-=======
     (length content ≤ most)
     × ((behind : List ℕ) × ReadsChunk text content behind
     × ReadsChunks (most - length content) behind contents rest)
->>>>>>> d3a2f64c447a9412882609b548d124a6d66e4926
 
 -- the bytes that the contents leave of most
 abbrev pub room_left : ℕ → List (List ℕ) → ℕ
@@ -76,12 +68,8 @@ pub record ReadsTrailers (text rest : List ℕ) : Type 0 where
 abbrev pub HasLongTrailers : List ℕ → Type 0
 HasLongTrailers text =
     ((most_head ≤ length text) × HasNoSection (front text) × ¬ (HasBadTrailer (front text)))
-<<<<<<< HEAD
-    ⊎ ((fields : List Field) × (last : LineEnd) × (rest : List ℕ) × ReadsSection text fields last rest × (length (print_section fields last) ≤ most_head) × (64 < length fields))
-=======
     ⊎ ((fields : List Field) × (last : LineEnd) × (rest : List ℕ) × ReadsSection text fields last rest
     × (length (print_section fields last) ≤ most_head) × (64 < length fields))
->>>>>>> d3a2f64c447a9412882609b548d124a6d66e4926
 
 -- the text begins with this body
 abbrev pub ReadsBody : ℕ → Framing → List ℕ → List ℕ → List ℕ → Type 0

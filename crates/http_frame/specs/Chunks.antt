@@ -46,12 +46,8 @@ size_turn spot.Wrong value room = step.Fault BadChunk
 
 -- one more byte of trailers that don't end with it
 abbrev pub trailers_on : Place → ℕ → ℕ → ℕ → ChunkStep
-<<<<<<< HEAD
-trailers_on here fields count room = if nat_le 16383 count then step.Fault HeadTooLong else step.On (Trailers here fields (count + 1)) room
-=======
 trailers_on here fields count room =
     if nat_le 16383 count then step.Fault HeadTooLong else step.On (Trailers here fields (count + 1)) room
->>>>>>> d3a2f64c447a9412882609b548d124a6d66e4926
 
 -- from the place behind a byte of the trailers, and whether it was LF
 abbrev pub trailer_turn : Place → ℕ → ℕ → ℕ → Bool → ChunkStep
@@ -61,12 +57,8 @@ trailer_turn place.Value fields count room lf = trailers_on place.Value fields c
 trailer_turn place.Cr fields count room lf = trailers_on place.Cr fields count room
 trailer_turn place.Last fields count room lf = trailers_on place.Last fields count room
 trailer_turn place.Done fields count room lf = if nat_lt 64 fields then step.Fault HeadTooLong else step.Whole
-<<<<<<< HEAD
-trailer_turn place.Dead fields count room lf = if lf then step.Fault BadChunk else trailers_on place.Dead fields count room
-=======
 trailer_turn place.Dead fields count room lf =
     if lf then step.Fault BadChunk else trailers_on place.Dead fields count room
->>>>>>> d3a2f64c447a9412882609b548d124a6d66e4926
 
 -- what a byte does that is none of a chunk's content
 abbrev pub chunk_step : Part → ℕ → ℕ → ChunkStep
@@ -82,10 +74,7 @@ data_left (Data left) = left
 data_left Lf = 0
 data_left (Trailers here fields count) = 0
 
-<<<<<<< HEAD
-=======
 -- the reading has met the end of the body or a fault
->>>>>>> d3a2f64c447a9412882609b548d124a6d66e4926
 abbrev pub is_over : ChunkEnd → Bool
 is_over end.More = false
 is_over end.Whole = true
@@ -106,11 +95,7 @@ IsInLine spot.Cr = Unit {0}
 IsInLine spot.Whole = ⊥
 IsInLine spot.Wrong = ⊥
 
-<<<<<<< HEAD
--- a chunk that is not empty, whose line and first bytes came, and the bytes behind it; with it there is so much room
-=======
 -- a chunk that is not empty, whose line and first bytes came, the bytes behind it, and the room with it
->>>>>>> d3a2f64c447a9412882609b548d124a6d66e4926
 pub record IsInChunk (all room left : ℕ) (text content after : List ℕ) : Type 0 where
   pub line : ChunkLine
   pub reads : ReadsSize text line (content ++ after)
@@ -129,18 +114,11 @@ pub record IsInTrailers (here : Place) (fields count : ℕ) (text : List ℕ) : 
   pub count_is : count ≡ length text
   pub short : length text < most_head
 
-<<<<<<< HEAD
--- what of the text behind whole chunks leads to a place: so much room is left behind them, and this content came of the next chunk
-abbrev pub IsPart : Part → ℕ → ℕ → List ℕ → List ℕ → Type 0
-IsPart (Size s value) all room text content =
-    (content ≡ []) × (room ≡ all) × (s ≡ size_run (spot.Digits 0) text) × IsInLine s × (value ≡ digits_value 16 (hex_front text))
-=======
 -- what of the text behind whole chunks leads to a place: the room left behind them, the next chunk's content
 abbrev pub IsPart : Part → ℕ → ℕ → List ℕ → List ℕ → Type 0
 IsPart (Size s value) all room text content =
     (content ≡ []) × (room ≡ all) × (s ≡ size_run (spot.Digits 0) text) × IsInLine s
     × (value ≡ digits_value 16 (hex_front text))
->>>>>>> d3a2f64c447a9412882609b548d124a6d66e4926
 IsPart (Data left) all room text content = IsInChunk all room left text content []
 IsPart Lf all room text content = IsInChunk all room 0 text content (13 ∷ [])
 IsPart (Trailers here fields count) all room text content =
@@ -170,11 +148,7 @@ IsOrdered taken size = (taken.chunks.filled ≤ taken.at) × (taken.at ≤ size)
 -- from one reading to the next: some text was taken, and the rest is the same
 unfoldable pub Advances : List ℕ → Taken → List ℕ → Taken → Type 0
 Advances before old after new =
-<<<<<<< HEAD
-    (most : ℕ) (text : List ℕ) → IsReading most text (take old.chunks.filled before) old.chunks.part old.chunks.room
-=======
     (most : ℕ) (text : List ℕ)
     → IsReading most text (take old.chunks.filled before) old.chunks.part old.chunks.room
->>>>>>> d3a2f64c447a9412882609b548d124a6d66e4926
     → (more : List ℕ) × (drop old.at before ≡ more ++ drop new.at after)
     × IsTaken most (text ++ more) (take new.chunks.filled after) new.chunks.part new.chunks.room new.end

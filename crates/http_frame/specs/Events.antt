@@ -45,22 +45,15 @@ pub data Ending : Type 0 where
 
 -- neither a request nor a fault stands at the front
 abbrev pub IsRest : List ℕ → Type 0
-<<<<<<< HEAD
-IsRest bytes = ((r : HttpRequest) (rest : List ℕ) → ¬ (Begins bytes r rest)) × ((fault : FrameFault) → ¬ (Fails bytes fault))
-=======
 IsRest bytes =
     ((r : HttpRequest) (rest : List ℕ) → ¬ (Begins bytes r rest))
     × ((fault : FrameFault) → ¬ (Fails bytes fault))
->>>>>>> d3a2f64c447a9412882609b548d124a6d66e4926
 
 -- the bytes are empty lines alone
 abbrev pub IsBlank : List ℕ → Type 0
 IsBlank bytes = (ends : List LineEnd) × (bytes ≡ print_blank ends)
 
-<<<<<<< HEAD
-=======
 -- nothing more can be told of the bytes, and this is how they end
->>>>>>> d3a2f64c447a9412882609b548d124a6d66e4926
 abbrev pub Ends : List ℕ → Ending → Type 0
 Ends bytes between = IsRest bytes × IsBlank bytes
 Ends bytes within = IsRest bytes × ¬ (IsBlank bytes)
@@ -70,11 +63,7 @@ Ends bytes (bad fault) = Fails bytes fault
 abbrev pub IsTold : Bool → List ℕ → Type 0
 IsTold told bytes = (told ≡ true) ⊎ ¬ (Asks bytes)
 
-<<<<<<< HEAD
--- the events that the bytes spell, and how they end; told: the Continue of the first request has been answered before
-=======
 -- the events that the bytes spell, and their end; told: the Continue of the first request was answered before
->>>>>>> d3a2f64c447a9412882609b548d124a6d66e4926
 abbrev pub Spells : List ℕ → Bool → List Event → Ending → Type 0
 Spells bytes told [] ending = IsTold told bytes × Ends bytes ending
 Spells bytes told (continue ∷ events) ending = (told ≡ false) × Asks bytes × Spells bytes true events ending

@@ -27,12 +27,8 @@ values_at name block headers = values_named name (map (header_bytes block) heade
 
 -- the first value is at this place
 abbrev pub IsFirst : List ℕ → List (List ℕ) → Span → Type 0
-<<<<<<< HEAD
-IsFirst block values span = IsWithin (length block) span × ((more : List (List ℕ)) × (values ≡ span_bytes block span ∷ more))
-=======
 IsFirst block values span =
     IsWithin (length block) span × ((more : List (List ℕ)) × (values ≡ span_bytes block span ∷ more))
->>>>>>> d3a2f64c447a9412882609b548d124a6d66e4926
 
 -- there is no value, there is one at this place, or there are several
 abbrev pub IsOnly : List ℕ → List (List ℕ) → Only → Type 0
@@ -42,9 +38,5 @@ IsOnly block values Repeated = (a : List ℕ) × (b : List ℕ) × (more : List 
 
 -- the user that a lone value names
 abbrev pub user_in : List ℕ → List ℕ
-<<<<<<< HEAD
-user_in user = if nat_lt 0 (length user) && nat_le (length user) 128 && is_utf8 user then user else codes "anonymous"
-=======
 user_in user =
     if nat_lt 0 (length user) && nat_le (length user) 128 && is_utf8 user then user else codes "anonymous"
->>>>>>> d3a2f64c447a9412882609b548d124a6d66e4926

@@ -12,9 +12,5 @@ Stands framer bytes told = StandsAt framer.stage framer.buf.items framer.at byte
 
 -- what `next` answers, and the bytes that the framer stands for afterwards
 abbrev pub Answered : List ℕ → Bool → Result FrameStep FrameError → Framer → Type 0
-<<<<<<< HEAD
-Answered bytes told answer framer = (rest : List ℕ) × (mark : Bool) × Answers bytes told answer rest mark × Stands framer rest mark
-=======
 Answered bytes told answer framer =
     (rest : List ℕ) × (mark : Bool) × Answers bytes told answer rest mark × Stands framer rest mark
->>>>>>> d3a2f64c447a9412882609b548d124a6d66e4926

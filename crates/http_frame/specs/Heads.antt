@@ -1,8 +1,4 @@
-<<<<<<< HEAD
--- The head of a request (RFC 9112, 2 to 6). What a head is, the grammar of `httparse` says; all else about it is computed from its parts.
-=======
 -- The head of a request (RFC 9112, 2 to 6): by the grammar of `httparse`; all else is computed from it.
->>>>>>> d3a2f64c447a9412882609b548d124a6d66e4926
 use Rattle.std.specs.Prelude.{◌≡◌, ℕ, ◌≤◌, ◌⊎◌, ◌==◌, ◌||◌, ◌&&◌, not, Bool, true, false, List, [], ◌∷◌, length, map, take, nat_lt, nat_le, if◌then◌else◌, Option, Some, None, IsSome, codes, reverse, bytes_eq}
 use Rattle.std.specs.List.{list_all, list_any}
 use Rattle.std.specs.Char.{is_ascii_digit}
@@ -17,10 +13,7 @@ use Rattle.http_frame.specs.declared.types.FrameFault.TheVariants.{BadHead, Head
 
 -- ---- the first line
 
-<<<<<<< HEAD
-=======
 -- a byte before a line, where it is whole
->>>>>>> d3a2f64c447a9412882609b548d124a6d66e4926
 abbrev pub before : ℕ → Option (List ℕ) → Option (List ℕ)
 before b None = None
 before b (Some bytes) = Some (b ∷ bytes)
@@ -30,10 +23,7 @@ unfoldable pub line_at : List ℕ → Option (List ℕ)
 line_at [] = None
 line_at (b ∷ bytes) = if b == 10 then Some [] else before b (line_at bytes)
 
-<<<<<<< HEAD
-=======
 -- LF stands at the front
->>>>>>> d3a2f64c447a9412882609b548d124a6d66e4926
 abbrev pub begins_lf : List ℕ → Bool
 begins_lf [] = false
 begins_lf (b ∷ bytes) = b == 10
@@ -41,12 +31,8 @@ begins_lf (b ∷ bytes) = b == 10
 -- the first line that is not empty, where it is whole; a CR counts to the empty line only where LF follows
 unfoldable pub first_line : List ℕ → Option (List ℕ)
 first_line [] = None
-<<<<<<< HEAD
-first_line (b ∷ bytes) = if b == 10 || (b == 13 && begins_lf bytes) then first_line bytes else line_at (b ∷ bytes)
-=======
 first_line (b ∷ bytes) =
     if b == 10 || (b == 13 && begins_lf bytes) then first_line bytes else line_at (b ∷ bytes)
->>>>>>> d3a2f64c447a9412882609b548d124a6d66e4926
 
 -- the last byte first, without the CR of the line's end
 abbrev pub without_cr : List ℕ → List ℕ
@@ -56,12 +42,8 @@ without_cr (b ∷ bytes) = if b == 13 then bytes else b ∷ bytes
 -- from its last byte: digit, point, digit, `/PTTH` and a space; but not 1.0 and 1.1
 abbrev pub ends_in_version : List ℕ → Bool
 ends_in_version (b ∷ p ∷ a ∷ s ∷ t ∷ u ∷ v ∷ w ∷ x ∷ bytes) =
-<<<<<<< HEAD
-    is_ascii_digit b && p == 46 && is_ascii_digit a && bytes_eq (s ∷ t ∷ u ∷ v ∷ w ∷ x ∷ []) (codes "/PTTH ") && not (a == 49 && (b == 48 || b == 49))
-=======
     is_ascii_digit b && p == 46 && is_ascii_digit a
     && bytes_eq (s ∷ t ∷ u ∷ v ∷ w ∷ x ∷ []) (codes "/PTTH ") && not (a == 49 && (b == 48 || b == 49))
->>>>>>> d3a2f64c447a9412882609b548d124a6d66e4926
 ends_in_version bytes = false
 
 -- the line ends in a version other than 1.0 and 1.1
@@ -71,10 +53,7 @@ has_other_version (Some line) = ends_in_version (without_cr (reverse line))
 
 -- ---- what a head says
 
-<<<<<<< HEAD
-=======
 -- the most bytes of a head
->>>>>>> d3a2f64c447a9412882609b548d124a6d66e4926
 abbrev pub most_head : ℕ
 most_head = 16384
 
@@ -86,10 +65,7 @@ front bytes = take most_head bytes
 unfoldable pub values_of : List ℕ → RequestHead → List (List ℕ)
 values_of name head = values_named name (map name_and_value head.fields)
 
-<<<<<<< HEAD
-=======
 -- the first text stands at the front of the second
->>>>>>> d3a2f64c447a9412882609b548d124a6d66e4926
 abbrev pub starts_with : List ℕ → List ℕ → Bool
 starts_with [] bytes = true
 starts_with (a ∷ text) [] = false
@@ -98,12 +74,8 @@ starts_with (a ∷ text) (b ∷ bytes) = a == b && starts_with text bytes
 -- the most bytes of a body: more where a model is put
 unfoldable pub most_body : RequestHead → ℕ
 most_body head =
-<<<<<<< HEAD
-    if bytes_eq head.method (codes "PUT") && starts_with (codes "/coord/1/") head.target then 33554432 else 4194304
-=======
     if bytes_eq head.method (codes "PUT") && starts_with (codes "/coord/1/") head.target then 33554432
     else 4194304
->>>>>>> d3a2f64c447a9412882609b548d124a6d66e4926
 
 -- digits alone, at least one
 abbrev pub are_digits : List ℕ → Bool
@@ -120,14 +92,6 @@ pub data Framing : Type 0 where
 abbrev pub framing_by : List (List ℕ) → List (List ℕ) → ℕ → Framing
 framing_by [] [] minor = absent
 framing_by (length ∷ []) [] minor = if are_digits length then sized (digits_value 10 length) else badly
-<<<<<<< HEAD
-framing_by [] (coding ∷ []) minor = if eq_ignore_case coding (codes "chunked") && minor == 1 then chunked else badly
-framing_by lengths codings minor = badly
-
-unfoldable pub framing : RequestHead → Framing
-framing head = framing_by (values_of (codes "content-length") head) (values_of (codes "transfer-encoding") head) head.minor
-
-=======
 framing_by [] (coding ∷ []) minor =
     if eq_ignore_case coding (codes "chunked") && minor == 1 then chunked else badly
 framing_by lengths codings minor = badly
@@ -139,17 +103,13 @@ framing head =
     head.minor
 
 -- the fault of a body that is told so, where up to most bytes are taken
->>>>>>> d3a2f64c447a9412882609b548d124a6d66e4926
 abbrev pub framing_fault : ℕ → Framing → Option FrameFault
 framing_fault most absent = None
 framing_fault most (sized length) = if nat_lt most length then Some BodyTooLong else None
 framing_fault most chunked = None
 framing_fault most badly = Some BadLength
 
-<<<<<<< HEAD
-=======
 -- HTTP/1.1 asks for one Host
->>>>>>> d3a2f64c447a9412882609b548d124a6d66e4926
 abbrev pub lacks_host : RequestHead → Bool
 lacks_host head = head.minor == 1 && not (length (values_of (codes "host") head) == 1)
 
@@ -166,13 +126,6 @@ asks_continue head = head.minor == 1 && has_option (codes "100-continue") (value
 
 -- the connection is closed after the request
 unfoldable pub closes : RequestHead → Bool
-<<<<<<< HEAD
-closes head = head.minor == 0 || has_option (codes "close") (elements_named (codes "connection") (map name_and_value head.fields))
-
--- the body is encoded
-unfoldable pub is_encoded : RequestHead → Bool
-is_encoded head = list_any (λ v. not (eq_ignore_case v (codes "identity"))) (values_of (codes "content-encoding") head)
-=======
 closes head =
     head.minor == 0
     || has_option (codes "close") (elements_named (codes "connection") (map name_and_value head.fields))
@@ -181,22 +134,15 @@ closes head =
 unfoldable pub is_encoded : RequestHead → Bool
 is_encoded head =
     list_any (λ v. not (eq_ignore_case v (codes "identity"))) (values_of (codes "content-encoding") head)
->>>>>>> d3a2f64c447a9412882609b548d124a6d66e4926
 
 -- the value of the field X-User where it stands once and is a text of 1 to 128 bytes, else `anonymous`
 abbrev pub user_by : List (List ℕ) → List ℕ
 user_by [] = codes "anonymous"
-<<<<<<< HEAD
-user_by (user ∷ []) = if nat_lt 0 (length user) && nat_le (length user) 128 && is_utf8 user then user else codes "anonymous"
-user_by (user ∷ other ∷ users) = codes "anonymous"
-
-=======
 user_by (user ∷ []) =
     if nat_lt 0 (length user) && nat_le (length user) 128 && is_utf8 user then user else codes "anonymous"
 user_by (user ∷ other ∷ users) = codes "anonymous"
 
 -- the user that a head names
->>>>>>> d3a2f64c447a9412882609b548d124a6d66e4926
 unfoldable pub user_of : RequestHead → List ℕ
 user_of head = user_by (values_of (codes "x-user") head)
 

@@ -8,11 +8,7 @@ use Rattle.httparse.specs.Spans.{IsRequestOf, IsRequestWithin}
 use Rattle.http_frame.specs.declared.judge.Judged.{Judged}
 use Rattle.http_frame.specs.declared.judge.Judged.TheVariants.{Open, Never, Head, Crowded}
 
-<<<<<<< HEAD
--- open: no head yet, but some bytes that follow make one; never: no head, whatever follows; a head: its parts stand at these places
-=======
 -- open: no head yet, but more bytes make one; never: no head, whatever follows; a head: where its parts stand
->>>>>>> d3a2f64c447a9412882609b548d124a6d66e4926
 abbrev pub IsJudged : List ℕ → List HeaderSpan → Judged → Type 0
 IsJudged front headers Open = HasNoRequest front × MayBecomeRequest front
 IsJudged front headers Never = NeverHasRequest front

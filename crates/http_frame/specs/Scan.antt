@@ -20,10 +20,7 @@ step Last b = if b == 10 then Done else Dead
 step Done b = Done
 step Dead b = Dead
 
-<<<<<<< HEAD
-=======
 -- where these bytes lead
->>>>>>> d3a2f64c447a9412882609b548d124a6d66e4926
 abbrev pub run : Place → List ℕ → Place
 run place [] = place
 run place (b ∷ bytes) = run (step place b) bytes
@@ -46,15 +43,10 @@ after_lf (b ∷ bytes) = if b == 10 then bytes else after_lf bytes
 -- the bytes behind the first line that is not empty
 unfoldable pub after_line : List ℕ → List ℕ
 after_line [] = []
-<<<<<<< HEAD
-after_line (b ∷ bytes) = if b == 10 || (b == 13 && begins_lf bytes) then after_line bytes else after_lf (b ∷ bytes)
-
-=======
 after_line (b ∷ bytes) =
     if b == 10 || (b == 13 && begins_lf bytes) then after_line bytes else after_lf (b ∷ bytes)
 
 -- empty lines, method, target, version and line end of a first line
->>>>>>> d3a2f64c447a9412882609b548d124a6d66e4926
 abbrev pub Parts : Type 0
 Parts = List LineEnd × (List ℕ × (List ℕ × (ℕ × LineEnd)))
 
@@ -69,24 +61,11 @@ spot_step BeforeCr b = if b == 10 then Before else Line
 spot_step Line b = if b == 10 then Fields Start else Line
 spot_step (Fields place) b = Fields (step place b)
 
-<<<<<<< HEAD
-=======
 -- where these bytes lead from a spot
->>>>>>> d3a2f64c447a9412882609b548d124a6d66e4926
 abbrev pub spot_run : Spot → List ℕ → Spot
 spot_run spot [] = spot
 spot_run spot (b ∷ bytes) = spot_run (spot_step spot b) bytes
 
-<<<<<<< HEAD
--- the first line is not whole
-abbrev pub IsEarly : Spot → Type 0
-IsEarly Before = ⊤
-IsEarly BeforeCr = ⊤
-IsEarly Line = ⊤
-IsEarly (Fields place) = ⊥
-
-=======
->>>>>>> d3a2f64c447a9412882609b548d124a6d66e4926
 -- the first line was asked of the parser
 abbrev pub IsAsked : Spot → List ℕ → Type 0
 IsAsked Before bytes = ⊤

@@ -17,12 +17,8 @@ use Rattle.http_frame.specs.Told.{checked_by, facts_at, asks_at, IsPlan, IsFacts
 -- the first fault of a head whose parts stand at these places, or how its body comes
 abbrev pub checked_at : List ℕ → RequestSpans → List HeaderSpan → Result Plan FrameFault
 checked_at block spans headers =
-<<<<<<< HEAD
-    checked_by (span_bytes block spans.method) (span_bytes block spans.path) spans.version (length headers) (map (header_bytes block) headers)
-=======
     checked_by (span_bytes block spans.method) (span_bytes block spans.path) spans.version (length headers)
     (map (header_bytes block) headers)
->>>>>>> d3a2f64c447a9412882609b548d124a6d66e4926
 
 -- what is told of a head whose parts stand at these places
 abbrev pub IsHeadAt : List ℕ → RequestSpans → List HeaderSpan → Seen → Type 0
@@ -34,13 +30,9 @@ IsHeadAt block spans headers (Good good) =
 
 -- unfinished: nothing to answer yet; a fault of the head; a good head of this length, and what it says
 abbrev pub IsSeen : List ℕ → Seen → Type 0
-<<<<<<< HEAD
-IsSeen bytes (Unfinished watch) = IsRest bytes × ¬ (Asks bytes) × (length bytes < most_head) × (watch.seen ≡ length bytes) × IsWatch watch bytes
-=======
 IsSeen bytes (Unfinished watch) =
     IsRest bytes × ¬ (Asks bytes) × (length bytes < most_head) × (watch.seen ≡ length bytes)
     × IsWatch watch bytes
->>>>>>> d3a2f64c447a9412882609b548d124a6d66e4926
 IsSeen bytes (Fault fault) = FailsInHead bytes fault
 IsSeen bytes (Good good) =
     (good.len ≤ length bytes)

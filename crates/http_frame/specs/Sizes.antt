@@ -4,28 +4,18 @@ use Rattle.std.specs.Char.{is_ascii_hexdigit}
 use Rattle.http_frame.specs.declared.size_line.SizeSpot.{SizeSpot}
 use Rattle.http_frame.specs.declared.size_line.SizeSpot.TheVariants.{Digits, Extension, Cr, Whole, Wrong}
 
-<<<<<<< HEAD
-=======
 -- where the byte behind this one stands
->>>>>>> d3a2f64c447a9412882609b548d124a6d66e4926
 abbrev pub size_step : SizeSpot → ℕ → SizeSpot
 size_step (Digits n) b =
     if is_ascii_hexdigit b then (if nat_lt n 8 then Digits (n + 1) else Wrong)
     else (if n == 0 then Wrong else (if b == 59 then Extension 0 else (if b == 13 then Cr else Wrong)))
-<<<<<<< HEAD
-size_step (Extension n) b = if b == 13 then Cr else (if b == 10 then Wrong else (if nat_lt n 256 then Extension (n + 1) else Wrong))
-=======
 size_step (Extension n) b =
     if b == 13 then Cr else (if b == 10 then Wrong else (if nat_lt n 256 then Extension (n + 1) else Wrong))
->>>>>>> d3a2f64c447a9412882609b548d124a6d66e4926
 size_step Cr b = if b == 10 then Whole else Wrong
 size_step Whole b = Whole
 size_step Wrong b = Wrong
 
-<<<<<<< HEAD
-=======
 -- where these bytes lead
->>>>>>> d3a2f64c447a9412882609b548d124a6d66e4926
 abbrev pub size_run : SizeSpot → List ℕ → SizeSpot
 size_run spot [] = spot
 size_run spot (b ∷ bytes) = size_run (size_step spot b) bytes

@@ -42,10 +42,7 @@ awaited_of plan.Absent = Sized 0
 awaited_of (plan.Sized n) = Sized n
 awaited_of (plan.Chunked most) = Chunked (record { part = Size (Digits 0) 0; room = most; filled = 0 })
 
-<<<<<<< HEAD
-=======
 -- the same of a request whose head has just come
->>>>>>> d3a2f64c447a9412882609b548d124a6d66e4926
 abbrev pub pending_of : GoodHead → Pending
 pending_of good = record { facts = good.facts; owes = good.owes; body = awaited_of good.plan }
 
@@ -53,22 +50,11 @@ pending_of good = record { facts = good.facts; owes = good.owes; body = awaited_
 abbrev pub IsSized : ℕ → Framing → Type 0
 IsSized n how = ((how ≡ absent) × (n ≡ 0)) ⊎ (how ≡ sized n)
 
-<<<<<<< HEAD
--- what is behind the head: the items from the place on; chunks that were taken and those items; or a body, whole, and those items
-=======
 -- what is behind the head: the items from the place on; chunks that were taken and those; or a body and those
->>>>>>> d3a2f64c447a9412882609b548d124a6d66e4926
 abbrev pub IsBodyAt : Awaited → RequestHead → List ℕ → List ℕ → ℕ → Type 0
 IsBodyAt (Sized n) head behind items at = IsSized n (framing head) × (behind ≡ drop at items)
 IsBodyAt (Chunked c) head behind items at =
     (framing head ≡ chunked)
-<<<<<<< HEAD
-    × ((taken : List ℕ) × (behind ≡ taken ++ drop at items) × IsReading (most_body head) taken (take c.filled items) c.part c.room)
-IsBodyAt (Whole filled) head behind items at = ReadsBody (most_body head) (framing head) behind (take filled items) (drop at items)
-
--- the bytes are a good head of which that is kept, and the body so far
-pub record IsBodyOf (facts : HeadFacts) (body : Awaited) (items : List ℕ) (at : ℕ) (bytes : List ℕ) : Type 0 where
-=======
     × ((taken : List ℕ) × (behind ≡ taken ++ drop at items)
     × IsReading (most_body head) taken (take c.filled items) c.part c.room)
 IsBodyAt (Whole filled) head behind items at =
@@ -77,7 +63,6 @@ IsBodyAt (Whole filled) head behind items at =
 -- the bytes are a good head of which that is kept, and the body so far
 pub record IsBodyOf (facts : HeadFacts) (body : Awaited) (items : List ℕ) (at : ℕ) (bytes : List ℕ)
     : Type 0 where
->>>>>>> d3a2f64c447a9412882609b548d124a6d66e4926
   pub head : RequestHead
   pub behind : List ℕ
   pub good : HasGoodHead bytes head behind
@@ -104,12 +89,8 @@ IsFilled (Whole filled) at = filled ≤ at
 -- the places are in the buffer, and the watch is that of its bytes
 abbrev pub IsSafe : Stage → List ℕ → ℕ → Type 0
 IsSafe (Head watch) items at =
-<<<<<<< HEAD
-    (at ≤ length items) × (watch.seen ≤ length (front (drop at items))) × IsWatch watch (take watch.seen (front (drop at items)))
-=======
     (at ≤ length items) × (watch.seen ≤ length (front (drop at items)))
     × IsWatch watch (take watch.seen (front (drop at items)))
->>>>>>> d3a2f64c447a9412882609b548d124a6d66e4926
 IsSafe (Body p) items at = (at ≤ length items) × IsFilled p.body at
 IsSafe (Failed fault) items at = at ≤ length items
 
@@ -117,18 +98,6 @@ IsSafe (Failed fault) items at = at ≤ length items
 unfoldable pub Steps : Stage → List ℕ → ℕ → Stepped → List ℕ → Type 0
 Steps stage old at stepped new =
     (bytes : List ℕ) (told : Bool) → StandsAt stage old at bytes told
-<<<<<<< HEAD
-    → (rest : List ℕ) × (mark : Bool) × Answers bytes told stepped.answer rest mark × StandsAt stepped.stage new stepped.at rest mark
-
--- for whatever bytes it stood it stands still
-unfoldable pub Keeps : Stage → List ℕ → ℕ → List ℕ → ℕ → Type 0
-Keeps stage old at new place = (bytes : List ℕ) (told : Bool) → StandsAt stage old at bytes told → StandsAt stage new place bytes told
-
--- for whatever bytes it stood it stands for these and then the piece
-unfoldable pub Grows : Stage → List ℕ → ℕ → List ℕ → List ℕ → Type 0
-Grows stage old at new piece = (bytes : List ℕ) (told : Bool) → StandsAt stage old at bytes told → StandsAt stage new at (bytes ++ piece) told
-
-=======
     → (rest : List ℕ) × (mark : Bool) × Answers bytes told stepped.answer rest mark
     × StandsAt stepped.stage new stepped.at rest mark
 
@@ -144,16 +113,12 @@ Grows stage old at new piece =
     → StandsAt stage new at (bytes ++ piece) told
 
 -- a fault was met
->>>>>>> d3a2f64c447a9412882609b548d124a6d66e4926
 abbrev pub is_failed : Stage → Bool
 is_failed (Head watch) = false
 is_failed (Body p) = false
 is_failed (Failed fault) = true
 
-<<<<<<< HEAD
-=======
 -- at the front of a line, behind empty lines alone
->>>>>>> d3a2f64c447a9412882609b548d124a6d66e4926
 abbrev pub is_before : Spot → Bool
 is_before spot.Before = true
 is_before spot.BeforeCr = false

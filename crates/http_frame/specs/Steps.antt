@@ -6,21 +6,13 @@ use Rattle.http_frame.specs.declared.types.FrameError.{FrameError}
 use Rattle.http_frame.specs.declared.types.FrameError.TheVariants.{Fault, Memory}
 use Rattle.http_frame.specs.Events.{Begins, Fails, Asks, Event, continue, request, IsRest, IsTold}
 
-<<<<<<< HEAD
--- for the bytes that it stands for, and whether the Continue of the first request was answered, before and after: what `next` answers
-=======
 -- what `next` answers; the bytes stood for, and whether their first Continue was answered, before and after
->>>>>>> d3a2f64c447a9412882609b548d124a6d66e4926
 abbrev pub Answers : List ℕ → Bool → Result FrameStep FrameError → List ℕ → Bool → Type 0
 Answers old told (Ok More) new then = IsTold told old × IsRest old × (new ≡ old) × (then ≡ told)
 Answers old told (Ok Continue) new then = (told ≡ false) × Asks old × (new ≡ old) × (then ≡ true)
 Answers old told (Ok (Request r)) new then = IsTold told old × Begins old r new × (then ≡ false)
-<<<<<<< HEAD
-Answers old told (Err (Fault fault)) new then = IsTold told old × Fails old fault × (new ≡ old) × (then ≡ told)
-=======
 Answers old told (Err (Fault fault)) new then =
     IsTold told old × Fails old fault × (new ≡ old) × (then ≡ told)
->>>>>>> d3a2f64c447a9412882609b548d124a6d66e4926
 Answers old told (Err Memory) new then = (new ≡ old) × (then ≡ told)
 
 -- a call of the framer
@@ -32,12 +24,8 @@ pub data Act : Type 0 where
 abbrev pub Runs : List ℕ → Bool → List Act → List ℕ → Bool → Type 0
 Runs old told [] new then = (old ≡ new) × (told ≡ then)
 Runs old told (fed piece ∷ acts) new then = Runs (old ++ piece) told acts new then
-<<<<<<< HEAD
-Runs old told (answered r ∷ acts) new then = (mid : List ℕ) × (mark : Bool) × Answers old told r mid mark × Runs mid mark acts new then
-=======
 Runs old told (answered r ∷ acts) new then =
     (mid : List ℕ) × (mark : Bool) × Answers old told r mid mark × Runs mid mark acts new then
->>>>>>> d3a2f64c447a9412882609b548d124a6d66e4926
 
 -- all that was fed
 abbrev pub given : List Act → List ℕ

@@ -16,12 +16,8 @@ use Rattle.http_frame.specs.Facts.{has_value, has_other_value, values_at}
 
 -- the most bytes of a body, by method and target
 abbrev pub most_by : List ℕ → List ℕ → ℕ
-<<<<<<< HEAD
-most_by method target = if bytes_eq method (codes "PUT") && starts_with (codes "/coord/1/") target then 33554432 else 4194304
-=======
 most_by method target =
     if bytes_eq method (codes "PUT") && starts_with (codes "/coord/1/") target then 33554432 else 4194304
->>>>>>> d3a2f64c447a9412882609b548d124a6d66e4926
 
 -- how the body comes, or the fault of its length
 abbrev pub plan_of : ℕ → Framing → Result Plan FrameFault
@@ -34,22 +30,14 @@ plan_of most badly = Err BadLength
 abbrev pub lacks_host : ℕ → List (List ℕ) → Bool
 lacks_host minor hosts = minor == 1 && not (length hosts == 1)
 
-<<<<<<< HEAD
--- the first fault, or how the body comes: from method, target, version, the number of fields, and their names and values
-=======
 -- the first fault, or how the body comes: from method, target, version, number of fields, names and values
->>>>>>> d3a2f64c447a9412882609b548d124a6d66e4926
 unfoldable pub checked_by : List ℕ → List ℕ → ℕ → ℕ → List (List ℕ × List ℕ) → Result Plan FrameFault
 checked_by method target minor count fields =
     if lacks_host minor (values_named (codes "host") fields) then Err BadHead
     else (if nat_lt 64 count then Err HeadTooLong
-<<<<<<< HEAD
-    else plan_of (most_by method target) (framing_by (values_named (codes "content-length") fields) (values_named (codes "transfer-encoding") fields) minor))
-=======
     else plan_of (most_by method target)
     (framing_by (values_named (codes "content-length") fields)
     (values_named (codes "transfer-encoding") fields) minor))
->>>>>>> d3a2f64c447a9412882609b548d124a6d66e4926
 
 -- what is kept, from where it stands
 unfoldable pub facts_at : List ℕ → RequestSpans → List HeaderSpan → HeadFacts
@@ -58,15 +46,10 @@ facts_at block spans headers = record {
   target = span_bytes block spans.path;
   minor = spans.version;
   user = user_by (values_at (codes "x-user") block headers);
-<<<<<<< HEAD
-  close = spans.version == 0 || has_option (codes "close") (elements_named (codes "connection") (map (header_bytes block) headers));
-  encoded = list_any (has_other_value (codes "content-encoding") (codes "identity")) (map (header_bytes block) headers);
-=======
   close = spans.version == 0
       || has_option (codes "close") (elements_named (codes "connection") (map (header_bytes block) headers));
   encoded = list_any (has_other_value (codes "content-encoding") (codes "identity"))
       (map (header_bytes block) headers);
->>>>>>> d3a2f64c447a9412882609b548d124a6d66e4926
 }
 
 -- there is a body, maybe of no bytes
@@ -78,13 +61,9 @@ has_body (Chunked most) = true
 -- `100 Continue` is asked for before a body
 abbrev pub asks_at : ℕ → List ℕ → List HeaderSpan → Plan → Bool
 asks_at minor block headers plan =
-<<<<<<< HEAD
-    minor == 1 && list_any (has_value (codes "expect") (codes "100-continue")) (map (header_bytes block) headers) && has_body plan
-=======
     minor == 1
     && list_any (has_value (codes "expect") (codes "100-continue")) (map (header_bytes block) headers)
     && has_body plan
->>>>>>> d3a2f64c447a9412882609b548d124a6d66e4926
 
 -- the plan is for bodies of this framing, up to most bytes
 abbrev pub IsPlan : ℕ → Framing → Plan → Type 0

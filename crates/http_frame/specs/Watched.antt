@@ -15,20 +15,14 @@ use Rattle.http_frame.specs.declared.watch.Look.TheVariants as look
 use Rattle.http_frame.specs.Heads.{first_line}
 use Rattle.http_frame.specs.Scan.{spot_run, IsAsked}
 
-<<<<<<< HEAD
-=======
 -- the first line is not whole
->>>>>>> d3a2f64c447a9412882609b548d124a6d66e4926
 abbrev pub is_early : Spot → Bool
 is_early Before = true
 is_early BeforeCr = true
 is_early Line = true
 is_early (Fields p) = false
 
-<<<<<<< HEAD
-=======
 -- neither the end nor a byte that no field line has there was met
->>>>>>> d3a2f64c447a9412882609b548d124a6d66e4926
 abbrev pub is_open_place : Place → Bool
 is_open_place place.Start = true
 is_open_place place.Name = true
@@ -38,37 +32,20 @@ is_open_place place.Last = true
 is_open_place place.Done = false
 is_open_place place.Dead = false
 
-<<<<<<< HEAD
-=======
 -- the same from the front of a request on
->>>>>>> d3a2f64c447a9412882609b548d124a6d66e4926
 abbrev pub is_open : Spot → Bool
 is_open Before = true
 is_open BeforeCr = true
 is_open Line = true
 is_open (Fields p) = is_open_place p
 
-<<<<<<< HEAD
-=======
 -- what is told where the parser answers so
->>>>>>> d3a2f64c447a9412882609b548d124a6d66e4926
 abbrev pub look_of : Judged → Look
 look_of Open = look.Unfinished
 look_of Never = look.Hopeless
 look_of (Head spans) = look.Whole spans
 look_of Crowded = look.Crowded
 
-<<<<<<< HEAD
--- the spot is where the bytes that were taken lead, and their first line was asked of the parser where it is whole
-abbrev pub IsWatch : Watch → List ℕ → Type 0
-IsWatch watch taken = (watch.spot ≡ spot_run Before taken) × IsAsked watch.spot taken
-
--- unfinished: no head, but not hopeless; hopeless: the first line is whole, and no head whatever follows; crowded: there is little room
-abbrev pub IsLook : List ℕ → List HeaderSpan → Look → Type 0
-IsLook front headers look.Unfinished = HasNoRequest front × ¬ (IsSome (first_line front) × NeverHasRequest front)
-IsLook front headers look.Hopeless = IsSome (first_line front) × NeverHasRequest front
-IsLook front headers (look.Whole spans) = IsRequestOf front headers spans × IsRequestWithin front headers spans
-=======
 -- the spot is where the bytes taken lead, and their first line was asked of the parser where it is whole
 abbrev pub IsWatch : Watch → List ℕ → Type 0
 IsWatch watch taken = (watch.spot ≡ spot_run Before taken) × IsAsked watch.spot taken
@@ -80,5 +57,4 @@ IsLook front headers look.Unfinished =
 IsLook front headers look.Hopeless = IsSome (first_line front) × NeverHasRequest front
 IsLook front headers (look.Whole spans) =
     IsRequestOf front headers spans × IsRequestWithin front headers spans
->>>>>>> d3a2f64c447a9412882609b548d124a6d66e4926
 IsLook front headers look.Crowded = length headers < 6000

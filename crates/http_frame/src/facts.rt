@@ -111,12 +111,8 @@ fn has_other_value(wanted: &[u8], option: &[u8], block: &[u8], header: &HeaderSp
 /// Whether a field with this name has another value.
 pub fn any_other_value(wanted: &[u8], option: &[u8], block: &[u8], headers: &[HeaderSpan]) -> bool
     requires { All (IsHeaderWithin (length block.now)) headers.now }
-<<<<<<< HEAD
-    ensures { result ≡ list_any (has_other_value wanted.now option.now) (map (header_bytes block.now) headers.now) }
-=======
     ensures { result ≡ list_any (has_other_value wanted.now option.now)
         (map (header_bytes block.now) headers.now) }
->>>>>>> d3a2f64c447a9412882609b548d124a6d66e4926
 {
     for header in headers {
         if has_other_value(wanted, option, block, header) {
@@ -130,12 +126,8 @@ pub fn any_other_value(wanted: &[u8], option: &[u8], block: &[u8], headers: &[He
 #[tactic(auto, unfolding(http1::specs::Fields::known_fields))]
 pub fn lists_close(block: &[u8], headers: &[HeaderSpan]) -> bool
     requires { All (IsHeaderWithin (length block.now)) headers.now }
-<<<<<<< HEAD
-    ensures { result ≡ has_option (codes "close") (elements_named (codes "connection") (map (header_bytes block.now) headers.now)) }
-=======
     ensures { result ≡ has_option (codes "close")
         (elements_named (codes "connection") (map (header_bytes block.now) headers.now)) }
->>>>>>> d3a2f64c447a9412882609b548d124a6d66e4926
 {
     KnownFields::from_spans(block, headers).close
 }

@@ -25,13 +25,8 @@ fn tail(bytes: &[u8], at: usize) -> &[u8]
     &bytes[at..]
 }
 
-<<<<<<< HEAD
-// Drops the bytes before the place once they are at least half of all, so that each byte is moved once at most for
-// each byte dropped.
-=======
 // Drops the bytes before the place once they are at least half of all: a byte is moved once at most for each
 // byte dropped.
->>>>>>> d3a2f64c447a9412882609b548d124a6d66e4926
 fn compact(buf: &mut Vec<u8>, at: usize) -> usize
     requires { at ≤ length buf.old.items }
     ensures place { result ≤ length buf.new.items }
@@ -109,33 +104,21 @@ impl Framer {
 
     /// Appends the piece. After an `Err` it stands for the bytes of before.
     pub fn feed(&mut self, piece: &[u8]) -> Result<(), AllocError>
-<<<<<<< HEAD
-        ensures ok { OnOk result ((bytes : List ℕ) (told : Bool) → Stands self.old bytes told → Stands self.new (bytes ++ piece.now) told) }
-        ensures err { OnErr result ((bytes : List ℕ) (told : Bool) → Stands self.old bytes told → Stands self.new bytes told) }
-=======
         ensures ok { OnOk result ((bytes : List ℕ) (told : Bool) → Stands self.old bytes told
             → Stands self.new (bytes ++ piece.now) told) }
         ensures err { OnErr result ((bytes : List ℕ) (told : Bool) → Stands self.old bytes told
             → Stands self.new bytes told) }
->>>>>>> d3a2f64c447a9412882609b548d124a6d66e4926
     {
         self.at = compact_at(&mut self.buf, self.at, &self.stage);
         grow(&mut self.buf, self.at, &self.stage, piece)
     }
 
-<<<<<<< HEAD
-    /// The next event: a request that asks for `100 Continue`, once, and a request, which it stands for no longer; `More` where the bytes
-    /// leave no event and no fault. After a fault each later call answers it too; after `Memory` it stands for the same bytes.
-    pub fn next(&mut self) -> Result<FrameStep, FrameError>
-        ensures { (bytes : List ℕ) (told : Bool) → Stands self.old bytes told → Answered bytes told result self.new }
-=======
     /// The next event: a request that asks for `100 Continue`, once, and a request, which it stands for no
     /// longer; `More` where the bytes leave no event and no fault. After a fault each later call answers it
     /// too; after `Memory` it stands for the same bytes.
     pub fn next(&mut self) -> Result<FrameStep, FrameError>
         ensures { (bytes : List ℕ) (told : Bool) → Stands self.old bytes told
             → Answered bytes told result self.new }
->>>>>>> d3a2f64c447a9412882609b548d124a6d66e4926
     {
         let stage = mem::replace(&mut self.stage, Stage::Failed(FrameFault::BadHead));
         let stepped = step(&mut self.buf, self.at, stage);
@@ -144,16 +127,10 @@ impl Framer {
         stepped.answer
     }
 
-<<<<<<< HEAD
-    /// Whether the bytes, which leave no event and no fault, are empty lines alone: they end between requests.
-    pub fn is_between(&self) -> bool
-        ensures { (bytes : List ℕ) (told : Bool) → Stands self.now bytes told → IsRest bytes → (IsTrue result ↔ IsBlank bytes) }
-=======
     /// Whether the bytes, which leave no event and no fault, are empty lines alone: the input may end here.
     pub fn is_between(&self) -> bool
         ensures { (bytes : List ℕ) (told : Bool) → Stands self.now bytes told → IsRest bytes
             → (IsTrue result ↔ IsBlank bytes) }
->>>>>>> d3a2f64c447a9412882609b548d124a6d66e4926
     {
         match &self.stage {
             Stage::Head(_) => is_before(walk_on(Spot::Before, tail(&self.buf, self.at))),

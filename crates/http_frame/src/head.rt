@@ -80,12 +80,8 @@ fn are_digits(text: &[u8]) -> bool
 fn number_up_to(text: &[u8], most: usize) -> Option<usize>
     requires digits { list_all is_ascii_digit text.now ≡ true }
     requires most { most ≤ 33554432 }
-<<<<<<< HEAD
-    ensures { result ≡ (if nat_lt most (digits_value 10 text.now) then None else Some (digits_value 10 text.now)) }
-=======
     ensures { result ≡ (if nat_lt most (digits_value 10 text.now) then None
         else Some (digits_value 10 text.now)) }
->>>>>>> d3a2f64c447a9412882609b548d124a6d66e4926
 {
     let mut value = 0;
     for b in text {
@@ -100,12 +96,8 @@ fn number_up_to(text: &[u8], most: usize) -> Option<usize>
 // From the lone value of Content-Length.
 fn sized_plan(text: &[u8], most: usize) -> Result<Plan, FrameFault>
     requires { most ≤ 33554432 }
-<<<<<<< HEAD
-    ensures { result ≡ plan_of most (if are_digits text.now then sized (digits_value 10 text.now) else badly) }
-=======
     ensures { result ≡ plan_of most
         (if are_digits text.now then sized (digits_value 10 text.now) else badly) }
->>>>>>> d3a2f64c447a9412882609b548d124a6d66e4926
 {
     if text.is_empty() {
         return Err(FrameFault::BadLength);
@@ -128,12 +120,8 @@ fn is_chunked(text: &[u8], minor: u8) -> bool
 
 // From the lone value of Transfer-Encoding.
 fn chunked_plan(text: &[u8], minor: u8, most: usize) -> Result<Plan, FrameFault>
-<<<<<<< HEAD
-    ensures { result ≡ plan_of most (if eq_ignore_case text.now (codes "chunked") && minor == 1 then chunked else badly) }
-=======
     ensures { result ≡ plan_of most
         (if eq_ignore_case text.now (codes "chunked") && minor == 1 then chunked else badly) }
->>>>>>> d3a2f64c447a9412882609b548d124a6d66e4926
 {
     if is_chunked(text, minor) {
         Ok(Plan::Chunked(most))
@@ -145,12 +133,8 @@ fn chunked_plan(text: &[u8], minor: u8, most: usize) -> Result<Plan, FrameFault>
 fn plan_of(block: &[u8], headers: &[HeaderSpan], minor: u8, most: usize) -> Result<Plan, FrameFault>
     requires headers { All (IsHeaderWithin (length block.now)) headers.now }
     requires most { most ≤ 33554432 }
-<<<<<<< HEAD
-    ensures { result ≡ plan_of most (framing_by (values_at (codes "content-length") block.now headers.now) (values_at (codes "transfer-encoding") block.now headers.now) minor) }
-=======
     ensures { result ≡ plan_of most (framing_by (values_at (codes "content-length") block.now headers.now)
         (values_at (codes "transfer-encoding") block.now headers.now) minor) }
->>>>>>> d3a2f64c447a9412882609b548d124a6d66e4926
 {
     let lengths = only_named(b"content-length", block, headers);
     let codings = only_named(b"transfer-encoding", block, headers);
@@ -186,13 +170,9 @@ pub fn checked(
     requires method { IsWithin (length block.now) spans.now.method }
     requires target { IsWithin (length block.now) spans.now.path }
     requires headers { All (IsHeaderWithin (length block.now)) headers.now }
-<<<<<<< HEAD
-    ensures { result ≡ checked_by (span_bytes block.now spans.now.method) (span_bytes block.now spans.now.path) spans.now.version (length headers.now) (map (header_bytes block.now) headers.now) }
-=======
     ensures { result ≡ checked_by (span_bytes block.now spans.now.method)
         (span_bytes block.now spans.now.path) spans.now.version (length headers.now)
         (map (header_bytes block.now) headers.now) }
->>>>>>> d3a2f64c447a9412882609b548d124a6d66e4926
 {
     if lacks_host(spans.version, block, headers) {
         return Err(FrameFault::BadHead);
@@ -229,12 +209,8 @@ pub fn facts_of(
 
 fn closes(minor: u8, block: &[u8], headers: &[HeaderSpan]) -> bool
     requires { All (IsHeaderWithin (length block.now)) headers.now }
-<<<<<<< HEAD
-    ensures { result ≡ (minor == 0 || has_option (codes "close") (elements_named (codes "connection") (map (header_bytes block.now) headers.now))) }
-=======
     ensures { result ≡ (minor == 0 || has_option (codes "close")
         (elements_named (codes "connection") (map (header_bytes block.now) headers.now))) }
->>>>>>> d3a2f64c447a9412882609b548d124a6d66e4926
 {
     minor == 0 || lists_close(block, headers)
 }

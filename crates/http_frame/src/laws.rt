@@ -1,21 +1,9 @@
 //! What follows of the definitions alone.
-<<<<<<< HEAD
-ghost use Rattle.std.specs.Prelude.{◌≡◌, ℕ, List, [], ◌++◌, Bool};
-=======
 ghost use Rattle.std.specs.Prelude.{◌≡◌, ℕ, List, [], ◌++◌, Bool, Some};
->>>>>>> d3a2f64c447a9412882609b548d124a6d66e4926
 ghost use Rattle.httparse.specs.Grammar.{RequestHead, ReadsRequest, MayBecomeRequest};
 ghost use Rattle.http_frame.specs.declared.types.HttpRequest.{HttpRequest};
 ghost use Rattle.http_frame.specs.declared.types.FrameFault.{FrameFault};
 ghost use Rattle.http_frame.specs.Heads.{first_line};
-<<<<<<< HEAD
-ghost use Rattle.http_frame.specs.Events.{Event, Ending, bad, Begins, Fails, Spells};
-ghost use Rattle.std.specs.Prelude.{Some};
-
-/// Bytes spell one list of events and end in one way.
-pub fn bytes_have_one_reading()
-    ensures { (bytes : List ℕ) (told : Bool) (es fs : List Event) (e d : Ending) → Spells bytes told es e → Spells bytes told fs d → (es ≡ fs) × (e ≡ d) }
-=======
 ghost use Rattle.http_frame.specs.Events.{Event, Ending, bad, Begins, Fails, IsRest, IsTold, Spells};
 ghost use Rattle.http_frame.specs.Steps.{Act, Runs, given, told_by};
 
@@ -23,17 +11,10 @@ ghost use Rattle.http_frame.specs.Steps.{Act, Runs, given, told_by};
 pub fn bytes_have_one_reading()
     ensures { (bytes : List ℕ) (told : Bool) (es fs : List Event) (e d : Ending)
         → Spells bytes told es e → Spells bytes told fs d → (es ≡ fs) × (e ≡ d) }
->>>>>>> d3a2f64c447a9412882609b548d124a6d66e4926
 {}
 
 /// What stands at the front stays, whatever follows.
 pub fn readings_stay()
-<<<<<<< HEAD
-    ensures request { (bytes more : List ℕ) (r : HttpRequest) (x : List ℕ) → Begins bytes r x → Begins (bytes ++ more) r (x ++ more) }
-    ensures fault { (bytes more : List ℕ) (f : FrameFault) → Fails bytes f → Fails (bytes ++ more) f }
-    ensures front { (bytes more : List ℕ) (told : Bool) (es fs : List Event) (e d : Ending) → Spells bytes told es e → Spells (bytes ++ more) told fs d → (gs : List Event) × (fs ≡ es ++ gs) }
-    ensures ended { (bytes more : List ℕ) (told : Bool) (es : List Event) (f : FrameFault) → Spells bytes told es (bad f) → Spells (bytes ++ more) told es (bad f) }
-=======
     ensures request { (bytes more : List ℕ) (r : HttpRequest) (x : List ℕ)
         → Begins bytes r x → Begins (bytes ++ more) r (x ++ more) }
     ensures fault { (bytes more : List ℕ) (f : FrameFault) → Fails bytes f → Fails (bytes ++ more) f }
@@ -41,24 +22,10 @@ pub fn readings_stay()
         → Spells bytes told es e → Spells (bytes ++ more) told fs d → (gs : List Event) × (fs ≡ es ++ gs) }
     ensures ended { (bytes more : List ℕ) (told : Bool) (es : List Event) (f : FrameFault)
         → Spells bytes told es (bad f) → Spells (bytes ++ more) told es (bad f) }
->>>>>>> d3a2f64c447a9412882609b548d124a6d66e4926
 {}
 
 /// The second promise on which the first fault stands.
 pub fn a_whole_line_may_become_a_head()
-<<<<<<< HEAD
-    ensures { (bytes l : List ℕ) → first_line bytes ≡ Some l → MayBecomeRequest bytes → (more : List ℕ) × (h : RequestHead) × ReadsRequest (bytes ++ more) h [] }
-{}
-
-ghost use Rattle.http_frame.specs.Steps.{Act, Runs, given, told_by};
-ghost use Rattle.http_frame.specs.Events.{IsTold, IsRest};
-
-/// What a framer answers over any pieces are the first events of all the bytes; where it answers `More`, none is left.
-pub fn answers_are_the_events()
-    ensures first { (old new : List ℕ) (told mark : Bool) (acts : List Act) (es : List Event) (e : Ending) → Runs old told acts new mark
-        → Spells (old ++ given acts) told es e → (gs : List Event) × (es ≡ told_by acts ++ gs) × Spells new mark gs e }
-    ensures more { (bytes : List ℕ) (told : Bool) (es : List Event) (e : Ending) → IsTold told bytes → IsRest bytes → Spells bytes told es e → es ≡ [] }
-=======
     ensures { (bytes l : List ℕ) → first_line bytes ≡ Some l → MayBecomeRequest bytes
         → (more : List ℕ) × (h : RequestHead) × ReadsRequest (bytes ++ more) h [] }
 {}
@@ -70,5 +37,4 @@ pub fn answers_are_the_events()
         → Spells (old ++ given acts) told es e → (gs : List Event) × (es ≡ told_by acts ++ gs) × Spells new mark gs e }
     ensures more { (bytes : List ℕ) (told : Bool) (es : List Event) (e : Ending)
         → IsTold told bytes → IsRest bytes → Spells bytes told es e → es ≡ [] }
->>>>>>> d3a2f64c447a9412882609b548d124a6d66e4926
 {}

@@ -95,12 +95,8 @@ fn step_whole(buf: &mut Vec<u8>, at: usize, facts: HeadFacts, filled: usize) -> 
     requires at { at ≤ length buf.old.items }
     requires filled { filled ≤ at }
     ensures safe { IsSafe result.stage buf.new.items result.at }
-<<<<<<< HEAD
-    ensures step { Steps (Stage.Body (record { facts = facts; owes = false; body = Awaited.Whole filled })) buf.old.items at result buf.new.items }
-=======
     ensures step { Steps (Stage.Body (record { facts = facts; owes = false; body = Awaited.Whole filled }))
         buf.old.items at result buf.new.items }
->>>>>>> d3a2f64c447a9412882609b548d124a6d66e4926
 {
     match part(buf, filled, at) {
         Ok(body) => Stepped {
@@ -120,8 +116,6 @@ fn step_whole(buf: &mut Vec<u8>, at: usize, facts: HeadFacts, filled: usize) -> 
     }
 }
 
-<<<<<<< HEAD
-=======
 fn run(bytes: &[u8], at: usize, count: usize) -> &[u8]
     requires { at + count ≤ length bytes.now }
     ensures { result.now ≡ take count (drop at bytes.now) }
@@ -129,16 +123,11 @@ fn run(bytes: &[u8], at: usize, count: usize) -> &[u8]
     &bytes[at..at + count]
 }
 
->>>>>>> d3a2f64c447a9412882609b548d124a6d66e4926
 fn copied(buf: &Vec<u8>, at: usize, count: usize) -> Result<Items<u8>, AllocError>
     requires { at + count ≤ length buf.now.items }
     ensures { IfOk result (λ body. body ≡ take count (drop at buf.now.items)) }
 {
-<<<<<<< HEAD
-    let body = tail(buf, at)[..count].to_vec(*buf.allocator())?;
-=======
     let body = run(buf, at, count).to_vec(*buf.allocator())?;
->>>>>>> d3a2f64c447a9412882609b548d124a6d66e4926
     Ok(Items::from_vec(body))
 }
 
@@ -146,12 +135,8 @@ fn copied(buf: &Vec<u8>, at: usize, count: usize) -> Result<Items<u8>, AllocErro
 fn step_copied(buf: &mut Vec<u8>, at: usize, facts: HeadFacts, count: usize) -> Stepped
     requires { at + count ≤ length buf.old.items }
     ensures safe { IsSafe result.stage buf.new.items result.at }
-<<<<<<< HEAD
-    ensures step { Steps (Stage.Body (record { facts = facts; owes = false; body = Awaited.Sized count })) buf.old.items at result buf.new.items }
-=======
     ensures step { Steps (Stage.Body (record { facts = facts; owes = false; body = Awaited.Sized count }))
         buf.old.items at result buf.new.items }
->>>>>>> d3a2f64c447a9412882609b548d124a6d66e4926
 {
     match copied(buf, at, count) {
         Ok(body) => Stepped {
@@ -175,17 +160,11 @@ fn step_copied(buf: &mut Vec<u8>, at: usize, facts: HeadFacts, count: usize) -> 
 fn step_sized(buf: &mut Vec<u8>, at: usize, facts: HeadFacts, count: usize) -> Stepped
     requires { at ≤ length buf.old.items }
     ensures safe { IsSafe result.stage buf.new.items result.at }
-<<<<<<< HEAD
-    ensures step { Steps (Stage.Body (record { facts = facts; owes = false; body = Awaited.Sized count })) buf.old.items at result buf.new.items }
-{
-    if buf.len() - at < count {
-=======
     ensures step { Steps (Stage.Body (record { facts = facts; owes = false; body = Awaited.Sized count }))
         buf.old.items at result buf.new.items }
 {
     let rest = buf.len() - at;
     if rest < count {
->>>>>>> d3a2f64c447a9412882609b548d124a6d66e4926
         settle(buf, at);
         return Stepped {
             stage: Stage::Body(Pending {
@@ -219,12 +198,8 @@ fn step_chunked(buf: &mut Vec<u8>, at: usize, facts: HeadFacts, chunks: Chunks) 
     requires at { at ≤ length buf.old.items }
     requires filled { chunks.filled ≤ at }
     ensures safe { IsSafe result.stage buf.new.items result.at }
-<<<<<<< HEAD
-    ensures step { Steps (Stage.Body (record { facts = facts; owes = false; body = Awaited.Chunked chunks })) buf.old.items at result buf.new.items }
-=======
     ensures step { Steps (Stage.Body (record { facts = facts; owes = false; body = Awaited.Chunked chunks }))
         buf.old.items at result buf.new.items }
->>>>>>> d3a2f64c447a9412882609b548d124a6d66e4926
 {
     let start = Taken {
         chunks,

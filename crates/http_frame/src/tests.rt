@@ -7,13 +7,9 @@ use crate::laws::{
 };
 use crate::types::{FrameError, FrameStep, HttpRequest};
 use std::alloc::{AllocError, Global};
+use std::process::Abort;
 use std::test::Fail;
 
-<<<<<<< HEAD
-const HOST: &str = "Host: h\r\n";
-
-=======
->>>>>>> d3a2f64c447a9412882609b548d124a6d66e4926
 // Method, target, version, user, whether it closes, whether the body is encoded, and the body.
 fn shown(alloc: Global, request: &HttpRequest) -> Result<String, AllocError> {
     let method = str::from_utf8(request.method.as_slice()).unwrap_or("?");
@@ -61,145 +57,6 @@ fn events(alloc: Global, bytes: &[u8], size: usize) -> Result<String, AllocError
     Ok(text)
 }
 
-<<<<<<< HEAD
-const STREAMS: [(&str, &str, &str); 24] = [
-    (
-        "\r\n\nGET /a HTTP/1.1\r\n",
-        "\r\n\n",
-        "GET /a 1.1 anonymous false false ;between",
-    ),
-    (
-        "GET /a HTTP/1.1\n",
-        "\n\r",
-        "GET /a 1.1 anonymous false false ;within",
-    ),
-    ("GET /a HTTP/1.1\r\nhost: x\r\n", "\r\n", "BadHead"),
-    (
-        "GET /a HTTP/1.0\r\n",
-        "\r\n",
-        "GET /a 1.0 anonymous true false ;between",
-    ),
-    ("GET /a HTTP/2.0\r\n", "\r\n", "Version"),
-    ("GET /a b HTTP/1.1\r\n", "\r\n", "BadHead"),
-    (
-        "POST /a HTTP/1.1\r\nContent-Length: 2\r\n",
-        "\r\nok\n",
-        "POST /a 1.1 anonymous false false ok;between",
-    ),
-    (
-        "POST /a HTTP/1.1\r\nContent-Length: 3\r\n",
-        "\r\nok",
-        "within",
-    ),
-    (
-        "POST /a HTTP/1.1\r\nContent-Length: 10\r\n",
-        "\r\n0123456789abcdef",
-        "POST /a 1.1 anonymous false false 0123456789;within",
-    ),
-    (
-        "POST /a HTTP/1.1\r\nContent-Length: 1\r\ncontent-length: 1\r\n",
-        "\r\na",
-        "BadLength",
-    ),
-    (
-        "POST /a HTTP/1.1\r\nContent-Length: +1\r\n",
-        "\r\na",
-        "BadLength",
-    ),
-    (
-        "POST /coord/1/a HTTP/1.1\r\nContent-Length: 4194305\r\n",
-        "\r\n",
-        "BodyTooLong",
-    ),
-    (
-        "PUT /coord/1/a HTTP/1.1\r\nContent-Length: 4194305\r\n",
-        "\r\n",
-        "within",
-    ),
-    (
-        "PUT /coord/1/a HTTP/1.1\r\nContent-Length: 33554433\r\n",
-        "\r\n",
-        "BodyTooLong",
-    ),
-    (
-        "POST /a HTTP/1.1\r\nTransfer-Encoding: Chunked\r\n",
-        "\r\n4;x=y\r\nwiki\r\n05\r\npedia\r\n0\r\nT: v\r\n\r\n",
-        "POST /a 1.1 anonymous false false wikipedia;between",
-    ),
-    (
-        "POST /a HTTP/1.1\r\nTransfer-Encoding: chunked\r\n",
-        "\r\n1\r\naX",
-        "BadChunk",
-    ),
-    (
-        "POST /a HTTP/1.1\r\nTransfer-Encoding: chunked\r\n",
-        "\r\n400001\r\n",
-        "BodyTooLong",
-    ),
-    (
-        "POST /a HTTP/1.1\r\nTransfer-Encoding: chunked\r\n",
-        "\r\n000000001",
-        "BadChunk",
-    ),
-    (
-        "POST /a HTTP/1.1\r\nTransfer-Encoding: chunked\r\n",
-        "\r\n0\r\nbad\r\n",
-        "BadChunk",
-    ),
-    (
-        "POST /a HTTP/1.1\r\nTransfer-Encoding: chunked\r\n",
-        "\r\n0\r\nbad",
-        "within",
-    ),
-    (
-        "POST /a HTTP/1.1\r\nTransfer-Encoding: gzip\r\n",
-        "\r\n",
-        "BadLength",
-    ),
-    (
-        "POST /a HTTP/1.1\r\nExpect: 100-Continue\r\nContent-Length: 2\r\n",
-        "\r\nok",
-        "continue;POST /a 1.1 anonymous false false ok;between",
-    ),
-    (
-        "GET /a HTTP/1.1\r\nExpect: 100-continue\r\nConnection: x, Close\r\n",
-        "\r\n",
-        "GET /a 1.1 anonymous true false ;between",
-    ),
-    (
-        "GET /a HTTP/1.1\r\nX-User: \u{e9}\r\nContent-Encoding: identity\r\ncontent-encoding: gzip\r\n",
-        "\r\n",
-        "GET /a 1.1 \u{e9} false true ;between",
-    ),
-];
-
-#[test]
-fn pieces_give_the_same_events(rt: HostRuntime) -> Result<(), Fail> {
-    let alloc = rt.alloc();
-    for (front, behind, wanted) in STREAMS {
-        let text = format!(in alloc; "{front}{HOST}{behind}")?;
-        for size in [1, 7, 1_000] {
-            assert_eq!(rt;
-                events(alloc, text.as_bytes(), size)?.as_str(),
-                wanted,
-                "at {text} in pieces of {size}"
-            );
-        }
-    }
-    bytes_have_one_reading();
-    readings_stay();
-    a_whole_line_may_become_a_head();
-    answers_are_the_events();
-    Ok(())
-}
-
-// A head of so many bytes, with so many fields beside the first.
-fn long_head(alloc: Global, length: usize, fields: usize) -> Result<Vec<u8>, AllocError> {
-    let mut bytes = format!(in alloc; "GET /a HTTP/1.1\r\n{HOST}")?.into_bytes();
-    for _ in 0..fields {
-        bytes.extend_from_slice(b"a:\n")?;
-    }
-=======
 // The bytes tell these events, fed in pieces of 1, 7 and 1,000 bytes.
 fn tells(rt: &impl Abort, alloc: Global, text: &str, wanted: &str) -> Result<(), AllocError> {
     assert_eq!(rt; events(alloc, text.as_bytes(), 1)?.as_str(), wanted);
@@ -350,7 +207,6 @@ fn long_head(alloc: Global, length: usize, fields: usize) -> Result<Vec<u8>, All
     for _ in 0..fields {
         bytes.extend_from_slice(b"a:\n")?;
     }
->>>>>>> d3a2f64c447a9412882609b548d124a6d66e4926
     bytes.extend_from_slice(b"b:")?;
     bytes.resize(length.saturating_sub(2), b'a')?;
     bytes.extend_from_slice(b"\n\n")?;
@@ -359,24 +215,6 @@ fn long_head(alloc: Global, length: usize, fields: usize) -> Result<Vec<u8>, All
 
 #[test]
 fn heads_have_16384_bytes_and_64_fields_at_most(rt: HostRuntime) -> Result<(), Fail> {
-<<<<<<< HEAD
-    let request = "GET /a 1.1 anonymous false false ;between";
-    let cases = [
-        (16_384, 0, request),
-        (16_385, 0, "HeadTooLong"),
-        (1_000, 62, request),
-        (1_000, 63, "HeadTooLong"),
-    ];
-    let alloc = rt.alloc();
-    for (length, fields, wanted) in cases {
-        let bytes = long_head(alloc, length, fields)?;
-        assert_eq!(rt;
-            events(alloc, &bytes, 4_096)?.as_str(),
-            wanted,
-            "at {length} bytes and {fields} fields"
-        );
-    }
-=======
     let alloc = rt.alloc();
     let request = "GET /a 1.1 anonymous false false ;between";
     let longest = long_head(alloc, 16_384, 0)?;
@@ -387,6 +225,5 @@ fn heads_have_16384_bytes_and_64_fields_at_most(rt: HostRuntime) -> Result<(), F
     assert_eq!(rt; events(alloc, &most, 4_096)?.as_str(), request);
     let more = long_head(alloc, 1_000, 63)?;
     assert_eq!(rt; events(alloc, &more, 4_096)?.as_str(), "HeadTooLong");
->>>>>>> d3a2f64c447a9412882609b548d124a6d66e4926
     Ok(())
 }

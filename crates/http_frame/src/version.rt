@@ -52,12 +52,8 @@ fn line_start(bytes: &[u8]) -> usize
 // Where the first line ends.
 fn line_end(bytes: &[u8]) -> Option<usize>
     ensures none { IfNone result (line_at bytes.now ≡ None) }
-<<<<<<< HEAD
-    ensures some { IfSome result (λ end. (end ≤ length bytes.now) × (line_at bytes.now ≡ Some (take end bytes.now))) }
-=======
     ensures some { IfSome result (λ end. (end ≤ length bytes.now)
         × (line_at bytes.now ≡ Some (take end bytes.now))) }
->>>>>>> d3a2f64c447a9412882609b548d124a6d66e4926
 {
     for (at, b) in bytes.iter().enumerate() {
         if *b == b'\n' {

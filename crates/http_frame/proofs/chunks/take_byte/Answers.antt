@@ -1,20 +1,7 @@
-<<<<<<< HEAD
-use Rattle.std.proofs.Common.{sym, ◌∙◌}
-=======
->>>>>>> d3a2f64c447a9412882609b548d124a6d66e4926
 use Rattle.http_frame.proofs.Advancing.{on_advances, whole_advances, fault_advances}
 use Rattle.http_frame.proofs.chunks.take_byte.Goals as goal
 
 pub returns-in-On-clause-advances : goal.returns-in-On-clause-advances
-<<<<<<< HEAD
-returns-in-On-clause-advances c = on_advances c.args.bytes.now c.args.here c.in-On.part c.in-On.room c.requires.left c.requires.some (sym c.in-On.is ∙ c.step_behind.ensures)
-
-pub returns-in-Whole-clause-advances : goal.returns-in-Whole-clause-advances
-returns-in-Whole-clause-advances c = whole_advances c.args.bytes.now c.args.here c.requires.left c.requires.some (sym c.in-Whole.is ∙ c.step_behind.ensures)
-
-pub returns-in-Fault-clause-advances : goal.returns-in-Fault-clause-advances
-returns-in-Fault-clause-advances c = fault_advances c.args.bytes.now c.args.here c.in-Fault.fault c.requires.left c.requires.some (sym c.in-Fault.is ∙ c.step_behind.ensures)
-=======
 returns-in-On-clause-advances c = on_advances c.args.bytes.now c.args.here c.in-On.part c.in-On.room c.requires.left c.requires.some c.in-On.ensures
 
 pub returns-in-Whole-clause-advances : goal.returns-in-Whole-clause-advances
@@ -22,4 +9,3 @@ returns-in-Whole-clause-advances c = whole_advances c.args.bytes.now c.args.here
 
 pub returns-in-Fault-clause-advances : goal.returns-in-Fault-clause-advances
 returns-in-Fault-clause-advances c = fault_advances c.args.bytes.now c.args.here c.in-Fault.fault c.requires.left c.requires.some c.in-Fault.ensures
->>>>>>> d3a2f64c447a9412882609b548d124a6d66e4926

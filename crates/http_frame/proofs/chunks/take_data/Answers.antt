@@ -3,8 +3,4 @@ use Rattle.http_frame.proofs.Advancing.{data_advances}
 use Rattle.http_frame.proofs.chunks.take_data.Goals as goal
 
 pub returns-clause-advances : goal.returns-clause-advances
-<<<<<<< HEAD
-returns-clause-advances c = data_advances c.args.bytes.now c.move_down.new.bytes c.args.here c.args.left _ c.requires.part (omega arith) (omega arith) c.move_down.ensures.front c.move_down.ensures.rest
-=======
 returns-clause-advances c = data_advances c.args.bytes.now c.move_down.new.bytes c.args.here c.args.left c.min-count.result c.requires.part (omega arith) (omega arith) c.move_down.ensures.front c.move_down.ensures.rest
->>>>>>> d3a2f64c447a9412882609b548d124a6d66e4926

@@ -1,9 +1,3 @@
-<<<<<<< HEAD
-use Rattle.std.proofs.Common.{◌≡◌, List, ℕ, subst}
-use Rattle.http_frame.proofs.Seeing.{whole_seen}
-use Rattle.http_frame.proofs.seen.whole.Goals as goal
-
-=======
 use Rattle.std.proofs.Common.{List, subst, sym}
 use Rattle.httparse.specs.declared.spans.HeaderSpan.{HeaderSpan}
 use Rattle.http_frame.specs.Seen.{IsPlaced}
@@ -14,7 +8,6 @@ pub head_at-requires : goal.head_at-requires
 head_at-requires c =
     subst (λ (hs : List HeaderSpan). IsPlaced c.args.block.now c.args.spans.now hs) (sym c.first.ensures) (placed c.args.block.now c.args.headers.now c.args.spans.now c.requires.within)
 
->>>>>>> d3a2f64c447a9412882609b548d124a6d66e4926
 pub returns : goal.returns
 returns c =
     whole_seen c.args.bytes.now c.args.block.now c.args.headers.now c.first.result.now c.args.spans.now c.head_at.result c.requires.block c.requires.head c.requires.within c.first.ensures c.head_at.ensures

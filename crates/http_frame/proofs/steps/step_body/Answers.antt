@@ -1,11 +1,7 @@
-<<<<<<< HEAD
-use Rattle.http_frame.specs.declared.stage.Awaited.TheVariants.{Sized, Chunked, Whole}
-=======
 use Rattle.std.proofs.Common.{subst}
 use Rattle.http_frame.specs.declared.stage.Awaited.{Awaited}
 use Rattle.http_frame.specs.declared.stage.Awaited.TheVariants.{Sized, Chunked, Whole}
 use Rattle.http_frame.specs.Stages.{IsFilled}
->>>>>>> d3a2f64c447a9412882609b548d124a6d66e4926
 use Rattle.http_frame.proofs.Standing.{continue_step, body_steps}
 use Rattle.http_frame.proofs.steps.step_body.Goals as goal
 
@@ -23,12 +19,9 @@ returns-in-Chunked-clause-step c =
 pub returns-in-Whole-clause-step : goal.returns-in-Whole-clause-step
 returns-in-Whole-clause-step c =
     body_steps c.args.pending (Whole c.in-Whole.filled) c.args.buf.now.items c.step_whole.new.buf.items c.args.at c.step_whole.result c.if-owes.false c.in-Whole.is c.step_whole.ensures.step
-<<<<<<< HEAD
-=======
 
 pub step_chunked-requires-clause-filled : goal.step_chunked-requires-clause-filled
 step_chunked-requires-clause-filled c = subst (λ (b : Awaited). IsFilled b c.args.at) c.in-Chunked.is c.requires.1
 
 pub step_whole-requires-clause-filled : goal.step_whole-requires-clause-filled
 step_whole-requires-clause-filled c = subst (λ (b : Awaited). IsFilled b c.args.at) c.in-Whole.is c.requires.1
->>>>>>> d3a2f64c447a9412882609b548d124a6d66e4926

@@ -1,23 +1,16 @@
-<<<<<<< HEAD
-=======
 use Rattle.std.proofs.Common.{◌≡◌, ◌≤◌, length, arith}
->>>>>>> d3a2f64c447a9412882609b548d124a6d66e4926
 use Rattle.http_frame.specs.declared.stage.Awaited.TheVariants.{Chunked, Whole}
 use Rattle.http_frame.proofs.Standing.{Owing, steps_after, chunked_more, chunked_whole, chunked_fault}
 use Rattle.http_frame.proofs.steps.step_chunked.Goals as goal
 
 pub returns-in-More-clause-step : goal.returns-in-More-clause-step
 returns-in-More-clause-step c =
-<<<<<<< HEAD
-    chunked_more c.args.facts c.args.chunks c.args.at c.args.buf.now.items c.read_in-taken.new.buf.items c.truncate.new.buf.items c.read_in-taken.result c.read_in-taken.ensures.advances c.in-More.is ? ? ?
-=======
     let size : length c.read_in-taken.new.buf.items ≡ length c.args.buf.now.items = c.read_in-taken.ensures.len in
     let gone : length c.args.buf.now.items ≤ c.read_in-taken.result.at = c.read_in-taken.ensures.all c.in-More.is in
     let all : length c.read_in-taken.new.buf.items ≤ c.read_in-taken.result.at = omega arith in
     let order = c.read_in-taken.ensures.ordered in
     let fits : c.read_in-taken.result.chunks.filled ≤ length c.read_in-taken.new.buf.items = omega arith in
     chunked_more c.args.facts c.args.chunks c.args.at c.args.buf.now.items c.read_in-taken.new.buf.items c.truncate.new.buf.items c.read_in-taken.result c.read_in-taken.ensures.advances c.in-More.is all fits c.truncate.ensures.items
->>>>>>> d3a2f64c447a9412882609b548d124a6d66e4926
 
 pub returns-in-Whole-clause-step : goal.returns-in-Whole-clause-step
 returns-in-Whole-clause-step c =

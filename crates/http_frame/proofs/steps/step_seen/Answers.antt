@@ -19,15 +19,6 @@ returns-in-Fault-clause-step c = fault_head c.args.watch c.in-Fault.fault c.args
 
 pub returns-in-Good-clause-step : goal.returns-in-Good-clause-step
 returns-in-Good-clause-step c =
-<<<<<<< HEAD
-    steps_after (Head c.args.watch) (Body (pending_of c.in-Good.good)) c.args.buf.now.items c.args.buf.now.items c.step_body.new.buf.items c.args.at _ c.step_body.result
-    (good_stands c.args.watch c.in-Good.good c.args.buf.now.items c.args.at (subst (λ (s : Seen). IsSeen (drop c.args.at c.args.buf.now.items) s) c.in-Good.is c.requires.seen))
-    (subst (λ (p : Pending). Steps (Body p) c.args.buf.now.items _ c.step_body.result c.step_body.new.buf.items) c.pending_of.ensures c.step_body.ensures.step)
-
-pub step_body-requires : goal.step_body-requires
-step_body-requires c =
-    subst (λ (p : Pending). IsSafe (Body p) c.args.buf.now.items _) (sym c.pending_of.ensures) (good_safe c.in-Good.good c.args.buf.now.items c.args.at c.requires.at (subst (λ (s : Seen). IsSeen (drop c.args.at c.args.buf.now.items) s) c.in-Good.is c.requires.seen))
-=======
     steps_after (Head c.args.watch) (Body (pending_of c.in-Good.good)) c.args.buf.now.items c.args.buf.now.items c.step_body.new.buf.items c.args.at (c.args.at + c.in-Good.good.len) c.step_body.result
     (good_stands c.args.watch c.in-Good.good c.args.buf.now.items c.args.at (subst (λ (s : Seen). IsSeen (drop c.args.at c.args.buf.now.items) s) c.in-Good.is c.requires.seen))
     (subst (λ (p : Pending). Steps (Body p) c.args.buf.now.items (c.args.at + c.in-Good.good.len) c.step_body.result c.step_body.new.buf.items) c.pending_of.ensures c.step_body.ensures.step)
@@ -35,4 +26,3 @@ step_body-requires c =
 pub step_body-requires : goal.step_body-requires
 step_body-requires c =
     subst (λ (p : Pending). IsSafe (Body p) c.args.buf.now.items (c.args.at + c.in-Good.good.len)) (sym c.pending_of.ensures) (good_safe c.in-Good.good c.args.buf.now.items c.args.at c.requires.at (subst (λ (s : Seen). IsSeen (drop c.args.at c.args.buf.now.items) s) c.in-Good.is c.requires.seen))
->>>>>>> d3a2f64c447a9412882609b548d124a6d66e4926

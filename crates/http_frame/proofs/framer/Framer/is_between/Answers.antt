@@ -1,18 +1,9 @@
-<<<<<<< HEAD
-use Rattle.std.proofs.Common.{◌∙◌, ap, subst}
-=======
 use Rattle.std.proofs.Common.{◌≡◌, ◌≤◌, length, drop, ◌∙◌, ap, subst, arith}
->>>>>>> d3a2f64c447a9412882609b548d124a6d66e4926
 use Rattle.http_frame.specs.declared.stage.Stage.{Stage}
 use Rattle.http_frame.specs.declared.walk.Spot.TheVariants.{Before}
 use Rattle.http_frame.specs.Framers.{Stands}
 use Rattle.http_frame.specs.Scan.{spot_run}
 use Rattle.http_frame.specs.Stages.{StandsAt, is_before}
-<<<<<<< HEAD
-use Rattle.http_frame.proofs.Keeping.{head_between, body_between, failed_between}
-use Rattle.http_frame.proofs.framer.Framer.is_between.Goals as goal
-
-=======
 use Rattle.http_frame.proofs.Keeping.{safe_at, head_between, body_between, failed_between}
 use Rattle.http_frame.proofs.framer.Framer.is_between.Goals as goal
 
@@ -21,17 +12,12 @@ tail-requires c =
     let le : c.args.self.now.at ≤ length c.args.self.now.buf.items = safe_at c.args.self.now.stage c.args.self.now.buf.items c.args.self.now.at c.args.self.now.safe in
     let same : length c.deref.result.now ≡ length c.args.self.now.buf.items = ap length c.deref.ensures.value in omega arith
 
->>>>>>> d3a2f64c447a9412882609b548d124a6d66e4926
 pub returns-in-Head : goal.returns-in-Head
 unfolding Stands
 returns-in-Head c = λ bytes told x rest.
     let y = subst (λ (s : Stage). StandsAt s c.args.self.now.buf.items c.args.self.now.at bytes told) c.in-Head.is x in
     head_between bytes c.args.self.now.buf.items c.args.self.now.at c.is_before.result y.1
-<<<<<<< HEAD
-    (c.is_before.ensures ∙ ap is_before (c.walk_on.ensures ∙ ap (spot_run Before) c.tail.ensures))
-=======
     (c.is_before.ensures ∙ ap is_before (c.walk_on.ensures ∙ ap (spot_run Before) (c.tail.ensures ∙ ap (drop c.args.self.now.at) c.deref.ensures.value)))
->>>>>>> d3a2f64c447a9412882609b548d124a6d66e4926
 
 pub returns-in-Body : goal.returns-in-Body
 unfolding Stands
