@@ -1,22 +1,19 @@
 -- From what the framer and the parts of a talk answer to what a talk wants.
-use Rattle.std.proofs.Common.{◌≡◌, ◌⊎◌, ℕ, ◌+◌, Bool, true, false, List, [], ◌∷◌, ◌++◌, Option, Some, None, Result, Ok, Err, IfOk, OnOk, OnErr, IsTrue, inl, inr, refl, sym, ap, ◌∙◌, subst, append-nil}
-use Rattle.std.specs.Prelude.{◌↔◌}
+use Rattle.std.proofs.Common.{◌≡◌, ◌⊎◌, ℕ, ◌+◌, Bool, true, false, List, [], ◌∷◌, Option, Some, None, Result, Ok, Err, IfOk, OnOk, OnErr, inl, inr, refl, sym, ap, ◌∙◌, subst}
 use Rattle.std.specs.declared.alloc.AllocError.{AllocError}
 use Rattle.http_frame.specs.declared.types.HttpRequest.{HttpRequest}
 use Rattle.http_frame.specs.declared.types.FrameFault.{FrameFault}
 use Rattle.http_frame.specs.declared.types.FrameStep.TheVariants as step
 use Rattle.http_frame.specs.declared.types.FrameError.TheVariants as error
 use Rattle.http_frame.specs.declared.framer.Framer.{Framer}
-use Rattle.http_frame.specs.Events.{IsRest, IsBlank}
 use Rattle.http_frame.specs.Framers.{Stands, Answered}
 use Rattle.bim_io.specs.Seen.{ClockSeen, ClockGives}
 use Rattle.bim_io.proofs.Calls.{clock_none}
 use Rattle.bim_session.specs.declared.end.SessionEnd.{SessionEnd}
-use Rattle.bim_session.specs.declared.end.SessionEnd.TheVariants as end
 use Rattle.bim_session.specs.declared.want.Want.{Want}
 use Rattle.bim_session.specs.declared.want.Want.TheVariants.{More, Write, Call, Leave}
 use Rattle.bim_session.specs.Session.{closes_after, continue_bytes, IsFaultResponse}
-use Rattle.bim_session.specs.Talking.{TalkState, IsOwnLeaving, IsOwnWant, GrowsBy, Wants, StopsNext, LacksNext, Talks, TakesRequest, Writes, WantsFor, AtRest, MeetsEnd, StopsShort, waiting_for, with_answer, with_call, with_fault, with_framer, with_memory}
+use Rattle.bim_session.specs.Talking.{TalkState, IsOwnLeaving, IsOwnWant, Wants, StopsNext, LacksNext, Talks, TakesRequest, Writes, WantsFor, AtRest, StopsShort, waiting_for, with_answer, with_call, with_fault, with_framer, with_memory}
 
 pub none_of : (o : Option SessionEnd) → ((e : SessionEnd) → o ≡ Some e → ⊥) → o ≡ None
 none_of None not_some = refl
@@ -33,21 +30,6 @@ own_leaving leaving e own is = λ n. (λ w. (own n).0 (is ∙ ap Some (leave_is 
 
 stands_at : (f : Framer) (a b : List ℕ) (t u : Bool) → a ≡ b → t ≡ u → Stands f a t → Stands f b u
 stands_at f a b t u e d stands = subst (λ (v : Bool). Stands f b v) d (subst (λ (w : List ℕ). Stands f w t) e stands)
-
--- the end was fed
-pub grows_by_nothing : (f : Framer) → GrowsBy [] f f
-grows_by_nothing f = λ bytes told stands. stands_at f bytes (bytes ++ []) told told (sym (append-nil bytes)) refl stands
-
--- the input has ended between requests, or within one
-pub met_closed : (between : Bool) (rest : List ℕ) (served : ℕ) → (IsTrue between ↔ IsBlank rest) → between ≡ true → MeetsEnd rest served (end.Closed served)
-met_closed between rest served exact is = inl (exact.0 (rw is tt), refl)
-
-pub met_cut : (between : Bool) (rest : List ℕ) (served : ℕ) → (IsTrue between ↔ IsBlank rest) → between ≡ false → MeetsEnd rest served (end.Cut served)
-met_cut between rest served exact is = inr (λ blank. false_not between is (exact.1 blank), refl)
-  where
-    false_not : (b : Bool) → b ≡ false → IsTrue b → ⊥
-    false_not true e t = cc
-    false_not false e t = cc
 
 -- ---- what is wanted next
 
@@ -160,10 +142,6 @@ wants_taken old new f m r (Err e) a b here steps gives wants = tt
 
 -- ---- want of memory
 
--- nothing was taken
-pub stops_none : (old new : TalkState) (c : ClockSeen) → StopsNext c c old new
-stops_none old new c = λ rest told stands. ([], clock_none c, inl refl)
-
 -- a request was taken
 pub stops_taken : (old new : TalkState) (f : Framer) (m : ℕ) (r : HttpRequest) (a b : ClockSeen)
     → ((rest : List ℕ) (told : Bool) → Stands old.framer rest told → Answered rest told (Ok (step.Request r)) f) → ClockGives a b (m ∷ [])
@@ -175,8 +153,17 @@ on_err : (result : Result Want AllocError) (P : Type 0) → P → OnErr result P
 on_err (Ok want) P p = tt
 on_err (Err e) P p = p
 
-pub stops_none_on : (result : Result Want AllocError) (old new : TalkState) (c : ClockSeen) → OnErr result (StopsNext c c old new)
-stops_none_on result old new c = on_err result (StopsNext c c old new) (stops_none old new c)
+-- nothing was taken
+abbrev StopsAt : ClockSeen → Framer → Framer → Type 0
+StopsAt c f g =
+    (rest : List ℕ) (told : Bool) → Stands f rest told
+    → (moments : List ℕ) × ClockGives c c moments × ((moments ≡ []) ⊎ TakesRequest rest told moments g)
+
+pub stops_none : (f g : Framer) (c : ClockSeen) → StopsAt c f g
+stops_none f g c = λ rest told stands. ([], clock_none c, inl refl)
+
+pub stops_none_on : (result : Result Want AllocError) (f g : Framer) (c : ClockSeen) → OnErr result (StopsAt c f g)
+stops_none_on result f g c = on_err result (StopsAt c f g) (stops_none f g c)
 
 pub stops_taken_on : (result : Result Want AllocError) (old new : TalkState) (f : Framer) (m : ℕ) (r : HttpRequest) (a b : ClockSeen)
     → ((rest : List ℕ) (told : Bool) → Stands old.framer rest told → Answered rest told (Ok (step.Request r)) f) → ClockGives a b (m ∷ [])

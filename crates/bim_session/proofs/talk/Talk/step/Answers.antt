@@ -1,4 +1,5 @@
 use Rattle.bim_io.proofs.Calls.{clock_one}
+use Rattle.bim_session.specs.Talking.{TalkState}
 use Rattle.bim_session.proofs.Talks.{none_of, own_leaving, wants_leave, wants_rest, wants_continue, wants_fault, wants_taken, stops_none, stops_none_on, stops_taken_on}
 use Rattle.bim_session.proofs.talk.Talk.step.Goals as goal
 
@@ -6,7 +7,15 @@ pub returns-in-Some-clause-own : goal.returns-in-Some-clause-own
 returns-in-Some-clause-own g c = own_leaving c.self.inside.leaving c.in-Some.end c.self.invariant.2 c.in-Some.is
 
 pub returns-in-Some-clause-want : goal.returns-in-Some-clause-want
-returns-in-Some-clause-want g c = rw (← c.self.view_is) (wants_leave _ c.in-Some.end _ c.in-Some.is)
+returns-in-Some-clause-want g c =
+    let own : TalkState = record {
+      framer = c.self.inside.framer;
+      ended = c.self.inside.ended;
+      served = c.self.inside.served;
+      waits = c.self.inside.waits;
+      leaving = c.self.inside.leaving;
+    } in
+    rw (← c.self.view_is) (wants_leave own c.in-Some.end _ c.in-Some.is)
 
 pub returns-in-Ok-More-clause-want : goal.returns-in-Ok-More-clause-want
 returns-in-Ok-More-clause-want g c =
