@@ -1,5 +1,5 @@
 -- A session from its first step to its last.
-use Rattle.std.proofs.Common.{◌≡◌, ℕ, List, [], false, Option, Some, None, sym, ap, subst}
+use Rattle.std.proofs.Common.{◌≡◌, ℕ, List, [], false, Option, Some, None, sym, ◌∙◌, subst}
 use Rattle.bim_io.specs.Seen.{Outside, EndsEmpty}
 use Rattle.http_frame.specs.Framers.{Stands}
 use Rattle.bim_session.specs.declared.end.SessionEnd.{SessionEnd}
@@ -34,15 +34,15 @@ ends w a b old new server server' result e projects so steps empty is same =
     (subst (λ (p : Progress). Goes w b p new server') is (steps_on w a b old new server server' result so steps empty))
 
 -- it was leaving
-pub leaves : (w a : Outside) (talk : TalkState) (server : ServerState) (e : SessionEnd) (projects : ℕ) → SoFar w a talk server → talk.leaving ≡ Some e
-    → IsOwnLeaving talk.leaving → EndsEmpty a.source → server.projects ≡ projects → Replays projects w a e
-leaves w a talk server e projects so is own empty same =
+pub leaves : (w a : Outside) (talk : TalkState) (server : ServerState) (o : Option SessionEnd) (e : SessionEnd) (projects : ℕ) → SoFar w a talk server
+    → o ≡ talk.leaving → o ≡ Some e → IsOwnLeaving o → EndsEmpty a.source → server.projects ≡ projects → Replays projects w a e
+leaves w a talk server o e projects so told is own empty same =
     subst (λ (n : ℕ). Replays n w a e) same
-    (finish_leaving w a talk server so e is (some_end e (subst (λ (o : Option SessionEnd). IsOwnLeaving o) is own)) empty)
+    (finish_leaving w a talk server so e (sym told ∙ is) (some_end e (subst (λ (v : Option SessionEnd). IsOwnLeaving v) is own)) empty)
 
 -- it made as many steps as there may be
-pub stops : (w a : Outside) (talk : TalkState) (server : ServerState) (projects n : ℕ) → SoFar w a talk server → talk.leaving ≡ None → EndsEmpty a.source
-    → server.projects ≡ projects → n ≡ talk.served → Replays projects w a (end.Memory n)
-stops w a talk server projects n so is empty same count =
+pub stops : (w a : Outside) (talk : TalkState) (server : ServerState) (o : Option SessionEnd) (projects n : ℕ) → SoFar w a talk server → o ≡ talk.leaving → o ≡ None
+    → EndsEmpty a.source → server.projects ≡ projects → n ≡ talk.served → Replays projects w a (end.Memory n)
+stops w a talk server o projects n so told is empty same count =
     subst (λ (k : ℕ). Replays k w a (end.Memory n)) same
-    (subst (λ (k : ℕ). Replays server.projects w a (end.Memory k)) (sym count) (finish_memory w a talk server so is empty))
+    (subst (λ (k : ℕ). Replays server.projects w a (end.Memory k)) (sym count) (finish_memory w a talk server so (sym told ∙ is) empty))

@@ -57,7 +57,7 @@ sink_quiet : (x y : SinkSeen) → y ≡ x → y.faults ≡ x.faults
 sink_quiet x y same = ap (λ (z : SinkSeen). z.faults) same
 
 -- the outside moved on, but nothing was read, asked for or written
-so_far_same : (w a b : Outside) (old : TalkState) (server : ServerState) (so : SoFar w a old server) → Exchanges a b [] [] [] → IsQuiet a b → b.source.ended ≡ a.source.ended
+abbrev so_far_same : (w a b : Outside) (old : TalkState) (server : ServerState) (so : SoFar w a old server) → Exchanges a b [] [] [] → IsQuiet a b → b.source.ended ≡ a.source.ended
     → SoFar w b old server
 so_far_same w a b old server so gave quiet over = record {
   input = so.input;
@@ -310,14 +310,17 @@ goes_leave w a b old mid server e so wants own source sink empty =
     exchange a b [] [] [] (same_source a.source b.source source) (no_moments a.clock b.clock t.0 t.2.0 t.1) (same_sink a.sink b.sink sink) in
     of_kind gave t.2.1
   where
-    so_far : Exchanges a b [] [] [] → SoFar w b old server
-    so_far gave = so_far_same w a b old server so gave (source_quiet a.source b.source source, sink_quiet a.sink b.sink sink) (ap (λ (z : SourceSeen). z.ended) source)
-
     of_kind : Exchanges a b [] [] []
         → (old.leaving ≡ Some e)
         ⊎ ((old.leaving ≡ None) × (old.ended ≡ true) × IsTold so.told so.rest × IsRest so.rest × MeetsEnd so.rest old.served e) → Replays server.projects w b e
-    of_kind gave (inl leaving) = finish_leaving w b old server (so_far gave) e leaving (own_end e own) empty
-    of_kind gave (inr met) = finish_met w b old server (so_far gave) e met.0 met.1 met.2 met.3 met.4 empty
+    of_kind gave (inl leaving) =
+        finish_leaving w b old server
+        (so_far_same w a b old server so gave (source_quiet a.source b.source source, sink_quiet a.sink b.sink sink) (ap (λ (z : SourceSeen). z.ended) source)) e leaving
+        (own_end e own) empty
+    of_kind gave (inr met) =
+        finish_met w b old server
+        (so_far_same w a b old server so gave (source_quiet a.source b.source source, sink_quiet a.sink b.sink sink) (ap (λ (z : SourceSeen). z.ended) source)) e met.0 met.1
+        met.2 met.3 met.4 empty
 
 -- after want of memory for what comes next
 goes_lacks : (w a b : Outside) (old new : TalkState) (server : ServerState) → SoFar w a old server → LacksNext a.clock b.clock old new

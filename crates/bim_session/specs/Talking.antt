@@ -1,5 +1,5 @@
 -- One connection as a machine: what each of its calls does.
-use Rattle.std.specs.Prelude.{◌≡◌, ◌≢◌, ◌⊎◌, ℕ, ◌+◌, ◌==◌, ◌++◌, List, [], ◌∷◌, Bool, true, false, if◌then◌else◌, Option, Some, None, Result, Ok, Err}
+use Rattle.std.specs.Prelude.{◌≡◌, ◌≢◌, ◌⊎◌, ℕ, ◌+◌, ◌==◌, ◌++◌, List, [], ◌∷◌, Bool, true, false, if◌then◌else◌, Option, Some, None, IsSome, Result, Ok, Err}
 use Rattle.std.specs.declared.alloc.AllocError.{AllocError}
 use Rattle.bim_io.specs.Seen.{ClockSeen, ClockGives}
 use Rattle.http_frame.specs.declared.types.HttpRequest.{HttpRequest}
@@ -189,6 +189,13 @@ Talks rest told moments old (Leave e) new =
     (moments ≡ [])
     × ((old.leaving ≡ Some e)
     ⊎ ((old.leaving ≡ None) × (old.ended ≡ true) × IsTold told rest × IsRest rest × MeetsEnd rest old.served e))
+
+-- what the talk is ready for: to be fed where it wants more, to be answered where it wants a call
+abbrev pub IsReady : Want → TalkState → Type 0
+IsReady More s = s.ended ≡ false
+IsReady (Write bytes) s = Unit {0}
+IsReady (Call call) s = IsSome s.waits × (s.leaving ≡ None)
+IsReady (Leave e) s = Unit {0}
 
 -- memory was wanting for what a talk would have wanted next; it may have taken a request
 abbrev pub StopsShort : List ℕ → Bool → List ℕ → TalkState → Type 0

@@ -4,7 +4,7 @@ ghost use Rattle.bim_model.specs.Moments.{IsMoment};
 ghost use Rattle.http_frame.specs.Framers.{Stands};
 ghost use Rattle.bim_session.specs.Session.{most_requests, closes_after, continue_bytes, IsFaultResponse};
 ghost use Rattle.bcf_http.specs.Answers.{IsResponse};
-ghost use Rattle.bim_session.specs.Talking.{Feeds, Stays, with_answer, with_fault, with_framer, with_memory, WantsFor, Writes, Wants, StopsNext, LacksNext, Replies, LacksFor, AtRest, IsOwnLeaving, IsOwnWant, leaving_after, ChangesNothing};
+ghost use Rattle.bim_session.specs.Talking.{Feeds, Stays, with_answer, with_fault, with_framer, with_memory, WantsFor, Writes, Wants, StopsNext, LacksNext, Replies, LacksFor, AtRest, IsReady, IsOwnLeaving, IsOwnWant, leaving_after, ChangesNothing};
 
 use crate::calls::call_of;
 use crate::end::SessionEnd;
@@ -141,7 +141,7 @@ impl Talk {
         requires idle { self.old.waits ≡ None }
         ensures want { IfOk result (λ want. Wants (C.seen clock.old) (C.seen clock.new) self.old want self.new) }
         ensures lacks { OnErr result (LacksNext (C.seen clock.old) (C.seen clock.new) self.old self.new) }
-        ensures few { self.old.leaving ≡ None → self.old.served < most_requests }
+        ensures ready { IfOk result (λ want. IsReady want self.new) }
         ensures own { IfOk result IsOwnWant }
     {
         match self.step(clock) {
@@ -160,7 +160,7 @@ impl Talk {
         ensures err { OnErr result (self.old.leaving ≡ None) }
         ensures same { OnErr result (self.new ≡ with_framer self.new.framer self.old) }
         ensures short { OnErr result (StopsNext (C.seen clock.old) (C.seen clock.new) self.old self.new) }
-        ensures few { self.old.leaving ≡ None → self.old.served < most_requests }
+        ensures ready { IfOk result (λ want. IsReady want self.new) }
         ensures own { IfOk result IsOwnWant }
     {
         if let Some(end) = self.leaving {
@@ -194,6 +194,7 @@ impl Talk {
     // What is wanted where no event and no fault is at hand.
     fn at_rest(&self) -> Want
         ensures want { AtRest self.now result }
+        ensures ready { IsReady result self.now }
         ensures own { IsOwnWant result }
     {
         let served = self.served;
@@ -210,6 +211,7 @@ impl Talk {
     // The answer to a Continue.
     fn go_on(&self) -> Result<Want, AllocError>
         ensures want { IfOk result (Writes (λ bytes. bytes ≡ continue_bytes)) }
+        ensures ready { IfOk result (λ want. IsReady want self.now) }
         ensures own { IfOk result IsOwnWant }
     {
         let bytes = Bytes::of(self.alloc, CONTINUE.as_bytes())?;
@@ -221,6 +223,7 @@ impl Talk {
         ensures want { IfOk result (Writes (IsFaultResponse fault)) }
         ensures ok { OnOk result (self.new ≡ with_fault fault self.old) }
         ensures err { OnErr result (self.new ≡ self.old) }
+        ensures ready { IfOk result (λ want. IsReady want self.new) }
         ensures own { IfOk result IsOwnWant }
     {
         let bytes = to_response(
@@ -248,6 +251,7 @@ impl Talk {
         ensures want { IfOk result (Writes (IsResponse answer.now waiting.kind turn waiting.close)) }
         ensures ok { OnOk result (self.new ≡ with_answer waiting.close self.old) }
         ensures err { OnErr result (self.new ≡ self.old) }
+        ensures ready { IfOk result (λ want. IsReady want self.new) }
         ensures own { IfOk result IsOwnWant }
     {
         let served = self.served + 1;
@@ -264,6 +268,7 @@ impl Talk {
         requires open_ { self.old.leaving ≡ None }
         ensures want { IfOk result (λ want. WantsFor moment request self.old want self.new) }
         ensures err { OnErr result (self.new ≡ self.old) }
+        ensures ready { IfOk result (λ want. IsReady want self.new) }
         ensures own { IfOk result IsOwnWant }
     {
         let waiting = Waiting {
