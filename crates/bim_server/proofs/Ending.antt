@@ -1,17 +1,21 @@
 -- A session so far ends.
-use Rattle.std.proofs.Common.{◌≡◌, ℕ, List, [], ◌++◌, length, true, Some, None, inl, inr, sym, ap, subst, refl, append-nil, arith}
+use Rattle.std.proofs.Common.{◌≡◌, ◌⊎◌, ◌≤◌, ℕ, ◌+◌, List, [], ◌++◌, length, Bool, true, false, Some, None, inl, inr, sym, ◌∙◌, ap, subst, refl, append-nil, arith}
 use Rattle.bim_io.specs.Causes.{Rose, ComesOfFault}
 use Rattle.bim_io.specs.Seen.{Outside, EndsEmpty, Exchanges}
 use Rattle.bim_io.proofs.Calls.{exchanges_none, exchanges_trans}
+use Rattle.http_frame.specs.Events.{IsRest, IsTold}
 use Rattle.federation_book.specs.Runs.{Step, IsRun, IsOneThread}
+use Rattle.federation_book.proofs.Histories.{one_none}
 use Rattle.bim_session.specs.declared.end.SessionEnd.{SessionEnd}
 use Rattle.bim_session.specs.declared.end.SessionEnd.TheVariants as end
 use Rattle.bim_session.specs.declared.want.Want.TheVariants.{Leave}
-use Rattle.bim_session.specs.Session.{Answered, Ends, last_turn}
-use Rattle.bim_session.specs.Replay.{Replays, IsReadFault, IsWriteFault}
-use Rattle.bim_session.specs.Talking.{TalkState, MeetsEnd, IsOwnEnd, IsOwnWant, Lacks, fresh}
-use Rattle.bim_server.specs.Loop.{ServerState, IsQuiet, SoFar}
-use Rattle.bim_server.proofs.Growing.{so_far_start, leaves_some, open_of, room_of, plain_moments, plain_output}
+use Rattle.bim_session.specs.Session.{Reads, Answered, Ends, TakesUnanswered}
+use Rattle.bim_session.specs.Replay.{Replays, IsReadFault, IsWriteFault, ReadsAsNeeded, beginning, most_read}
+use Rattle.bim_session.specs.Talking.{TalkState, MeetsEnd, IsOwnEnd, IsOwnLeaving, IsOwnWant, StopsShort, TakesRequest}
+use Rattle.bim_session.proofs.Reading.{Reads_more}
+use Rattle.bim_server.specs.Loop.{ServerState}
+use Rattle.bim_server.proofs.SoFar.{IsQuiet, SoFar, start_of, stop_of}
+use Rattle.bim_server.proofs.Growing.{leaves_some, open_of, plain_moments, plain_output, exchanged, needed_more, none_needed}
 
 -- no call failed
 pub no_fault : (n n' : ℕ) (said : Type 0) → n' ≡ n → (said → ⊥) → ComesOfFault n n' said
@@ -36,76 +40,98 @@ own_write e own fault = (own fault.0).1 fault.1
 pub memory_own : (n : ℕ) → IsOwnEnd (end.Memory n)
 memory_own n = λ k. (λ e. cc, λ e. cc)
 
-pub closed_own : (n : ℕ) → IsOwnEnd (end.Closed n)
+closed_own : (n : ℕ) → IsOwnEnd (end.Closed n)
 closed_own n = λ k. (λ e. cc, λ e. cc)
 
-pub cut_own : (n : ℕ) → IsOwnEnd (end.Cut n)
+cut_own : (n : ℕ) → IsOwnEnd (end.Cut n)
 cut_own n = λ k. (λ e. cc, λ e. cc)
 
 -- a talk that wants to leave does so by an end of its own
 pub own_end : (e : SessionEnd) → IsOwnWant (Leave e) → IsOwnEnd e
 own_end e own = λ n. (λ is. (own n).0 (ap Leave is), λ is. (own n).1 (ap Leave is))
 
--- it ends after more was exchanged, and perhaps one more step
-pub finish : (w a b : Outside) (old : TalkState) (server server' : ServerState) (so : SoFar w a old server) (extra late tail : List ℕ) (e : SessionEnd) (more : List Step)
-    → old.leaving ≡ None → Exchanges a b extra late tail → EndsEmpty b.source
-    → ComesOfFault a.source.faults b.source.faults (IsReadFault e) → ComesOfFault a.sink.faults b.sink.faults (IsWriteFault e)
-    → IsRun 1 (so.steps ++ more) server'.history → IsOneThread (so.steps ++ more) → length (so.steps ++ more) ≡ server'.turns
-    → Answered 1 server'.history server'.turns 0 0 so.requests so.asked so.out so.steps
-    → Ends 1 server'.history (last_turn 0 so.steps) server'.turns b.source.ended old.rest (length so.requests) e extra late tail more
-    → Replays 1 w b e
-finish w a b old server server' so extra late tail e more here gave empty read write run one count answered ends =
-    let open_ = open_of w a old server so here in
-    record {
-      input = so.input ++ extra;
-      moments = so.moments ++ late;
-      output = so.output ++ tail;
-      history = server'.history;
-      steps = so.steps ++ more;
-      exchanges = exchanges_trans w a b so.input so.moments so.output extra late tail so.exchanges gave;
-      empty = empty;
-      run = run;
-      one_thread = one;
-      session = record {
-        taken = so.input;
-        extra = extra;
-        requests = so.requests;
-        rest = so.rest;
-        asked = so.asked;
-        late = late;
-        out = so.out;
-        tail = tail;
-        done = so.steps;
-        more = more;
-        input_is = refl;
-        moments_are = ap (λ l. l ++ late) (plain_moments w a old server so here);
-        output_is = ap (λ o. o ++ tail) (plain_output w a old server so here);
-        steps_are = refl;
-        reads = so.reads;
-        answered = subst (λ (n : ℕ). Answered 1 server'.history n 0 0 so.requests so.asked so.out so.steps) (sym count) answered;
-        ends = subst (λ (n : ℕ). Ends 1 server'.history (last_turn 0 so.steps) n b.source.ended so.rest (length so.requests) e extra late tail more) (sym count)
-            (subst (λ (r : List ℕ). Ends 1 server'.history (last_turn 0 so.steps) server'.turns b.source.ended r (length so.requests) e extra late tail more) (sym open_.0) ends);
-      };
-      read_fault = subst (λ (n : ℕ). ComesOfFault n b.source.faults (IsReadFault e)) so.quiet.0 read;
-      write_fault = subst (λ (n : ℕ). ComesOfFault n b.sink.faults (IsWriteFault e)) so.quiet.1 write;
-    }
+pub some_end : (e : SessionEnd) → IsOwnLeaving (Some e) → IsOwnEnd e
+some_end e own = λ n. (λ is. (own n).0 (ap Some is), λ is. (own n).1 (ap Some is))
 
--- it ends without one more step
-pub finish_same : (w a b : Outside) (old : TalkState) (server : ServerState) (so : SoFar w a old server) (extra late tail : List ℕ) (e : SessionEnd)
-    → old.leaving ≡ None → Exchanges a b extra late tail → EndsEmpty b.source
+-- it ends after more was exchanged, and perhaps one more step
+finish : (w a b : Outside) (old : TalkState) (server server' : ServerState) (so : SoFar w a old server) (input rest late tail : List ℕ) (e : SessionEnd) (more : List Step)
+    → old.leaving ≡ None → Exchanges w b input (so.moments ++ late) (so.output ++ tail) → EndsEmpty b.source
+    → Reads input false so.events rest so.told → ReadsAsNeeded input so.events
     → ComesOfFault a.source.faults b.source.faults (IsReadFault e) → ComesOfFault a.sink.faults b.sink.faults (IsWriteFault e)
-    → Ends 1 server.history (last_turn 0 so.steps) server.turns b.source.ended old.rest (length so.requests) e extra late tail []
-    → Replays 1 w b e
-finish_same w a b old server so extra late tail e here gave empty read write ends =
+    → IsRun server'.projects (so.steps ++ more) server'.history → IsOneThread (so.steps ++ more) → length (so.steps ++ more) ≡ server'.turns
+    → Answered (start_of server') so.events so.asked so.out so.steps
+    → Ends (stop_of (start_of server') so.events so.steps b.source.ended rest so.told late tail more) e
+    → Replays server'.projects w b e
+finish w a b old server server' so input rest late tail e more here gave empty reads needed read write run one count answered ends = record {
+  input = input;
+  moments = so.moments ++ late;
+  output = so.output ++ tail;
+  history = server'.history;
+  steps = so.steps ++ more;
+  exchanges = gave;
+  empty = empty;
+  run = run;
+  one_thread = one;
+  session = record {
+    events = so.events;
+    rest = rest;
+    told = so.told;
+    asked = so.asked;
+    late = late;
+    out = so.out;
+    tail = tail;
+    done = so.steps;
+    more = more;
+    moments_are = ap (λ l. l ++ late) (plain_moments w a old server so here);
+    output_is = ap (λ o. o ++ tail) (plain_output w a old server so here);
+    steps_are = refl;
+    reads = reads;
+    answered = subst (λ (n : ℕ). Answered (beginning server'.projects server'.history n) so.events so.asked so.out so.steps) (sym count) answered;
+    ends = subst (λ (n : ℕ). Ends (stop_of (beginning server'.projects server'.history n) so.events so.steps b.source.ended rest so.told late tail more) e) (sym count) ends;
+  };
+  as_needed = needed;
+  read_fault = subst (λ (n : ℕ). ComesOfFault n b.source.faults (IsReadFault e)) so.quiet.0 read;
+  write_fault = subst (λ (n : ℕ). ComesOfFault n b.sink.faults (IsWriteFault e)) so.quiet.1 write;
+}
+
+-- it ends without another read, and perhaps after one more step
+pub finish_step : (w a b : Outside) (old : TalkState) (server server' : ServerState) (so : SoFar w a old server) (late tail : List ℕ) (e : SessionEnd) (more : List Step)
+    → old.leaving ≡ None → Exchanges a b [] late tail → EndsEmpty b.source
+    → ComesOfFault a.source.faults b.source.faults (IsReadFault e) → ComesOfFault a.sink.faults b.sink.faults (IsWriteFault e)
+    → IsRun server'.projects (so.steps ++ more) server'.history → IsOneThread (so.steps ++ more) → length (so.steps ++ more) ≡ server'.turns
+    → Answered (start_of server') so.events so.asked so.out so.steps
+    → Ends (stop_of (start_of server') so.events so.steps b.source.ended so.rest so.told late tail more) e
+    → Replays server'.projects w b e
+finish_step w a b old server server' so late tail e more here gave empty read write run one count answered ends =
+    finish w a b old server server' so so.input so.rest late tail e more here (exchanged w a b so.input so.moments so.output late tail so.exchanges gave)
+    empty so.reads so.as_needed read write run one count answered ends
+
+-- it ends without another read and without one more step
+pub finish_same : (w a b : Outside) (old : TalkState) (server : ServerState) (so : SoFar w a old server) (late tail : List ℕ) (e : SessionEnd)
+    → old.leaving ≡ None → Exchanges a b [] late tail → EndsEmpty b.source
+    → ComesOfFault a.source.faults b.source.faults (IsReadFault e) → ComesOfFault a.sink.faults b.sink.faults (IsWriteFault e)
+    → Ends (stop_of (start_of server) so.events so.steps b.source.ended so.rest so.told late tail []) e
+    → Replays server.projects w b e
+finish_same w a b old server so late tail e here gave empty read write ends =
     let same : so.steps ++ [] ≡ so.steps = append-nil so.steps in
-    finish w a b old server server so extra late tail e [] here gave empty read write
+    finish_step w a b old server server so late tail e [] here gave empty read write
     (rw same so.run) (rw same so.one_thread) (rw same so.count) so.answered ends
+
+-- it ends by an end of its own, and nothing failed
+pub finish_own : (w a b : Outside) (old : TalkState) (server : ServerState) (so : SoFar w a old server) (late : List ℕ) (e : SessionEnd)
+    → old.leaving ≡ None → IsOwnEnd e → Exchanges a b [] late [] → IsQuiet a b → EndsEmpty b.source
+    → Ends (stop_of (start_of server) so.events so.steps b.source.ended so.rest so.told late [] []) e
+    → Replays server.projects w b e
+finish_own w a b old server so late e here own gave quiet empty ends =
+    finish_same w a b old server so late [] e here gave empty
+    (no_fault a.source.faults b.source.faults (IsReadFault e) quiet.0 (own_read e own))
+    (no_fault a.sink.faults b.sink.faults (IsWriteFault e) quiet.1 (own_write e own)) ends
 
 -- it ends as it was leaving
 pub finish_leaving : (w a : Outside) (old : TalkState) (server : ServerState) (so : SoFar w a old server) (e : SessionEnd)
-    → old.leaving ≡ Some e → IsOwnEnd e → EndsEmpty a.source → Replays 1 w a e
+    → old.leaving ≡ Some e → IsOwnEnd e → EndsEmpty a.source → Replays server.projects w a e
 finish_leaving w a old server so e leaving own empty =
-    let ends = leaves_some server.history (last_turn 0 so.steps) server.turns a.source.ended old.rest so.rest (length so.requests) so.late so.tail old.leaving e leaving so.leaving in
+    let ends = leaves_some (stop_of (start_of server) so.events so.steps a.source.ended so.rest so.told so.late so.tail []) old.leaving e leaving so.leaving in
     record {
       input = so.input;
       moments = so.moments;
@@ -117,82 +143,122 @@ finish_leaving w a old server so e leaving own empty =
       run = so.run;
       one_thread = so.one_thread;
       session = record {
-        taken = so.input;
-        extra = [];
-        requests = so.requests;
+        events = so.events;
         rest = so.rest;
+        told = so.told;
         asked = so.asked;
         late = so.late;
         out = so.out;
         tail = so.tail;
         done = so.steps;
         more = [];
-        input_is = sym (append-nil so.input);
         moments_are = so.moments_are;
         output_is = so.output_is;
         steps_are = sym (append-nil so.steps);
         reads = so.reads;
-        answered = subst (λ (n : ℕ). Answered 1 server.history n 0 0 so.requests so.asked so.out so.steps) (sym so.count) so.answered;
-        ends = subst (λ (n : ℕ). Ends 1 server.history (last_turn 0 so.steps) n a.source.ended so.rest (length so.requests) e [] so.late so.tail []) (sym so.count) ends;
+        answered = subst (λ (n : ℕ). Answered (beginning server.projects server.history n) so.events so.asked so.out so.steps) (sym so.count) so.answered;
+        ends = subst (λ (n : ℕ). Ends (stop_of (beginning server.projects server.history n) so.events so.steps a.source.ended so.rest so.told so.late so.tail []) e) (sym so.count) ends;
       };
+      as_needed = so.as_needed;
       read_fault = no_fault w.source.faults a.source.faults (IsReadFault e) so.quiet.0 (own_read e own);
       write_fault = no_fault w.sink.faults a.sink.faults (IsWriteFault e) so.quiet.1 (own_write e own);
     }
 
--- it ends by an end of its own, and nothing failed
-pub finish_own : (w a b : Outside) (old : TalkState) (server : ServerState) (so : SoFar w a old server) (extra late : List ℕ) (e : SessionEnd)
-    → old.leaving ≡ None → IsOwnEnd e → Exchanges a b extra late [] → IsQuiet a b → EndsEmpty b.source
-    → Ends 1 server.history (last_turn 0 so.steps) server.turns b.source.ended old.rest (length so.requests) e extra late [] []
-    → Replays 1 w b e
-finish_own w a b old server so extra late e here own gave quiet empty ends =
-    finish_same w a b old server so extra late [] e here gave empty
-    (no_fault a.source.faults b.source.faults (IsReadFault e) quiet.0 (own_read e own))
-    (no_fault a.sink.faults b.sink.faults (IsWriteFault e) quiet.1 (own_write e own)) ends
-
--- it ends where the input has
+-- it ends where the input has, and nothing is left to answer
 pub finish_met : (w a : Outside) (old : TalkState) (server : ServerState) (so : SoFar w a old server) (e : SessionEnd)
-    → old.leaving ≡ None → old.ended ≡ true → MeetsEnd old e → EndsEmpty a.source → Replays 1 w a e
-finish_met w a old server so e here over (inl closed) empty =
-    subst (λ (z : SessionEnd). Replays 1 w a z) (sym closed.1)
-    (finish_own w a a old server so [] [] (end.Closed old.served) here (closed_own old.served) (exchanges_none a) (refl, refl) empty
-    (so.served, room_of w a old server so here, so.ended_is over, closed.0, refl, refl, refl, refl))
-finish_met w a old server so e here over (inr cut) empty =
-    subst (λ (z : SessionEnd). Replays 1 w a z) (sym cut.2)
-    (finish_own w a a old server so [] [] (end.Cut old.served) here (cut_own old.served) (exchanges_none a) (refl, refl) empty
-    (so.served, room_of w a old server so here, so.ended_is over, cut.0, cut.1, refl, refl, refl, refl))
-
--- it ends for want of memory, where no request was taken
-pub finish_memory : (w a b : Outside) (old : TalkState) (server : ServerState) (so : SoFar w a old server) (extra : List ℕ)
-    → old.leaving ≡ None → Exchanges a b extra [] [] → IsQuiet a b → EndsEmpty b.source → Replays 1 w b (end.Memory old.served)
-finish_memory w a b old server so extra here gave quiet empty =
-    finish_own w a b old server so extra [] (end.Memory old.served) here (memory_own old.served) gave quiet empty
-    (so.served, room_of w a old server so here, refl, inl (refl, refl))
+    → old.leaving ≡ None → old.ended ≡ true → IsTold so.told so.rest → IsRest so.rest → MeetsEnd so.rest old.served e → EndsEmpty a.source → Replays server.projects w a e
+finish_met w a old server so e here over settled nothing (inl closed) empty =
+    subst (λ (z : SessionEnd). Replays server.projects w a z) (sym closed.1)
+    (finish_own w a a old server so [] (end.Closed old.served) here (closed_own old.served) (exchanges_none a) (refl, refl) empty
+    (inl (ap end.Closed so.served, (let goes = open_of w a old server so here in goes.open_), (refl, refl, refl), so.ended_is over, (settled, (nothing, closed.0)))))
+finish_met w a old server so e here over settled nothing (inr cut) empty =
+    subst (λ (z : SessionEnd). Replays server.projects w a z) (sym cut.1)
+    (finish_own w a a old server so [] (end.Cut old.served) here (cut_own old.served) (exchanges_none a) (refl, refl) empty
+    (inr (inr (inl (ap end.Cut so.served, (let goes = open_of w a old server so here in goes.open_), (refl, refl, refl), so.ended_is over, (settled, (nothing, cut.0)))))))
 
 -- it ends for want of memory, where no request was taken, or one was at its moment
-pub finish_lacks : (w a b : Outside) (old new : TalkState) (server : ServerState) (so : SoFar w a old server) (moments : List ℕ)
-    → Lacks moments old new → Exchanges a b [] moments [] → IsQuiet a b → EndsEmpty b.source → Replays 1 w b (end.Memory old.served)
-finish_lacks w a b old new server so moments (here, inl none) gave quiet empty =
-    finish_memory w a b old server so [] here (subst (λ (m : List ℕ). Exchanges a b [] m []) none.0 gave) quiet empty
-finish_lacks w a b old new server so moments (here, inr taken) gave quiet empty =
-    finish_own w a b old server so [] moments (end.Memory old.served) here (memory_own old.served) gave quiet empty (
-      so.served,
-      room_of w a old server so here,
+pub finish_short : (w a b : Outside) (old new : TalkState) (server : ServerState) (so : SoFar w a old server) (late : List ℕ)
+    → old.leaving ≡ None → StopsShort so.rest so.told late new → Exchanges a b [] late [] → IsQuiet a b → EndsEmpty b.source
+    → Replays server.projects w b (end.Memory old.served)
+finish_short w a b old new server so late here stops gave quiet empty =
+    finish_own w a b old server so late (end.Memory old.served) here (memory_own old.served) gave quiet empty
+    (inr (inr (inr (inr (inr (inr (inr (
+      ap end.Memory so.served,
+      (let goes = open_of w a old server so here in goes.open_),
       refl,
-      inr (record {
-        moment = taken.0;
-        one_moment = taken.2;
-        request = taken.1;
-        later = new.rest;
-        next = taken.3;
-        taken = inl refl;
-      }),
-    )
+      of_kind stops,
+    ))))))))
+  where
+    of_kind : (late ≡ []) ⊎ TakesRequest so.rest so.told late new.framer
+        → ((late ≡ []) × (let none : List Step = [] in none ≡ []))
+        ⊎ TakesUnanswered (stop_of (start_of server) so.events so.steps b.source.ended so.rest so.told late [] [])
+    of_kind (inl none) = inl (none, refl)
+    of_kind (inr one) = inr (record {
+      moment = one.moment;
+      request = one.request;
+      later = one.later;
+      one = one.one;
+      told = one.settled;
+      next = one.next;
+      taken = inl refl;
+    })
+
+-- it ends for want of memory where a piece was read that was not fed
+pub finish_unfed : (w a b : Outside) (old : TalkState) (server : ServerState) (so : SoFar w a old server) (piece : List ℕ)
+    → old.leaving ≡ None → IsTold so.told so.rest → IsRest so.rest → length piece ≤ most_read → Exchanges a b piece [] [] → IsQuiet a b → EndsEmpty b.source
+    → Replays server.projects w b (end.Memory old.served)
+finish_unfed w a b old server so piece here settled nothing short gave quiet empty =
+    let same : so.steps ++ [] ≡ so.steps = append-nil so.steps in
+    let own : IsOwnEnd (end.Memory old.served) = memory_own old.served in
+    finish w a b old server server so (so.input ++ piece) (so.rest ++ piece) [] [] (end.Memory old.served) [] here
+    (exchanges_trans w a b so.input so.moments so.output piece [] [] so.exchanges gave) empty
+    (Reads_more so.input false so.events so.rest so.told piece so.reads) (needed_more so.input piece so.events so.rest so.told so.reads settled nothing short)
+    (no_fault a.source.faults b.source.faults (IsReadFault (end.Memory old.served)) quiet.0 (own_read (end.Memory old.served) own))
+    (no_fault a.sink.faults b.sink.faults (IsWriteFault (end.Memory old.served)) quiet.1 (own_write (end.Memory old.served) own))
+    (rw same so.run) (rw same so.one_thread) (rw same so.count) so.answered
+    (inr (inr (inr (inr (inr (inr (inr (
+      ap end.Memory so.served,
+      (let goes = open_of w a old server so here in goes.open_),
+      refl,
+      inl (refl, refl),
+    ))))))))
+
+-- it ends for want of memory, where nothing was done
+pub finish_memory : (w a : Outside) (old : TalkState) (server : ServerState) (so : SoFar w a old server)
+    → old.leaving ≡ None → EndsEmpty a.source → Replays server.projects w a (end.Memory old.served)
+finish_memory w a old server so here empty =
+    finish_short w a a old old server so [] here (inl refl) (exchanges_none a) (refl, refl) empty
 
 -- nothing was done
-pub nothing_done : (w : Outside) → EndsEmpty w.source → Replays 1 w w (end.Memory 0)
-nothing_done w empty =
-    finish_memory w w w fresh (record { history = []; turns = 0 }) (so_far_start w) [] refl (exchanges_none w) (refl, refl) empty
-
-pub so_far_fresh : (w : Outside) (talk : TalkState) (server : ServerState) → talk ≡ fresh → server ≡ record { history = []; turns = 0 } → SoFar w w talk server
-so_far_fresh w talk server t s =
-    subst (λ (x : TalkState). SoFar w w x server) (sym t) (subst (λ (y : ServerState). SoFar w w fresh y) (sym s) (so_far_start w))
+pub nothing_done : (w : Outside) (projects : ℕ) → EndsEmpty w.source → Replays projects w w (end.Memory 0)
+nothing_done w projects empty = record {
+  input = [];
+  moments = [];
+  output = [];
+  history = [];
+  steps = [];
+  exchanges = exchanges_none w;
+  empty = empty;
+  run = refl;
+  one_thread = one_none;
+  session = record {
+    events = [];
+    rest = [];
+    told = false;
+    asked = [];
+    late = [];
+    out = [];
+    tail = [];
+    done = [];
+    more = [];
+    moments_are = refl;
+    output_is = refl;
+    steps_are = refl;
+    reads = (refl, refl);
+    answered = (refl, refl, refl);
+    ends = inr (inr (inr (inr (inr (inr (inr (refl, refl, refl, inl (refl, refl))))))));
+  };
+  as_needed = none_needed;
+  read_fault = no_fault w.source.faults w.source.faults (IsReadFault (end.Memory 0)) refl (own_read (end.Memory 0) (memory_own 0));
+  write_fault = no_fault w.sink.faults w.sink.faults (IsWriteFault (end.Memory 0)) refl (own_write (end.Memory 0) (memory_own 0));
+}

@@ -1,6 +1,7 @@
 -- What a talk wants, once done, is the next of the session.
-use Rattle.std.proofs.Common.{◌≡◌, ℕ, ◌+◌, ◌≤◌, List, [], ◌∷◌, ◌++◌, length, Bool, Option, Some, None, Ok, inl, inr, sym, ◌∙◌, ap, subst, refl, length-append, arith}
-use Rattle.http_frame.specs.declared.framer.HttpRequest.{HttpRequest}
+use Rattle.std.proofs.Common.{◌≡◌, ℕ, ◌+◌, ◌<◌, ◌≤◌, List, [], ◌∷◌, ◌++◌, length, Bool, Option, Some, None, Ok, inl, inr, sym, ◌∙◌, ap, subst, refl, length-append, arith}
+use Rattle.http_frame.specs.declared.types.HttpRequest.{HttpRequest}
+use Rattle.http_frame.specs.Events.{Event}
 use Rattle.bim_model.specs.declared.element.Element.{Element}
 use Rattle.bim_model.specs.declared.topic.TopicBody.{TopicBody}
 use Rattle.bim_model.specs.declared.topic.Author.{Author}
@@ -18,21 +19,21 @@ use Rattle.bcf_http.specs.declared.answers.Answer.TheVariants as answer
 use Rattle.bcf_http.specs.Calls.{kind_of}
 use Rattle.bcf_http.specs.Answers.{IsResponse}
 use Rattle.bim_io.specs.Seen.{Outside}
-use Rattle.bim_session.specs.Session.{Means, Answers, Answered, TakesTurn, last_turn}
-use Rattle.bim_session.specs.Talking.{TalkState, BookReceipt, AnswersAlone, AnswersCall, ChangesNothing}
-use Rattle.bim_session.proofs.Sessions.{Takes_new, Answered_grown, answered_last}
-use Rattle.bim_server.specs.Loop.{ServerState, SoFar, with_turn, stamp_of}
+use Rattle.bim_session.specs.Session.{Standing, Means, TakesTurn, Answers, Answered, asking, behind, closes_after, last_turn, requests}
+use Rattle.bim_session.specs.Talking.{TalkState, BookReceipt, AnswersAlone, AnswersCall, ChangesNothing, waiting_for}
+use Rattle.bim_session.proofs.Sessions.{Answered_grown, answered_last, entry_new}
+use Rattle.bim_server.specs.Loop.{ServerState, with_turn, stamp_of}
+use Rattle.bim_server.proofs.SoFar.{SoFar, start_of}
 
 -- an answer without a turn
-pub alone_answers : (h : List Entry) (last top moment : ℕ) (request : HttpRequest) (close : Bool) (bytes : List ℕ)
-    → AnswersAlone moment request close bytes → Answers 1 h last top moment request close bytes []
-alone_answers h last top moment request close bytes (inl refuses) = inl (record {
+pub alone_answers : (s : Standing) (m : ℕ) (r : HttpRequest) (bytes : List ℕ) → AnswersAlone m r (waiting_for r (s.served + 1)) bytes → Answers (asking s m r) bytes []
+alone_answers s m r bytes (inl refuses) = inl (record {
   refusal = refuses.refusal;
   refused = refuses.refused;
   response = refuses.response;
   none = refl;
 })
-alone_answers h last top moment request close bytes (inr lacks) = inr (inr (record { response = lacks; idle = inl refl }))
+alone_answers s m r bytes (inr lacks) = inr (inr (record { response = lacks; idle = inl refl }))
 
 -- the step of a call at the next turn
 abbrev pub step_of : ServerState → BookRequest → Step
@@ -52,64 +53,76 @@ nothing_put : (h : List Entry) (stamp : Stamp) (name : List ℕ) (model : List E
 nothing_put h stamp name model None nothing = refl
 nothing_put h stamp name model (Some p) nothing = absurd nothing
 
-nothing_added : (h : List Entry) (stamp : Stamp) (call : BookRequest) → ChangesNothing (body_of 1 h call) → added_by 1 h stamp call ≡ []
-nothing_added h stamp (ListTopics id) nothing = nothing_asked stamp (project_of 1 id)
-nothing_added h stamp (PostTopic id body author weight) nothing = nothing_posted h stamp body author weight (project_of 1 id) nothing
-nothing_added h stamp (Upload id name model) nothing = nothing_put h stamp name model (project_of 1 id) nothing
-nothing_added h stamp (ReadVersion id wanted) nothing = nothing_asked stamp (project_of 1 id)
+nothing_added : (n : ℕ) (h : List Entry) (stamp : Stamp) (call : BookRequest) → ChangesNothing (body_of n h call) → added_by n h stamp call ≡ []
+nothing_added n h stamp (ListTopics id) nothing = nothing_asked stamp (project_of n id)
+nothing_added n h stamp (PostTopic id body author weight) nothing = nothing_posted h stamp body author weight (project_of n id) nothing
+nothing_added n h stamp (Upload id name model) nothing = nothing_put h stamp name model (project_of n id) nothing
+nothing_added n h stamp (ReadVersion id wanted) nothing = nothing_asked stamp (project_of n id)
+
+-- where a session stands that answered these events by these steps, once the call has taken the next turn
+abbrev pub called_at : ServerState → BookRequest → List Event → List Step → Standing
+called_at server call events steps = behind (start_of (with_turn call server)) events steps
 
 -- the next turn is taken by a call
-pub turn_next : (server : ServerState) (last : ℕ) (request : HttpRequest) (call : BookRequest) (moment : ℕ) → Means moment request call
-    → IsBefore (server.turns + 1) server.history → last ≤ server.turns
-    → TakesTurn 1 (with_turn call server).history last (server.turns + 1) moment request (step_of server call ∷ [])
-turn_next server last request call moment means earlier le = record {
+pub turn_next : (server : ServerState) (events : List Event) (steps : List Step) (m : ℕ) (r : HttpRequest) (call : BookRequest) → Means m r call
+    → IsBefore (server.turns + 1) server.history → last_turn 0 steps ≤ server.turns
+    → TakesTurn (asking (called_at server call events steps) m r) (step_of server call ∷ [])
+turn_next server events steps m r call means earlier le = record {
   step = step_of server call;
   one = refl;
-  above = omega arith;
-  within = omega arith;
-  takes = Takes_new 1 server.history moment request (step_of server call) means earlier;
+  above = (let lt : last_turn 0 steps < server.turns + 1 = omega (arith, le) in lt);
+  within = (let same : server.turns + 1 ≤ server.turns + 1 = omega arith in same);
+  means = means;
+  entry = entry_new server.projects server.history (step_of server call) earlier;
 }
 
 -- the answer to a call at the next turn
-pub called_answers : (server : ServerState) (last : ℕ) (request : HttpRequest) (close : Bool) (bytes : List ℕ) (call : BookRequest) (moment : ℕ) (receipt : BookReceipt)
-    → Means moment request call → IsBefore (server.turns + 1) server.history → last ≤ server.turns
-    → receipt.turn ≡ server.turns + 1 → receipt.reply ≡ reply_of 1 server.history call
-    → AnswersCall (Ok receipt) (kind_of request) close bytes
-    → Answers 1 (with_turn call server).history last (server.turns + 1) moment request close bytes (step_of server call ∷ [])
+pub called_answers : (server : ServerState) (events : List Event) (steps : List Step) (m : ℕ) (r : HttpRequest) (call : BookRequest) (receipt : BookReceipt) (bytes : List ℕ)
+    → Means m r call → IsBefore (server.turns + 1) server.history → last_turn 0 steps ≤ server.turns
+    → receipt.turn ≡ server.turns + 1 → receipt.reply ≡ reply_of server.projects server.history call
+    → AnswersCall (Ok receipt) (waiting_for r (0 + requests events + 1)) bytes
+    → Answers (asking (called_at server call events steps) m r) bytes (step_of server call ∷ [])
 unfolding turn_next
-called_answers server last request close bytes call moment receipt means earlier le turn reply (inl response) =
-    let own : AreOf (server.turns + 1) (added_by 1 server.history (stamp_of (server.turns + 1)) call) = added_of 1 server.history (stamp_of (server.turns + 1)) call in
+called_answers server events steps m r call receipt bytes means earlier le turn reply (inl response) =
+    let own : AreOf (server.turns + 1) (added_by server.projects server.history (stamp_of (server.turns + 1)) call) =
+    added_of server.projects server.history (stamp_of (server.turns + 1)) call in
     let at : at_turn (server.turns + 1) (with_turn call server).history ≡ server.history = at_turn-new (server.turns + 1) server.history _ earlier own in
-    let here : receipt.reply ≡ reply_of 1 (at_turn (server.turns + 1) (with_turn call server).history) call = reply ∙ ap (λ h. reply_of 1 h call) (sym at) in
-    let booked : IsResponse (answer.Book (reply_of 1 (at_turn (server.turns + 1) (with_turn call server).history) call)) (kind_of request) (Some receipt.turn) close bytes =
-    subst (λ (r : BookReply). IsResponse (answer.Book r) (kind_of request) (Some receipt.turn) close bytes) here response in
+    let here : receipt.reply ≡ reply_of server.projects (at_turn (server.turns + 1) (with_turn call server).history) call =
+    reply ∙ ap (λ h. reply_of server.projects h call) (sym at) in
+    let booked : IsResponse (answer.Book (reply_of server.projects (at_turn (server.turns + 1) (with_turn call server).history) call)) (kind_of r) (Some receipt.turn)
+    (closes_after r (0 + requests events + 1)) bytes =
+    subst (λ (b : BookReply). IsResponse (answer.Book b) (kind_of r) (Some receipt.turn) (closes_after r (0 + requests events + 1)) bytes) here response in
     inr (inl (record {
-      taken = turn_next server last request call moment means earlier le;
-      response = subst (λ (t : ℕ). IsResponse (answer.Book (reply_of 1 (at_turn (server.turns + 1) (with_turn call server).history) call)) (kind_of request) (Some t) close bytes) turn booked;
+      taken = turn_next server events steps m r call means earlier le;
+      response = subst (λ (t : ℕ). IsResponse (answer.Book (reply_of server.projects (at_turn (server.turns + 1) (with_turn call server).history) call)) (kind_of r) (Some t)
+          (closes_after r (0 + requests events + 1)) bytes) turn booked;
     }))
-called_answers server last request close bytes call moment receipt means earlier le turn reply (inr quiet) =
-    let own : AreOf (server.turns + 1) (added_by 1 server.history (stamp_of (server.turns + 1)) call) = added_of 1 server.history (stamp_of (server.turns + 1)) call in
-    let nothing : ChangesNothing (body_of 1 server.history call) = subst (λ (r : BookReply). ChangesNothing r.body) reply quiet.0 in
+called_answers server events steps m r call receipt bytes means earlier le turn reply (inr quiet) =
+    let own : AreOf (server.turns + 1) (added_by server.projects server.history (stamp_of (server.turns + 1)) call) =
+    added_of server.projects server.history (stamp_of (server.turns + 1)) call in
+    let nothing : ChangesNothing (body_of server.projects server.history call) = subst (λ (b : BookReply). ChangesNothing b.body) reply quiet.0 in
     inr (inr (record {
       response = quiet.1;
       idle = inr (record {
-        taken = turn_next server last request call moment means earlier le;
-        idle = of_turn-new (server.turns + 1) server.history _ earlier own ∙ nothing_added server.history (stamp_of (server.turns + 1)) call nothing;
+        taken = turn_next server events steps m r call means earlier le;
+        idle = of_turn-new (server.turns + 1) server.history _ earlier own ∙ nothing_added server.projects server.history (stamp_of (server.turns + 1)) call nothing;
       });
     }))
 
 -- what was answered stays so after the next turn
 pub answered_next : (w a : Outside) (old : TalkState) (server : ServerState) (call : BookRequest) (so : SoFar w a old server)
-    → Answered 1 (with_turn call server).history (server.turns + 1) 0 0 so.requests so.asked so.out so.steps
+    → Answered (start_of (with_turn call server)) so.events so.asked so.out so.steps
 answered_next w a old server call so =
-    let own : AreOf (server.turns + 1) (added_by 1 server.history (stamp_of (server.turns + 1)) call) = added_of 1 server.history (stamp_of (server.turns + 1)) call in
-    Answered_grown 1 server.history _ server.turns (server.turns + 1) 0 0 so.requests so.asked so.out so.steps so.answered (omega arith)
-    (above_of (server.turns + 1) server.turns _ (omega arith) own)
+    let own : AreOf (server.turns + 1) (added_by server.projects server.history (stamp_of (server.turns + 1)) call) =
+    added_of server.projects server.history (stamp_of (server.turns + 1)) call in
+    Answered_grown (start_of server) (added_by server.projects server.history (stamp_of (server.turns + 1)) call) (server.turns + 1) so.events so.asked so.out so.steps so.answered
+    (let le : server.turns ≤ server.turns + 1 = omega arith in le) (above_of (server.turns + 1) server.turns _ (omega arith) own)
 
 pub run_next : (w a : Outside) (old : TalkState) (server : ServerState) (call : BookRequest) (so : SoFar w a old server)
-    → IsRun 1 (so.steps ++ step_of server call ∷ []) (with_turn call server).history
+    → IsRun server.projects (so.steps ++ step_of server call ∷ []) (with_turn call server).history
 run_next w a old server call so =
-    Runs_push 1 [] [] so.steps server.history (step_of server call) so.run (follows_one so.steps (step_of server call) server.turns so.one_thread so.count refl)
+    Runs_push server.projects [] [] so.steps server.history (step_of server call) so.run
+    (follows_one so.steps (step_of server call) server.turns so.one_thread so.count refl)
 
 pub one_next : (w a : Outside) (old : TalkState) (server : ServerState) (call : BookRequest) (so : SoFar w a old server) → IsOneThread (so.steps ++ step_of server call ∷ [])
 one_next w a old server call so = one_push so.steps (step_of server call) so.one_thread refl
@@ -119,4 +132,5 @@ pub count_next : (w a : Outside) (old : TalkState) (server : ServerState) (call 
 count_next w a old server call so = length-append so.steps (step_of server call ∷ []) ∙ ap (λ n. n + 1) so.count
 
 pub last_of : (w a : Outside) (old : TalkState) (server : ServerState) (so : SoFar w a old server) → last_turn 0 so.steps ≤ server.turns
-last_of w a old server so = answered_last 1 server.history server.turns 0 0 so.requests so.asked so.out so.steps so.answered (omega arith)
+last_of w a old server so =
+    answered_last (start_of server) so.events so.asked so.out so.steps so.answered (let le : 0 ≤ server.turns = omega arith in le)

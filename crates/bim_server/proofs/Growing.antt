@@ -1,30 +1,109 @@
 -- A session so far goes on by one more event.
-use Rattle.std.proofs.Common.{◌≡◌, ◌≢◌, ◌⊎◌, ℕ, ◌+◌, ◌<◌, ◌≤◌, ◌==◌, List, [], ◌∷◌, ◌++◌, length, Bool, true, false, Option, Some, None, IsTrue, inl, inr, sym, ◌∙◌, ap, subst, refl, append-nil, length-append, arith}
+use Rattle.std.proofs.Common.{◌≡◌, ◌≢◌, ◌⊎◌, ℕ, ◌+◌, ◌<◌, ◌≤◌, ◌==◌, ◌||◌, List, [], ◌∷◌, ◌++◌, length, Bool, true, false, Option, Some, None, IsTrue, if◌then◌else◌, inl, inr, sym, ◌∙◌, ap, subst, refl, append-nil, append_assoc, add_assoc, arith}
 use Rattle.std.proofs.lemmas.Bool.Decides.{eqb_tells}
 use Rattle.bim_io.specs.Seen.{Outside, Exchanges}
 use Rattle.bim_io.proofs.Calls.{exchanges_none, exchanges_trans}
-use Rattle.http_frame.specs.declared.framer.HttpRequest.{HttpRequest}
-use Rattle.http_frame.specs.Requests.{Begins, Reads}
-use Rattle.federation_book.specs.declared.types.Entry.{Entry}
+use Rattle.http_frame.specs.declared.types.HttpRequest.{HttpRequest}
+use Rattle.http_frame.specs.Events.{Event, IsRest, IsTold}
+use Rattle.http_frame.specs.Events as frame
+use Rattle.http_frame.specs.Framers.{Stands}
 use Rattle.federation_book.specs.History.{IsBefore}
 use Rattle.federation_book.specs.Runs.{Step, IsRun, IsOneThread}
 use Rattle.federation_book.proofs.Histories.{none_before, one_none}
 use Rattle.bim_session.specs.declared.end.SessionEnd.{SessionEnd}
-use Rattle.bim_session.specs.Session.{Answers, Answered, Ends, last_turn, most_requests, closes_after}
-use Rattle.bim_session.specs.Talking.{TalkState, fresh, with_piece, leaving_after}
-use Rattle.bim_session.proofs.Sessions.{Reads_more, Reads_push, Answered_push}
-use Rattle.bim_server.specs.Loop.{ServerState, LeavesBy, IsQuiet, SoFar}
+use Rattle.bim_session.specs.declared.end.SessionEnd.TheVariants as end
+use Rattle.bim_session.specs.Session.{Standing, Stop, IsBare, Ends, Reads, AnswersEvent, Answered, behind, closes, is_closed, counted, requests, most_requests, closes_after}
+use Rattle.bim_session.specs.Replay.{ReadsAsNeeded, HoldsNoMore, most_read}
+use Rattle.bim_session.specs.Talking.{TalkState, Feeds, is_end, with_framer, with_piece, leaving_after}
+use Rattle.bim_session.proofs.Reading.{Reads_more, Reads_append, requests-push, is_closed-push}
+use Rattle.bim_session.proofs.Sessions.{Answered_push}
+use Rattle.bim_server.specs.Loop.{ServerState}
+use Rattle.bim_server.proofs.SoFar.{SoFar, GoesOn, LeavesBy, IsQuiet, start_of, stop_of}
 
 pub quiet_trans : (a b c : Outside) → IsQuiet a b → IsQuiet b c → IsQuiet a c
 quiet_trans a b c p q = (q.0 ∙ p.0, q.1 ∙ p.1)
 
-pub so_far_start : (w : Outside) → SoFar w w fresh (record { history = []; turns = 0 })
-so_far_start w = record {
+-- nothing more was read
+pub exchanged : (a b c : Outside) (input moments output late tail : List ℕ) → Exchanges a b input moments output → Exchanges b c [] late tail
+    → Exchanges a c input (moments ++ late) (output ++ tail)
+exchanged a b c input moments output late tail first next =
+    subst (λ (i : List ℕ). Exchanges a c i (moments ++ late) (output ++ tail)) (append-nil input)
+    (exchanges_trans a b c input moments output [] late tail first next)
+
+-- ---- where a session goes on
+
+-- what is known of a session that is not leaving
+leaves_none : (stop : Stop) (o : Option SessionEnd) → o ≡ None → LeavesBy stop o → GoesOn stop
+leaves_none stop None e leaves = leaves
+leaves_none stop (Some x) e leaves = cc
+
+pub leaves_some : (stop : Stop) (o : Option SessionEnd) (x : SessionEnd) → o ≡ Some x → LeavesBy stop o → Ends stop x
+leaves_some stop None x e leaves = cc
+leaves_some stop (Some y) x e leaves = let same : y ≡ x = cc in subst (λ (z : SessionEnd). Ends stop z) same leaves
+
+leaves_here : (stop : Stop) (o : Option SessionEnd) → o ≡ None → GoesOn stop → LeavesBy stop o
+leaves_here stop None e goes = goes
+leaves_here stop (Some x) e goes = cc
+
+-- where a session stands so far
+abbrev pub stands_at : (w a : Outside) (old : TalkState) (server : ServerState) → SoFar w a old server → Stop
+stands_at w a old server so = stop_of (start_of server) so.events so.steps a.source.ended so.rest so.told so.late so.tail []
+
+-- what is known where a session goes on
+pub open_of : (w a : Outside) (old : TalkState) (server : ServerState) (so : SoFar w a old server) → old.leaving ≡ None → GoesOn (stands_at w a old server so)
+open_of w a old server so here = leaves_none (stands_at w a old server so) old.leaving here so.leaving
+
+pub plain_moments : (w a : Outside) (old : TalkState) (server : ServerState) (so : SoFar w a old server) → old.leaving ≡ None → so.moments ≡ so.asked
+plain_moments w a old server so here =
+    let goes = open_of w a old server so here in
+    so.moments_are ∙ ap (λ t. so.asked ++ t) goes.bare.0 ∙ append-nil so.asked
+
+pub plain_output : (w a : Outside) (old : TalkState) (server : ServerState) (so : SoFar w a old server) → old.leaving ≡ None → so.output ≡ so.out
+plain_output w a old server so here =
+    let goes = open_of w a old server so here in
+    so.output_is ∙ ap (λ t. so.out ++ t) goes.bare.1 ∙ append-nil so.out
+
+-- ---- the beginning
+
+pub none_needed : ReadsAsNeeded [] []
+none_needed = record {
+  earlier = [];
+  piece = [];
+  input_is = refl;
+  one_read = omega arith;
+  needed = inl refl;
+}
+
+-- a talk that has been fed nothing
+pub record IsFresh (talk : TalkState) : Type 0 where
+  pub stands : Stands talk.framer [] false
+  pub ended : talk.ended ≡ false
+  pub served : talk.served ≡ 0
+  pub waits : talk.waits ≡ None
+  pub leaving : talk.leaving ≡ None
+
+pub fresh_of : (talk : TalkState) → Stands talk.framer [] false
+    → talk ≡ record { framer = talk.framer; ended = false; served = 0; waits = None; leaving = None } → IsFresh talk
+fresh_of talk stands is = record {
+  stands = stands;
+  ended = ap (λ (t : TalkState). t.ended) is;
+  served = ap (λ (t : TalkState). t.served) is;
+  waits = ap (λ (t : TalkState). t.waits) is;
+  leaving = ap (λ (t : TalkState). t.leaving) is;
+}
+
+-- a book without a history
+abbrev pub new_server : ℕ → ServerState
+new_server projects = record { projects = projects; history = []; turns = 0 }
+
+pub so_far_start : (w : Outside) (projects : ℕ) (talk : TalkState) → IsFresh talk → SoFar w w talk (new_server projects)
+so_far_start w projects talk fresh = record {
   input = [];
   moments = [];
   output = [];
-  requests = [];
+  events = [];
   rest = [];
+  told = false;
   asked = [];
   late = [];
   out = [];
@@ -34,173 +113,222 @@ so_far_start w = record {
   quiet = (refl, refl);
   moments_are = refl;
   output_is = refl;
-  reads = refl;
+  reads = (refl, refl);
+  as_needed = none_needed;
   run = refl;
   one_thread = one_none;
   count = refl;
   earlier = none_before 1;
   answered = (refl, refl, refl);
-  served = refl;
-  idle = refl;
+  stands = fresh.stands;
+  served = fresh.served;
+  idle = fresh.waits;
   few = omega arith;
   most = omega arith;
-  ended_is = λ e. cc;
-  leaving = (refl, omega arith, refl, refl);
+  ended_is = λ e. absurd (let f : false ≡ true = sym fresh.ended ∙ e in cc);
+  leaving = leaves_here (stop_of (start_of (new_server projects)) [] [] w.source.ended [] false [] [] []) talk.leaving fresh.leaving
+      (record { open_ = refl; room = omega arith; bare = (refl, refl, refl) });
 }
 
--- what is known of a session that is not leaving
-pub leaves_none : (h : List Entry) (last top : ℕ) (ended : Bool) (fed rest : List ℕ) (served : ℕ) (late tail : List ℕ) (o : Option SessionEnd)
-    → o ≡ None → LeavesBy h last top ended fed rest served late tail o → (rest ≡ fed) × (served < most_requests) × (late ≡ []) × (tail ≡ [])
-leaves_none h last top ended fed rest served late tail None e leaves = leaves
-leaves_none h last top ended fed rest served late tail (Some x) e leaves = cc
+-- ---- a piece
 
-pub leaves_some : (h : List Entry) (last top : ℕ) (ended : Bool) (fed rest : List ℕ) (served : ℕ) (late tail : List ℕ) (o : Option SessionEnd) (x : SessionEnd)
-    → o ≡ Some x → LeavesBy h last top ended fed rest served late tail o → Ends 1 h last top ended rest served x [] late tail []
-leaves_some h last top ended fed rest served late tail None x e leaves = cc
-leaves_some h last top ended fed rest served late tail (Some y) x e leaves =
-    let same : y ≡ x = cc in subst (λ (z : SessionEnd). Ends 1 h last top ended rest served z [] late tail []) same leaves
+piece_ends : (piece : List ℕ) (over : Bool) → (piece ≡ [] → IsTrue over) → is_end piece ≡ true → IsTrue over
+piece_ends [] over at_end e = at_end refl
+piece_ends (c ∷ cs) over at_end e = cc
 
-leaves_here : (h : List Entry) (last top : ℕ) (ended : Bool) (fed : List ℕ) (served : ℕ) (o : Option SessionEnd)
-    → o ≡ None → served < most_requests → LeavesBy h last top ended fed fed served [] [] o
-leaves_here h last top ended fed served None e lt = (refl, lt, refl, refl)
-leaves_here h last top ended fed served (Some x) e lt = cc
-
-leaves_after : (h : List Entry) (last top : ℕ) (ended : Bool) (fed : List ℕ) (n k : ℕ) → n ≡ k → k ≤ most_requests
-    → LeavesBy h last top ended fed fed k [] [] (leaving_after n)
-leaves_after h last top ended fed n k e le = by_test (n == most_requests) (eqb_tells n most_requests)
-  where
-    by_test : (b : Bool) → ((n == most_requests ≡ true) × (n ≡ most_requests)) ⊎ ((n == most_requests ≡ false) × (n ≢ most_requests))
-        → LeavesBy h last top ended fed fed k [] [] (leaving_after n)
-    by_test b (inl is) = rw is.0 (e, sym e ∙ is.1, refl, refl, refl, refl)
-    by_test b (inr other) = rw other.0 (refl, below, refl, refl)
-      where
-        below : k < most_requests
-        below = let other_is : n ≢ most_requests = other.1 in omega (arith, e, le, other_is)
-
--- what is known where a session goes on
-pub open_of : (w a : Outside) (old : TalkState) (server : ServerState) (so : SoFar w a old server) → old.leaving ≡ None
-    → (so.rest ≡ old.rest) × (length so.requests < most_requests) × (so.late ≡ []) × (so.tail ≡ [])
-open_of w a old server so here =
-    leaves_none server.history (last_turn 0 so.steps) server.turns a.source.ended old.rest so.rest (length so.requests) so.late so.tail old.leaving here so.leaving
-
--- how few requests were answered
-pub room_of : (w a : Outside) (old : TalkState) (server : ServerState) (so : SoFar w a old server) → old.leaving ≡ None → length so.requests < most_requests
-room_of w a old server so here = let open_ = open_of w a old server so here in open_.1
-
-pub plain_moments : (w a : Outside) (old : TalkState) (server : ServerState) (so : SoFar w a old server) → old.leaving ≡ None → so.moments ≡ so.asked
-plain_moments w a old server so here =
-    let open_ = open_of w a old server so here in
-    so.moments_are ∙ ap (λ t. so.asked ++ t) open_.2 ∙ append-nil so.asked
-
-pub plain_output : (w a : Outside) (old : TalkState) (server : ServerState) (so : SoFar w a old server) → old.leaving ≡ None → so.output ≡ so.out
-plain_output w a old server so here =
-    let open_ = open_of w a old server so here in
-    so.output_is ∙ ap (λ t. so.out ++ t) open_.3 ∙ append-nil so.out
-
--- all that was read of the input, but for the bytes that the talk stands for
-pub reads_open : (w a : Outside) (old : TalkState) (server : ServerState) (so : SoFar w a old server) → old.leaving ≡ None → Reads so.input so.requests old.rest
-reads_open w a old server so here =
-    let open_ = open_of w a old server so here in
-    subst (λ (b : List ℕ). Reads so.input so.requests b) open_.0 so.reads
-
-reads_piece : (input : List ℕ) (rs : List HttpRequest) (old : TalkState) (piece : List ℕ) → Reads input rs old.rest → Reads (input ++ piece) rs (with_piece piece old).rest
-reads_piece input rs old [] reads = rw (append-nil input) reads
-reads_piece input rs old (c ∷ cs) reads = Reads_more input rs old.rest (c ∷ cs) reads
-
-piece_served : (old : TalkState) (piece : List ℕ) → (with_piece piece old).served ≡ old.served
-piece_served old [] = refl
-piece_served old (c ∷ cs) = refl
-
-piece_waits : (old : TalkState) (piece : List ℕ) → (with_piece piece old).waits ≡ old.waits
-piece_waits old [] = refl
-piece_waits old (c ∷ cs) = refl
-
-piece_leaving : (old : TalkState) (piece : List ℕ) → (with_piece piece old).leaving ≡ old.leaving
-piece_leaving old [] = refl
-piece_leaving old (c ∷ cs) = refl
-
-piece_ends : (old : TalkState) (piece : List ℕ) (over : Bool) → old.ended ≡ false → (piece ≡ [] → IsTrue over) → (with_piece piece old).ended ≡ true → IsTrue over
-piece_ends old [] over going at_end e = at_end refl
-piece_ends old (c ∷ cs) over going at_end e = cc (e, going)
+-- no more was read than was needed, since nothing was left to answer
+pub needed_more : (input piece : List ℕ) (events : List Event) (rest : List ℕ) (told : Bool) → Reads input false events rest told → IsTold told rest → IsRest rest
+    → length piece ≤ most_read → ReadsAsNeeded (input ++ piece) events
+needed_more input piece events rest told reads settled nothing short = record {
+  earlier = input;
+  piece = piece;
+  input_is = refl;
+  one_read = short;
+  needed = inr (record {
+    first = events;
+    later = [];
+    rest = rest;
+    told = told;
+    events_are = sym (append-nil events);
+    reads = reads;
+    settled = settled;
+    nothing = nothing;
+  });
+}
 
 -- a piece is fed, or the end
-pub so_far_fed : (w a b : Outside) (old : TalkState) (server : ServerState) (piece : List ℕ)
-    → SoFar w a old server → old.leaving ≡ None → old.ended ≡ false → Exchanges a b piece [] [] → IsQuiet a b → (piece ≡ [] → IsTrue b.source.ended)
-    → SoFar w b (with_piece piece old) server
-so_far_fed w a b old server piece so here going gave quiet at_end = record {
-  input = so.input ++ piece;
-  moments = so.moments ++ [];
-  output = so.output ++ [];
-  requests = so.requests;
-  rest = (with_piece piece old).rest;
-  asked = so.asked;
-  late = [];
-  out = so.out;
-  tail = [];
-  steps = so.steps;
-  exchanges = exchanges_trans w a b so.input so.moments so.output piece [] [] so.exchanges gave;
-  quiet = quiet_trans w a b so.quiet quiet;
-  moments_are = ap (λ l. l ++ []) (plain_moments w a old server so here);
-  output_is = ap (λ l. l ++ []) (plain_output w a old server so here);
-  reads = reads_piece so.input so.requests old piece (reads_open w a old server so here);
-  run = so.run;
-  one_thread = so.one_thread;
-  count = so.count;
-  earlier = so.earlier;
-  answered = so.answered;
-  served = piece_served old piece ∙ so.served;
-  idle = piece_waits old piece ∙ so.idle;
-  few = so.few;
-  most = so.most;
-  ended_is = piece_ends old piece b.source.ended going at_end;
-  leaving = leaves_here server.history (last_turn 0 so.steps) server.turns b.source.ended (with_piece piece old).rest (length so.requests)
-      (with_piece piece old).leaving (piece_leaving old piece ∙ here) (room_of w a old server so here);
+pub so_far_fed : (w a b : Outside) (old mid new : TalkState) (server : ServerState) (so : SoFar w a old server) (piece : List ℕ)
+    → old.leaving ≡ None → IsTold so.told so.rest → IsRest so.rest → Stands mid.framer so.rest so.told → mid ≡ with_framer mid.framer old
+    → length piece ≤ most_read → Feeds piece mid new → Exchanges a b piece [] [] → IsQuiet a b → (piece ≡ [] → IsTrue b.source.ended)
+    → SoFar w b new server
+so_far_fed w a b old mid new server so piece here settled nothing stands same short feeds gave quiet at_end =
+    let goes = open_of w a old server so here in
+    let fed : new ≡ with_piece new.framer piece (with_framer mid.framer old) = feeds.1 ∙ ap (λ (z : TalkState). with_piece new.framer piece z) same in
+    record {
+      input = so.input ++ piece;
+      moments = so.moments ++ [];
+      output = so.output ++ [];
+      events = so.events;
+      rest = so.rest ++ piece;
+      told = so.told;
+      asked = so.asked;
+      late = [];
+      out = so.out;
+      tail = [];
+      steps = so.steps;
+      exchanges = exchanges_trans w a b so.input so.moments so.output piece [] [] so.exchanges gave;
+      quiet = quiet_trans w a b so.quiet quiet;
+      moments_are = ap (λ l. l ++ []) (plain_moments w a old server so here);
+      output_is = ap (λ l. l ++ []) (plain_output w a old server so here);
+      reads = Reads_more so.input false so.events so.rest so.told piece so.reads;
+      as_needed = needed_more so.input piece so.events so.rest so.told so.reads settled nothing short;
+      run = so.run;
+      one_thread = so.one_thread;
+      count = so.count;
+      earlier = so.earlier;
+      answered = so.answered;
+      stands = feeds.0 so.rest so.told stands;
+      served = ap (λ (z : TalkState). z.served) fed ∙ so.served;
+      idle = ap (λ (z : TalkState). z.waits) fed ∙ so.idle;
+      few = so.few;
+      most = so.most;
+      ended_is = λ e. piece_ends piece b.source.ended at_end (sym (ap (λ (z : TalkState). z.ended) fed) ∙ e);
+      leaving = leaves_here (stop_of (start_of server) so.events so.steps b.source.ended (so.rest ++ piece) so.told [] [] []) new.leaving
+          (ap (λ (z : TalkState). z.leaving) fed ∙ here)
+          (record { open_ = goes.open_; room = goes.room; bare = (refl, refl, refl) });
+    }
+
+-- ---- one more event
+
+tells_true : (n m : ℕ) → ((n == m) ≡ true) → n ≡ m
+tells_true n m e = of_two (eqb_tells n m)
+  where
+    of_two : (((n == m) ≡ true) × (n ≡ m)) ⊎ (((n == m) ≡ false) × (n ≢ m)) → n ≡ m
+    of_two (inl is) = is.1
+    of_two (inr other) = absurd (let f : true ≡ false = sym e ∙ other.0 in cc)
+
+tells_false : (n m : ℕ) → ((n == m) ≡ false) → n ≢ m
+tells_false n m e = of_two (eqb_tells n m)
+  where
+    of_two : (((n == m) ≡ true) × (n ≡ m)) ⊎ (((n == m) ≡ false) × (n ≢ m)) → n ≢ m
+    of_two (inl is) = absurd (let f : true ≡ false = sym is.0 ∙ e in cc)
+    of_two (inr other) = other.1
+
+or_true : (b : Bool) → (b || true) ≡ true
+or_true true = refl
+or_true false = refl
+
+below : (n : ℕ) → n ≤ most_requests → n ≢ most_requests → n < most_requests
+below n le other = omega (arith, le, other)
+
+-- how a session goes on behind the answer to the request of a number
+leaves_request : (stop : Stop) (n : ℕ) (close last : Bool) → stop.closed ≡ (close || last) → stop.standing.served ≡ n → n ≤ most_requests
+    → (last ≡ true → n ≡ most_requests) → (last ≡ false → n ≢ most_requests) → IsBare stop
+    → LeavesBy stop (if last then Some (end.Spent n) else (if (close || last) then Some (end.Asked n) else None))
+leaves_request stop n close true closed served le is other bare =
+    inr (inr (inr (inr (inr (inr (inl (ap end.Spent (sym served), closed ∙ or_true close, bare, served ∙ is refl)))))))
+leaves_request stop n true false closed served le is other bare =
+    inr (inl (ap end.Asked (sym served), closed, bare, (let lt = below n le (other refl) in rw served lt)))
+leaves_request stop n false false closed served le is other bare = record {
+  open_ = closed;
+  room = (let lt = below n le (other refl) in rw served lt);
+  bare = bare;
 }
 
--- one more request is answered, at one more moment
-pub so_far_push : (w a b : Outside) (old new : TalkState) (server server' : ServerState)
-    (so : SoFar w a old server) (m : ℕ) (request : HttpRequest) (bytes : List ℕ) (first : List Step)
-    → old.leaving ≡ None → Begins old.rest request new.rest
-    → Answers 1 server'.history (last_turn 0 so.steps) server'.turns m request (closes_after (old.served + 1)) bytes first
-    → IsRun 1 (so.steps ++ first) server'.history → IsOneThread (so.steps ++ first) → length (so.steps ++ first) ≡ server'.turns
+-- how a session is to end behind an event, before which so many requests were answered
+abbrev pub leaving_behind : ℕ → Event → Option SessionEnd
+leaving_behind n frame.continue = None
+leaving_behind n (frame.request r) = leaving_after (n + 1) (closes_after r (n + 1))
+
+leaves_behind : (stop : Stop) (n : ℕ) (event : Event) → stop.closed ≡ closes n event → stop.standing.served ≡ n + counted event
+    → n < most_requests → IsBare stop → LeavesBy stop (leaving_behind n event)
+leaves_behind stop n frame.continue closed served lt bare = record {
+  open_ = closed;
+  room = (let same : stop.standing.served ≡ n = served ∙ omega arith in rw same lt);
+  bare = bare;
+}
+leaves_behind stop n (frame.request r) closed served lt bare =
+    leaves_request stop (n + 1) r.close (n + 1 == most_requests) closed served (omega (arith, lt)) (tells_true (n + 1) most_requests)
+    (tells_false (n + 1) most_requests) bare
+
+count_behind : (n : ℕ) (events : List Event) (event : Event) → n + requests (events ++ event ∷ []) ≡ (n + requests events) + counted event
+count_behind n events event = ap (λ k. n + k) (requests-push events event) ∙ sym (add_assoc n (requests events) (counted event))
+
+counted_one : (event : Event) → counted event ≤ 1
+counted_one frame.continue = omega arith
+counted_one (frame.request r) = omega arith
+
+-- of what was read before the last piece, it is still so where one more event was answered
+needed_push : (input : List ℕ) (events : List Event) (event : Event) → ReadsAsNeeded input events → ReadsAsNeeded input (events ++ event ∷ [])
+needed_push input events event needs = record {
+  earlier = needs.earlier;
+  piece = needs.piece;
+  input_is = needs.input_is;
+  one_read = needs.one_read;
+  needed = needed_still needs.needed;
+}
+  where
+    needed_still : (needs.earlier ≡ []) ⊎ HoldsNoMore needs.earlier events → (needs.earlier ≡ []) ⊎ HoldsNoMore needs.earlier (events ++ event ∷ [])
+    needed_still (inl none) = inl none
+    needed_still (inr holds) = inr (record {
+      first = holds.first;
+      later = holds.later ++ event ∷ [];
+      rest = holds.rest;
+      told = holds.told;
+      events_are = ap (λ es. es ++ event ∷ []) holds.events_are ∙ append_assoc holds.first holds.later (event ∷ []);
+      reads = holds.reads;
+      settled = holds.settled;
+      nothing = holds.nothing;
+    })
+
+-- one more event is answered
+pub so_far_push : (w a b : Outside) (old new : TalkState) (server server' : ServerState) (so : SoFar w a old server)
+    (event : Event) (later : List ℕ) (mark : Bool) (asked bytes : List ℕ) (first : List Step)
+    → old.leaving ≡ None → Reads so.rest so.told (event ∷ []) later mark → Stands new.framer later mark
+    → AnswersEvent (behind (start_of server') so.events so.steps) event asked bytes first
+    → IsRun server'.projects (so.steps ++ first) server'.history → IsOneThread (so.steps ++ first) → length (so.steps ++ first) ≡ server'.turns
     → IsBefore (server'.turns + 1) server'.history
-    → Answered 1 server'.history server'.turns 0 0 so.requests so.asked so.out so.steps
-    → server'.turns ≤ length so.requests + 1
-    → Exchanges a b [] (m ∷ []) bytes → IsQuiet a b → b.source.ended ≡ a.source.ended
-    → new.served ≡ old.served + 1 → new.waits ≡ None → new.ended ≡ old.ended → new.leaving ≡ leaving_after (old.served + 1)
+    → Answered (start_of server') so.events so.asked so.out so.steps
+    → server'.turns ≤ (0 + requests so.events) + counted event
+    → Exchanges a b [] asked bytes → IsQuiet a b → b.source.ended ≡ a.source.ended
+    → new.served ≡ old.served + counted event → new.waits ≡ None → new.ended ≡ old.ended → new.leaving ≡ leaving_behind old.served event
     → SoFar w b new server'
-so_far_push w a b old new server server' so m request bytes first here begins answers run one count earlier answered few gave quiet over served idle going leaving =
-    let number : old.served ≡ length so.requests = so.served in
-    let room : length so.requests < most_requests = room_of w a old server so here in
-    let grown : length (so.requests ++ request ∷ []) ≡ length so.requests + 1 = length-append so.requests (request ∷ []) in
-    let close : closes_after (old.served + 1) ≡ closes_after (0 + length so.requests + 1) = (let e : old.served + 1 ≡ 0 + length so.requests + 1 = omega (arith, number) in ap closes_after e) in
+so_far_push w a b old new server server' so event later mark asked bytes first here reads stands answers run one count earlier answered few gave quiet over served idle going leaving =
+    let goes = open_of w a old server so here in
+    let room : 0 + requests so.events < most_requests = goes.room in
+    let more : 0 + requests (so.events ++ event ∷ []) ≡ (0 + requests so.events) + counted event = count_behind 0 so.events event in
+    let stop : Stop = stop_of (start_of server') (so.events ++ event ∷ []) (so.steps ++ first) b.source.ended later mark [] [] [] in
+    let leaves : LeavesBy stop (leaving_behind (0 + requests so.events) event) =
+    leaves_behind stop (0 + requests so.events) event (is_closed-push 0 so.events event goes.open_) more room (refl, refl, refl) in
     record {
-      input = so.input ++ [];
-      moments = so.moments ++ m ∷ [];
+      input = so.input;
+      moments = so.moments ++ asked;
       output = so.output ++ bytes;
-      requests = so.requests ++ request ∷ [];
-      rest = new.rest;
-      asked = so.asked ++ m ∷ [];
+      events = so.events ++ event ∷ [];
+      rest = later;
+      told = mark;
+      asked = so.asked ++ asked;
       late = [];
       out = so.out ++ bytes;
       tail = [];
       steps = so.steps ++ first;
-      exchanges = exchanges_trans w a b so.input so.moments so.output [] (m ∷ []) bytes so.exchanges gave;
+      exchanges = exchanged w a b so.input so.moments so.output asked bytes so.exchanges gave;
       quiet = quiet_trans w a b so.quiet quiet;
-      moments_are = ap (λ l. l ++ m ∷ []) (plain_moments w a old server so here) ∙ sym (append-nil (so.asked ++ m ∷ []));
+      moments_are = ap (λ l. l ++ asked) (plain_moments w a old server so here) ∙ sym (append-nil (so.asked ++ asked));
       output_is = ap (λ o. o ++ bytes) (plain_output w a old server so here) ∙ sym (append-nil (so.out ++ bytes));
-      reads = rw (append-nil so.input) (Reads_push so.input so.requests old.rest request new.rest (reads_open w a old server so here) begins);
+      reads = Reads_append so.input false so.events so.rest so.told (event ∷ []) later mark so.reads reads;
+      as_needed = needed_push so.input so.events event so.as_needed;
       run = run;
       one_thread = one;
       count = count;
       earlier = earlier;
-      answered = Answered_push 1 server'.history server'.turns 0 0 so.requests so.asked so.out so.steps m request bytes first answered
-          (subst (λ (c : Bool). Answers 1 server'.history (last_turn 0 so.steps) server'.turns m request c bytes first) close answers);
-      served = served ∙ omega (arith, number, grown);
+      answered = Answered_push (start_of server') so.events so.asked so.out so.steps event asked bytes first answered goes.open_ answers;
+      stands = stands;
+      served = served ∙ ap (λ n. n + counted event) so.served ∙ sym more;
       idle = idle;
-      few = omega (arith, few, grown);
-      most = omega (arith, room, grown);
-      ended_is = λ e. over ∙ so.ended_is (sym going ∙ e);
-      leaving = subst (λ (o : Option SessionEnd). LeavesBy server'.history (last_turn 0 (so.steps ++ first)) server'.turns b.source.ended new.rest new.rest (length (so.requests ++ request ∷ [])) [] [] o) (sym leaving)
-          (leaves_after server'.history (last_turn 0 (so.steps ++ first)) server'.turns b.source.ended new.rest (old.served + 1) (length (so.requests ++ request ∷ [])) (omega (arith, number, grown)) (omega (arith, room, grown)));
+      few = rw more few;
+      most = (let one_more = counted_one event in let le : (0 + requests so.events) + counted event ≤ most_requests = omega (arith, room, one_more) in rw more le);
+      ended_is = λ e. rw over (so.ended_is (sym going ∙ e));
+      leaving = subst (λ (o : Option SessionEnd). LeavesBy stop o)
+          (ap (λ n. leaving_behind n event) (sym so.served) ∙ sym leaving) leaves;
     }

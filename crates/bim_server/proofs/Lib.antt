@@ -1,9 +1,11 @@
 pub mod Known
+pub mod SoFar
 pub mod Growing
 pub mod Events
 pub mod Ending
 pub mod Stepping
-pub mod Fuel
-pub mod Times
+pub mod Running
+pub mod Numbers
+pub mod Grammar
 pub mod Statuses
 pub mod Calling

@@ -1,45 +1,48 @@
 -- Where a session stands after one step.
-use Rattle.std.proofs.Common.{◌≡◌, ◌⊎◌, ℕ, ◌+◌, List, [], ◌∷◌, ◌++◌, length, Bool, Some, None, Result, Ok, Err, inl, inr, sym, ◌∙◌, ap, subst, refl, append-nil, arith}
+use Rattle.std.proofs.Common.{◌≡◌, ◌≢◌, ◌⊎◌, ℕ, ◌+◌, ◌≤◌, List, [], ◌∷◌, ◌++◌, length, Bool, true, false, Option, Some, None, Result, Ok, Err, IsTrue, inl, inr, sym, ◌∙◌, ap, subst, refl, append-nil, arith}
 use Rattle.std.specs.declared.alloc.AllocError.{AllocError}
 use Rattle.bim_io.specs.Causes.{Rose}
-use Rattle.bim_io.specs.Seen.{SourceSeen, SinkSeen, ClockSeen, Outside, outside, EndsEmpty, SourceGives, SinkTakes, ClockGives, Exchanges}
-use Rattle.bim_io.proofs.Calls.{gives_none, takes_none, exchanges_trans}
-use Rattle.http_frame.specs.declared.framer.HttpRequest.{HttpRequest}
-use Rattle.http_frame.specs.Requests.{Begins, IsUnfinished}
+use Rattle.bim_io.specs.Seen.{SourceSeen, SinkSeen, ClockSeen, Outside, EndsEmpty, SourceGives, SinkTakes, ClockGives, Exchanges}
+use Rattle.bim_io.proofs.Calls.{gives_none, takes_none}
+use Rattle.http_frame.specs.declared.types.HttpRequest.{HttpRequest}
+use Rattle.http_frame.specs.declared.types.FrameFault.{FrameFault}
+use Rattle.http_frame.specs.declared.framer.Framer.{Framer}
+use Rattle.http_frame.specs.Events.{Event, IsRest, IsTold}
+use Rattle.http_frame.specs.Events as frame
+use Rattle.http_frame.specs.Framers.{Stands}
 use Rattle.federation_book.specs.declared.types.BookRequest.{BookRequest}
 use Rattle.federation_book.specs.History.{IsBefore}
-use Rattle.bcf_http.specs.declared.calls.ReplyKind.{ReplyKind}
-use Rattle.bcf_http.specs.declared.answers.Answer.TheVariants as answer
-use Rattle.bcf_http.specs.Calls.{kind_of}
-use Rattle.bcf_http.specs.Answers.{IsResponse}
+use Rattle.federation_book.specs.Runs.{Step}
 use Rattle.bim_session.specs.declared.end.SessionEnd.{SessionEnd}
 use Rattle.bim_session.specs.declared.end.SessionEnd.TheVariants as end
+use Rattle.bim_session.specs.declared.want.Waiting.{Waiting}
+use Rattle.bim_session.specs.declared.want.Want.{Want}
 use Rattle.bim_session.specs.declared.want.Want.TheVariants.{More, Write, Call, Leave}
-use Rattle.bim_session.specs.Session.{Means, Answers, IsNext, IsFaultResponse, Faults, last_turn, closes_after}
+use Rattle.bim_session.specs.Session.{Standing, Stop, Reads, AnswersEvent, Ends, IsNext, TakesUnanswered, Means, asking, behind, closes_after, counted, last_turn, requests}
+use Rattle.bim_session.specs.Session as session
 use Rattle.bim_session.specs.Replay.{Replays, IsReadFault, IsWriteFault}
-use Rattle.bim_session.specs.Talking.{TalkState, BookReceipt, Talks, Lacks, IsOwnEnd, AnswersAlone, AnswersCall, with_piece, with_answer, with_call, with_fault, leaving_after}
+use Rattle.bim_session.specs.Talking.{TalkState, BookReceipt, Wants, LacksNext, Continues, AnswersOne, AnswersFault, TakesRequest, MeetsEnd, IsOwnWant, AnswersAlone, AnswersCall, with_answer, with_call, with_fault, with_framer, leaving_after, waiting_for}
+use Rattle.bim_server.specs.Loop.{ServerState, Reading, StopsReading, Writing, Called, StopsAnswering, Calls, Does, Stopped, StepsOn, with_turn}
+use Rattle.bim_server.specs.Writes.{WritesFront}
 use Rattle.bim_server.specs.declared.session.Progress.{Progress}
 use Rattle.bim_server.specs.declared.session.Progress.TheVariants.{Again, End}
-use Rattle.bim_server.specs.Writes.{WritesFront}
-use Rattle.bim_server.specs.Loop.{ServerState, SoFar, Goes, Reading, EndsReading, Writing, Called, Calls, with_turn}
-use Rattle.bim_server.proofs.Growing.{quiet_trans, room_of, plain_moments, plain_output, reads_open, so_far_fed, so_far_push}
-use Rattle.bim_server.proofs.Events.{alone_answers, step_of, turn_next, called_answers, answered_next, run_next, one_next, count_next, last_of}
-use Rattle.bim_server.proofs.Ending.{no_fault, one_fault, finish, finish_same, finish_leaving, finish_met, finish_memory, finish_lacks, finish_own, memory_own}
+use Rattle.bim_server.proofs.SoFar.{SoFar, Goes, IsQuiet, LeavesBy, start_of, stop_of}
+use Rattle.bim_server.proofs.Growing.{quiet_trans, exchanged, open_of, plain_moments, plain_output, leaving_behind, so_far_fed, so_far_push}
+use Rattle.bim_server.proofs.Events.{alone_answers, step_of, called_at, turn_next, called_answers, answered_next, run_next, one_next, count_next, last_of}
+use Rattle.bim_server.proofs.Ending.{no_fault, one_fault, memory_own, own_end, finish_step, finish_same, finish_leaving, finish_met, finish_short, finish_unfed}
 
--- what a read and a clock exchanged
-read_exchange : (s s' : SourceSeen) (x : SinkSeen) (u v : ClockSeen) (piece moments : List ℕ) → SourceGives s s' piece → ClockGives u v moments
-    → Exchanges (outside s x u) (outside s' x v) piece moments []
-read_exchange s s' x u v piece moments gives told = record {
-  gave = gives;
-  told = told;
-  took = takes_none x;
-}
+-- ---- what stayed as it was
 
--- what a clock and a write exchanged
-write_exchange : (s : SourceSeen) (x y : SinkSeen) (u v : ClockSeen) (moments bytes : List ℕ) → ClockGives u v moments → SinkTakes x y bytes
-    → Exchanges (outside s x u) (outside s y v) [] moments bytes
-write_exchange s x y u v moments bytes told took = record {
-  gave = gives_none s;
+same_source : (s s' : SourceSeen) → s' ≡ s → SourceGives s s' []
+same_source s s' same = subst (λ (z : SourceSeen). SourceGives s z []) (sym same) (gives_none s)
+
+same_sink : (x y : SinkSeen) → y ≡ x → SinkTakes x y []
+same_sink x y same = subst (λ (z : SinkSeen). SinkTakes x z []) (sym same) (takes_none x)
+
+exchange : (a b : Outside) (input moments output : List ℕ) → SourceGives a.source b.source input → ClockGives a.clock b.clock moments → SinkTakes a.sink b.sink output
+    → Exchanges a b input moments output
+exchange a b input moments output gave told took = record {
+  gave = gave;
   told = told;
   took = took;
 }
@@ -47,341 +50,505 @@ write_exchange s x y u v moments bytes told took = record {
 no_moments : (u v : ClockSeen) (moments : List ℕ) → moments ≡ [] → ClockGives u v moments → ClockGives u v []
 no_moments u v moments none told = subst (λ (m : List ℕ). ClockGives u v m) none told
 
-read_no_write : (k n : ℕ) → end.ReadFault k ≡ end.WriteFault n → ⊥
-read_no_write k n e = cc
+source_quiet : (s s' : SourceSeen) → s' ≡ s → s'.faults ≡ s.faults
+source_quiet s s' same = ap (λ (z : SourceSeen). z.faults) same
 
--- after a read that failed
-read_failed : (w : Outside) (s s' : SourceSeen) (x : SinkSeen) (u v : ClockSeen) (old : TalkState) (server : ServerState) (so : SoFar w (outside s x u) old server)
-    → old.leaving ≡ None → IsUnfinished old.rest → SourceGives s s' [] → Rose s.faults s'.faults → ClockGives u v [] → EndsEmpty s'
-    → Replays 1 w (outside s' x v) (end.ReadFault old.served)
-read_failed w s s' x u v old server so here less gives rose told empty =
-    finish_same w (outside s x u) (outside s' x v) old server so [] [] [] (end.ReadFault old.served) here (read_exchange s s' x u v [] [] gives told) empty
-    (one_fault s.faults s'.faults (IsReadFault (end.ReadFault old.served)) rose (old.served, refl))
-    (no_fault x.faults x.faults (IsWriteFault (end.ReadFault old.served)) refl (λ f. read_no_write old.served f.0 f.1))
-    (so.served, room_of w (outside s x u) old server so here, less, refl, refl, refl, refl)
+sink_quiet : (x y : SinkSeen) → y ≡ x → y.faults ≡ x.faults
+sink_quiet x y same = ap (λ (z : SinkSeen). z.faults) same
 
--- after a read
-pub goes_read : (w : Outside) (s s' : SourceSeen) (x : SinkSeen) (u v : ClockSeen) (moments : List ℕ) (old mid new : TalkState) (server : ServerState) (result : Progress)
-    → SoFar w (outside s x u) old server → ClockGives u v moments → Talks moments old More mid → Reading s s' mid result new → EndsEmpty s'
-    → Goes w (outside s' x v) result new server
-goes_read w s s' x u v moments old mid new server Again so told talks reading empty =
-    let fed : new ≡ with_piece reading.0 old = reading.3 ∙ ap (λ z. with_piece reading.0 z) talks.4 in
-    subst (λ (z : TalkState). SoFar w (outside s' x v) z server) (sym fed)
-    (so_far_fed w (outside s x u) (outside s' x v) old server reading.0 so talks.1 talks.2
-    (read_exchange s s' x u v reading.0 [] reading.1 (no_moments u v moments talks.0 told)) (reading.2, refl) reading.4)
-goes_read w s s' x u v moments old mid new server (End e) so told talks reading empty = of_kind reading.2
-  where
-    number : mid.served ≡ old.served
-    number = ap (λ (z : TalkState). z.served) talks.4
-
-    of_kind : EndsReading s s' mid reading.0 e → Replays 1 w (outside s' x v) e
-    of_kind (inl failed) =
-        let is : e ≡ end.ReadFault old.served = failed.0 ∙ ap end.ReadFault number in
-        subst (λ (z : SessionEnd). Replays 1 w (outside s' x v) z) (sym is)
-        (read_failed w s s' x u v old server so talks.1 talks.3 (subst (λ (b : List ℕ). SourceGives s s' b) failed.1 reading.1) failed.2
-        (no_moments u v moments talks.0 told) empty)
-    of_kind (inr memory) =
-        let is : e ≡ end.Memory old.served = memory.0 ∙ ap end.Memory number in
-        subst (λ (z : SessionEnd). Replays 1 w (outside s' x v) z) (sym is)
-        (finish_memory w (outside s x u) (outside s' x v) old server so reading.0 talks.1
-        (read_exchange s s' x u v reading.0 [] reading.1 (no_moments u v moments talks.0 told)) (memory.1, refl) empty)
-
--- an answer without a turn is written
-wrote_alone : (w : Outside) (s : SourceSeen) (x y : SinkSeen) (u v : ClockSeen) (m : ℕ) (old new : TalkState) (server : ServerState) (request : HttpRequest) (bytes : List ℕ)
-    → SoFar w (outside s x u) old server → ClockGives u v (m ∷ []) → old.leaving ≡ None → Begins old.rest request new.rest
-    → AnswersAlone m request (closes_after (old.served + 1)) bytes → new ≡ with_answer new.rest old → SinkTakes x y bytes → y.faults ≡ x.faults
-    → SoFar w (outside s y v) new server
-wrote_alone w s x y u v m old new server request bytes so told here begins alone is wrote quiet =
-    let same : so.steps ++ [] ≡ so.steps = append-nil so.steps in
-    so_far_push w (outside s x u) (outside s y v) old new server server so m request bytes [] here begins
-    (alone_answers server.history (last_turn 0 so.steps) server.turns m request (closes_after (old.served + 1)) bytes alone)
-    (rw same so.run) (rw same so.one_thread) (rw same so.count) so.earlier so.answered (let few = so.few in omega arith)
-    (write_exchange s x y u v (m ∷ []) bytes told wrote) (refl, quiet) refl
-    (ap (λ (z : TalkState). z.served) is) (ap (λ (z : TalkState). z.waits) is) (ap (λ (z : TalkState). z.ended) is) (ap (λ (z : TalkState). z.leaving) is)
-
--- a fault's response is written
-wrote_fault : (w : Outside) (s : SourceSeen) (x y : SinkSeen) (u v : ClockSeen) (moments : List ℕ) (old new : TalkState) (server : ServerState) (bytes : List ℕ)
-    → SoFar w (outside s x u) old server → ClockGives u v moments → old.leaving ≡ None → Faults moments old.rest new.rest
-    → IsFaultResponse bytes → new ≡ with_fault new.rest old → SinkTakes x y bytes → y.faults ≡ x.faults → SoFar w (outside s y v) new server
-wrote_fault w s x y u v moments old new server bytes so told here faults response is wrote quiet =
-    let a : Outside = outside s x u in
-    let b : Outside = outside s y v in
-    let whole : SoFar w b (with_fault new.rest old) server = record {
-      input = so.input ++ [];
-      moments = so.moments ++ moments;
-      output = so.output ++ bytes;
-      requests = so.requests;
-      rest = old.rest;
-      asked = so.asked;
-      late = moments;
-      out = so.out;
-      tail = bytes;
-      steps = so.steps;
-      exchanges = exchanges_trans w a b so.input so.moments so.output [] moments bytes so.exchanges (write_exchange s x y u v moments bytes told wrote);
-      quiet = quiet_trans w a b so.quiet (refl, quiet);
-      moments_are = ap (λ l. l ++ moments) (plain_moments w a old server so here);
-      output_is = ap (λ o. o ++ bytes) (plain_output w a old server so here);
-      reads = rw (append-nil so.input) (reads_open w a old server so here);
-      run = so.run;
-      one_thread = so.one_thread;
-      count = so.count;
-      earlier = so.earlier;
-      answered = so.answered;
-      served = so.served;
-      idle = so.idle;
-      few = so.few;
-      most = so.most;
-      ended_is = so.ended_is;
-      leaving = (so.served, room_of w a old server so here, refl, (new.rest, faults), response, refl);
-    } in
-    subst (λ (z : TalkState). SoFar w b z server) (sym is) whole
-
-write_no_read : (k n : ℕ) → end.WriteFault k ≡ end.ReadFault n → ⊥
-write_no_read k n e = cc
-
--- a front of what comes next is written
-wrote_part : (w : Outside) (s : SourceSeen) (x y : SinkSeen) (u v : ClockSeen) (moments : List ℕ) (old : TalkState) (server : ServerState)
-    (so : SoFar w (outside s x u) old server) (bytes : List ℕ) → ClockGives u v moments
-    → old.leaving ≡ None → WritesFront x y bytes → EndsEmpty s
-    → IsNext 1 server.history (last_turn 0 so.steps) server.turns old.rest (length so.requests) moments bytes [] → Replays 1 w (outside s y v) (end.WriteFault old.served)
-wrote_part w s x y u v moments old server so bytes told here front empty next =
-    finish_same w (outside s x u) (outside s y v) old server so [] moments front.0 (end.WriteFault old.served) here
-    (write_exchange s x y u v moments front.0 told front.4) empty
-    (no_fault s.faults s.faults (IsReadFault (end.WriteFault old.served)) refl (λ f. write_no_read old.served f.0 f.1))
-    (one_fault x.faults y.faults (IsWriteFault (end.WriteFault old.served)) front.5 (old.served, refl)) (
-      so.served,
-      room_of w (outside s x u) old server so here,
-      refl,
-      (front.1, front.3, subst (λ (b : List ℕ). IsNext 1 server.history (last_turn 0 so.steps) server.turns old.rest (length so.requests) moments b []) front.2 next),
-    )
-
--- what comes next where the talk wrote it by itself
-next_alone : (w a : Outside) (moments : List ℕ) (old new : TalkState) (server : ServerState) (bytes : List ℕ) (so : SoFar w a old server) → Talks moments old (Write bytes) new
-    → IsNext 1 server.history (last_turn 0 so.steps) server.turns old.rest (length so.requests) moments bytes []
-next_alone w a moments old new server bytes so (here, inl one) = inl (
-  one.0,
-  one.1,
-  new.rest,
-  one.2,
-  one.3,
-  subst (λ (c : Bool). Answers 1 server.history (last_turn 0 so.steps) server.turns one.0 one.1 c bytes []) (ap (λ n. closes_after (n + 1)) so.served)
-      (alone_answers server.history (last_turn 0 so.steps) server.turns one.0 one.1 (closes_after (old.served + 1)) bytes one.4),
-)
-next_alone w a moments old new server bytes so (here, inr fault) = inr (new.rest, fault.0, fault.1, refl)
-
-wrote_whole : (w : Outside) (s : SourceSeen) (x y : SinkSeen) (u v : ClockSeen) (moments : List ℕ) (old new : TalkState) (server : ServerState) (bytes : List ℕ)
-    → SoFar w (outside s x u) old server → ClockGives u v moments → Talks moments old (Write bytes) new → SinkTakes x y bytes → y.faults ≡ x.faults
-    → SoFar w (outside s y v) new server
-wrote_whole w s x y u v moments old new server bytes so told (here, inl one) wrote quiet =
-    wrote_alone w s x y u v one.0 old new server one.1 bytes so (subst (λ (m : List ℕ). ClockGives u v m) one.2 told) here one.3 one.4 one.5 wrote quiet
-wrote_whole w s x y u v moments old new server bytes so told (here, inr fault) wrote quiet =
-    wrote_fault w s x y u v moments old new server bytes so told here fault.0 fault.1 fault.2 wrote quiet
-
--- after what a talk wrote by itself
-pub goes_write : (w : Outside) (s : SourceSeen) (x y : SinkSeen) (u v : ClockSeen) (moments : List ℕ) (old new : TalkState) (server : ServerState) (bytes : List ℕ) (result : Progress)
-    → SoFar w (outside s x u) old server → ClockGives u v moments → Talks moments old (Write bytes) new → Writing old.served x y bytes result → EndsEmpty s
-    → Goes w (outside s y v) result new server
-goes_write w s x y u v moments old new server bytes Again so told talks wrote empty =
-    wrote_whole w s x y u v moments old new server bytes so told talks wrote.0 wrote.1
-goes_write w s x y u v moments old new server bytes (End e) so told talks writing empty =
-    subst (λ (z : SessionEnd). Replays 1 w (outside s y v) z) (sym writing.0)
-    (wrote_part w s x y u v moments old server so bytes told talks.0 writing.1 empty
-    (next_alone w (outside s x u) moments old new server bytes so talks))
-
--- the clock was not asked
-so_far_told : (w : Outside) (s : SourceSeen) (x : SinkSeen) (u v : ClockSeen) (old : TalkState) (server : ServerState) → ClockGives u v []
-    → SoFar w (outside s x u) old server → SoFar w (outside s x v) old server
-so_far_told w s x u v old server told so = record {
-  input = so.input ++ [];
+-- the outside moved on, but nothing was read, asked for or written
+abbrev so_far_same : (w a b : Outside) (old : TalkState) (server : ServerState) (so : SoFar w a old server) → Exchanges a b [] [] [] → IsQuiet a b → b.source.ended ≡ a.source.ended
+    → SoFar w b old server
+so_far_same w a b old server so gave quiet over = record {
+  input = so.input;
   moments = so.moments ++ [];
   output = so.output ++ [];
-  requests = so.requests;
+  events = so.events;
   rest = so.rest;
+  told = so.told;
   asked = so.asked;
   late = so.late;
   out = so.out;
   tail = so.tail;
   steps = so.steps;
-  exchanges = exchanges_trans w (outside s x u) (outside s x v) so.input so.moments so.output [] [] [] so.exchanges (read_exchange s s x u v [] [] (gives_none s) told);
-  quiet = so.quiet;
+  exchanges = exchanged w a b so.input so.moments so.output [] [] so.exchanges gave;
+  quiet = quiet_trans w a b so.quiet quiet;
   moments_are = append-nil so.moments ∙ so.moments_are;
   output_is = append-nil so.output ∙ so.output_is;
-  reads = rw (append-nil so.input) so.reads;
+  reads = so.reads;
+  as_needed = so.as_needed;
   run = so.run;
   one_thread = so.one_thread;
   count = so.count;
   earlier = so.earlier;
   answered = so.answered;
+  stands = so.stands;
   served = so.served;
   idle = so.idle;
   few = so.few;
   most = so.most;
-  ended_is = so.ended_is;
-  leaving = so.leaving;
+  ended_is = λ e. rw over (so.ended_is e);
+  leaving = subst (λ (o : Bool). LeavesBy (stop_of (start_of server) so.events so.steps o so.rest so.told so.late so.tail []) old.leaving) (sym over) so.leaving;
 }
 
+-- ---- a read
+
+read_no_write : (k n : ℕ) → end.ReadFault k ≡ end.WriteFault n → ⊥
+read_no_write k n e = cc
+
+write_no_read : (k n : ℕ) → end.WriteFault k ≡ end.ReadFault n → ⊥
+write_no_read k n e = cc
+
+-- after a read
+goes_read : (w a b : Outside) (old mid new : TalkState) (server : ServerState) (result : Progress) → SoFar w a old server → Wants a.clock b.clock old More mid
+    → Reading a.source b.source mid result new → b.sink ≡ a.sink → EndsEmpty b.source → Goes w b result new server
+goes_read w a b old mid new server Again so wants reading sink empty =
+    let t = wants so.rest so.told so.stands in
+    let x = t.2 in
+    let gave : Exchanges a b reading.0 [] [] =
+    exchange a b reading.0 [] [] reading.1 (no_moments a.clock b.clock t.0 x.4.0 t.1) (same_sink a.sink b.sink sink) in
+    so_far_fed w a b old mid new server so reading.0 x.0 x.2 x.3 x.4.1 x.5 reading.2 reading.4 gave (reading.3, sink_quiet a.sink b.sink sink) reading.5
+goes_read w a b old mid new server (End e) so wants reading sink empty = of_kind reading.3
+  where
+    of_kind : StopsReading a.source b.source mid.served reading.0 e → Replays server.projects w b e
+    of_kind (inl failed) =
+        let t = wants so.rest so.told so.stands in
+        let x = t.2 in
+        let number : mid.served ≡ old.served = ap (λ (z : TalkState). z.served) x.5 in
+        let is : e ≡ end.ReadFault old.served = failed.0 ∙ ap end.ReadFault number in
+        let gives : SourceGives a.source b.source [] = subst (λ (p : List ℕ). SourceGives a.source b.source p) failed.1 reading.1 in
+        let gave : Exchanges a b [] [] [] = exchange a b [] [] [] gives (no_moments a.clock b.clock t.0 x.4.0 t.1) (same_sink a.sink b.sink sink) in
+        let goes = open_of w a old server so x.0 in
+        let whole : Replays server.projects w b (end.ReadFault old.served) =
+        finish_same w a b old server so [] [] (end.ReadFault old.served) x.0 gave empty
+        (one_fault a.source.faults b.source.faults (IsReadFault (end.ReadFault old.served)) failed.2 (old.served, refl))
+        (no_fault a.sink.faults b.sink.faults (IsWriteFault (end.ReadFault old.served)) (sink_quiet a.sink b.sink sink) (λ f. read_no_write old.served f.0 f.1))
+        (inr (inr (inr (inl (ap end.ReadFault so.served, goes.open_, (refl, refl, refl), x.2, x.3))))) in
+        subst (λ (z : SessionEnd). Replays server.projects w b z) (sym is) whole
+    of_kind (inr memory) =
+        let t = wants so.rest so.told so.stands in
+        let x = t.2 in
+        let number : mid.served ≡ old.served = ap (λ (z : TalkState). z.served) x.5 in
+        let is : e ≡ end.Memory old.served = memory.0 ∙ ap end.Memory number in
+        let gave : Exchanges a b reading.0 [] [] =
+        exchange a b reading.0 [] [] reading.1 (no_moments a.clock b.clock t.0 x.4.0 t.1) (same_sink a.sink b.sink sink) in
+        let whole : Replays server.projects w b (end.Memory old.served) =
+        finish_unfed w a b old server so reading.0 x.0 x.2 x.3 reading.2 gave (memory.1, sink_quiet a.sink b.sink sink) empty in
+        subst (λ (z : SessionEnd). Replays server.projects w b z) (sym is) whole
+
+-- ---- what a talk writes by itself
+
+-- the answer to an event, which took no step
+pub record Alone (w a : Outside) (old mid : TalkState) (server : ServerState) (so : SoFar w a old server) (moments bytes : List ℕ) : Type 0 where
+  pub event : Event
+  pub later : List ℕ
+  pub mark : Bool
+  pub reads : Reads so.rest so.told (event ∷ []) later mark
+  pub stands : Stands mid.framer later mark
+  pub answers : AnswersEvent (behind (start_of server) so.events so.steps) event moments bytes []
+  pub served : mid.served ≡ old.served + counted event
+  pub waits : mid.waits ≡ None
+  pub ended : mid.ended ≡ old.ended
+  pub leaving : mid.leaving ≡ leaving_behind old.served event
+
+alone_continue : (w a : Outside) (old mid : TalkState) (server : ServerState) (so : SoFar w a old server) (moments bytes : List ℕ) → old.leaving ≡ None
+    → Continues so.rest so.told moments old bytes mid → Alone w a old mid server so moments bytes
+alone_continue w a old mid server so moments bytes here x = record {
+  event = frame.continue;
+  later = so.rest;
+  mark = true;
+  reads = (x.0, x.1, (refl, refl));
+  stands = x.3.1;
+  answers = (x.3.0, x.2, refl);
+  served = ap (λ (z : TalkState). z.served) x.4 ∙ (let e : old.served ≡ old.served + 0 = omega arith in e);
+  waits = ap (λ (z : TalkState). z.waits) x.4 ∙ so.idle;
+  ended = ap (λ (z : TalkState). z.ended) x.4;
+  leaving = ap (λ (z : TalkState). z.leaving) x.4 ∙ here;
+}
+
+alone_request : (w a : Outside) (old mid : TalkState) (server : ServerState) (so : SoFar w a old server) (moments bytes : List ℕ)
+    → AnswersOne so.rest so.told moments old bytes mid → Alone w a old mid server so moments bytes
+alone_request w a old mid server so moments bytes x = record {
+  event = frame.request x.0.request;
+  later = x.0.later;
+  mark = false;
+  reads = (x.0.settled, (x.0.later, x.0.next, (refl, refl)));
+  stands = x.0.stands;
+  answers = (
+    x.0.moment,
+    x.0.one,
+    alone_answers (behind (start_of server) so.events so.steps) x.0.moment x.0.request bytes
+        (subst (λ (n : ℕ). AnswersAlone x.0.moment x.0.request (waiting_for x.0.request (n + 1)) bytes) so.served x.1),
+  );
+  served = ap (λ (z : TalkState). z.served) x.2;
+  waits = ap (λ (z : TalkState). z.waits) x.2;
+  ended = ap (λ (z : TalkState). z.ended) x.2;
+  leaving = ap (λ (z : TalkState). z.leaving) x.2;
+}
+
+-- it was written whole
+wrote_alone : (w a b : Outside) (old mid : TalkState) (server : ServerState) (so : SoFar w a old server) (moments bytes : List ℕ) → old.leaving ≡ None
+    → Alone w a old mid server so moments bytes → Exchanges a b [] moments bytes → IsQuiet a b → b.source.ended ≡ a.source.ended → SoFar w b mid server
+wrote_alone w a b old mid server so moments bytes here x gave quiet over =
+    let same : so.steps ++ [] ≡ so.steps = append-nil so.steps in
+    so_far_push w a b old mid server server so x.event x.later x.mark moments bytes [] here x.reads x.stands x.answers
+    (rw same so.run) (rw same so.one_thread) (rw same so.count) so.earlier so.answered (let few = so.few in omega (arith, few))
+    gave quiet over x.served x.waits x.ended x.leaving
+
+-- the stop where this was asked for and written behind the answers
+abbrev stop_at : (w a b : Outside) (old : TalkState) (server : ServerState) → SoFar w a old server → List ℕ → List ℕ → Stop
+stop_at w a b old server so moments tail = stop_of (start_of server) so.events so.steps b.source.ended so.rest so.told moments tail []
+
+fault_is : (w a b : Outside) (old mid : TalkState) (server : ServerState) (so : SoFar w a old server) (moments tail bytes : List ℕ)
+    → (x : AnswersFault so.rest so.told moments old bytes mid) → session.AnswersFault (stop_at w a b old server so moments tail) x.0 bytes
+fault_is w a b old mid server so moments tail bytes x = (x.2, x.3, x.1.0, refl)
+
+-- a fault's response was written whole
+wrote_fault : (w a b : Outside) (old mid : TalkState) (server : ServerState) (so : SoFar w a old server) (moments bytes : List ℕ) → old.leaving ≡ None
+    → AnswersFault so.rest so.told moments old bytes mid → Exchanges a b [] moments bytes → IsQuiet a b → b.source.ended ≡ a.source.ended → SoFar w b mid server
+wrote_fault w a b old mid server so moments bytes here x gave quiet over =
+    let goes = open_of w a old server so here in
+    let stop : Stop = stop_at w a b old server so moments bytes in
+    let ends : Ends stop (end.Frame old.served x.0) =
+    inr (inr (inr (inr (inr (inl (x.0, ap (λ (n : ℕ). end.Frame n x.0) so.served, goes.open_, fault_is w a b old mid server so moments bytes bytes x)))))) in
+    record {
+      input = so.input;
+      moments = so.moments ++ moments;
+      output = so.output ++ bytes;
+      events = so.events;
+      rest = so.rest;
+      told = so.told;
+      asked = so.asked;
+      late = moments;
+      out = so.out;
+      tail = bytes;
+      steps = so.steps;
+      exchanges = exchanged w a b so.input so.moments so.output moments bytes so.exchanges gave;
+      quiet = quiet_trans w a b so.quiet quiet;
+      moments_are = ap (λ l. l ++ moments) (plain_moments w a old server so here);
+      output_is = ap (λ o. o ++ bytes) (plain_output w a old server so here);
+      reads = so.reads;
+      as_needed = so.as_needed;
+      run = so.run;
+      one_thread = so.one_thread;
+      count = so.count;
+      earlier = so.earlier;
+      answered = so.answered;
+      stands = x.1.1;
+      served = ap (λ (z : TalkState). z.served) x.4 ∙ so.served;
+      idle = ap (λ (z : TalkState). z.waits) x.4 ∙ so.idle;
+      few = so.few;
+      most = so.most;
+      ended_is = λ e. rw over (so.ended_is (sym (ap (λ (z : TalkState). z.ended) x.4) ∙ e));
+      leaving = subst (λ (o : Option SessionEnd). LeavesBy stop o) (sym (ap (λ (z : TalkState). z.leaving) x.4)) ends;
+    }
+
+-- a front of what comes next was written
+wrote_part : (w a b : Outside) (old : TalkState) (server : ServerState) (so : SoFar w a old server) (moments bytes : List ℕ) → old.leaving ≡ None
+    → ClockGives a.clock b.clock moments → b.source ≡ a.source → (front : WritesFront a.sink b.sink bytes) → EndsEmpty b.source
+    → IsNext (stop_at w a b old server so moments front.0) bytes → Replays server.projects w b (end.WriteFault old.served)
+wrote_part w a b old server so moments bytes here told source front empty next =
+    let goes = open_of w a old server so here in
+    finish_same w a b old server so moments front.0 (end.WriteFault old.served) here
+    (exchange a b [] moments front.0 (same_source a.source b.source source) told front.4) empty
+    (no_fault a.source.faults b.source.faults (IsReadFault (end.WriteFault old.served)) (source_quiet a.source b.source source) (λ f. write_no_read old.served f.0 f.1))
+    (one_fault a.sink.faults b.sink.faults (IsWriteFault (end.WriteFault old.served)) front.5 (old.served, refl))
+    (inr (inr (inr (inr (inl (
+      ap end.WriteFault so.served,
+      goes.open_,
+      (front.1, front.3, subst (λ (p : List ℕ). IsNext (stop_at w a b old server so moments front.0) p) front.2 next),
+    ))))))
+
+next_alone : (w a b : Outside) (old mid : TalkState) (server : ServerState) (so : SoFar w a old server) (moments tail bytes : List ℕ)
+    → Alone w a old mid server so moments bytes → IsNext (stop_at w a b old server so moments tail) bytes
+next_alone w a b old mid server so moments tail bytes x = inl (x.event, x.later, x.mark, x.reads, x.answers)
+
+-- after what a talk wrote by itself
+goes_write : (w a b : Outside) (old mid new : TalkState) (server : ServerState) (bytes : List ℕ) (result : Progress) → SoFar w a old server
+    → Wants a.clock b.clock old (Write bytes) mid → Writing old.served a.sink b.sink bytes result → b.source ≡ a.source → new ≡ mid → EndsEmpty b.source
+    → Goes w b result new server
+goes_write w a b old mid new server bytes Again so wants writing source same empty =
+    let t = wants so.rest so.told so.stands in
+    subst (λ (z : TalkState). SoFar w b z server) (sym same) (of_kind t.0 t.1 t.2.0 t.2.1)
+  where
+    over : b.source.ended ≡ a.source.ended
+    over = ap (λ (z : SourceSeen). z.ended) source
+
+    of_kind : (moments : List ℕ) → ClockGives a.clock b.clock moments → old.leaving ≡ None
+        → Continues so.rest so.told moments old bytes mid
+        ⊎ (AnswersOne so.rest so.told moments old bytes mid ⊎ AnswersFault so.rest so.told moments old bytes mid) → SoFar w b mid server
+    of_kind moments told here (inl x) =
+        wrote_alone w a b old mid server so moments bytes here (alone_continue w a old mid server so moments bytes here x)
+        (exchange a b [] moments bytes (same_source a.source b.source source) told writing.0) (source_quiet a.source b.source source, writing.1) over
+    of_kind moments told here (inr (inl x)) =
+        wrote_alone w a b old mid server so moments bytes here (alone_request w a old mid server so moments bytes x)
+        (exchange a b [] moments bytes (same_source a.source b.source source) told writing.0) (source_quiet a.source b.source source, writing.1) over
+    of_kind moments told here (inr (inr x)) =
+        wrote_fault w a b old mid server so moments bytes here x
+        (exchange a b [] moments bytes (same_source a.source b.source source) told writing.0) (source_quiet a.source b.source source, writing.1) over
+goes_write w a b old mid new server bytes (End e) so wants writing source same empty =
+    let t = wants so.rest so.told so.stands in
+    subst (λ (z : SessionEnd). Replays server.projects w b z) (sym writing.0)
+    (wrote_part w a b old server so t.0 bytes t.2.0 t.1 source writing.1 empty (of_kind t.0 t.2.0 t.2.1))
+  where
+    of_kind : (moments : List ℕ) → old.leaving ≡ None
+        → Continues so.rest so.told moments old bytes mid
+        ⊎ (AnswersOne so.rest so.told moments old bytes mid ⊎ AnswersFault so.rest so.told moments old bytes mid)
+        → IsNext (stop_at w a b old server so moments writing.1.0) bytes
+    of_kind moments here (inl x) = next_alone w a b old mid server so moments writing.1.0 bytes (alone_continue w a old mid server so moments bytes here x)
+    of_kind moments here (inr (inl x)) = next_alone w a b old mid server so moments writing.1.0 bytes (alone_request w a old mid server so moments bytes x)
+    of_kind moments here (inr (inr x)) = inr (x.0, fault_is w a b old mid server so moments writing.1.0 bytes x)
+
+-- ---- the end, and want of memory
+
 -- after the end of a talk
-pub goes_leave : (w : Outside) (s : SourceSeen) (x : SinkSeen) (u v : ClockSeen) (moments : List ℕ) (old new : TalkState) (server : ServerState) (e : SessionEnd)
-    → SoFar w (outside s x u) old server → ClockGives u v moments → Talks moments old (Leave e) new → IsOwnEnd e → EndsEmpty s → Replays 1 w (outside s x v) e
-goes_leave w s x u v moments old new server e so told (none, inl leaving, same) own empty =
-    finish_leaving w (outside s x v) old server (so_far_told w s x u v old server (no_moments u v moments none told) so) e leaving own empty
-goes_leave w s x u v moments old new server e so told (none, inr met, same) own empty =
-    finish_met w (outside s x v) old server (so_far_told w s x u v old server (no_moments u v moments none told) so) e met.0 met.1 met.2 empty
+goes_leave : (w a b : Outside) (old mid : TalkState) (server : ServerState) (e : SessionEnd) → SoFar w a old server → Wants a.clock b.clock old (Leave e) mid
+    → IsOwnWant (Leave e) → b.source ≡ a.source → b.sink ≡ a.sink → EndsEmpty b.source → Replays server.projects w b e
+goes_leave w a b old mid server e so wants own source sink empty =
+    let t = wants so.rest so.told so.stands in
+    let gave : Exchanges a b [] [] [] =
+    exchange a b [] [] [] (same_source a.source b.source source) (no_moments a.clock b.clock t.0 t.2.0 t.1) (same_sink a.sink b.sink sink) in
+    of_kind gave t.2.1
+  where
+    of_kind : Exchanges a b [] [] []
+        → (old.leaving ≡ Some e)
+        ⊎ ((old.leaving ≡ None) × (old.ended ≡ true) × IsTold so.told so.rest × IsRest so.rest × MeetsEnd so.rest old.served e) → Replays server.projects w b e
+    of_kind gave (inl leaving) =
+        finish_leaving w b old server
+        (so_far_same w a b old server so gave (source_quiet a.source b.source source, sink_quiet a.sink b.sink sink) (ap (λ (z : SourceSeen). z.ended) source)) e leaving
+        (own_end e own) empty
+    of_kind gave (inr met) =
+        finish_met w b old server
+        (so_far_same w a b old server so gave (source_quiet a.source b.source source, sink_quiet a.sink b.sink sink) (ap (λ (z : SourceSeen). z.ended) source)) e met.0 met.1
+        met.2 met.3 met.4 empty
 
 -- after want of memory for what comes next
-pub goes_lacks : (w : Outside) (s : SourceSeen) (x : SinkSeen) (u v : ClockSeen) (moments : List ℕ) (old new : TalkState) (server : ServerState) (n : ℕ)
-    → SoFar w (outside s x u) old server → ClockGives u v moments → Lacks moments old new → n ≡ old.served → EndsEmpty s → Replays 1 w (outside s x v) (end.Memory n)
-goes_lacks w s x u v moments old new server n so told lacks is empty =
-    subst (λ (k : ℕ). Replays 1 w (outside s x v) (end.Memory k)) (sym is)
-    (finish_lacks w (outside s x u) (outside s x v) old new server so moments lacks (read_exchange s s x u v [] moments (gives_none s) told) (refl, refl) empty)
+goes_lacks : (w a b : Outside) (old new : TalkState) (server : ServerState) → SoFar w a old server → LacksNext a.clock b.clock old new
+    → b.source ≡ a.source → b.sink ≡ a.sink → EndsEmpty b.source → Replays server.projects w b (end.Memory old.served)
+goes_lacks w a b old new server so lacks source sink empty =
+    let t = lacks so.rest so.told so.stands in
+    finish_short w a b old new server so t.0 t.2.0 t.2.1 (exchange a b [] t.0 [] (same_source a.source b.source source) t.1 (same_sink a.sink b.sink sink))
+    (source_quiet a.source b.source source, sink_quiet a.sink b.sink sink) empty
 
--- the state of a talk whose call waits
-waiting : (rest : List ℕ) (kind kind' : ReplyKind) (old mid : TalkState) → mid ≡ with_call rest kind old → mid.waits ≡ Some kind' → kind' ≡ kind
-waiting rest kind kind' old mid is waits =
-    let there : mid.waits ≡ Some kind = ap (λ (s : TalkState). s.waits) is in cc
+-- ---- a call
 
--- the answer to a call is written
-wrote_called : (w : Outside) (s : SourceSeen) (x y : SinkSeen) (u v : ClockSeen) (m : ℕ) (old mid new : TalkState) (server server' : ServerState)
-    (request : HttpRequest) (call : BookRequest) (receipt : Result BookReceipt AllocError) (bytes : List ℕ)
-    → SoFar w (outside s x u) old server → ClockGives u v (m ∷ []) → old.leaving ≡ None → Begins old.rest request mid.rest → Means m request call → mid ≡ with_call mid.rest (kind_of request) old
-    → Calls call server receipt server' → IsBefore (server'.turns + 1) server'.history → AnswersCall receipt (kind_of request) (closes_after (mid.served + 1)) bytes
-    → new ≡ with_answer mid.rest mid → SinkTakes x y bytes → y.faults ≡ x.faults → SoFar w (outside s y v) new server'
-wrote_called w s x y u v m old mid new server server' request call (Ok receipt) bytes so told here begins means is calls earlier answers new_is wrote quiet =
+-- a request was taken, which means the call
+pub record Asks (w a b : Outside) (old mid : TalkState) (server : ServerState) (so : SoFar w a old server) (call : BookRequest) (waiting : Waiting) : Type 0 where
+  pub moments : List ℕ
+  pub here : old.leaving ≡ None
+  pub told : ClockGives a.clock b.clock moments
+  pub one : TakesRequest so.rest so.told moments mid.framer
+  pub means : Means one.moment one.request call
+  pub state : mid ≡ with_call (waiting_for one.request (old.served + 1)) (with_framer mid.framer old)
+  pub waiting_is : waiting ≡ waiting_for one.request (0 + requests so.events + 1)
+
+same_waiting : (o : Option Waiting) (x y : Waiting) → o ≡ Some x → o ≡ Some y → y ≡ x
+same_waiting o x y e d = cc
+
+asks_of : (w a b : Outside) (old mid : TalkState) (server : ServerState) (so : SoFar w a old server) (call : BookRequest) (waiting : Waiting)
+    → Wants a.clock b.clock old (Call call) mid → mid.waits ≡ Some waiting → Asks w a b old mid server so call waiting
+asks_of w a b old mid server so call waiting wants waits =
+    let t = wants so.rest so.told so.stands in
+    let x = t.2.1 in
+    record {
+      moments = t.0;
+      here = t.2.0;
+      told = t.1;
+      one = x.0;
+      means = x.1;
+      state = x.2;
+      waiting_is = same_waiting mid.waits (waiting_for x.0.request (old.served + 1)) waiting (ap (λ (z : TalkState). z.waits) x.2) waits
+          ∙ ap (λ (n : ℕ). waiting_for x.0.request (n + 1)) so.served;
+    }
+
+mid_served : (w a b : Outside) (old mid : TalkState) (server : ServerState) (so : SoFar w a old server) (call : BookRequest) (waiting : Waiting)
+    → Asks w a b old mid server so call waiting → mid.served ≡ old.served
+mid_served w a b old mid server so call waiting x = ap (λ (z : TalkState). z.served) x.state
+
+-- the standing of a talk that was answered after its call
+leaves_called : (r : HttpRequest) (old mid new : TalkState) (waiting : Waiting) (n : ℕ) → mid.served ≡ old.served → old.served ≡ n → waiting ≡ waiting_for r (n + 1)
+    → new ≡ with_answer waiting.close mid → new.leaving ≡ leaving_behind old.served (frame.request r)
+leaves_called r old mid new waiting n number served is new_is =
+    ap (λ (z : TalkState). z.leaving) new_is
+    ∙ ap (λ (k : ℕ). leaving_after (k + 1) waiting.close) number
+    ∙ ap (λ (v : Waiting). leaving_after (old.served + 1) v.close) is
+    ∙ ap (λ (k : ℕ). leaving_after (old.served + 1) (closes_after r (k + 1))) (sym served)
+
+-- the answer to a call was written whole
+wrote_called : (w a b : Outside) (old mid new : TalkState) (server server' : ServerState) (so : SoFar w a old server) (call : BookRequest) (waiting : Waiting)
+    (receipt : Result BookReceipt AllocError) (bytes : List ℕ) → Asks w a b old mid server so call waiting → Calls call server receipt server'
+    → IsBefore (server'.turns + 1) server'.history → AnswersCall receipt waiting bytes → new ≡ with_answer waiting.close mid
+    → SinkTakes a.sink b.sink bytes → b.sink.faults ≡ a.sink.faults → b.source ≡ a.source → SoFar w b new server'
+wrote_called w a b old mid new server server' so call waiting (Ok receipt) bytes x calls earlier answers new_is took quiet source =
     let state : server' ≡ with_turn call server = calls.2 in
-    let number : mid.served ≡ old.served = ap (λ (z : TalkState). z.served) is in
-    let close : AnswersCall (Ok receipt) (kind_of request) (closes_after (old.served + 1)) bytes = subst (λ (n : ℕ). AnswersCall (Ok receipt) (kind_of request) (closes_after (n + 1)) bytes) number answers in
-    let rest : new.rest ≡ mid.rest = ap (λ (z : TalkState). z.rest) new_is in
-    let whole : SoFar w (outside s y v) new (with_turn call server) =
-    so_far_push w (outside s x u) (outside s y v) old new server (with_turn call server) so m request bytes (step_of server call ∷ []) here
-    (subst (λ (r : List ℕ). Begins old.rest request r) (sym rest) begins)
-    (called_answers server (last_turn 0 so.steps) request (closes_after (old.served + 1)) bytes call m receipt means so.earlier
-    (last_of w (outside s x u) old server so) calls.0 calls.1 close)
-    (run_next w (outside s x u) old server call so) (one_next w (outside s x u) old server call so) (count_next w (outside s x u) old server call so)
+    let number : mid.served ≡ old.served = mid_served w a b old mid server so call waiting x in
+    let close : AnswersCall (Ok receipt) (waiting_for x.one.request (0 + requests so.events + 1)) bytes =
+    subst (λ (v : Waiting). AnswersCall (Ok receipt) v bytes) x.waiting_is answers in
+    let whole : SoFar w b new (with_turn call server) =
+    so_far_push w a b old new server (with_turn call server) so (frame.request x.one.request) x.one.later false x.moments bytes (step_of server call ∷ []) x.here
+    (x.one.settled, (x.one.later, x.one.next, (refl, refl)))
+    (subst (λ (g : Framer). Stands g x.one.later false) (sym (ap (λ (z : TalkState). z.framer) new_is)) x.one.stands) (
+      x.one.moment,
+      x.one.one,
+      called_answers server so.events so.steps x.one.moment x.one.request call receipt bytes x.means so.earlier (last_of w a old server so) calls.0 calls.1 close,
+    )
+    (run_next w a old server call so) (one_next w a old server call so) (count_next w a old server call so)
     (subst (λ (z : ServerState). IsBefore (z.turns + 1) z.history) state earlier)
-    (answered_next w (outside s x u) old server call so)
-    (let few = so.few in omega arith)
-    (write_exchange s x y u v (m ∷ []) bytes told wrote) (refl, quiet) refl
+    (answered_next w a old server call so)
+    (let few = so.few in let le : server.turns + 1 ≤ (0 + requests so.events) + 1 = omega (arith, few) in le)
+    (exchange a b [] x.moments bytes (same_source a.source b.source source) x.told took) (source_quiet a.source b.source source, quiet)
+    (ap (λ (z : SourceSeen). z.ended) source)
     (ap (λ (z : TalkState). z.served) new_is ∙ ap (λ n. n + 1) number) (ap (λ (z : TalkState). z.waits) new_is)
-    (ap (λ (z : TalkState). z.ended) new_is ∙ ap (λ (z : TalkState). z.ended) is)
-    (ap (λ (z : TalkState). z.leaving) new_is ∙ ap (λ n. leaving_after (n + 1)) number) in
-    subst (λ (z : ServerState). SoFar w (outside s y v) new z) (sym state) whole
-wrote_called w s x y u v m old mid new server server' request call (Err error) bytes so told here begins means is calls earlier answers new_is wrote quiet =
-    let number : mid.served ≡ old.served = ap (λ (z : TalkState). z.served) is in
-    let close : IsResponse answer.Memory (kind_of request) None (closes_after (old.served + 1)) bytes = subst (λ (n : ℕ). IsResponse answer.Memory (kind_of request) None (closes_after (n + 1)) bytes) number answers in
-    let rest : new.rest ≡ mid.rest = ap (λ (z : TalkState). z.rest) new_is in
+    (ap (λ (z : TalkState). z.ended) new_is ∙ ap (λ (z : TalkState). z.ended) x.state)
+    (leaves_called x.one.request old mid new waiting (0 + requests so.events) number so.served x.waiting_is new_is) in
+    subst (λ (z : ServerState). SoFar w b new z) (sym state) whole
+wrote_called w a b old mid new server server' so call waiting (Err error) bytes x calls earlier answers new_is took quiet source =
+    let number : mid.served ≡ old.served = mid_served w a b old mid server so call waiting x in
+    let close : AnswersCall (Err error) (waiting_for x.one.request (0 + requests so.events + 1)) bytes =
+    subst (λ (v : Waiting). AnswersCall (Err error) v bytes) x.waiting_is answers in
     let same : so.steps ++ [] ≡ so.steps = append-nil so.steps in
-    let whole : SoFar w (outside s y v) new server =
-    so_far_push w (outside s x u) (outside s y v) old new server server so m request bytes [] here
-    (subst (λ (r : List ℕ). Begins old.rest request r) (sym rest) begins)
-    (alone_answers server.history (last_turn 0 so.steps) server.turns m request (closes_after (old.served + 1)) bytes (inr close))
-    (rw same so.run) (rw same so.one_thread) (rw same so.count) so.earlier so.answered (let few = so.few in omega arith)
-    (write_exchange s x y u v (m ∷ []) bytes told wrote) (refl, quiet) refl
+    let whole : SoFar w b new server =
+    so_far_push w a b old new server server so (frame.request x.one.request) x.one.later false x.moments bytes [] x.here
+    (x.one.settled, (x.one.later, x.one.next, (refl, refl)))
+    (subst (λ (g : Framer). Stands g x.one.later false) (sym (ap (λ (z : TalkState). z.framer) new_is)) x.one.stands)
+    (x.one.moment, x.one.one, alone_answers (behind (start_of server) so.events so.steps) x.one.moment x.one.request bytes (inr close))
+    (rw same so.run) (rw same so.one_thread) (rw same so.count) so.earlier so.answered
+    (let few = so.few in let le : server.turns ≤ (0 + requests so.events) + 1 = omega (arith, few) in le)
+    (exchange a b [] x.moments bytes (same_source a.source b.source source) x.told took) (source_quiet a.source b.source source, quiet)
+    (ap (λ (z : SourceSeen). z.ended) source)
     (ap (λ (z : TalkState). z.served) new_is ∙ ap (λ n. n + 1) number) (ap (λ (z : TalkState). z.waits) new_is)
-    (ap (λ (z : TalkState). z.ended) new_is ∙ ap (λ (z : TalkState). z.ended) is)
-    (ap (λ (z : TalkState). z.leaving) new_is ∙ ap (λ n. leaving_after (n + 1)) number) in
-    subst (λ (z : ServerState). SoFar w (outside s y v) new z) (sym calls) whole
+    (ap (λ (z : TalkState). z.ended) new_is ∙ ap (λ (z : TalkState). z.ended) x.state)
+    (leaves_called x.one.request old mid new waiting (0 + requests so.events) number so.served x.waiting_is new_is) in
+    subst (λ (z : ServerState). SoFar w b new z) (sym calls) whole
+
+-- a call keeps the number of projects
+same_projects : (call : BookRequest) (server server' : ServerState) (receipt : Result BookReceipt AllocError) → Calls call server receipt server' → server'.projects ≡ server.projects
+same_projects call server server' (Ok receipt) calls = ap (λ (z : ServerState). z.projects) calls.2
+same_projects call server server' (Err error) calls = ap (λ (z : ServerState). z.projects) calls
 
 -- memory was wanting for the answer to a call
-lacked_called : (w : Outside) (s : SourceSeen) (x : SinkSeen) (u v : ClockSeen) (m : ℕ) (old mid : TalkState) (server server' : ServerState)
-    (request : HttpRequest) (call : BookRequest) (receipt : Result BookReceipt AllocError)
-    → SoFar w (outside s x u) old server → ClockGives u v (m ∷ []) → old.leaving ≡ None → Begins old.rest request mid.rest → Means m request call
-    → Calls call server receipt server' → EndsEmpty s → Replays 1 w (outside s x v) (end.Memory old.served)
-lacked_called w s x u v m old mid server server' request call (Err error) so told here begins means calls empty =
-    finish_own w (outside s x u) (outside s x v) old server so [] (m ∷ []) (end.Memory old.served) here (memory_own old.served)
-    (read_exchange s s x u v [] (m ∷ []) (gives_none s) told) (refl, refl) empty (
-      so.served,
-      room_of w (outside s x u) old server so here,
-      refl,
-      inr (record { moment = m; one_moment = refl; request = request; later = mid.rest; next = begins; taken = inl refl }),
-    )
-lacked_called w s x u v m old mid server server' request call (Ok receipt) so told here begins means calls empty =
-    let a : Outside = outside s x u in
-    finish w a (outside s x v) old server (with_turn call server) so [] (m ∷ []) [] (end.Memory old.served) (step_of server call ∷ []) here
-    (read_exchange s s x u v [] (m ∷ []) (gives_none s) told) empty
-    (no_fault s.faults s.faults (IsReadFault (end.Memory old.served)) refl (λ f. (memory_own old.served f.0).0 f.1))
-    (no_fault x.faults x.faults (IsWriteFault (end.Memory old.served)) refl (λ f. (memory_own old.served f.0).1 f.1))
-    (run_next w a old server call so) (one_next w a old server call so) (count_next w a old server call so) (answered_next w a old server call so) (
-      so.served,
-      room_of w a old server so here,
+lacked_called : (w a b : Outside) (old mid : TalkState) (server server' : ServerState) (so : SoFar w a old server) (call : BookRequest) (waiting : Waiting)
+    (receipt : Result BookReceipt AllocError) → Asks w a b old mid server so call waiting → Calls call server receipt server' → b.source ≡ a.source → b.sink ≡ a.sink
+    → EndsEmpty b.source → Replays server'.projects w b (end.Memory old.served)
+lacked_called w a b old mid server server' so call waiting (Ok receipt) x calls source sink empty =
+    let goes = open_of w a old server so x.here in
+    let whole : Replays server.projects w b (end.Memory old.served) =
+    finish_step w a b old server (with_turn call server) so x.moments [] (end.Memory old.served) (step_of server call ∷ []) x.here
+    (exchange a b [] x.moments [] (same_source a.source b.source source) x.told (same_sink a.sink b.sink sink)) empty
+    (no_fault a.source.faults b.source.faults (IsReadFault (end.Memory old.served)) (source_quiet a.source b.source source) (λ f. (memory_own old.served f.0).0 f.1))
+    (no_fault a.sink.faults b.sink.faults (IsWriteFault (end.Memory old.served)) (sink_quiet a.sink b.sink sink) (λ f. (memory_own old.served f.0).1 f.1))
+    (run_next w a old server call so) (one_next w a old server call so) (count_next w a old server call so) (answered_next w a old server call so)
+    (inr (inr (inr (inr (inr (inr (inr (
+      ap end.Memory so.served,
+      goes.open_,
       refl,
       inr (record {
-        moment = m;
-        one_moment = refl;
-        request = request;
-        later = mid.rest;
-        next = begins;
-        taken = inr (turn_next server (last_turn 0 so.steps) request call m means so.earlier (last_of w a old server so));
+        moment = x.one.moment;
+        request = x.one.request;
+        later = x.one.later;
+        one = x.one.one;
+        told = x.one.settled;
+        next = x.one.next;
+        taken = inr (turn_next server so.events so.steps x.one.moment x.one.request call x.means so.earlier (last_of w a old server so));
       }),
-    )
+    )))))))) in
+    subst (λ (n : ℕ). Replays n w b (end.Memory old.served)) (sym (same_projects call server server' (Ok receipt) calls)) whole
+lacked_called w a b old mid server server' so call waiting (Err error) x calls source sink empty =
+    let whole : Replays server.projects w b (end.Memory old.served) =
+    finish_short w a b old mid server so x.moments x.here (inr x.one)
+    (exchange a b [] x.moments [] (same_source a.source b.source source) x.told (same_sink a.sink b.sink sink))
+    (source_quiet a.source b.source source, sink_quiet a.sink b.sink sink) empty in
+    subst (λ (n : ℕ). Replays n w b (end.Memory old.served)) (sym (same_projects call server server' (Err error) calls)) whole
 
 -- the answer to a call was not written whole
-cut_called : (w : Outside) (s : SourceSeen) (x y : SinkSeen) (u v : ClockSeen) (m : ℕ) (old mid : TalkState) (server server' : ServerState)
-    (request : HttpRequest) (call : BookRequest) (receipt : Result BookReceipt AllocError) (bytes : List ℕ)
-    → SoFar w (outside s x u) old server → ClockGives u v (m ∷ []) → old.leaving ≡ None → Begins old.rest request mid.rest → Means m request call
-    → Calls call server receipt server' → AnswersCall receipt (kind_of request) (closes_after (old.served + 1)) bytes → WritesFront x y bytes → EndsEmpty s
-    → Replays 1 w (outside s y v) (end.WriteFault old.served)
-cut_called w s x y u v m old mid server server' request call (Ok receipt) bytes so told here begins means calls answers front empty =
-    let a : Outside = outside s x u in
-    let close : AnswersCall (Ok receipt) (kind_of request) (closes_after (length so.requests + 1)) bytes =
-    subst (λ (k : ℕ). AnswersCall (Ok receipt) (kind_of request) (closes_after (k + 1)) bytes) so.served answers in
-    let next : IsNext 1 (with_turn call server).history (last_turn 0 so.steps) (server.turns + 1) old.rest (length so.requests) (m ∷ []) bytes (step_of server call ∷ []) =
-    inl (
-      m,
-      request,
-      mid.rest,
-      refl,
-      begins,
-      called_answers server (last_turn 0 so.steps) request (closes_after (length so.requests + 1)) bytes call m receipt means so.earlier
-          (last_of w a old server so) calls.0 calls.1 close,
+cut_called : (w a b : Outside) (old mid : TalkState) (server server' : ServerState) (so : SoFar w a old server) (call : BookRequest) (waiting : Waiting)
+    (receipt : Result BookReceipt AllocError) (bytes : List ℕ) → Asks w a b old mid server so call waiting → Calls call server receipt server' → AnswersCall receipt waiting bytes
+    → WritesFront a.sink b.sink bytes → b.source ≡ a.source → EndsEmpty b.source → Replays server'.projects w b (end.WriteFault old.served)
+cut_called w a b old mid server server' so call waiting (Ok receipt) bytes x calls answers front source empty =
+    let goes = open_of w a old server so x.here in
+    let close : AnswersCall (Ok receipt) (waiting_for x.one.request (0 + requests so.events + 1)) bytes =
+    subst (λ (v : Waiting). AnswersCall (Ok receipt) v bytes) x.waiting_is answers in
+    let stop : Stop = stop_of (start_of (with_turn call server)) so.events so.steps b.source.ended so.rest so.told x.moments front.0 (step_of server call ∷ []) in
+    let next : IsNext stop bytes = inl (
+      frame.request x.one.request,
+      x.one.later,
+      false,
+      (x.one.settled, (x.one.later, x.one.next, (refl, refl))),
+      (
+        x.one.moment,
+        x.one.one,
+        called_answers server so.events so.steps x.one.moment x.one.request call receipt bytes x.means so.earlier (last_of w a old server so) calls.0 calls.1 close,
+      ),
     ) in
-    finish w a (outside s y v) old server (with_turn call server) so [] (m ∷ []) front.0 (end.WriteFault old.served) (step_of server call ∷ []) here
-    (write_exchange s x y u v (m ∷ []) front.0 told front.4) empty
-    (no_fault s.faults s.faults (IsReadFault (end.WriteFault old.served)) refl (λ f. write_no_read old.served f.0 f.1))
-    (one_fault x.faults y.faults (IsWriteFault (end.WriteFault old.served)) front.5 (old.served, refl))
-    (run_next w a old server call so) (one_next w a old server call so) (count_next w a old server call so) (answered_next w a old server call so) (
-      so.served,
-      room_of w a old server so here,
-      refl,
-      (front.1, front.3, subst (λ (b : List ℕ). IsNext 1 (with_turn call server).history (last_turn 0 so.steps) (server.turns + 1) old.rest (length so.requests) (m ∷ []) b (step_of server call ∷ [])) front.2 next),
-    )
-cut_called w s x y u v m old mid server server' request call (Err error) bytes so told here begins means calls answers front empty =
-    let close : IsResponse answer.Memory (kind_of request) None (closes_after (length so.requests + 1)) bytes =
-    subst (λ (k : ℕ). IsResponse answer.Memory (kind_of request) None (closes_after (k + 1)) bytes) so.served answers in
-    wrote_part w s x y u v (m ∷ []) old server so bytes told here front empty
-    (inl (m, request, mid.rest, refl, begins, alone_answers server.history (last_turn 0 so.steps) server.turns m request (closes_after (length so.requests + 1)) bytes (inr close)))
+    let whole : Replays server.projects w b (end.WriteFault old.served) =
+    finish_step w a b old server (with_turn call server) so x.moments front.0 (end.WriteFault old.served) (step_of server call ∷ []) x.here
+    (exchange a b [] x.moments front.0 (same_source a.source b.source source) x.told front.4) empty
+    (no_fault a.source.faults b.source.faults (IsReadFault (end.WriteFault old.served)) (source_quiet a.source b.source source) (λ f. write_no_read old.served f.0 f.1))
+    (one_fault a.sink.faults b.sink.faults (IsWriteFault (end.WriteFault old.served)) front.5 (old.served, refl))
+    (run_next w a old server call so) (one_next w a old server call so) (count_next w a old server call so) (answered_next w a old server call so)
+    (inr (inr (inr (inr (inl (
+      ap end.WriteFault so.served,
+      goes.open_,
+      (front.1, front.3, subst (λ (p : List ℕ). IsNext stop p) front.2 next),
+    )))))) in
+    subst (λ (n : ℕ). Replays n w b (end.WriteFault old.served)) (sym (same_projects call server server' (Ok receipt) calls)) whole
+cut_called w a b old mid server server' so call waiting (Err error) bytes x calls answers front source empty =
+    let close : AnswersCall (Err error) (waiting_for x.one.request (0 + requests so.events + 1)) bytes =
+    subst (λ (v : Waiting). AnswersCall (Err error) v bytes) x.waiting_is answers in
+    let whole : Replays server.projects w b (end.WriteFault old.served) =
+    wrote_part w a b old server so x.moments bytes x.here x.told source front empty
+    (inl (
+      frame.request x.one.request,
+      x.one.later,
+      false,
+      (x.one.settled, (x.one.later, x.one.next, (refl, refl))),
+      (x.one.moment, x.one.one, alone_answers (behind (start_of server) so.events so.steps) x.one.moment x.one.request bytes (inr close)),
+    )) in
+    subst (λ (n : ℕ). Replays n w b (end.WriteFault old.served)) (sym (same_projects call server server' (Err error) calls)) whole
 
 -- after a call of the book
-pub goes_call : (w : Outside) (s : SourceSeen) (x y : SinkSeen) (u v : ClockSeen) (moments : List ℕ) (old mid new : TalkState) (server server' : ServerState) (call : BookRequest) (result : Progress)
-    → SoFar w (outside s x u) old server → ClockGives u v moments → Talks moments old (Call call) mid → IsBefore (server'.turns + 1) server'.history
-    → Called call x y mid server result new server' → EndsEmpty s → Goes w (outside s y v) result new server'
-goes_call w s x y u v moments old mid new server server' call Again so told (here, one) earlier called empty =
-    let kind : called.0 ≡ kind_of one.1 = waiting mid.rest (kind_of one.1) called.0 old mid one.5 called.1 in
-    wrote_called w s x y u v one.0 old mid new server server' one.1 call called.2 called.3 so (subst (λ (m : List ℕ). ClockGives u v m) one.2 told) here one.3 one.4 one.5 called.4 earlier
-    (subst (λ (k : ReplyKind). AnswersCall called.2 k (closes_after (mid.served + 1)) called.3) kind called.5) called.6 called.7 called.8
-goes_call w s x y u v moments old mid new server server' call (End e) so told (here, one) earlier called empty = of_kind called.4
+goes_call : (w a b : Outside) (old mid new : TalkState) (server server' : ServerState) (call : BookRequest) (result : Progress) → SoFar w a old server
+    → Wants a.clock b.clock old (Call call) mid → Called call a.sink b.sink mid server result new server' → b.source ≡ a.source
+    → IsBefore (server'.turns + 1) server'.history → EndsEmpty b.source → Goes w b result new server'
+goes_call w a b old mid new server server' call Again so wants called source earlier empty =
+    wrote_called w a b old mid new server server' so call called.0 called.2 called.3 (asks_of w a b old mid server so call called.0 wants called.1) called.4 earlier
+    called.5 called.6 called.7 called.8 source
+goes_call w a b old mid new server server' call (End e) so wants called source earlier empty = of_kind called.4
   where
-    kind : called.0 ≡ kind_of one.1
-    kind = waiting mid.rest (kind_of one.1) called.0 old mid one.5 called.1
+    asks : Asks w a b old mid server so call called.0
+    asks = asks_of w a b old mid server so call called.0 wants called.1
 
-    number : mid.served ≡ old.served
-    number = ap (λ (z : TalkState). z.served) one.5
-
-    asked : ClockGives u v (one.0 ∷ [])
-    asked = subst (λ (m : List ℕ). ClockGives u v m) one.2 told
-
-    of_kind : ((e ≡ end.Memory mid.served) × (y ≡ x))
-        ⊎ ((bytes : List ℕ) × AnswersCall called.2 called.0 (closes_after (mid.served + 1)) bytes × (e ≡ end.WriteFault mid.served) × WritesFront x y bytes)
-        → Replays 1 w (outside s y v) e
+    of_kind : StopsAnswering a.sink b.sink mid.served called.2 called.0 e → Replays server'.projects w b e
     of_kind (inl memory) =
-        let is : e ≡ end.Memory old.served = memory.0 ∙ ap end.Memory number in
-        let whole : Replays 1 w (outside s x v) (end.Memory old.served) =
-        lacked_called w s x u v one.0 old mid server server' one.1 call called.2 so asked here one.3 one.4 called.3 empty in
-        subst (λ (z : SessionEnd). Replays 1 w (outside s y v) z) (sym is)
-        (subst (λ (z : SinkSeen). Replays 1 w (outside s z v) (end.Memory old.served)) (sym memory.1) whole)
+        let is : e ≡ end.Memory old.served = memory.0 ∙ ap end.Memory (mid_served w a b old mid server so call called.0 asks) in
+        subst (λ (z : SessionEnd). Replays server'.projects w b z) (sym is)
+        (lacked_called w a b old mid server server' so call called.0 called.2 asks called.3 source memory.1 empty)
     of_kind (inr cut) =
-        let is : e ≡ end.WriteFault old.served = cut.2 ∙ ap end.WriteFault number in
-        let answers : AnswersCall called.2 (kind_of one.1) (closes_after (old.served + 1)) cut.0 =
-        subst (λ (k : ℕ). AnswersCall called.2 (kind_of one.1) (closes_after (k + 1)) cut.0) number
-        (subst (λ (k : ReplyKind). AnswersCall called.2 k (closes_after (mid.served + 1)) cut.0) kind cut.1) in
-        subst (λ (z : SessionEnd). Replays 1 w (outside s y v) z) (sym is)
-        (cut_called w s x y u v one.0 old mid server server' one.1 call called.2 cut.0 so asked here one.3 one.4 called.3 answers cut.3 empty)
+        let is : e ≡ end.WriteFault old.served = cut.2 ∙ ap end.WriteFault (mid_served w a b old mid server so call called.0 asks) in
+        subst (λ (z : SessionEnd). Replays server'.projects w b z) (sym is)
+        (cut_called w a b old mid server server' so call called.0 called.2 cut.0 asks called.3 cut.1 cut.3 source empty)
+
+-- ---- a step
+
+done : (w a b : Outside) (old mid new : TalkState) (server server' : ServerState) (want : Want) (result : Progress) → SoFar w a old server
+    → Wants a.clock b.clock old want mid → IsOwnWant want → Does old.served a b mid server want result new server' → EndsEmpty b.source
+    → Goes w b result new server'
+done w a b old mid new server server' More result so wants own does empty =
+    subst (λ (z : ServerState). Goes w b result new z) (sym does.2) (goes_read w a b old mid new server result so wants does.0 does.1 empty)
+done w a b old mid new server server' (Write bytes) result so wants own does empty =
+    subst (λ (z : ServerState). Goes w b result new z) (sym does.3) (goes_write w a b old mid new server bytes result so wants does.0 does.1 does.2 empty)
+done w a b old mid new server server' (Call call) result so wants own does empty =
+    goes_call w a b old mid new server server' call result so wants does.0 does.1 does.2 empty
+done w a b old mid new server server' (Leave e) result so wants own does empty =
+    subst (λ (p : Progress). Goes w b p new server') (sym does.0)
+    (subst (λ (z : ServerState). Replays z.projects w b e) (sym does.3) (goes_leave w a b old mid server e so wants own does.1 does.2 empty))
+
+-- after a step of a session
+pub steps_on : (w a b : Outside) (old new : TalkState) (server server' : ServerState) (result : Progress) → SoFar w a old server
+    → StepsOn a b old server result new server' → EndsEmpty b.source → Goes w b result new server'
+steps_on w a b old new server server' result so (inl (want, mid, wants, own, does)) empty =
+    done w a b old mid new server server' want result so wants own does empty
+steps_on w a b old new server server' result so (inr stopped) empty =
+    subst (λ (p : Progress). Goes w b p new server') (sym stopped.1)
+    (subst (λ (z : ServerState). Replays z.projects w b (end.Memory old.served)) (sym stopped.4)
+    (goes_lacks w a b old new server so stopped.0 stopped.2 stopped.3 empty))

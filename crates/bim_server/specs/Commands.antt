@@ -1,10 +1,11 @@
 -- What the commands do and answer.
-use Rattle.std.specs.Prelude.{◌≡◌, ◌≢◌, ℕ, ◌++◌, List, [], ◌∷◌, if◌then◌else◌, Option, Some, None, codes}
+use Rattle.std.specs.Prelude.{◌≡◌, ◌≢◌, ◌⊎◌, ℕ, ◌++◌, List, [], ◌∷◌, if◌then◌else◌, Option, Some, None, codes}
 use Rattle.std.specs.Str.{bytes_eq}
 use Rattle.bim_io.specs.Causes.{ComesOfFault}
 use Rattle.bim_io.specs.Seen.{ClockSeen, Outside, outside, SinkTakes}
 use Rattle.bim_session.specs.declared.end.SessionEnd.{SessionEnd}
 use Rattle.bim_session.specs.Replay.{Replays, status_of}
+use Rattle.bim_server.specs.declared.words.ReplayWords.{ReplayWords}
 use Rattle.bim_server.specs.declared.words.Time.{Time}
 use Rattle.bim_server.specs.declared.words.Time.TheVariants.{OfClock, At}
 use Rattle.bim_server.specs.Words.{replay_words, usage_line}
@@ -20,27 +21,40 @@ pub record PrintsUsage (before after : Outside) (status : ℕ) : Type 0 where
   pub wrote : SinkTakes before.sink after.sink front
   pub short : ComesOfFault before.sink.faults after.sink.faults (more ≢ [])
 
--- a session is replayed, and its end decides the status
-pub record ReplaysTo (before after : Outside) (status : ℕ) : Type 0 where
+-- a session over so many projects is replayed, and its end decides the status
+pub record ReplaysTo (projects : ℕ) (before after : Outside) (status : ℕ) : Type 0 where
   pub end : SessionEnd
   pub status_is : status ≡ status_of end
-  pub replays : Replays 1 before after end
+  pub replays : Replays projects before after end
 
 -- a session is replayed by a clock that always gives this moment; the one of the outside was not asked
-pub record ReplaysAt (moment : ℕ) (before after : Outside) (status : ℕ) : Type 0 where
+pub record ReplaysAt (projects moment : ℕ) (before after : Outside) (status : ℕ) : Type 0 where
   pub clock : after.clock ≡ before.clock
   pub own : ClockSeen
   pub own' : ClockSeen
   pub one : own.one ≡ Some moment
-  pub replays : ReplaysTo (outside before.source before.sink own) (outside after.source after.sink own') status
+  pub replays : ReplaysTo projects (outside before.source before.sink own) (outside after.source after.sink own') status
 
--- what `replay` does by its words: outside its grammar it prints the usage line, else it replays a session
-abbrev pub Does : Option Time → Outside → Outside → ℕ → Type 0
-Does None before after status = PrintsUsage before after status
-Does (Some OfClock) before after status = ReplaysTo before after status
-Does (Some (At moment)) before after status = ReplaysAt moment before after status
+-- a session is replayed by the clock of the outside, or by one of one moment
+abbrev pub ReplaysBy : Time → ℕ → Outside → Outside → ℕ → Type 0
+ReplaysBy OfClock projects before after status = ReplaysTo projects before after status
+ReplaysBy (At moment) projects before after status = ReplaysAt projects moment before after status
+
+-- memory was wanting for the words: nothing was read or written, and the clock was not asked
+pub record WantsMemory (before after : Outside) (status : ℕ) : Type 0 where
+  pub status_is : status ≡ 6
+  pub same : after ≡ before
+
+-- what `replay` does by what its words say: outside its grammar it prints the usage line, else it replays a session
+abbrev pub DoesBy : Option ReplayWords → Outside → Outside → ℕ → Type 0
+DoesBy None before after status = PrintsUsage before after status
+DoesBy (Some said) before after status = ReplaysBy said.time said.projects before after status
+
+-- what `replay` does, or memory was wanting before it could
+abbrev pub Does : Option ReplayWords → Outside → Outside → ℕ → Type 0
+Does said before after status = DoesBy said before after status ⊎ WantsMemory before after status
 
 -- the words behind the name of a command, where it is `replay`; nothing for a command that is not built
-abbrev pub command_words : List (List ℕ) → Option Time
+abbrev pub command_words : List (List ℕ) → Option ReplayWords
 command_words [] = None
 command_words (name ∷ words) = if bytes_eq name (codes "replay") then replay_words words else None

@@ -1,29 +1,75 @@
--- The words of the command line.
-use Rattle.std.specs.Prelude.{ℕ, ◌&&◌, List, [], ◌∷◌, length, nat_lt, nat_le, if◌then◌else◌, Option, Some, None, option_map, codes}
+-- The words of the command line. Which words a command takes is what the parser of command lines finds of them; what they
+-- say is read of the values that it finds.
+use Rattle.std.specs.Prelude.{◌≡◌, ◌≢◌, ◌≤◌, ◌&&◌, ℕ, Bool, List, [], ◌∷◌, length, true, nat_le, if◌then◌else◌, Option, Some, None, option_map, codes}
 use Rattle.std.specs.List.{list_all}
 use Rattle.std.specs.Char.{is_ascii_digit}
-use Rattle.std.specs.Str.{bytes_eq}
 use Rattle.std.specs.Str.Parse.{digits_value}
+use Rattle.clap.specs.Words.{App, Kinds, Row, Rule, fault_of, first_of, found_of, matches_of, new_app, new_rule, rows_of, with_rule}
+use Rattle.clap.specs.Simple.{on_top}
+use Rattle.clap.specs.declared.builder.action.ArgAction.TheVariants.{Set}
+use Rattle.clap.specs.declared.parser.matches.ArgMatches.{ArgMatches}
 use Rattle.bim_model.specs.Moments.{last_moment, IsMoment}
+use Rattle.federation_book.specs.declared.limits.TheConstants.{MOST_PROJECTS}
+use Rattle.bim_server.specs.declared.words.ReplayWords.{ReplayWords}
 use Rattle.bim_server.specs.declared.words.Time.{Time}
 use Rattle.bim_server.specs.declared.words.Time.TheVariants.{OfClock, At}
 
--- 1 to 20 digits that write a moment
-unfoldable pub moment_word : List ℕ → Option ℕ
-moment_word text =
-    if nat_lt 0 (length text) && nat_le (length text) 20 && list_all is_ascii_digit text && nat_le (digits_value 10 text) last_moment
-    then Some (digits_value 10 text) else None
+-- a number, where it is one of these
+abbrev pub within : ℕ → ℕ → ℕ → Option ℕ
+within least most number = if nat_le least number && nat_le number most then Some number else None
 
--- `--at` and a moment
-abbrev pub at_words : List ℕ → List ℕ → Option Time
-at_words word number = if bytes_eq word (codes "--at") then option_map At (moment_word number) else None
+-- 1 to 20 digits
+abbrev pub is_number : List ℕ → Bool
+is_number text = nat_le 1 (length text) && nat_le (length text) 20 && list_all is_ascii_digit text
 
--- the words of `replay`: none, or `--at` and a moment, which stands in place of the clock; nothing where they are others
-abbrev pub replay_words : List (List ℕ) → Option Time
-replay_words [] = Some OfClock
-replay_words (word ∷ []) = None
-replay_words (word ∷ number ∷ []) = at_words word number
-replay_words (word ∷ number ∷ other ∷ more) = None
+-- the number that 1 to 20 digits write, where it is one of these
+unfoldable pub number_word : ℕ → ℕ → List ℕ → Option ℕ
+number_word least most text = if is_number text then within least most (digits_value 10 text) else None
+
+-- an option that takes a value: `--name V` or `--name=V`, once
+abbrev pub option_of : List ℕ → Rule
+option_of name = record (new_rule name) { long = Some name; action = Some Set }
+
+-- a command of the words behind its name, without options, help and version
+abbrev pub plain_command : List ℕ → App
+plain_command name = on_top (λ s. record s { no_binary_name = true; disable_help_flag = true }) (new_app name)
+
+-- `replay` has two options, in any order
+unfoldable pub replay_command : App
+replay_command = with_rule (with_rule (plain_command (codes "replay")) (option_of (codes "at"))) (option_of (codes "projects"))
+
+-- what a parse found: nothing where the command has a fault to find in the words, else its values
+abbrev pub IsParse : App → List (List ℕ) → Option ArgMatches → Type 0
+IsParse command words None = fault_of command words ≢ []
+IsParse command words (Some found) = (fault_of command words ≡ []) × (rows_of (found_of found) ≡ matches_of command words)
+
+-- what is said, where there is no fault
+abbrev pub without_fault : {X : Type 0} → Kinds → Option X → Option X
+without_fault [] said = said
+without_fault (kind ∷ kinds) said = None
+
+-- a moment stands in place of the clock
+abbrev pub time_said : Option (List ℕ) → Option Time
+time_said None = Some OfClock
+time_said (Some text) = option_map At (number_word 0 last_moment text)
+
+-- how many projects there are, one where it isn't said
+abbrev pub projects_said : Option (List ℕ) → Option ℕ
+projects_said None = Some 1
+projects_said (Some text) = number_word 1 MOST_PROJECTS text
+
+abbrev pub both_said : Option Time → Option ℕ → Option ReplayWords
+both_said (Some time) (Some projects) = Some (record { time = time; projects = projects })
+both_said _ _ = None
+
+-- what the values of the options of `replay` say
+abbrev pub replay_said : List Row → Option ReplayWords
+replay_said rows = both_said (time_said (first_of (codes "at") rows)) (projects_said (first_of (codes "projects") rows))
+
+-- what the words behind `replay` say: nothing where they are outside its grammar, which are those in which the parser
+-- finds a fault, and those with a value of another form
+unfoldable pub replay_words : List (List ℕ) → Option ReplayWords
+replay_words words = without_fault (fault_of replay_command words) (replay_said (matches_of replay_command words))
 
 abbrev pub usage_line : List ℕ
 usage_line = codes "usage: bim_server replay|check|generate|serve\n"
@@ -32,3 +78,13 @@ usage_line = codes "usage: bim_server replay|check|generate|serve\n"
 abbrev pub IsTime : Time → Type 0
 IsTime OfClock = Unit {0}
 IsTime (At moment) = IsMoment moment
+
+-- a book may have so many projects
+pub record IsCount (projects : ℕ) : Type 0 where
+  pub some : 1 ≤ projects
+  pub few : projects ≤ MOST_PROJECTS
+
+-- what is said can be replayed
+pub record IsReplay (said : ReplayWords) : Type 0 where
+  pub time : IsTime said.time
+  pub count : IsCount said.projects

@@ -2,23 +2,49 @@
 ghost use Rattle.std.specs.Prelude.{◌≡◌};
 ghost use Rattle.bim_io.specs.Causes.{Rose, ComesOfFault};
 ghost use Rattle.bim_io.specs.Seen.{SourceSeen, ClockSeen, outside};
-ghost use Rattle.bim_server.specs.Words.{replay_words};
-ghost use Rattle.bim_server.specs.Commands.{Does, PrintsUsage, command_words};
+ghost use Rattle.bim_server.specs.Words.{replay_words, IsReplay};
+ghost use Rattle.bim_server.specs.Commands.{Does, PrintsUsage, ReplaysBy, command_words};
 
 use crate::session::{run_session, status_of};
 use crate::sinks::write_whole;
-use crate::words::{Time, is_word, replay_words};
+use crate::words::{ReplayWords, Time, is_word, replay_words};
 use bim_io::{Clock, MemClock, Sink, Source};
 use bim_model::Text;
 use std::alloc::Global;
 
 const USAGE: &str = "usage: bim_server replay|check|generate|serve\n";
 
+/// The exit status for want of memory.
+const NO_MEMORY: u8 = 6;
+
 fn print_usage<K: Sink>(sink: &mut K) -> u8
     ensures { (source : SourceSeen) (clock : ClockSeen) → PrintsUsage (outside source (K.seen sink.old) clock) (outside source (K.seen sink.new) clock) result }
 {
     let _written = write_whole(sink, USAGE.as_bytes());
     2
+}
+
+// Replays one recorded session by what the words say.
+fn replay<S: Source, K: Sink, C: Clock>(
+    alloc: Global,
+    said: ReplayWords,
+    source: &mut S,
+    sink: &mut K,
+    clock: &mut C,
+) -> u8
+    requires { IsReplay said }
+    ensures does { ReplaysBy said.time said.projects (outside (S.seen source.old) (K.seen sink.old) (C.seen clock.old))
+        (outside (S.seen source.new) (K.seen sink.new) (C.seen clock.new)) result }
+    ensures read { ComesOfFault (S.seen source.old).faults (S.seen source.new).faults (result ≡ 4) }
+    ensures write { result ≡ 5 → Rose (K.seen sink.old).faults (K.seen sink.new).faults }
+{
+    match said.time {
+        Time::OfClock => status_of(run_session(alloc, said.projects, source, sink, clock)),
+        Time::At(moment) => {
+            let mut one_moment = MemClock::new(moment);
+            status_of(run_session(alloc, said.projects, source, sink, &mut one_moment))
+        }
+    }
 }
 
 /// Replays one recorded session: reads requests from the source, answers them over a book of one thread, and writes
@@ -38,13 +64,10 @@ pub fn run_replay<S: Source, K: Sink, C: Clock>(
     ensures read { ComesOfFault (S.seen source.old).faults (S.seen source.new).faults (result ≡ 4) }
     ensures write { result ≡ 5 → Rose (K.seen sink.old).faults (K.seen sink.new).faults }
 {
-    match replay_words(words) {
-        None => print_usage(sink),
-        Some(Time::OfClock) => status_of(run_session(alloc, source, sink, clock)),
-        Some(Time::At(moment)) => {
-            let mut one_moment = MemClock::new(moment);
-            status_of(run_session(alloc, source, sink, &mut one_moment))
-        }
+    match replay_words(alloc, words) {
+        Ok(Some(said)) => replay(alloc, said, source, sink, clock),
+        Ok(None) => print_usage(sink),
+        Err(_) => NO_MEMORY,
     }
 }
 

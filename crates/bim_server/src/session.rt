@@ -1,15 +1,15 @@
 //! One session over one source and one sink, with a one-thread book.
-ghost use Rattle.std.specs.Prelude.{◌≡◌, ◌<◌, ◌^◌, ◌+◌, false, None, IsSome};
-ghost use Rattle.bim_io.specs.Seen.{Outside, outside};
+ghost use Rattle.std.specs.Prelude.{◌≡◌, ◌<◌, ◌≤◌, ◌^◌, ◌+◌, false, None, IsSome};
+ghost use Rattle.bim_io.specs.Seen.{outside};
 ghost use Rattle.federation_book.specs.History.{IsBefore};
 ghost use Rattle.bim_session.specs.Replay.{Replays, status_of};
-ghost use Rattle.bim_server.specs.Loop.{SoFar, Goes, Reading, Writing, Called, fuel};
+ghost use Rattle.bim_server.specs.Loop.{Reading, Writing, Called, StepsOn};
 
 use crate::one_thread::OneThread;
 use crate::sinks::write_whole;
 use bim_io::{Clock, Sink, Source};
-use bim_session::{SessionEnd, Talk, Want};
-use federation_book::BookRequest;
+use bim_session::{MOST_READ, SessionEnd, Talk, Want};
+use federation_book::{BookRequest, MOST_PROJECTS};
 use std::alloc::Global;
 
 /// Whether a session goes on after a step.
@@ -25,6 +25,7 @@ pub fn status_of(end: SessionEnd) -> u8
 {
     match end {
         SessionEnd::Closed { .. } => 0,
+        SessionEnd::Asked { .. } => 0,
         SessionEnd::ReadFault { .. } => 4,
         SessionEnd::WriteFault { .. } => 5,
         SessionEnd::Memory { .. } => 6,
@@ -38,7 +39,7 @@ fn read_more<S: Source>(talk: &mut Talk, source: &mut S) -> Progress
     requires { talk.old.ended ≡ false }
     ensures { Reading (S.seen source.old) (S.seen source.new) talk.old result talk.new }
 {
-    let mut room = [0u8; 16384];
+    let mut room = [0u8; MOST_READ];
     match source.read(&mut room) {
         Ok(count) => match talk.feed(&room[..count]) {
             Ok(()) => Progress::Again,
@@ -73,6 +74,7 @@ fn call_book<K: Sink>(
     requires turns { server.old.turns < 2 ^ 63 }
     ensures step { Called call (K.seen sink.old) (K.seen sink.new) talk.old server.old result talk.new server.new }
     ensures earlier { IsBefore (server.new.turns + 1) server.new.history }
+    ensures projects { server.new.projects ≡ server.old.projects }
 {
     let served = talk.served();
     let receipt = server.call(call);
@@ -85,6 +87,7 @@ fn call_book<K: Sink>(
     }
 }
 
+// Asks the talk what it wants, and does it.
 fn take_step<S: Source, K: Sink, C: Clock>(
     talk: &mut Talk,
     server: &mut OneThread,
@@ -94,9 +97,10 @@ fn take_step<S: Source, K: Sink, C: Clock>(
 ) -> Progress
     requires idle { talk.old.waits ≡ None }
     requires turns { server.old.turns < 2 ^ 63 }
-    ensures step { (before : Outside) → SoFar before (outside (S.seen source.old) (K.seen sink.old) (C.seen clock.old)) talk.old server.old
-        → Goes before (outside (S.seen source.new) (K.seen sink.new) (C.seen clock.new)) result talk.new server.new }
-    ensures smaller { result ≡ Progress.Again → fuel talk.new < fuel talk.old }
+    requires earlier { IsBefore (server.old.turns + 1) server.old.history }
+    ensures step { StepsOn (outside (S.seen source.old) (K.seen sink.old) (C.seen clock.old))
+        (outside (S.seen source.new) (K.seen sink.new) (C.seen clock.new)) talk.old server.old result talk.new server.new }
+    ensures projects { server.new.projects ≡ server.old.projects }
 {
     let served = talk.served();
     match talk.next(clock) {
@@ -108,26 +112,36 @@ fn take_step<S: Source, K: Sink, C: Clock>(
     }
 }
 
-/// Reads requests, and answers them, until the session ends.
+/// Reads requests, and answers them over a book of so many projects, until the session ends.
 pub fn run_session<S: Source, K: Sink, C: Clock>(
     alloc: Global,
+    projects: u32,
     source: &mut S,
     sink: &mut K,
     clock: &mut C,
 ) -> SessionEnd
-    ensures { Replays 1 (outside (S.seen source.old) (K.seen sink.old) (C.seen clock.old))
+    requires some { 1 ≤ projects }
+    requires few { projects ≤ MOST_PROJECTS }
+    ensures { Replays projects (outside (S.seen source.old) (K.seen sink.old) (C.seen clock.old))
         (outside (S.seen source.new) (K.seen sink.new) (C.seen clock.new)) result }
 {
     let Ok(mut talk) = Talk::new(alloc) else {
         return SessionEnd::Memory { served: 0 };
     };
-    let Ok(mut server) = OneThread::new(alloc) else {
+    let Ok(mut server) = OneThread::new(alloc, projects) else {
         return SessionEnd::Memory { served: 0 };
     };
-    'steps: loop {
+    // No session comes near so many steps: each one answers, or reads a piece of a request whose bytes are bounded.
+    'steps: for _ in 0..u64::MAX {
         match take_step(&mut talk, &mut server, source, sink, clock) {
             Progress::Again => {}
             Progress::End(end) => return end,
         }
+    }
+    match talk.leaving() {
+        Some(end) => end,
+        None => SessionEnd::Memory {
+            served: talk.served(),
+        },
     }
 }

@@ -70,6 +70,30 @@ fn each_request_has_a_moment_of_its_own(rt: HostRuntime) -> Result<(), Fail> {
     Ok(())
 }
 
+const CONTINUED: &[u8] =
+    b"POST /bcf/3.0/projects/00000001-0000-8000-8000-000000000000/topics HTTP/1.1\r\nHost: h\r\nExpect: 100-continue\r\nContent-Length: 2\r\n\r\n{}";
+
+const CONTINUED_ANSWERS: &[u8] =
+    b"HTTP/1.1 100 Continue\r\n\r\nHTTP/1.1 422 Unprocessable Entity\r\nContent-Type: application/json\r\nContent-Length: 34\r\n\r\n{\"code\":\"B3\",\"message\":\"B3 Title\"}";
+
+// A request of HTTP/1.0, and another, which is not answered.
+const CLOSED: &[u8] =
+    b"\r\nGET /bcf/3.0/projects/00000001-0000-8000-8000-000000000000/topics HTTP/1.0\r\n\r\nGET /bcf/3.0/projects/00000001-0000-8000-8000-000000000000/topics HTTP/1.1\r\nHost: h\r\n\r\n";
+
+const CLOSED_ANSWER: &[u8] =
+    b"HTTP/1.1 200 OK\r\nContent-Type: application/json\r\nX-Book-Turn: 1\r\nConnection: close\r\nContent-Length: 2\r\n\r\n[]";
+
+// The 100 comes once and before the body is read; after the answer to a request that closes nothing is answered; empty
+// lines before the end are no request.
+#[test]
+fn a_session_goes_on_and_closes(rt: HostRuntime) -> Result<(), Fail> {
+    let alloc = rt.alloc();
+    assert_replays(&rt, alloc, 1, CONTINUED, CONTINUED_ANSWERS)?;
+    assert_replays(&rt, alloc, 100_000, CONTINUED, CONTINUED_ANSWERS)?;
+    assert_replays(&rt, alloc, 1, CLOSED, CLOSED_ANSWER)?;
+    assert_replays(&rt, alloc, 3, b"\r\n\n\r\n", b"")
+}
+
 fn fails_at(alloc: Global, call: u64) -> Result<Items<u64>, Fail> {
     let mut fails = Items::new(alloc);
     fails.push(call)?;
@@ -165,6 +189,10 @@ fn words_outside_the_grammar_print_the_usage(rt: HostRuntime) -> Result<(), Fail
     assert_words(&rt, alloc, &["replay", "--at", "253402207200"], 0, b"")?;
     assert_words(&rt, alloc, &["replay", "--at", "253402207201"], 2, usage)?;
     assert_words(&rt, alloc, &["replay", "--at", "+5"], 2, usage)?;
+    assert_words(&rt, alloc, &["replay", "--projects", "8", "--at=5"], 0, b"")?;
+    assert_words(&rt, alloc, &["replay", "--projects", "9"], 2, usage)?;
+    assert_words(&rt, alloc, &["replay", "--at", "5", "--at", "6"], 2, usage)?;
+    assert_words(&rt, alloc, &["replay", "--help"], 2, usage)?;
     assert_words(&rt, alloc, &["check"], 2, usage)?;
     assert_words(&rt, alloc, &[], 2, usage)
 }

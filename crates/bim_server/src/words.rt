@@ -1,12 +1,16 @@
-//! The words of the command line.
-ghost use Rattle.std.specs.Prelude.{◌≡◌, IfSome};
+//! The words of the command line. A parser of command lines takes them apart; what their values say is judged here.
+ghost use Rattle.std.specs.Prelude.{◌≡◌, ◌≤◌, ℕ, true, map, option_map, IfOk, IfSome};
 ghost use Rattle.std.specs.List.{list_all};
 ghost use Rattle.std.specs.Char.{is_ascii_digit};
 ghost use Rattle.std.specs.Str.{bytes_eq};
-ghost use Rattle.bim_model.specs.Moments.{IsMoment};
-ghost use Rattle.bim_server.specs.Words.{moment_word, at_words, replay_words, IsTime};
+ghost use Rattle.clap.specs.Words.{app_of, found_of, is_simple_and_free, rows_of, rule_of};
+ghost use Rattle.bim_server.specs.Words.{is_number, within, number_word, option_of, replay_command, IsParse, time_said, projects_said, both_said, replay_said, replay_words, IsTime, IsCount, IsReplay};
 
 use bim_model::{Moment, Text};
+use clap::error::ErrorKind;
+use clap::{Arg, ArgAction, ArgMatches, Command};
+use federation_book::MOST_PROJECTS;
+use std::alloc::{AllocError, Global};
 
 /// What time it is for a replay.
 #[derive(Clone, Copy, Debug, PartialEq, Eq)]
@@ -17,30 +21,12 @@ pub enum Time {
     At(u64),
 }
 
-fn are_digits(text: &[u8]) -> bool
-    ensures { result ≡ list_all is_ascii_digit text.now }
-{
-    text.iter().all(|b| b.is_ascii_digit())
-}
-
-// The moment that 1 to 20 digits write.
-#[tactic(auto, using(http_frame::proofs::Digits::one_more), unfolding(crate::specs::Words::moment_word))]
-fn moment_word(text: &[u8]) -> Option<u64>
-    ensures value { result ≡ moment_word text.now }
-    ensures bound { IfSome result IsMoment }
-{
-    if text.is_empty() || text.len() > 20 || !are_digits(text) {
-        return None;
-    }
-    let mut value = 0u128;
-    for b in text {
-        value = value * 10 + (*b - b'0') as u128;
-    }
-    if value <= Moment::LAST as u128 {
-        Some(value as u64)
-    } else {
-        None
-    }
+/// What the words of `replay` say.
+#[derive(Clone, Copy, Debug, PartialEq, Eq)]
+pub struct ReplayWords {
+    pub time: Time,
+    /// How many projects there are: 1 to 8.
+    pub projects: u32,
 }
 
 /// Whether a word is this one.
@@ -50,28 +36,147 @@ pub fn is_word(word: &Text, wanted: &str) -> bool
     word.as_str() == wanted
 }
 
-fn at_words(word: &Text, number: &Text) -> Option<Time>
-    ensures words { result ≡ at_words word.now number.now }
-    ensures time { IfSome result IsTime }
+fn are_digits(text: &[u8]) -> bool
+    ensures { result ≡ list_all is_ascii_digit text.now }
 {
-    if !is_word(word, "--at") {
+    text.iter().all(|b| b.is_ascii_digit())
+}
+
+// Whether a text is 1 to 20 digits.
+fn is_number(text: &str) -> bool
+    ensures { result ≡ is_number text.now }
+{
+    1 <= text.len() && text.len() <= 20 && are_digits(text.as_bytes())
+}
+
+fn within(least: u64, most: u64, number: u64) -> Option<u64>
+    ensures value { result ≡ within least most number }
+    ensures low { IfSome result (λ n. least ≤ n) }
+    ensures high { IfSome result (λ n. n ≤ most) }
+{
+    if least <= number && number <= most {
+        Some(number)
+    } else {
+        None
+    }
+}
+
+// The number that 1 to 20 digits write, where it is one of these.
+fn number_word(least: u64, most: u64, text: &str) -> Option<u64>
+    ensures value { result ≡ number_word least most text.now }
+    ensures low { IfSome result (λ n. least ≤ n) }
+    ensures high { IfSome result (λ n. n ≤ most) }
+{
+    if !is_number(text) {
         return None;
     }
-    match moment_word(number.as_str().as_bytes()) {
+    match text.parse::<u64>() {
+        Ok(number) => within(least, most, number),
+        Err(_) => None,
+    }
+}
+
+// An option that takes a value: `--name V` or `--name=V`.
+fn option_of<'a>(alloc: Global, name: &'a str) -> Arg<'a>
+    ensures rule { rule_of result ≡ option_of name.entry.now }
+    ensures local { result.global ≡ false }
+{
+    Arg::new(alloc, name).long(name).action(ArgAction::Set)
+}
+
+// The command `replay`, of the words behind its name, without help.
+fn replay_command<'a>(alloc: Global) -> Result<Command<'a>, AllocError>
+    ensures { IfOk result (λ command. app_of command ≡ replay_command) }
+{
+    let plain = Command::new(alloc, "replay")
+        .no_binary_name(true)
+        .disable_help_flag(true);
+    let timed = plain.arg(option_of(alloc, "at"))?;
+    timed.arg(option_of(alloc, "projects"))
+}
+
+// The words as texts, lent.
+fn lent_words<'a>(alloc: Global, words: &'a [Text]) -> Result<Vec<&'a str>, AllocError>
+    ensures { IfOk result (λ lent. map (λ s. s.now) lent.items ≡ words.entry.now) }
+{
+    let mut lent = Vec::new(alloc);
+    for word in words {
+        lent.push(word.as_str())?;
+    }
+    Ok(lent)
+}
+
+// What a command finds in words, where it takes them.
+fn parse<'a>(command: Command<'a>, words: &'a [&str]) -> Result<Option<ArgMatches<'a>>, AllocError>
+    requires { is_simple_and_free (app_of command.entry) ≡ true }
+    ensures { IfOk result (IsParse (app_of command.entry) (map (λ s. s.now) words.entry.now)) }
+{
+    match command.try_get_matches_from(words) {
+        Ok(matches) => Ok(Some(matches)),
+        Err(error) => match error.kind() {
+            ErrorKind::OutOfMemory => Err(AllocError),
+            _ => Ok(None),
+        },
+    }
+}
+
+fn time_said(text: Option<&str>) -> Option<Time>
+    ensures said { result ≡ time_said (option_map (λ s. s.now) text.entry) }
+    ensures time { IfSome result IsTime }
+{
+    let Some(text) = text else {
+        return Some(Time::OfClock);
+    };
+    match number_word(0, Moment::LAST, text) {
         Some(moment) => Some(Time::At(moment)),
         None => None,
     }
 }
 
-/// What the words of `replay` say, if they are in its grammar: none, or `--at` and a moment of 1 to 20 digits, at most
-/// 253,402,207,200.
-pub fn replay_words(words: &[Text]) -> Option<Time>
-    ensures words { result ≡ replay_words words.now }
-    ensures time { IfSome result IsTime }
+fn projects_said(text: Option<&str>) -> Option<u32>
+    ensures said { result ≡ projects_said (option_map (λ s. s.now) text.entry) }
+    ensures count { IfSome result IsCount }
 {
-    match words {
-        [] => Some(Time::OfClock),
-        [word, number] => at_words(word, number),
+    let Some(text) = text else {
+        return Some(1);
+    };
+    match number_word(1, MOST_PROJECTS as u64, text) {
+        Some(number) => Some(number as u32),
+        None => None,
+    }
+}
+
+fn both_said(time: Option<Time>, projects: Option<u32>) -> Option<ReplayWords>
+    requires time { IfSome time IsTime }
+    requires count { IfSome projects IsCount }
+    ensures said { result ≡ both_said time projects }
+    ensures replay { IfSome result IsReplay }
+{
+    match (time, projects) {
+        (Some(time), Some(projects)) => Some(ReplayWords { time, projects }),
         _ => None,
+    }
+}
+
+fn replay_said(matches: &ArgMatches<'_>) -> Option<ReplayWords>
+    ensures said { result ≡ replay_said (rows_of (found_of matches.now)) }
+    ensures replay { IfSome result IsReplay }
+{
+    let time = time_said(matches.get_str("at"));
+    let projects = projects_said(matches.get_str("projects"));
+    both_said(time, projects)
+}
+
+/// What the words behind `replay` say, where they are in its grammar: `--at N` for a moment, at most 253,402,207,200, and
+/// `--projects N`, from 1 to 8, in any order, each at most once, also spelled `--at=N`. A number is 1 to 20 digits.
+pub fn replay_words(alloc: Global, words: &[Text]) -> Result<Option<ReplayWords>, AllocError>
+    ensures words { IfOk result (λ said. said ≡ replay_words words.now) }
+    ensures replay { IfOk result (λ said. IfSome said IsReplay) }
+{
+    let command = replay_command(alloc)?;
+    let lent = lent_words(alloc, words)?;
+    match parse(command, lent.as_slice())? {
+        Some(matches) => Ok(replay_said(&matches)),
+        None => Ok(None),
     }
 }

@@ -1,2 +1,3 @@
 pub mod Talks
+pub mod Reading
 pub mod Sessions

@@ -1,15 +1,19 @@
 -- From what the framer and the parts of a talk answer to what a talk wants.
-use Rattle.std.proofs.Common.{◌≡◌, ℕ, List, [], ◌∷◌, Option, Some, None, Result, Ok, Err, IfOk, inl, inr, refl, sym, ap, ◌∙◌, subst}
+use Rattle.std.proofs.Common.{◌≡◌, ◌⊎◌, ℕ, ◌+◌, Bool, true, false, List, [], ◌∷◌, Option, Some, None, Result, Ok, Err, IfOk, OnOk, OnErr, inl, inr, refl, sym, ap, ◌∙◌, subst}
 use Rattle.std.specs.declared.alloc.AllocError.{AllocError}
-use Rattle.http_frame.specs.declared.framer.HttpRequest.{HttpRequest}
-use Rattle.http_frame.specs.Requests.{Begins, IsRefused, IsUnfinished}
-use Rattle.bcf_http.specs.Calls.{kind_of}
+use Rattle.http_frame.specs.declared.types.HttpRequest.{HttpRequest}
+use Rattle.http_frame.specs.declared.types.FrameFault.{FrameFault}
+use Rattle.http_frame.specs.declared.types.FrameStep.TheVariants as step
+use Rattle.http_frame.specs.declared.types.FrameError.TheVariants as error
+use Rattle.http_frame.specs.declared.framer.Framer.{Framer}
+use Rattle.http_frame.specs.Framers.{Stands, Answered}
 use Rattle.bim_io.specs.Seen.{ClockSeen, ClockGives}
 use Rattle.bim_io.proofs.Calls.{clock_none}
 use Rattle.bim_session.specs.declared.end.SessionEnd.{SessionEnd}
 use Rattle.bim_session.specs.declared.want.Want.{Want}
 use Rattle.bim_session.specs.declared.want.Want.TheVariants.{More, Write, Call, Leave}
-use Rattle.bim_session.specs.Talking.{TalkState, IsOwnLeaving, IsOwnWant, Talks, WantsFor, AtRest, AnswersFault, with_answer, with_call, with_fault, with_rest}
+use Rattle.bim_session.specs.Session.{closes_after, continue_bytes, IsFaultResponse}
+use Rattle.bim_session.specs.Talking.{TalkState, IsOwnLeaving, IsOwnWant, Wants, StopsNext, LacksNext, Talks, TakesRequest, Writes, WantsFor, AtRest, StopsShort, waiting_for, with_answer, with_call, with_fault, with_framer, with_memory}
 
 pub none_of : (o : Option SessionEnd) → ((e : SessionEnd) → o ≡ Some e → ⊥) → o ≡ None
 none_of None not_some = refl
@@ -22,72 +26,160 @@ leave_is a b e = cc
 pub own_leaving : (leaving : Option SessionEnd) (e : SessionEnd) → IsOwnLeaving leaving → leaving ≡ Some e → IsOwnWant (Leave e)
 own_leaving leaving e own is = λ n. (λ w. (own n).0 (is ∙ ap Some (leave_is e _ w)), λ w. (own n).1 (is ∙ ap Some (leave_is e _ w)))
 
-pub talks_rest : (old : TalkState) (want : Want) → old.leaving ≡ None → IsUnfinished old.rest → AtRest old want → Talks [] old want old
-talks_rest old More here less rest = (refl, here, rest, less, refl)
-talks_rest old (Write bytes) here less rest = absurd rest
-talks_rest old (Call call) here less rest = absurd rest
-talks_rest old (Leave e) here less rest = (refl, inr (here, rest.0, rest.1), refl)
+-- ---- what a framer stands for
 
-fault_wanted : (old new : TalkState) (want : Want) → old.leaving ≡ None → IsRefused old.rest → AnswersFault old want new → Talks [] old want new
-fault_wanted old new More here refused answers = absurd answers
-fault_wanted old new (Write bytes) here refused answers =
-    let rest : new.rest ≡ old.rest = ap (λ (s : TalkState). s.rest) answers.1 in
-    (here, inr (inl (refused, refl), answers.0, answers.1 ∙ ap (λ r. with_fault r old) (sym rest)))
-fault_wanted old new (Call call) here refused answers = absurd answers
-fault_wanted old new (Leave e) here refused answers = absurd answers
+stands_at : (f : Framer) (a b : List ℕ) (t u : Bool) → a ≡ b → t ≡ u → Stands f a t → Stands f b u
+stands_at f a b t u e d stands = subst (λ (v : Bool). Stands f b v) d (subst (λ (w : List ℕ). Stands f w t) e stands)
 
-pub talks_fault : (old new : TalkState) (r : Result Want AllocError) → old.leaving ≡ None → IsRefused old.rest
-    → IfOk r (λ want. AnswersFault old want new) → IfOk r (λ want. Talks [] old want new)
-talks_fault old new (Ok want) here refused answers = fault_wanted old new want here refused answers
-talks_fault old new (Err e) here refused answers = tt
+-- ---- what is wanted next
 
-took_wants : (old new : TalkState) (rest : List ℕ) (m : ℕ) (request : HttpRequest) (want : Want) → old.leaving ≡ None → Begins old.rest request rest
-    → WantsFor m request (with_rest rest old) want new → Talks (m ∷ []) old want new
-took_wants old new rest m request More here begins wants = absurd wants
-took_wants old new rest m request (Call call) here begins wants =
-    let left : new.rest ≡ rest = ap (λ (s : TalkState). s.rest) wants.1 in (
-      here,
+-- no event is at hand
+pub wants_rest : (old : TalkState) (f : Framer) (want : Want) (c : ClockSeen) → old.leaving ≡ None
+    → ((rest : List ℕ) (told : Bool) → Stands old.framer rest told → Answered rest told (Ok step.More) f)
+    → AtRest (with_framer f old) want → Wants c c old want (with_framer f old)
+wants_rest old f More c here steps rests = λ rest told stands.
+    let a = steps rest told stands in
+    ([], clock_none c, (here, rests, a.2.0, a.2.1, (refl, stands_at f a.0 rest a.1 told a.2.2 a.2.3 a.3), refl))
+wants_rest old f (Write bytes) c here steps rests = absurd rests
+wants_rest old f (Call call) c here steps rests = absurd rests
+wants_rest old f (Leave e) c here steps rests = λ rest told stands.
+    let a = steps rest told stands in
+    let now : Stands f rest told = stands_at f a.0 rest a.1 told a.2.2 a.2.3 a.3 in
+    ([], clock_none c, (refl, inr (here, rests.0, a.2.0, a.2.1, rests.1 rest told now a.2.1)))
+
+-- it leaves, as it was to
+pub wants_leave : (old : TalkState) (e : SessionEnd) (c : ClockSeen) → old.leaving ≡ Some e → Wants c c old (Leave e) old
+wants_leave old e c is = λ rest told stands. ([], clock_none c, (refl, inl is))
+
+continued : (old : TalkState) (f : Framer) (want : Want) (c : ClockSeen) → old.leaving ≡ None
+    → ((rest : List ℕ) (told : Bool) → Stands old.framer rest told → Answered rest told (Ok step.Continue) f)
+    → Writes (λ bytes. bytes ≡ continue_bytes) want → Wants c c old want (with_framer f old)
+continued old f More c here steps writes = absurd writes
+continued old f (Write bytes) c here steps writes = λ rest told stands.
+    let a = steps rest told stands in
+    ([], clock_none c, (here, inl (a.2.0, a.2.1, writes, (refl, stands_at f a.0 rest a.1 true a.2.2 a.2.3 a.3), refl)))
+continued old f (Call call) c here steps writes = absurd writes
+continued old f (Leave e) c here steps writes = absurd writes
+
+-- a Continue is answered
+pub wants_continue : (old : TalkState) (f : Framer) (r : Result Want AllocError) (c : ClockSeen) → old.leaving ≡ None
+    → ((rest : List ℕ) (told : Bool) → Stands old.framer rest told → Answered rest told (Ok step.Continue) f)
+    → IfOk r (Writes (λ bytes. bytes ≡ continue_bytes)) → IfOk r (λ want. Wants c c old want (with_framer f old))
+wants_continue old f (Ok want) c here steps writes = continued old f want c here steps writes
+wants_continue old f (Err e) c here steps writes = tt
+
+faulted : (old new : TalkState) (f : Framer) (fault : FrameFault) (want : Want) (c : ClockSeen) → old.leaving ≡ None
+    → ((rest : List ℕ) (told : Bool) → Stands old.framer rest told → Answered rest told (Err (error.Fault fault)) f)
+    → Writes (IsFaultResponse fault) want → new ≡ with_fault fault (with_framer f old) → Wants c c old want new
+faulted old new f fault More c here steps writes is = absurd writes
+faulted old new f fault (Write bytes) c here steps writes is = λ rest told stands.
+    let a = steps rest told stands in
+    let same : new.framer ≡ f = ap (λ (s : TalkState). s.framer) is in
+    let state : new ≡ with_fault fault (with_framer new.framer old) = is ∙ ap (λ (g : Framer). with_fault fault (with_framer g old)) (sym same) in
+    let now : Stands new.framer rest told = subst (λ (g : Framer). Stands g rest told) (sym same) (stands_at f a.0 rest a.1 told a.2.2 a.2.3 a.3) in
+    ([], clock_none c, (here, inr (inr (fault, (refl, now), (a.2.0, a.2.1), writes, state))))
+faulted old new f fault (Call call) c here steps writes is = absurd writes
+faulted old new f fault (Leave e) c here steps writes is = absurd writes
+
+-- a fault is answered
+pub wants_fault : (old new : TalkState) (f : Framer) (fault : FrameFault) (r : Result Want AllocError) (c : ClockSeen) → old.leaving ≡ None
+    → ((rest : List ℕ) (told : Bool) → Stands old.framer rest told → Answered rest told (Err (error.Fault fault)) f)
+    → IfOk r (Writes (IsFaultResponse fault)) → OnOk r (new ≡ with_fault fault (with_framer f old)) → IfOk r (λ want. Wants c c old want new)
+wants_fault old new f fault (Ok want) c here steps writes is = faulted old new f fault want c here steps writes is
+wants_fault old new f fault (Err e) c here steps writes is = tt
+
+-- a request was taken at the moment
+abbrev took : (m : ℕ) (r : HttpRequest) (f g : Framer) (rest : List ℕ) (told : Bool) → Answered rest told (Ok (step.Request r)) f → g ≡ f
+    → TakesRequest rest told (m ∷ []) g
+took m r f g rest told a same = record {
+  moment = m;
+  request = r;
+  later = a.0;
+  one = refl;
+  settled = a.2.0;
+  next = a.2.1;
+  stands = subst (λ (h : Framer). Stands h a.0 false) (sym same) (stands_at f a.0 a.0 a.1 false refl a.2.2 a.3);
+}
+
+requested : (old new : TalkState) (f : Framer) (m : ℕ) (r : HttpRequest) (want : Want) (a b : ClockSeen) → old.leaving ≡ None
+    → ((rest : List ℕ) (told : Bool) → Stands old.framer rest told → Answered rest told (Ok (step.Request r)) f) → ClockGives a b (m ∷ [])
+    → WantsFor m r (with_framer f old) want new → Wants a b old want new
+requested old new f m r More a b here steps gives wants = absurd wants
+requested old new f m r (Call call) a b here steps gives wants = λ rest told stands.
+    let same : new.framer ≡ f = ap (λ (s : TalkState). s.framer) wants.1 in (
+      m ∷ [],
+      gives,
       (
-        m,
-        request,
-        refl,
-        subst (λ (b : List ℕ). Begins old.rest request b) (sym left) begins,
-        wants.0,
-        wants.1 ∙ ap (λ b. with_call b (kind_of request) old) (sym left),
+        here,
+        (
+          took m r f new.framer rest told (steps rest told stands) same,
+          wants.0,
+          wants.1 ∙ ap (λ (g : Framer). with_call (waiting_for r (old.served + 1)) (with_framer g old)) (sym same),
+        ),
       ),
     )
-took_wants old new rest m request (Write bytes) here begins (inl alone) =
-    let left : new.rest ≡ rest = ap (λ (s : TalkState). s.rest) alone.1 in (
-      here,
-      inl (
-        m,
-        request,
-        refl,
-        subst (λ (b : List ℕ). Begins old.rest request b) (sym left) begins,
-        alone.0,
-        alone.1 ∙ ap (λ b. with_answer b old) (sym left),
+requested old new f m r (Write bytes) a b here steps gives wants = λ rest told stands.
+    let same : new.framer ≡ f = ap (λ (s : TalkState). s.framer) wants.1 in (
+      m ∷ [],
+      gives,
+      (
+        here,
+        inr (inl (
+          took m r f new.framer rest told (steps rest told stands) same,
+          wants.0,
+          wants.1 ∙ ap (λ (g : Framer). with_answer (closes_after r (old.served + 1)) (with_framer g old)) (sym same),
+        )),
       ),
     )
-took_wants old new rest m request (Write bytes) here begins (inr fault) =
-    let left : new.rest ≡ rest = ap (λ (s : TalkState). s.rest) fault.2 in (
-      here,
-      inr (
-        inr (m, request, refl, subst (λ (b : List ℕ). Begins old.rest request b) (sym left) begins, fault.0),
-        fault.1,
-        fault.2 ∙ ap (λ b. with_fault b old) (sym left),
-      ),
-    )
-took_wants old new rest m request (Leave e) here begins wants = absurd wants
+requested old new f m r (Leave e) a b here steps gives wants = absurd wants
 
 -- a request was taken at the moment that the clock gave
-pub wants_taken : (old new : TalkState) (rest : List ℕ) (m : ℕ) (request : HttpRequest) (a b : ClockSeen) (r : Result Want AllocError)
-    → old.leaving ≡ None → Begins old.rest request rest → ClockGives a b (m ∷ []) → IfOk r (λ want. WantsFor m request (with_rest rest old) want new)
-    → IfOk r (λ want. (moments : List ℕ) × ClockGives a b moments × Talks moments old want new)
-wants_taken old new rest m request a b (Ok want) here begins gives wants = (m ∷ [], gives, took_wants old new rest m request want here begins wants)
-wants_taken old new rest m request a b (Err e) here begins gives wants = tt
+pub wants_taken : (old new : TalkState) (f : Framer) (m : ℕ) (r : HttpRequest) (result : Result Want AllocError) (a b : ClockSeen) → old.leaving ≡ None
+    → ((rest : List ℕ) (told : Bool) → Stands old.framer rest told → Answered rest told (Ok (step.Request r)) f) → ClockGives a b (m ∷ [])
+    → IfOk result (λ want. WantsFor m r (with_framer f old) want new) → IfOk result (λ want. Wants a b old want new)
+wants_taken old new f m r (Ok want) a b here steps gives wants = requested old new f m r want a b here steps gives wants
+wants_taken old new f m r (Err e) a b here steps gives wants = tt
 
--- no request was taken, and the clock was not asked
-pub wants_none : (old new : TalkState) (c : ClockSeen) (r : Result Want AllocError) → IfOk r (λ want. Talks [] old want new)
-    → IfOk r (λ want. (moments : List ℕ) × ClockGives c c moments × Talks moments old want new)
-wants_none old new c (Ok want) talks = ([], clock_none c, talks)
-wants_none old new c (Err e) talks = tt
+-- ---- want of memory
+
+-- a request was taken
+pub stops_taken : (old new : TalkState) (f : Framer) (m : ℕ) (r : HttpRequest) (a b : ClockSeen)
+    → ((rest : List ℕ) (told : Bool) → Stands old.framer rest told → Answered rest told (Ok (step.Request r)) f) → ClockGives a b (m ∷ [])
+    → new.framer ≡ f → StopsNext a b old new
+stops_taken old new f m r a b steps gives same = λ rest told stands.
+    (m ∷ [], gives, inr (took m r f new.framer rest told (steps rest told stands) same))
+
+on_err : (result : Result Want AllocError) (P : Type 0) → P → OnErr result P
+on_err (Ok want) P p = tt
+on_err (Err e) P p = p
+
+-- nothing was taken
+abbrev StopsAt : ClockSeen → Framer → Framer → Type 0
+StopsAt c f g =
+    (rest : List ℕ) (told : Bool) → Stands f rest told
+    → (moments : List ℕ) × ClockGives c c moments × ((moments ≡ []) ⊎ TakesRequest rest told moments g)
+
+pub stops_none : (f g : Framer) (c : ClockSeen) → StopsAt c f g
+stops_none f g c = λ rest told stands. ([], clock_none c, inl refl)
+
+pub stops_none_on : (result : Result Want AllocError) (f g : Framer) (c : ClockSeen) → OnErr result (StopsAt c f g)
+stops_none_on result f g c = on_err result (StopsAt c f g) (stops_none f g c)
+
+pub stops_taken_on : (result : Result Want AllocError) (old new : TalkState) (f : Framer) (m : ℕ) (r : HttpRequest) (a b : ClockSeen)
+    → ((rest : List ℕ) (told : Bool) → Stands old.framer rest told → Answered rest told (Ok (step.Request r)) f) → ClockGives a b (m ∷ [])
+    → OnErr result (new ≡ with_framer f old) → OnErr result (StopsNext a b old new)
+stops_taken_on (Ok want) old new f m r a b steps gives is = tt
+stops_taken_on (Err e) old new f m r a b steps gives is = stops_taken old new f m r a b steps gives (ap (λ (s : TalkState). s.framer) is)
+
+-- want of memory ended the talk
+pub lacks_next : (old mid new : TalkState) (a b : ClockSeen) → old.leaving ≡ None → mid ≡ with_framer mid.framer old → StopsNext a b old mid
+    → new ≡ with_memory mid → LacksNext a b old new
+lacks_next old mid new a b here same stops is = λ rest told stands.
+    let s = stops rest told stands in
+    let framer : new.framer ≡ mid.framer = ap (λ (t : TalkState). t.framer) is in
+    let state : new ≡ with_memory (with_framer new.framer old) =
+    is ∙ ap with_memory same ∙ ap (λ (g : Framer). with_memory (with_framer g old)) (sym framer) in
+    (s.0, s.1, (here, short rest told s.0 mid new framer s.2, state))
+  where
+    short : (rest : List ℕ) (told : Bool) (moments : List ℕ) (mid new : TalkState) → new.framer ≡ mid.framer → StopsShort rest told moments mid → StopsShort rest told moments new
+    short rest told moments mid new framer stops = subst (λ (g : Framer). (moments ≡ []) ⊎ TakesRequest rest told moments g) (sym framer) stops

@@ -1,12 +1,14 @@
 -- A session over a one-thread book, as a run with one actor.
-use Rattle.std.specs.Prelude.{◌≡◌, ℕ, List, length}
+use Rattle.std.specs.Prelude.{◌≡◌, ◌⊎◌, ◌≤◌, ◌++◌, ℕ, List, [], length, Bool, false}
 use Rattle.bim_io.specs.Causes.{ComesOfFault}
 use Rattle.bim_io.specs.Seen.{Outside, EndsEmpty, Exchanges}
+use Rattle.http_frame.specs.Events.{Event, IsRest, IsTold}
 use Rattle.federation_book.specs.declared.types.Entry.{Entry}
 use Rattle.federation_book.specs.Runs.{Step, IsRun, IsOneThread}
+use Rattle.bim_session.specs.declared.talk.TheConstants.{MOST_READ}
 use Rattle.bim_session.specs.declared.end.SessionEnd.{SessionEnd}
-use Rattle.bim_session.specs.declared.end.SessionEnd.TheVariants.{Closed, Cut, ReadFault, WriteFault, Frame, Spent, Memory}
-use Rattle.bim_session.specs.Session.{Session}
+use Rattle.bim_session.specs.declared.end.SessionEnd.TheVariants.{Closed, Asked, Cut, ReadFault, WriteFault, Frame, Spent, Memory}
+use Rattle.bim_session.specs.Session.{Session, Standing, Reads}
 
 -- it ends by a failed read
 abbrev pub IsReadFault : SessionEnd → Type 0
@@ -16,10 +18,42 @@ IsReadFault end = (n : ℕ) × (end ≡ ReadFault n)
 abbrev pub IsWriteFault : SessionEnd → Type 0
 IsWriteFault end = (n : ℕ) × (end ≡ WriteFault n)
 
+-- where a session over a new book begins, whose steps have turns up to this one
+abbrev pub beginning : ℕ → List Entry → ℕ → Standing
+beginning projects history top = record { projects = projects; history = history; last = 0; top = top; served = 0 }
+
+-- the most bytes that one read gives
+abbrev pub most_read : ℕ
+most_read = MOST_READ
+
+-- these bytes hold no event that is not among the first of those answered
+pub record HoldsNoMore (bytes : List ℕ) (events : List Event) : Type 0 where
+  pub first : List Event
+  pub later : List Event
+  pub rest : List ℕ
+  pub told : Bool
+  pub events_are : events ≡ first ++ later
+  pub reads : Reads bytes false first rest told
+  pub settled : IsTold told rest
+  pub nothing : IsRest rest
+
+-- No more was read than was needed: what was read before the last piece holds no event that was not answered.
+pub record ReadsAsNeeded (input : List ℕ) (events : List Event) : Type 0 where
+  pub earlier : List ℕ
+  pub piece : List ℕ
+  pub input_is : input ≡ earlier ++ piece
+  pub one_read : length piece ≤ most_read
+  pub needed : (earlier ≡ []) ⊎ HoldsNoMore earlier events
+
 -- A source gave the input and has nothing left once it answered its end, a clock gave the moments, and a sink took the
 -- output. The steps of the session are the turns of a run with one actor, from 1 without a gap, and its history is the one
 -- whose entries below a printed turn decide the reply. It ends by a fault exactly where a read or a write failed. Where an
 -- object doesn't tell, some input, some moments and some output are meant.
+--
+-- What is written before a read: since a session ends by the first call that fails, a read or a write, nothing is written
+-- after a read that fails, and nothing is read after a write that fails. So a source whose n-th read fails shows that all
+-- events of what the reads before it gave were answered before it, and a sink whose n-th write fails shows that no read
+-- came between an event and its answer.
 pub record Replays (projects : ℕ) (before after : Outside) (end : SessionEnd) : Type 0 where
   pub input : List ℕ
   pub moments : List ℕ
@@ -30,13 +64,15 @@ pub record Replays (projects : ℕ) (before after : Outside) (end : SessionEnd) 
   pub empty : EndsEmpty after.source
   pub run : IsRun projects steps history
   pub one_thread : IsOneThread steps
-  pub session : Session projects history 0 (length steps) after.source.ended input moments output steps end
+  pub session : Session (beginning projects history (length steps)) after.source.ended input moments output steps end
+  pub as_needed : ReadsAsNeeded input session.events
   pub read_fault : ComesOfFault before.source.faults after.source.faults (IsReadFault end)
   pub write_fault : ComesOfFault before.sink.faults after.sink.faults (IsWriteFault end)
 
 -- the exit status of a session's end
 abbrev pub status_of : SessionEnd → ℕ
 status_of (Closed n) = 0
+status_of (Asked n) = 0
 status_of (Cut n) = 7
 status_of (ReadFault n) = 4
 status_of (WriteFault n) = 5

@@ -1,18 +1,18 @@
--- A session: what is written for the bytes that one connection gives, at the turns of one history.
-use Rattle.std.specs.Prelude.{◌≡◌, ◌≢◌, ◌⊎◌, ℕ, ◌+◌, ◌<◌, ◌≤◌, ◌==◌, ◌++◌, List, [], ◌∷◌, length, Bool, true, Some, None, Result, Ok, Err, IsTrue}
+-- A session: what is written for the bytes that one connection gives, at the turns of one history (RFC 9112).
+use Rattle.std.specs.Prelude.{◌≡◌, ◌≢◌, ◌⊎◌, ℕ, ◌+◌, ◌<◌, ◌≤◌, ◌==◌, ◌||◌, ◌++◌, List, [], ◌∷◌, Bool, true, false, Option, Some, None, Result, Ok, Err, IsTrue, codes}
 use Rattle.bim_model.specs.declared.element.Element.{Element}
 use Rattle.bim_model.specs.declared.upload.UploadFault.{UploadFault}
 use Rattle.model_build.specs.Profile.{Profile}
-use Rattle.http_frame.specs.declared.framer.HttpRequest.{HttpRequest}
-use Rattle.http_frame.specs.declared.framer.FrameFault.TheVariants as frame
-use Rattle.http_frame.specs.Requests.{Begins, Reads, IsRefused, IsUnfinished}
+use Rattle.http_frame.specs.declared.types.HttpRequest.{HttpRequest}
+use Rattle.http_frame.specs.declared.types.FrameFault.{FrameFault}
+use Rattle.http_frame.specs.Events.{Begins, Asks, Event, IsRest, IsTold, Spells}
+use Rattle.http_frame.specs.Events as frame
 use Rattle.federation_book.specs.declared.types.Entry.{Entry}
 use Rattle.federation_book.specs.declared.types.BookRequest.{BookRequest}
 use Rattle.federation_book.specs.declared.types.BookRequest.TheVariants.{Upload}
 use Rattle.federation_book.specs.History.{reply_of, added_by, at_turn, of_turn}
 use Rattle.federation_book.specs.Runs.{Step}
 use Rattle.bcf_http.specs.declared.calls.RequestFault.{RequestFault}
-use Rattle.bcf_http.specs.declared.calls.RequestFault.TheVariants.{NotBuilt}
 use Rattle.bcf_http.specs.declared.calls.HttpCall.{HttpCall}
 use Rattle.bcf_http.specs.declared.calls.HttpCall.TheVariants.{Ask, Build}
 use Rattle.bcf_http.specs.declared.answers.Answer.{Answer}
@@ -21,17 +21,71 @@ use Rattle.bcf_http.specs.Calls.{asked_by, kind_of, no_kind}
 use Rattle.bcf_http.specs.Answers.{IsResponse}
 use Rattle.bim_session.specs.declared.talk.TheConstants.{MOST_REQUESTS}
 use Rattle.bim_session.specs.declared.end.SessionEnd.{SessionEnd}
-use Rattle.bim_session.specs.declared.end.SessionEnd.TheVariants.{Closed, Cut, ReadFault, WriteFault, Frame, Spent, Memory}
+use Rattle.bim_session.specs.declared.end.SessionEnd.TheVariants.{Closed, Asked, Cut, ReadFault, WriteFault, Frame, Spent, Memory}
+
+-- ---- what the bytes spell
+
+-- The bytes begin with these events, and the rest follows. Told: the Continue of the first request was answered,
+-- before the events, and after them.
+abbrev pub Reads : List ℕ → Bool → List Event → List ℕ → Bool → Type 0
+Reads bytes told [] rest mark = (bytes ≡ rest) × (told ≡ mark)
+Reads bytes told (frame.continue ∷ events) rest mark =
+    (told ≡ false) × Asks bytes × Reads bytes true events rest mark
+Reads bytes told (frame.request r ∷ events) rest mark =
+    IsTold told bytes × ((after : List ℕ) × Begins bytes r after × Reads after false events rest mark)
+
+-- how many requests an event is
+abbrev pub counted : Event → ℕ
+counted frame.continue = 0
+counted (frame.request r) = 1
+
+-- how many requests are among the events
+abbrev pub requests : List Event → ℕ
+requests [] = 0
+requests (event ∷ events) = counted event + requests events
+
+-- ---- when the connection is closed
 
 -- the most requests of a session
 abbrev pub most_requests : ℕ
 most_requests = MOST_REQUESTS
 
--- the connection is closed behind the answer to the request of this number, counted from 1
-abbrev pub closes_after : ℕ → Bool
-closes_after n = n == most_requests
+-- the connection is closed behind the answer to the request of this number, counted from 1, which asks for that or is
+-- the last that is answered
+abbrev pub closes_after : HttpRequest → ℕ → Bool
+closes_after request number = request.close || number == most_requests
 
--- the call of the book that what is asked for means: itself, or, for a model, the upload of one that the profile accepts
+-- the same of an event, where so many requests were answered before
+abbrev pub closes : ℕ → Event → Bool
+closes served frame.continue = false
+closes served (frame.request r) = closes_after r (served + 1)
+
+-- the connection is closed behind one of the events
+abbrev pub is_closed : ℕ → List Event → Bool
+is_closed served [] = false
+is_closed served (event ∷ events) = closes served event || is_closed (served + counted event) events
+
+-- ---- the answer to a request
+
+-- where a session stands between two answers: how many projects there are, the history, the last turn of its steps and
+-- the greatest that one may have, and how many requests were answered
+pub record Standing : Type 0 where
+  pub projects : ℕ
+  pub history : List Entry
+  pub last : ℕ
+  pub top : ℕ
+  pub served : ℕ
+
+-- a request that was taken where a session stands, at its moment
+pub record Asking : Type 0 where
+  pub standing : Standing
+  pub moment : ℕ
+  pub request : HttpRequest
+
+abbrev pub asking : Standing → ℕ → HttpRequest → Asking
+asking standing moment request = record { standing = standing; moment = moment; request = request }
+
+-- the call of the book that what is asked for means: itself, or the upload of a model that the profile accepts
 abbrev pub MeansCall : Result HttpCall RequestFault → BookRequest → Type 0
 MeansCall (Ok (Ask asked)) call = asked ≡ call
 MeansCall (Ok (Build project name mode body)) call =
@@ -42,139 +96,216 @@ MeansCall (Err fault) call = ⊥
 abbrev pub Means : ℕ → HttpRequest → BookRequest → Type 0
 Means moment request call = MeansCall (asked_by moment request) call
 
--- how what is asked for is refused: by the request's fault, or by the fault that the profile finds in the body
+-- how what is asked for is refused: by the request's fault, or by the one that the profile finds in the body
 abbrev pub RefusesCall : Result HttpCall RequestFault → Answer → Type 0
 RefusesCall (Ok (Ask asked)) refusal = ⊥
-RefusesCall (Ok (Build project name mode body)) refusal = (fault : UploadFault) × Profile body mode (Err fault) × (refusal ≡ answer.Built fault)
-RefusesCall (Err fault) refusal = (fault ≢ NotBuilt) × (refusal ≡ answer.Refused fault)
+RefusesCall (Ok (Build project name mode body)) refusal =
+    (fault : UploadFault) × Profile body mode (Err fault) × (refusal ≡ answer.Built fault)
+RefusesCall (Err fault) refusal = refusal ≡ answer.Refused fault
 
 -- the request alone refuses itself at a moment, with this answer
 abbrev pub IsRefusedBy : ℕ → HttpRequest → Answer → Type 0
 IsRefusedBy moment request refusal = RefusesCall (asked_by moment request) refusal
 
--- a request means this step of the book at a moment; the step's entry is what the change adds
-pub record Takes (projects : ℕ) (history : List Entry) (moment : ℕ) (request : HttpRequest) (step : Step) : Type 0 where
-  pub means : Means moment request step.request
-  pub entry : of_turn step.stamp.turn history ≡ added_by projects (at_turn step.stamp.turn history) step.stamp step.request
+-- the bytes are the response to the request that is so answered, with this turn or none
+abbrev pub IsResponseTo : Asking → Answer → Option ℕ → List ℕ → Type 0
+IsResponseTo a answer turn bytes =
+    IsResponse answer (kind_of a.request) turn (closes_after a.request (a.standing.served + 1)) bytes
 
--- a request took one step of the book at a moment, at a turn above `last` and up to `top`
-pub record TakesTurn (projects : ℕ) (history : List Entry) (last top moment : ℕ) (request : HttpRequest) (steps : List Step) : Type 0 where
+-- the request took the one step of the book that it means, at a turn above those before; the step's entry is what the
+-- change adds
+pub record TakesTurn (a : Asking) (steps : List Step) : Type 0 where
   pub step : Step
   pub one : steps ≡ step ∷ []
-  pub above : last < step.stamp.turn
-  pub within : step.stamp.turn ≤ top
-  pub takes : Takes projects history moment request step
+  pub above : a.standing.last < step.stamp.turn
+  pub within : step.stamp.turn ≤ a.standing.top
+  pub means : Means a.moment a.request step.request
+  pub entry : of_turn step.stamp.turn a.standing.history
+      ≡ added_by a.standing.projects (at_turn step.stamp.turn a.standing.history) step.stamp step.request
 
--- the request alone decides the answer at a moment, which prints no turn
-pub record IsPlain (moment : ℕ) (request : HttpRequest) (close : Bool) (bytes : List ℕ) (steps : List Step) : Type 0 where
+-- the request alone decides the answer, which prints no turn
+pub record IsPlain (a : Asking) (bytes : List ℕ) (steps : List Step) : Type 0 where
   pub refusal : Answer
-  pub refused : IsRefusedBy moment request refusal
-  pub response : IsResponse refusal (kind_of request) None close bytes
+  pub refused : IsRefusedBy a.moment a.request refusal
+  pub response : IsResponseTo a refusal None bytes
   pub none : steps ≡ []
 
--- the answer is the book's at the entries below the turn that it prints; that turn is above those before
-pub record IsBooked (projects : ℕ) (history : List Entry) (last top moment : ℕ) (request : HttpRequest) (close : Bool) (bytes : List ℕ) (steps : List Step) : Type 0 where
-  pub taken : TakesTurn projects history last top moment request steps
-  pub response : IsResponse (answer.Book (reply_of projects (at_turn taken.step.stamp.turn history) taken.step.request)) (kind_of request)
-      (Some taken.step.stamp.turn) close bytes
+-- the answer is the book's at the entries below the turn that it prints
+pub record IsBooked (a : Asking) (bytes : List ℕ) (steps : List Step) : Type 0 where
+  pub taken : TakesTurn a steps
+  pub response : IsResponseTo a
+      (answer.Book (reply_of a.standing.projects (at_turn taken.step.stamp.turn a.standing.history) taken.step.request))
+      (Some taken.step.stamp.turn) bytes
 
 -- the step that the request took changes nothing
-pub record TakesIdly (projects : ℕ) (history : List Entry) (last top moment : ℕ) (request : HttpRequest) (steps : List Step) : Type 0 where
-  pub taken : TakesTurn projects history last top moment request steps
-  pub idle : of_turn taken.step.stamp.turn history ≡ []
+pub record TakesIdly (a : Asking) (steps : List Step) : Type 0 where
+  pub taken : TakesTurn a steps
+  pub idle : of_turn taken.step.stamp.turn a.standing.history ≡ []
 
--- memory is wanting for the answer: none changes anything, and no turn is printed
-pub record LacksMemory (projects : ℕ) (history : List Entry) (last top moment : ℕ) (request : HttpRequest) (close : Bool) (bytes : List ℕ) (steps : List Step) : Type 0 where
-  pub response : IsResponse answer.Memory (kind_of request) None close bytes
-  pub idle : (steps ≡ []) ⊎ TakesIdly projects history last top moment request steps
+-- memory is wanting for the answer: nothing is changed, and no turn is printed
+pub record LacksMemory (a : Asking) (bytes : List ℕ) (steps : List Step) : Type 0 where
+  pub response : IsResponseTo a answer.Memory None bytes
+  pub idle : (steps ≡ []) ⊎ TakesIdly a steps
 
--- the answer to one request at its moment, which is of one of three kinds, with the steps that it took
-abbrev pub Answers : ℕ → List Entry → ℕ → ℕ → ℕ → HttpRequest → Bool → List ℕ → List Step → Type 0
-Answers projects history last top moment request close bytes steps =
-    IsPlain moment request close bytes steps
-    ⊎ (IsBooked projects history last top moment request close bytes steps ⊎ LacksMemory projects history last top moment request close bytes steps)
+-- the answer to a request, which is of one of three kinds, with the steps that it took
+abbrev pub Answers : Asking → List ℕ → List Step → Type 0
+Answers a bytes steps = IsPlain a bytes steps ⊎ (IsBooked a bytes steps ⊎ LacksMemory a bytes steps)
+
+-- ---- the answers to events
+
+-- the answer to a Continue
+abbrev pub continue_bytes : List ℕ
+continue_bytes = codes "HTTP/1.1 100 Continue\r\n\r\n"
+
+-- the answer to an event, with the moments that were asked for and the steps that it took
+abbrev pub AnswersEvent : Standing → Event → List ℕ → List ℕ → List Step → Type 0
+AnswersEvent s frame.continue moments bytes steps = (moments ≡ []) × (bytes ≡ continue_bytes) × (steps ≡ [])
+AnswersEvent s (frame.request r) moments bytes steps =
+    (moment : ℕ) × (moments ≡ moment ∷ []) × Answers (asking s moment r) bytes steps
 
 -- the last turn of the steps, or the one before them
 abbrev pub last_turn : ℕ → List Step → ℕ
 last_turn last [] = last
 last_turn last (s ∷ ss) = last_turn s.stamp.turn ss
 
--- The requests, of which `count` came before, are answered in their order, each once and each at the moment of its own;
--- what is written is the answers.
-abbrev pub Answered : ℕ → List Entry → ℕ → ℕ → ℕ → List HttpRequest → List ℕ → List ℕ → List Step → Type 0
-Answered projects history top last count [] moments out steps = (moments ≡ []) × (out ≡ []) × (steps ≡ [])
-Answered projects history top last count (r ∷ rs) moments out steps =
-    (moment : ℕ) × (after : List ℕ) × (piece : List ℕ) × (later : List ℕ) × (first : List Step) × (others : List Step)
-    × (moments ≡ moment ∷ after) × Answers projects history last top moment r (closes_after (count + 1)) piece first
-    × (out ≡ piece ++ later) × (steps ≡ first ++ others)
-    × Answered projects history top (last_turn last first) (count + 1) rs after later others
+-- where a session stands after an event that was answered by these steps
+abbrev pub past : Standing → Event → List Step → Standing
+past s event steps = record s { last = last_turn s.last steps; served = s.served + counted event }
 
--- The bytes begin with what is refused: no served head, for which no moment is asked, or a request that is not served yet
--- at its moment. The later bytes follow.
-abbrev pub Faults : List ℕ → List ℕ → List ℕ → Type 0
-Faults moments rest later = (IsRefused rest × (moments ≡ []))
-    ⊎ ((moment : ℕ) × (request : HttpRequest) × (moments ≡ moment ∷ []) × Begins rest request later × (asked_by moment request ≡ Err NotBuilt))
+-- where it stands after all of these events
+abbrev pub behind : Standing → List Event → List Step → Standing
+behind s events steps = record s { last = last_turn s.last steps; served = s.served + requests events }
+
+-- The events are answered in their order, each once, and each request at the moment of its own; what is written is the
+-- answers. Behind the answer that closes the connection none is answered.
+abbrev pub Answered : Standing → List Event → List ℕ → List ℕ → List Step → Type 0
+Answered s [] moments out steps = (moments ≡ []) × (out ≡ []) × (steps ≡ [])
+Answered s (event ∷ events) moments out steps =
+    (asked : List ℕ) × (after : List ℕ) × (bytes : List ℕ) × (later : List ℕ) × (first : List Step) × (others : List Step)
+    × (moments ≡ asked ++ after) × (out ≡ bytes ++ later) × (steps ≡ first ++ others)
+    × AnswersEvent s event asked bytes first × (closes s.served event ≡ true → events ≡ [])
+    × Answered (past s event first) events after later others
 
 -- the response to a fault of the bytes, which closes the connection
-abbrev pub IsFaultResponse : List ℕ → Type 0
-IsFaultResponse bytes = IsResponse (answer.Frame frame.NotBuilt) no_kind None true bytes
+abbrev pub IsFaultResponse : FrameFault → List ℕ → Type 0
+IsFaultResponse fault bytes = IsResponse (answer.Frame fault) no_kind None true bytes
 
--- these bytes are the next that a session writes: the answer to the next request, or the fault's response
-abbrev pub IsNext : ℕ → List Entry → ℕ → ℕ → List ℕ → ℕ → List ℕ → List ℕ → List Step → Type 0
-IsNext projects history last top rest served moments bytes steps =
-    ((moment : ℕ) × (request : HttpRequest) × (later : List ℕ) × (moments ≡ moment ∷ []) × Begins rest request later
-    × Answers projects history last top moment request (closes_after (served + 1)) bytes steps)
-    ⊎ ((later : List ℕ) × Faults moments rest later × IsFaultResponse bytes × (steps ≡ []))
+-- ---- how a session ends
+
+-- where a session stops, and whether its last answer closed the connection; whether the input has answered its end; the
+-- bytes that are left, and whether the Continue of the request there was answered; and what came after the answers: the
+-- moments that were asked for, the bytes that were written and the steps that were taken
+pub record Stop : Type 0 where
+  pub standing : Standing
+  pub closed : Bool
+  pub ended : Bool
+  pub rest : List ℕ
+  pub told : Bool
+  pub moments : List ℕ
+  pub bytes : List ℕ
+  pub steps : List Step
+
+-- nothing was asked for, written or done after the answers
+abbrev pub IsBare : Stop → Type 0
+IsBare s = (s.moments ≡ []) × (s.bytes ≡ []) × (s.steps ≡ [])
+
+-- the response to the fault with which the bytes that are left begin, for which nothing was asked for or done
+abbrev pub AnswersFault : Stop → FrameFault → List ℕ → Type 0
+AnswersFault s fault bytes =
+    Spells s.rest s.told [] (frame.bad fault) × IsFaultResponse fault bytes × (s.moments ≡ []) × (s.steps ≡ [])
+
+-- these bytes are the next that a session writes: the answer to the next event, or the response to a fault
+abbrev pub IsNext : Stop → List ℕ → Type 0
+IsNext s bytes =
+    ((event : Event) × (later : List ℕ) × (mark : Bool) × Reads s.rest s.told (event ∷ []) later mark
+    × AnswersEvent s.standing event s.moments bytes s.steps)
+    ⊎ ((fault : FrameFault) × AnswersFault s fault bytes)
 
 -- the next request was taken at its moment, and perhaps a step for it, although no answer to it was written
-pub record TakesUnanswered (projects : ℕ) (history : List Entry) (last top : ℕ) (rest moments : List ℕ) (steps : List Step) : Type 0 where
+pub record TakesUnanswered (s : Stop) : Type 0 where
   pub moment : ℕ
-  pub one_moment : moments ≡ moment ∷ []
   pub request : HttpRequest
   pub later : List ℕ
-  pub next : Begins rest request later
-  pub taken : (steps ≡ []) ⊎ TakesTurn projects history last top moment request steps
+  pub one : s.moments ≡ moment ∷ []
+  pub told : IsTold s.told s.rest
+  pub next : Begins s.rest request later
+  pub taken : (s.steps ≡ []) ⊎ TakesTurn (asking s.standing moment request) s.steps
 
--- How a session ends, after so many requests were answered whole and where these bytes are left; what it took of the
--- input beyond them, the moment that it asked for and what it wrote behind the answers, and the step that it took without
--- a whole answer. `ended` says whether the input has answered its end.
-abbrev pub Ends : ℕ → List Entry → ℕ → ℕ → Bool → List ℕ → ℕ → SessionEnd → List ℕ → List ℕ → List ℕ → List Step → Type 0
-Ends projects history last top ended rest served (Closed n) extra late tail steps =
-    (n ≡ served) × (served < most_requests) × IsTrue ended × (rest ≡ []) × (extra ≡ []) × (late ≡ []) × (tail ≡ []) × (steps ≡ [])
-Ends projects history last top ended rest served (Cut n) extra late tail steps =
-    (n ≡ served) × (served < most_requests) × IsTrue ended × (rest ≢ []) × IsUnfinished rest
-    × (extra ≡ []) × (late ≡ []) × (tail ≡ []) × (steps ≡ [])
-Ends projects history last top ended rest served (ReadFault n) extra late tail steps =
-    (n ≡ served) × (served < most_requests) × IsUnfinished rest × (extra ≡ []) × (late ≡ []) × (tail ≡ []) × (steps ≡ [])
-Ends projects history last top ended rest served (WriteFault n) extra late tail steps =
-    (n ≡ served) × (served < most_requests) × (extra ≡ [])
-    × ((more : List ℕ) × (more ≢ []) × IsNext projects history last top rest served late (tail ++ more) steps)
-Ends projects history last top ended rest served (Frame n fault) extra late tail steps =
-    (n ≡ served) × (served < most_requests) × (extra ≡ [])
-    × ((later : List ℕ) × Faults late rest later) × IsFaultResponse tail × (steps ≡ [])
-Ends projects history last top ended rest served (Spent n) extra late tail steps =
-    (n ≡ served) × (served ≡ most_requests) × (extra ≡ []) × (late ≡ []) × (tail ≡ []) × (steps ≡ [])
-Ends projects history last top ended rest served (Memory n) extra late tail steps =
-    (n ≡ served) × (served < most_requests) × (tail ≡ [])
-    × (((late ≡ []) × (steps ≡ [])) ⊎ TakesUnanswered projects history last top rest late steps)
+-- all was answered, and the input ended between requests
+abbrev pub EndsClosed : Stop → SessionEnd → Type 0
+EndsClosed s end =
+    (end ≡ Closed s.standing.served) × (s.closed ≡ false) × IsBare s × IsTrue s.ended
+    × Spells s.rest s.told [] frame.between
 
--- A session that took this input, asked for these moments and wrote this output, by these steps at turns above `last` and
--- up to `top`. Each request that it took has one of the moments, in their order, and there is no other.
-pub record Session (projects : ℕ) (history : List Entry) (last top : ℕ) (ended : Bool) (input moments output : List ℕ) (steps : List Step) (end : SessionEnd) : Type 0 where
-  pub taken : List ℕ
-  pub extra : List ℕ
-  pub requests : List HttpRequest
+-- all was answered, and the input ended within a request
+abbrev pub EndsCut : Stop → SessionEnd → Type 0
+EndsCut s end =
+    (end ≡ Cut s.standing.served) × (s.closed ≡ false) × IsBare s × IsTrue s.ended
+    × Spells s.rest s.told [] frame.within
+
+-- a request that asks for closing was answered, before as many as a session may have
+abbrev pub EndsAsked : Stop → SessionEnd → Type 0
+EndsAsked s end =
+    (end ≡ Asked s.standing.served) × (s.closed ≡ true) × IsBare s × (s.standing.served < most_requests)
+
+-- as many requests as a session may have were answered
+abbrev pub EndsSpent : Stop → SessionEnd → Type 0
+EndsSpent s end =
+    (end ≡ Spent s.standing.served) × (s.closed ≡ true) × IsBare s × (s.standing.served ≡ most_requests)
+
+-- all was answered, and then the fault in which the bytes end
+abbrev pub EndsFrame : Stop → SessionEnd → Type 0
+EndsFrame s end =
+    (fault : FrameFault) × (end ≡ Frame s.standing.served fault) × (s.closed ≡ false) × AnswersFault s fault s.bytes
+
+-- all that the bytes hold was answered, and a read failed
+abbrev pub EndsReading : Stop → SessionEnd → Type 0
+EndsReading s end =
+    (end ≡ ReadFault s.standing.served) × (s.closed ≡ false) × IsBare s × IsTold s.told s.rest × IsRest s.rest
+
+-- what is written next was not written whole
+abbrev pub EndsWriting : Stop → SessionEnd → Type 0
+EndsWriting s end =
+    (end ≡ WriteFault s.standing.served) × (s.closed ≡ false)
+    × ((more : List ℕ) × (more ≢ []) × IsNext s (s.bytes ++ more))
+
+-- memory was wanting, and nothing of what comes next was written
+abbrev pub EndsMemory : Stop → SessionEnd → Type 0
+EndsMemory s end =
+    (end ≡ Memory s.standing.served) × (s.closed ≡ false) × (s.bytes ≡ [])
+    × (((s.moments ≡ []) × (s.steps ≡ [])) ⊎ TakesUnanswered s)
+
+-- how a session ends where it stops
+abbrev pub Ends : Stop → SessionEnd → Type 0
+Ends s end =
+    EndsClosed s end ⊎ (EndsAsked s end ⊎ (EndsCut s end ⊎ (EndsReading s end
+    ⊎ (EndsWriting s end ⊎ (EndsFrame s end ⊎ (EndsSpent s end ⊎ EndsMemory s end))))))
+
+-- A session from a standing that took this input, asked for these moments and wrote this output, by these steps. Each
+-- request that it took has one of the moments, in their order, and there is no other. `ended` says whether the input has
+-- answered its end.
+pub record Session (start : Standing) (ended : Bool) (input moments output : List ℕ) (steps : List Step) (end : SessionEnd) : Type 0 where
+  pub events : List Event
   pub rest : List ℕ
+  pub told : Bool
   pub asked : List ℕ
   pub late : List ℕ
   pub out : List ℕ
   pub tail : List ℕ
   pub done : List Step
   pub more : List Step
-  pub input_is : input ≡ taken ++ extra
   pub moments_are : moments ≡ asked ++ late
   pub output_is : output ≡ out ++ tail
   pub steps_are : steps ≡ done ++ more
-  pub reads : Reads taken requests rest
-  pub answered : Answered projects history top last 0 requests asked out done
-  pub ends : Ends projects history (last_turn last done) top ended rest (length requests) end extra late tail more
+  pub reads : Reads input false events rest told
+  pub answered : Answered start events asked out done
+  pub ends : Ends (record {
+    standing = behind start events done;
+    closed = is_closed start.served events;
+    ended = ended;
+    rest = rest;
+    told = told;
+    moments = late;
+    bytes = tail;
+    steps = more;
+  }) end

@@ -1,143 +1,230 @@
 -- One connection as a machine: what each of its calls does.
-use Rattle.std.specs.Prelude.{◌≡◌, ◌≢◌, ◌⊎◌, ℕ, ◌+◌, ◌++◌, List, [], ◌∷◌, Bool, true, false, if◌then◌else◌, Option, Some, None, Result, Ok, Err}
+use Rattle.std.specs.Prelude.{◌≡◌, ◌≢◌, ◌⊎◌, ℕ, ◌+◌, ◌==◌, ◌++◌, List, [], ◌∷◌, Bool, true, false, if◌then◌else◌, Option, Some, None, IsSome, Result, Ok, Err}
 use Rattle.std.specs.declared.alloc.AllocError.{AllocError}
-use Rattle.http_frame.specs.declared.framer.HttpRequest.{HttpRequest}
-use Rattle.http_frame.specs.declared.framer.FrameFault.TheVariants as frame
-use Rattle.http_frame.specs.Requests.{Begins, IsUnfinished}
-use Rattle.federation_book.specs.declared.types.ReplyBody.{ReplyBody}
-use Rattle.federation_book.specs.declared.types.ReplyBody.TheVariants as reply
-use Rattle.bcf_http.specs.declared.calls.ReplyKind.{ReplyKind}
-use Rattle.bcf_http.specs.declared.calls.RequestFault.TheVariants.{NotBuilt}
-use Rattle.bcf_http.specs.declared.answers.Answer.{Answer}
-use Rattle.bcf_http.specs.declared.answers.Answer.TheVariants as answer
-use Rattle.bcf_http.specs.Calls.{asked_by, kind_of}
-use Rattle.bcf_http.specs.Answers.{IsResponse}
-use Rattle.bim_session.specs.declared.calls.Unasked.{Unasked}
-use Rattle.bim_session.specs.declared.calls.Unasked.TheVariants.{Unserved, Answered}
-use Rattle.bim_session.specs.declared.end.SessionEnd.{SessionEnd}
-use Rattle.bim_session.specs.declared.end.SessionEnd.TheVariants as end
-use Rattle.bim_session.specs.declared.want.Want.{Want}
-use Rattle.bim_session.specs.declared.want.Want.TheVariants.{More, Write, Call, Leave}
+use Rattle.bim_io.specs.Seen.{ClockSeen, ClockGives}
+use Rattle.http_frame.specs.declared.types.HttpRequest.{HttpRequest}
+use Rattle.http_frame.specs.declared.types.FrameFault.{FrameFault}
+use Rattle.http_frame.specs.declared.framer.Framer.{Framer}
+use Rattle.http_frame.specs.Events.{Begins, Asks, IsRest, IsBlank, IsTold, Spells}
+use Rattle.http_frame.specs.Events as frame
+use Rattle.http_frame.specs.Framers.{Stands}
 use Rattle.book_turn.specs.declared.turn.Receipt.{Receipt}
 use Rattle.federation_book.specs.declared.book.Book.{Book}
 use Rattle.federation_book.specs.declared.types.BookRequest.{BookRequest}
 use Rattle.federation_book.specs.declared.types.BookReply.{BookReply}
 use Rattle.federation_book.specs.declared.types.Entry.{Entry}
-use Rattle.bim_session.specs.Session.{closes_after, Faults, IsFaultResponse, Means, IsRefusedBy}
+use Rattle.federation_book.specs.declared.types.ReplyBody.{ReplyBody}
+use Rattle.federation_book.specs.declared.types.ReplyBody.TheVariants as reply
+use Rattle.bcf_http.specs.declared.calls.ReplyKind.{ReplyKind}
+use Rattle.bcf_http.specs.declared.answers.Answer.{Answer}
+use Rattle.bcf_http.specs.declared.answers.Answer.TheVariants as answer
+use Rattle.bcf_http.specs.Calls.{kind_of}
+use Rattle.bcf_http.specs.Answers.{IsResponse}
+use Rattle.bim_session.specs.declared.end.SessionEnd.{SessionEnd}
+use Rattle.bim_session.specs.declared.end.SessionEnd.TheVariants as end
+use Rattle.bim_session.specs.declared.want.Waiting.{Waiting}
+use Rattle.bim_session.specs.declared.want.Want.{Want}
+use Rattle.bim_session.specs.declared.want.Want.TheVariants.{More, Write, Call, Leave}
+use Rattle.bim_session.specs.Session.{most_requests, closes_after, continue_bytes, IsFaultResponse, Means, IsRefusedBy}
 
--- what contracts see of a talk: the bytes fed that follow the last request that it took, whether the end was fed, how
--- many requests were answered, the kind of the request whose call waits, and how it ends once all is written
+-- what contracts see of a talk: its framer, whether the end was fed, how many requests were answered, what the response to
+-- the call that waits needs of its request, and how the talk ends once all is written
 pub record TalkState : Type 0 where
-  pub rest : List ℕ
+  pub framer : Framer
   pub ended : Bool
   pub served : ℕ
-  pub waits : Option ReplyKind
+  pub waits : Option Waiting
   pub leaving : Option SessionEnd
 
--- a talk that has been fed nothing
-abbrev pub fresh : TalkState
-fresh = record { rest = []; ended = false; served = 0; waits = None; leaving = None }
+-- the same talk over another framer
+abbrev pub with_framer : Framer → TalkState → TalkState
+with_framer framer s = record s { framer = framer }
 
--- a piece is fed; an empty one says that the input has ended
-abbrev pub with_piece : List ℕ → TalkState → TalkState
-with_piece [] s = record { rest = s.rest; ended = true; served = s.served; waits = s.waits; leaving = s.leaving }
-with_piece (b ∷ bs) s = record { rest = s.rest ++ b ∷ bs; ended = s.ended; served = s.served; waits = s.waits; leaving = s.leaving }
+-- ---- what is fed
 
-abbrev pub leaving_after : ℕ → Option SessionEnd
-leaving_after n = if closes_after n then Some (end.Spent n) else None
+-- an empty piece says that the input has ended
+abbrev pub is_end : List ℕ → Bool
+is_end [] = true
+is_end (b ∷ bs) = false
 
--- one more request is answered, and these bytes are left
-abbrev pub with_answer : List ℕ → TalkState → TalkState
-with_answer rest s = record { rest = rest; ended = s.ended; served = s.served + 1; waits = None; leaving = leaving_after (s.served + 1) }
+abbrev pub with_piece : Framer → List ℕ → TalkState → TalkState
+with_piece framer piece s = record s { framer = framer; ended = is_end piece }
 
--- the call of a request of this kind waits, and these bytes are left
-abbrev pub with_call : List ℕ → ReplyKind → TalkState → TalkState
-with_call rest kind s = record { rest = rest; ended = s.ended; served = s.served; waits = Some kind; leaving = s.leaving }
+-- the one framer stands for what the other does, and then the piece
+abbrev pub GrowsBy : List ℕ → Framer → Framer → Type 0
+GrowsBy piece old new = (bytes : List ℕ) (told : Bool) → Stands old bytes told → Stands new (bytes ++ piece) told
 
--- a fault ends the talk, and these bytes are left
-abbrev pub with_fault : List ℕ → TalkState → TalkState
-with_fault rest s = record { rest = rest; ended = s.ended; served = s.served; waits = s.waits; leaving = Some (end.Frame s.served frame.NotBuilt) }
+-- the talk stands for the piece too, or the input has ended
+abbrev pub Feeds : List ℕ → TalkState → TalkState → Type 0
+Feeds piece old new = GrowsBy piece old.framer new.framer × (new ≡ with_piece new.framer piece old)
 
--- memory was wanting, which ends the talk, and these bytes are left
-abbrev pub with_memory : List ℕ → TalkState → TalkState
-with_memory rest s = record { rest = rest; ended = s.ended; served = s.served; waits = None; leaving = Some (end.Memory s.served) }
+-- the talk is as it was, for whatever bytes it stood
+abbrev pub Stays : TalkState → TalkState → Type 0
+Stays old new =
+    ((bytes : List ℕ) (told : Bool) → Stands old.framer bytes told → Stands new.framer bytes told)
+    × (new ≡ with_framer new.framer old)
 
--- these bytes are left
-abbrev pub with_rest : List ℕ → TalkState → TalkState
-with_rest rest s = record { rest = rest; ended = s.ended; served = s.served; waits = s.waits; leaving = s.leaving }
+-- ---- how a talk goes on
+
+-- what the response to the request of this number needs of it
+abbrev pub waiting_for : HttpRequest → ℕ → Waiting
+waiting_for request number = record { kind = kind_of request; close = closes_after request number }
+
+-- how a session ends behind the answer to the request of this number, if it does
+abbrev pub leaving_after : ℕ → Bool → Option SessionEnd
+leaving_after number close =
+    if number == most_requests then Some (end.Spent number) else (if close then Some (end.Asked number) else None)
+
+-- one more request is answered, behind which the connection is closed or not
+abbrev pub with_answer : Bool → TalkState → TalkState
+with_answer close s =
+    record s { served = s.served + 1; waits = None; leaving = leaving_after (s.served + 1) close }
+
+-- the call waits of a request for which the response needs this
+abbrev pub with_call : Waiting → TalkState → TalkState
+with_call waiting s = record s { waits = Some waiting }
+
+-- a fault ends the talk
+abbrev pub with_fault : FrameFault → TalkState → TalkState
+with_fault fault s = record s { leaving = Some (end.Frame s.served fault) }
+
+-- memory was wanting, which ends the talk
+abbrev pub with_memory : TalkState → TalkState
+with_memory s = record s { waits = None; leaving = Some (end.Memory s.served) }
+
+-- ---- what a talk wants
 
 -- the answer to a request that the request alone decides
-pub record Refuses (moment : ℕ) (request : HttpRequest) (close : Bool) (bytes : List ℕ) : Type 0 where
+pub record Refuses (moment : ℕ) (request : HttpRequest) (waiting : Waiting) (bytes : List ℕ) : Type 0 where
   pub refusal : Answer
   pub refused : IsRefusedBy moment request refusal
-  pub response : IsResponse refusal (kind_of request) None close bytes
+  pub response : IsResponse refusal waiting.kind None waiting.close bytes
 
 -- the answer to a request without a turn: its refusal, or want of memory
-abbrev pub AnswersAlone : ℕ → HttpRequest → Bool → List ℕ → Type 0
-AnswersAlone moment request close bytes = Refuses moment request close bytes ⊎ IsResponse answer.Memory (kind_of request) None close bytes
+abbrev pub AnswersAlone : ℕ → HttpRequest → Waiting → List ℕ → Type 0
+AnswersAlone moment request waiting bytes =
+    Refuses moment request waiting bytes ⊎ IsResponse answer.Memory waiting.kind None waiting.close bytes
 
 -- why a request becomes no call of the book
-abbrev pub IsUnasked : ℕ → HttpRequest → Unasked → Type 0
-IsUnasked moment request Unserved = asked_by moment request ≡ Err NotBuilt
-IsUnasked moment request (Answered refusal) = IsRefusedBy moment request refusal ⊎ (refusal ≡ answer.Memory)
+abbrev pub IsUnasked : ℕ → HttpRequest → Answer → Type 0
+IsUnasked moment request refusal = IsRefusedBy moment request refusal ⊎ (refusal ≡ answer.Memory)
+
+-- it wants to write, and of the bytes this holds
+abbrev pub Writes : (List ℕ → Type 0) → Want → Type 0
+Writes P More = ⊥
+Writes P (Write bytes) = P bytes
+Writes P (Call call) = ⊥
+Writes P (Leave e) = ⊥
 
 -- what a talk wants for a request that it took
 abbrev pub WantsFor : ℕ → HttpRequest → TalkState → Want → TalkState → Type 0
 WantsFor moment request old More new = ⊥
-WantsFor moment request old (Call call) new = Means moment request call × (new ≡ with_call old.rest (kind_of request) old)
+WantsFor moment request old (Call call) new =
+    Means moment request call × (new ≡ with_call (waiting_for request (old.served + 1)) old)
 WantsFor moment request old (Write bytes) new =
-    (AnswersAlone moment request (closes_after (old.served + 1)) bytes × (new ≡ with_answer old.rest old))
-    ⊎ ((asked_by moment request ≡ Err NotBuilt) × IsFaultResponse bytes × (new ≡ with_fault old.rest old))
+    AnswersAlone moment request (waiting_for request (old.served + 1)) bytes
+    × (new ≡ with_answer (closes_after request (old.served + 1)) old)
 WantsFor moment request old (Leave e) new = ⊥
 
--- how a talk ends that has met the end of its input
-abbrev pub MeetsEnd : TalkState → SessionEnd → Type 0
-MeetsEnd s e = ((s.rest ≡ []) × (e ≡ end.Closed s.served)) ⊎ ((s.rest ≢ []) × IsUnfinished s.rest × (e ≡ end.Cut s.served))
+-- how a talk ends whose input has ended, of which these bytes are left
+abbrev pub MeetsEnd : List ℕ → ℕ → SessionEnd → Type 0
+MeetsEnd rest served e = (IsBlank rest × (e ≡ end.Closed served)) ⊎ (¬ (IsBlank rest) × (e ≡ end.Cut served))
 
--- what a talk wants that stands for less than a request
+-- what a talk wants that stands for no event and no fault
 abbrev pub AtRest : TalkState → Want → Type 0
 AtRest s More = s.ended ≡ false
 AtRest s (Write bytes) = ⊥
 AtRest s (Call call) = ⊥
-AtRest s (Leave e) = (s.ended ≡ true) × MeetsEnd s e
+AtRest s (Leave e) =
+    (s.ended ≡ true) × ((rest : List ℕ) (told : Bool) → Stands s.framer rest told → IsRest rest → MeetsEnd rest s.served e)
 
--- a fault is answered, and ends the talk
-abbrev pub AnswersFault : TalkState → Want → TalkState → Type 0
-AnswersFault old More new = ⊥
-AnswersFault old (Write bytes) new = IsFaultResponse bytes × (new ≡ with_fault old.rest old)
-AnswersFault old (Call call) new = ⊥
-AnswersFault old (Leave e) new = ⊥
+-- a talk that stood for these bytes took a request at the one moment that was asked for, and its framer stands for the rest
+pub record TakesRequest (rest : List ℕ) (told : Bool) (moments : List ℕ) (framer : Framer) : Type 0 where
+  pub moment : ℕ
+  pub request : HttpRequest
+  pub later : List ℕ
+  pub one : moments ≡ moment ∷ []
+  pub settled : IsTold told rest
+  pub next : Begins rest request later
+  pub stands : Stands framer later false
 
--- one more request is so answered
-abbrev pub Responds : Answer → ReplyKind → Option ℕ → TalkState → Want → TalkState → Type 0
-Responds a kind turn old More new = ⊥
-Responds a kind turn old (Write bytes) new = IsResponse a kind turn (closes_after (old.served + 1)) bytes × (new ≡ with_answer old.rest old)
-Responds a kind turn old (Call call) new = ⊥
-Responds a kind turn old (Leave e) new = ⊥
+-- no event was taken, and the clock was not asked
+abbrev pub TakesNone : List ℕ → Bool → List ℕ → Framer → Type 0
+TakesNone rest told moments framer = (moments ≡ []) × Stands framer rest told
 
--- what a talk wants next, for which it asked for these moments: one for the request that it took, if it took one
-abbrev pub Talks : List ℕ → TalkState → Want → TalkState → Type 0
-Talks moments old More new = (moments ≡ []) × (old.leaving ≡ None) × (old.ended ≡ false) × IsUnfinished old.rest × (new ≡ old)
-Talks moments old (Call call) new =
-    (old.leaving ≡ None) × ((moment : ℕ) × (request : HttpRequest) × (moments ≡ moment ∷ []) × Begins old.rest request new.rest
-    × Means moment request call × (new ≡ with_call new.rest (kind_of request) old))
-Talks moments old (Write bytes) new =
-    (old.leaving ≡ None) × (((moment : ℕ) × (request : HttpRequest) × (moments ≡ moment ∷ []) × Begins old.rest request new.rest
-    × AnswersAlone moment request (closes_after (old.served + 1)) bytes × (new ≡ with_answer new.rest old))
-    ⊎ (Faults moments old.rest new.rest × IsFaultResponse bytes × (new ≡ with_fault new.rest old)))
-Talks moments old (Leave e) new =
-    (moments ≡ []) × ((old.leaving ≡ Some e) ⊎ ((old.leaving ≡ None) × (old.ended ≡ true) × MeetsEnd old e)) × (new ≡ old)
+-- the Continue of the request that comes is answered
+abbrev pub Continues : List ℕ → Bool → List ℕ → TalkState → List ℕ → TalkState → Type 0
+Continues rest told moments old bytes new =
+    (told ≡ false) × Asks rest × (bytes ≡ continue_bytes) × TakesNone rest true moments new.framer
+    × (new ≡ with_framer new.framer old)
 
--- memory was wanting for what a talk would have wanted next, which ends it; it may have taken a request, at its moment
-abbrev pub Lacks : List ℕ → TalkState → TalkState → Type 0
-Lacks moments old new =
-    (old.leaving ≡ None) × (((moments ≡ []) × (new ≡ with_memory old.rest old))
-    ⊎ ((moment : ℕ) × (request : HttpRequest) × (moments ≡ moment ∷ []) × Begins old.rest request new.rest × (new ≡ with_memory new.rest old)))
+-- a request is answered, which was taken
+abbrev pub AnswersOne : List ℕ → Bool → List ℕ → TalkState → List ℕ → TalkState → Type 0
+AnswersOne rest told moments old bytes new =
+    (one : TakesRequest rest told moments new.framer)
+    × AnswersAlone one.moment one.request (waiting_for one.request (old.served + 1)) bytes
+    × (new ≡ with_answer (closes_after one.request (old.served + 1)) (with_framer new.framer old))
 
--- a talk stands where memory was wanting for what it would have wanted next, before it ends
-abbrev pub StopsShort : List ℕ → TalkState → TalkState → Type 0
-StopsShort moments old new = ((moments ≡ []) × (new ≡ old))
-    ⊎ ((moment : ℕ) × (request : HttpRequest) × (moments ≡ moment ∷ []) × Begins old.rest request new.rest × (new ≡ with_rest new.rest old))
+-- the fault is answered in which the bytes end, and ends the talk
+abbrev pub AnswersFault : List ℕ → Bool → List ℕ → TalkState → List ℕ → TalkState → Type 0
+AnswersFault rest told moments old bytes new =
+    (fault : FrameFault) × TakesNone rest told moments new.framer × Spells rest told [] (frame.bad fault)
+    × IsFaultResponse fault bytes × (new ≡ with_fault fault (with_framer new.framer old))
+
+-- What a talk that stood for these bytes wants next, for which it asked for these moments: one for the request that it
+-- took, if it took one.
+abbrev pub Talks : List ℕ → Bool → List ℕ → TalkState → Want → TalkState → Type 0
+Talks rest told moments old More new =
+    (old.leaving ≡ None) × (old.ended ≡ false) × IsTold told rest × IsRest rest × TakesNone rest told moments new.framer
+    × (new ≡ with_framer new.framer old)
+Talks rest told moments old (Write bytes) new =
+    (old.leaving ≡ None)
+    × (Continues rest told moments old bytes new
+    ⊎ (AnswersOne rest told moments old bytes new ⊎ AnswersFault rest told moments old bytes new))
+Talks rest told moments old (Call call) new =
+    (old.leaving ≡ None)
+    × ((one : TakesRequest rest told moments new.framer) × Means one.moment one.request call
+    × (new ≡ with_call (waiting_for one.request (old.served + 1)) (with_framer new.framer old)))
+Talks rest told moments old (Leave e) new =
+    (moments ≡ [])
+    × ((old.leaving ≡ Some e)
+    ⊎ ((old.leaving ≡ None) × (old.ended ≡ true) × IsTold told rest × IsRest rest × MeetsEnd rest old.served e))
+
+-- what the talk is ready for: to be fed where it wants more, to be answered where it wants a call
+abbrev pub IsReady : Want → TalkState → Type 0
+IsReady More s = s.ended ≡ false
+IsReady (Write bytes) s = Unit {0}
+IsReady (Call call) s = IsSome s.waits × (s.leaving ≡ None)
+IsReady (Leave e) s = Unit {0}
+
+-- memory was wanting for what a talk would have wanted next; it may have taken a request
+abbrev pub StopsShort : List ℕ → Bool → List ℕ → TalkState → Type 0
+StopsShort rest told moments new = (moments ≡ []) ⊎ TakesRequest rest told moments new.framer
+
+-- that ends the talk
+abbrev pub Lacks : List ℕ → Bool → List ℕ → TalkState → TalkState → Type 0
+Lacks rest told moments old new =
+    (old.leaving ≡ None) × StopsShort rest told moments new × (new ≡ with_memory (with_framer new.framer old))
+
+-- for whatever bytes the talk stood: what it wants next, where the clock went from the one to the other
+abbrev pub Wants : ClockSeen → ClockSeen → TalkState → Want → TalkState → Type 0
+Wants before after old want new =
+    (rest : List ℕ) (told : Bool) → Stands old.framer rest told
+    → (moments : List ℕ) × ClockGives before after moments × Talks rest told moments old want new
+
+-- for whatever bytes the talk stood: where memory was wanting for that
+abbrev pub StopsNext : ClockSeen → ClockSeen → TalkState → TalkState → Type 0
+StopsNext before after old new =
+    (rest : List ℕ) (told : Bool) → Stands old.framer rest told
+    → (moments : List ℕ) × ClockGives before after moments × StopsShort rest told moments new
+
+-- the same, where that has ended the talk
+abbrev pub LacksNext : ClockSeen → ClockSeen → TalkState → TalkState → Type 0
+LacksNext before after old new =
+    (rest : List ℕ) (told : Bool) → Stands old.framer rest told
+    → (moments : List ℕ) × ClockGives before after moments × Lacks rest told moments old new
+
+-- ---- the answer to a call
 
 -- a reply that comes of no accepted change
 abbrev pub ChangesNothing : ReplyBody → Type 0
@@ -152,25 +239,29 @@ abbrev pub BookReceipt : Type 0
 BookReceipt = Receipt Book BookRequest BookReply Entry ℕ
 
 -- the response to a call that the book answered with this receipt, or for which memory was wanting
-abbrev pub AnswersCall : Result BookReceipt AllocError → ReplyKind → Bool → List ℕ → Type 0
-AnswersCall (Ok receipt) kind close bytes =
-    IsResponse (answer.Book receipt.reply) kind (Some receipt.turn) close bytes
-    ⊎ (ChangesNothing receipt.reply.body × IsResponse answer.Memory kind None close bytes)
-AnswersCall (Err e) kind close bytes = IsResponse answer.Memory kind None close bytes
+abbrev pub AnswersCall : Result BookReceipt AllocError → Waiting → List ℕ → Type 0
+AnswersCall (Ok receipt) waiting bytes =
+    IsResponse (answer.Book receipt.reply) waiting.kind (Some receipt.turn) waiting.close bytes
+    ⊎ (ChangesNothing receipt.reply.body × IsResponse answer.Memory waiting.kind None waiting.close bytes)
+AnswersCall (Err e) waiting bytes = IsResponse answer.Memory waiting.kind None waiting.close bytes
 
--- what a talk wants after the answer to its call of this kind
-abbrev pub Replies : Result BookReceipt AllocError → ReplyKind → TalkState → Want → TalkState → Type 0
-Replies receipt kind old More new = ⊥
-Replies receipt kind old (Call call) new = ⊥
-Replies receipt kind old (Write bytes) new = AnswersCall receipt kind (closes_after (old.served + 1)) bytes × (new ≡ with_answer old.rest old)
-Replies receipt kind old (Leave e) new = (e ≡ end.Memory old.served) × (new ≡ with_memory old.rest old)
+-- what a talk wants after the answer to its call
+abbrev pub Replies : Result BookReceipt AllocError → Waiting → TalkState → Want → TalkState → Type 0
+Replies receipt waiting old More new = ⊥
+Replies receipt waiting old (Call call) new = ⊥
+Replies receipt waiting old (Write bytes) new =
+    AnswersCall receipt waiting bytes × (new ≡ with_answer waiting.close old)
+Replies receipt waiting old (Leave e) new = (e ≡ end.Memory old.served) × (new ≡ with_memory old)
 
--- what a talk wants where memory was wanting for its call of this kind
-abbrev pub LacksFor : ReplyKind → TalkState → Want → TalkState → Type 0
-LacksFor kind old More new = ⊥
-LacksFor kind old (Call call) new = ⊥
-LacksFor kind old (Write bytes) new = IsResponse answer.Memory kind None (closes_after (old.served + 1)) bytes × (new ≡ with_answer old.rest old)
-LacksFor kind old (Leave e) new = (e ≡ end.Memory old.served) × (new ≡ with_memory old.rest old)
+-- what a talk wants where memory was wanting for its call
+abbrev pub LacksFor : Waiting → TalkState → Want → TalkState → Type 0
+LacksFor waiting old More new = ⊥
+LacksFor waiting old (Call call) new = ⊥
+LacksFor waiting old (Write bytes) new =
+    IsResponse answer.Memory waiting.kind None waiting.close bytes × (new ≡ with_answer waiting.close old)
+LacksFor waiting old (Leave e) new = (e ≡ end.Memory old.served) × (new ≡ with_memory old)
+
+-- ---- whose ends a talk gives
 
 -- an end that a talk gives by itself: never a fault of a read or of a write
 abbrev pub IsOwnEnd : SessionEnd → Type 0

@@ -1,35 +1,16 @@
 //! From requests to calls of the book, with the models that are built for them.
-ghost use Rattle.std.specs.Prelude.{◌≡◌, ◌↔◌, Ok, IsTrue, IfOk, IfErr};
+ghost use Rattle.std.specs.Prelude.{◌≡◌, Ok, IfOk, IfErr};
 ghost use Rattle.bim_model.specs.Moments.{IsMoment};
 ghost use Rattle.model_build.specs.Profile.{IsCause};
 ghost use Rattle.bim_session.specs.Session.{Means, MeansCall};
 ghost use Rattle.bim_session.specs.Talking.{IsUnasked};
 
-use bcf_http::{Answer, HttpCall, Refusal, RequestFault, to_call};
+use bcf_http::{Answer, HttpCall, Refusal, Routes, to_call};
 use bim_model::{BuildError, Bytes, Mode, Shared, Text};
 use federation_book::BookRequest;
 use http_frame::HttpRequest;
 use model_build::build_owned;
 use std::alloc::Global;
-
-/// Why a request does not become a call of the book.
-#[derive(Drop)]
-pub enum Unasked {
-    /// It asks for what is not served yet, which ends the session.
-    Unserved,
-    /// It is so answered: by the fault that the request alone decides, or by want of memory.
-    Answered(Answer),
-}
-
-fn is_unserved(fault: RequestFault) -> bool
-    ensures { IsTrue result ↔ (fault ≡ RequestFault.NotBuilt) }
-{
-    match fault {
-        RequestFault::NotBuilt => true,
-        RequestFault::BadJson => false,
-        RequestFault::Body(_) => false,
-    }
-}
 
 // The upload of the model that a body makes.
 fn upload_of(
@@ -51,14 +32,19 @@ fn upload_of(
     })
 }
 
-/// The call of the book that a request means at a moment, in seconds since 1970. The model of an upload is built here, before any turn is
-/// taken.
-pub fn call_of(alloc: Global, request: HttpRequest, moment: u64) -> Result<BookRequest, Unasked>
+/// The call of the book that a request means at a moment, in seconds since 1970; or how the request is answered without one:
+/// by the fault that it alone decides, or by want of memory. The model of an upload is built here, before any turn is taken.
+pub fn call_of(
+    alloc: Global,
+    routes: &Routes,
+    request: HttpRequest,
+    moment: u64,
+) -> Result<BookRequest, Answer>
     requires { IsMoment moment }
     ensures call { IfOk result (Means moment request) }
     ensures unasked { IfErr result (IsUnasked moment request) }
 {
-    match to_call(alloc, request, moment) {
+    match to_call(alloc, routes, request, moment) {
         Ok(HttpCall::Ask(call)) => Ok(call),
         Ok(
             HttpCall::Build {
@@ -69,15 +55,10 @@ pub fn call_of(alloc: Global, request: HttpRequest, moment: u64) -> Result<BookR
             },
         ) => match upload_of(alloc, project, name, mode, body) {
             Ok(call) => Ok(call),
-            Err(BuildError::Fault(fault)) => Err(Unasked::Answered(Answer::Built(fault))),
-            Err(BuildError::Memory) => Err(Unasked::Answered(Answer::Memory)),
+            Err(BuildError::Fault(fault)) => Err(Answer::Built(fault)),
+            Err(BuildError::Memory) => Err(Answer::Memory),
         },
-        Err(Refusal::Fault(fault)) => {
-            if is_unserved(fault) {
-                return Err(Unasked::Unserved);
-            }
-            Err(Unasked::Answered(Answer::Refused(fault)))
-        }
-        Err(Refusal::Memory) => Err(Unasked::Answered(Answer::Memory)),
+        Err(Refusal::Fault(fault)) => Err(Answer::Refused(fault)),
+        Err(Refusal::Memory) => Err(Answer::Memory),
     }
 }

@@ -3,9 +3,11 @@
 
 mod calls;
 mod end;
+mod laws;
 mod talk;
 mod want;
 
 pub use end::SessionEnd;
-pub use talk::Talk;
-pub use want::Want;
+pub use laws::answers_are_to_the_events;
+pub use talk::{MOST_READ, MOST_REQUESTS, Talk};
+pub use want::{Waiting, Want};

@@ -1,16 +1,17 @@
 //! One connection as a machine without input or output, which asks a clock.
-ghost use Rattle.std.specs.Prelude.{◌≡◌, ◌↔◌, ◌<◌, ℕ, List, None, Some, false, Ok, IsTrue, IsSome, IsOk, IfOk, IfSome, OnOk, OnErr};
+ghost use Rattle.std.specs.Prelude.{◌≡◌, ◌↔◌, ◌+◌, ◌<◌, ◌≤◌, [], None, Some, Ok, false, IsTrue, IsSome, IsOk, IfOk, IfSome, OnOk, OnErr};
 ghost use Rattle.bim_model.specs.Moments.{IsMoment};
-ghost use Rattle.bim_io.specs.Seen.{ClockGives};
-ghost use Rattle.http_frame.specs.Requests.{IsUnfinished};
-ghost use Rattle.bim_session.specs.Session.{most_requests};
-ghost use Rattle.bim_session.specs.Talking.{fresh, with_piece, with_memory, WantsFor, Talks, Lacks, StopsShort, Replies, LacksFor, AtRest, AnswersFault, Responds, IsOwnLeaving, IsOwnWant, leaving_after, ChangesNothing};
+ghost use Rattle.http_frame.specs.Framers.{Stands};
+ghost use Rattle.bim_session.specs.Session.{most_requests, closes_after, continue_bytes, IsFaultResponse};
+ghost use Rattle.bcf_http.specs.Answers.{IsResponse};
+ghost use Rattle.bim_session.specs.Talking.{Feeds, Stays, with_answer, with_fault, with_framer, with_memory, WantsFor, Writes, Wants, StopsNext, LacksNext, Replies, LacksFor, AtRest, IsReady, IsOwnLeaving, IsOwnWant, leaving_after, ChangesNothing};
 
-use crate::calls::{Unasked, call_of};
+use crate::calls::call_of;
 use crate::end::SessionEnd;
-use crate::want::Want;
-use bcf_http::{Answer, ReplyKind, kind_of, to_response};
+use crate::want::{Waiting, Want};
+use bcf_http::{Answer, ReplyKind, Routes, kind_of, to_response};
 use bim_io::Clock;
+use bim_model::Bytes;
 use book_turn::turn::Receipt;
 use federation_book::{Book, ReplyBody};
 use http_frame::{FrameError, FrameFault, FrameStep, Framer, HttpRequest};
@@ -20,14 +21,20 @@ use std::marker::Model;
 /// The most requests that a session is answered.
 pub const MOST_REQUESTS: u64 = 10_000;
 
+/// The most bytes that a session takes by one read.
+pub const MOST_READ: usize = 16_384;
+
+const CONTINUE: &str = "HTTP/1.1 100 Continue\r\n\r\n";
+
 /// One connection. It stands for the bytes fed that follow the last request that it took.
 #[derive(Drop)]
 pub struct Talk {
     alloc: Global,
     framer: Framer,
+    routes: Routes,
     ended: bool,
     served: u64,
-    waits: Option<ReplyKind>,
+    waits: Option<Waiting>,
     leaving: Option<SessionEnd>,
 }
 
@@ -38,17 +45,28 @@ impl Model for Talk {
 
     ghost Value = { TalkState };
 
-    ghost view = { λ t. record { rest = t.framer; ended = t.ended; served = t.served; waits = t.waits; leaving = t.leaving } };
+    ghost view = { λ t. record { framer = t.framer; ended = t.ended; served = t.served; waits = t.waits; leaving = t.leaving } };
 
     ghost invariant = { λ t. (t.served ≤ most_requests) × (t.leaving ≡ None → t.served < most_requests) × IsOwnLeaving t.leaving };
 }
 
-fn leaving_after(served: u64) -> Option<SessionEnd>
-    ensures value { result ≡ leaving_after served }
+// Whether the connection is closed behind the answer to the request of this number.
+fn closes_after(request: &HttpRequest, number: u64) -> bool
+    ensures { result ≡ closes_after request.now number }
+{
+    request.close || number == MOST_REQUESTS
+}
+
+fn leaving_after(number: u64, close: bool) -> Option<SessionEnd>
+    requires { number ≤ most_requests }
+    ensures value { result ≡ leaving_after number close }
+    ensures few { result ≡ None → number < most_requests }
     ensures own { IsOwnLeaving result }
 {
-    if served == MOST_REQUESTS {
-        Some(SessionEnd::Spent { served })
+    if number == MOST_REQUESTS {
+        Some(SessionEnd::Spent { served: number })
+    } else if close {
+        Some(SessionEnd::Asked { served: number })
     } else {
         None
     }
@@ -69,11 +87,15 @@ fn changes_nothing(reply: &ReplyBody) -> bool
 impl Talk {
     /// A talk that has been fed nothing.
     pub fn new(alloc: Global) -> Result<Talk, AllocError>
-        ensures { IfOk result (λ talk. talk ≡ fresh) }
+        ensures fresh { IfOk result (λ talk. talk ≡ record { framer = talk.framer; ended = false; served = 0; waits = None; leaving = None }) }
+        ensures stands { IfOk result (λ talk. Stands talk.framer [] false) }
     {
+        let framer = Framer::new(alloc)?;
+        let routes = Routes::new(alloc)?;
         Ok(Talk {
             alloc,
-            framer: Framer::new(alloc)?,
+            framer,
+            routes,
             ended: false,
             served: 0,
             waits: None,
@@ -88,12 +110,20 @@ impl Talk {
         self.served
     }
 
+    /// How the session ends, where nothing more is answered.
+    pub fn leaving(&self) -> Option<SessionEnd>
+        ensures value { result ≡ self.now.leaving }
+        ensures own { IsOwnLeaving result }
+    {
+        self.leaving
+    }
+
     /// Appends the piece to the bytes fed. An empty piece says that the input has ended; nothing is fed after it. An
     /// `Err` leaves the talk as it was.
     pub fn feed(&mut self, piece: &[u8]) -> Result<(), AllocError>
         requires { self.old.ended ≡ false }
-        ensures ok { OnOk result (self.new ≡ with_piece piece.now self.old) }
-        ensures err { OnErr result (self.new ≡ self.old) }
+        ensures ok { OnOk result (Feeds piece.now self.old self.new) }
+        ensures err { OnErr result (Stays self.old self.new) }
     {
         match piece {
             [] => {
@@ -105,12 +135,13 @@ impl Talk {
     }
 
     /// What is to be done next. A request that is taken is read at a moment of its own, which the clock is asked for then;
-    /// for nothing else is it asked. An `Err` ends the talk for want of memory: each later call says so.
+    /// for nothing else is it asked. More bytes are wanted only where all events of those fed were answered. An `Err` ends
+    /// the talk for want of memory: each later call says so.
     pub fn next<C: Clock>(&mut self, clock: &mut C) -> Result<Want, AllocError>
         requires idle { self.old.waits ≡ None }
-        ensures want { IfOk result (λ want. (moments : List ℕ) × ClockGives (C.seen clock.old) (C.seen clock.new) moments × Talks moments self.old want self.new) }
-        ensures lacks { OnErr result ((moments : List ℕ) × ClockGives (C.seen clock.old) (C.seen clock.new) moments × Lacks moments self.old self.new) }
-        ensures few { self.old.leaving ≡ None → self.old.served < most_requests }
+        ensures want { IfOk result (λ want. Wants (C.seen clock.old) (C.seen clock.new) self.old want self.new) }
+        ensures lacks { OnErr result (LacksNext (C.seen clock.old) (C.seen clock.new) self.old self.new) }
+        ensures ready { IfOk result (λ want. IsReady want self.new) }
         ensures own { IfOk result IsOwnWant }
     {
         match self.step(clock) {
@@ -125,10 +156,11 @@ impl Talk {
     #[tactic(auto, using(crate::proofs::Talks::none_of))]
     fn step<C: Clock>(&mut self, clock: &mut C) -> Result<Want, AllocError>
         requires idle { self.old.waits ≡ None }
-        ensures want { IfOk result (λ want. (moments : List ℕ) × ClockGives (C.seen clock.old) (C.seen clock.new) moments × Talks moments self.old want self.new) }
+        ensures want { IfOk result (λ want. Wants (C.seen clock.old) (C.seen clock.new) self.old want self.new) }
         ensures err { OnErr result (self.old.leaving ≡ None) }
-        ensures short { OnErr result ((moments : List ℕ) × ClockGives (C.seen clock.old) (C.seen clock.new) moments × StopsShort moments self.old self.new) }
-        ensures few { self.old.leaving ≡ None → self.old.served < most_requests }
+        ensures same { OnErr result (self.new ≡ with_framer self.new.framer self.old) }
+        ensures short { OnErr result (StopsNext (C.seen clock.old) (C.seen clock.new) self.old self.new) }
+        ensures ready { IfOk result (λ want. IsReady want self.new) }
         ensures own { IfOk result IsOwnWant }
     {
         if let Some(end) = self.leaving {
@@ -136,6 +168,7 @@ impl Talk {
         }
         match self.framer.next() {
             Ok(FrameStep::More) => Ok(self.at_rest()),
+            Ok(FrameStep::Continue) => self.go_on(),
             Ok(FrameStep::Request(request)) => {
                 let moment = clock.now();
                 self.take(moment, request)
@@ -148,7 +181,7 @@ impl Talk {
     // Ends the talk for want of memory.
     fn give_up(&mut self) -> SessionEnd
         ensures end { result ≡ SessionEnd.Memory self.old.served }
-        ensures state { self.new ≡ with_memory self.old.rest self.old }
+        ensures state { self.new ≡ with_memory self.old }
     {
         let end = SessionEnd::Memory {
             served: self.served,
@@ -158,26 +191,39 @@ impl Talk {
         end
     }
 
-    // What is wanted where less than a request is at hand.
+    // What is wanted where no event and no fault is at hand.
     fn at_rest(&self) -> Want
-        requires { IsUnfinished self.now.rest }
         ensures want { AtRest self.now result }
+        ensures ready { IsReady result self.now }
         ensures own { IsOwnWant result }
     {
         let served = self.served;
         if !self.ended {
             return Want::More;
         }
-        if self.framer.is_empty() {
+        if self.framer.is_between() {
             Want::Leave(SessionEnd::Closed { served })
         } else {
             Want::Leave(SessionEnd::Cut { served })
         }
     }
 
+    // The answer to a Continue.
+    fn go_on(&self) -> Result<Want, AllocError>
+        ensures want { IfOk result (Writes (λ bytes. bytes ≡ continue_bytes)) }
+        ensures ready { IfOk result (λ want. IsReady want self.now) }
+        ensures own { IfOk result IsOwnWant }
+    {
+        let bytes = Bytes::of(self.alloc, CONTINUE.as_bytes())?;
+        Ok(Want::Write(bytes))
+    }
+
+    // The response to a fault.
     fn refuse(&mut self, fault: FrameFault) -> Result<Want, AllocError>
-        ensures want { IfOk result (λ want. AnswersFault self.old want self.new) }
+        ensures want { IfOk result (Writes (IsFaultResponse fault)) }
+        ensures ok { OnOk result (self.new ≡ with_fault fault self.old) }
         ensures err { OnErr result (self.new ≡ self.old) }
+        ensures ready { IfOk result (λ want. IsReady want self.new) }
         ensures own { IfOk result IsOwnWant }
     {
         let bytes = to_response(
@@ -194,40 +240,47 @@ impl Talk {
         Ok(Want::Write(bytes))
     }
 
+    // The response to one more request.
     fn respond(
         &mut self,
         answer: &Answer,
-        kind: ReplyKind,
+        waiting: Waiting,
         turn: Option<u64>,
     ) -> Result<Want, AllocError>
         requires { self.old.leaving ≡ None }
-        ensures ok { IfOk result (λ want. Responds answer.now kind turn self.old want self.new) }
-        ensures own { IfOk result IsOwnWant }
+        ensures want { IfOk result (Writes (IsResponse answer.now waiting.kind turn waiting.close)) }
+        ensures ok { OnOk result (self.new ≡ with_answer waiting.close self.old) }
         ensures err { OnErr result (self.new ≡ self.old) }
+        ensures ready { IfOk result (λ want. IsReady want self.new) }
+        ensures own { IfOk result IsOwnWant }
     {
         let served = self.served + 1;
-        let bytes = to_response(self.alloc, answer, kind, turn, served == MOST_REQUESTS)?;
+        let bytes = to_response(self.alloc, answer, waiting.kind, turn, waiting.close)?;
         self.served = served;
         self.waits = None;
-        self.leaving = leaving_after(served);
+        self.leaving = leaving_after(served, waiting.close);
         Ok(Want::Write(bytes))
     }
 
+    // What is wanted for a request that was taken.
     fn take(&mut self, moment: u64, request: HttpRequest) -> Result<Want, AllocError>
         requires moment { IsMoment moment }
         requires open_ { self.old.leaving ≡ None }
         ensures want { IfOk result (λ want. WantsFor moment request self.old want self.new) }
         ensures err { OnErr result (self.new ≡ self.old) }
+        ensures ready { IfOk result (λ want. IsReady want self.new) }
         ensures own { IfOk result IsOwnWant }
     {
-        let kind = kind_of(&request);
-        match call_of(self.alloc, request, moment) {
+        let waiting = Waiting {
+            kind: kind_of(&self.routes, &request),
+            close: closes_after(&request, self.served + 1),
+        };
+        match call_of(self.alloc, &self.routes, request, moment) {
             Ok(call) => {
-                self.waits = Some(kind);
+                self.waits = Some(waiting);
                 Ok(Want::Call(call))
             }
-            Err(Unasked::Unserved) => self.refuse(FrameFault::NotBuilt),
-            Err(Unasked::Answered(answer)) => self.respond(&answer, kind, None),
+            Err(answer) => self.respond(&answer, waiting, None),
         }
     }
 
@@ -236,25 +289,25 @@ impl Talk {
     pub fn answer(&mut self, receipt: Result<Receipt<Book>, AllocError>) -> Result<Want, AllocError>
         requires waits { IsSome self.old.waits }
         requires open_ { self.old.leaving ≡ None }
-        ensures want { IfOk result (λ want. IfSome self.old.waits (λ kind. Replies receipt kind self.old want self.new)) }
+        ensures want { IfOk result (λ want. IfSome self.old.waits (λ waiting. Replies receipt waiting self.old want self.new)) }
         ensures ok { IsOk result }
     {
-        let Some(kind) = self.waits else {
+        let Some(waiting) = self.waits else {
             unreachable!()
         };
         match receipt {
-            Ok(receipt) => self.answer_receipt(kind, receipt),
-            Err(_) => self.answer_memory(kind),
+            Ok(receipt) => self.answer_receipt(waiting, receipt),
+            Err(_) => self.answer_memory(waiting),
         }
     }
 
     // The response to a call for which memory was wanting.
-    fn answer_memory(&mut self, kind: ReplyKind) -> Result<Want, AllocError>
+    fn answer_memory(&mut self, waiting: Waiting) -> Result<Want, AllocError>
         requires { self.old.leaving ≡ None }
-        ensures want { IfOk result (λ want. LacksFor kind self.old want self.new) }
+        ensures want { IfOk result (λ want. LacksFor waiting self.old want self.new) }
         ensures ok { IsOk result }
     {
-        match self.respond(&Answer::Memory, kind, None) {
+        match self.respond(&Answer::Memory, waiting, None) {
             Ok(want) => Ok(want),
             Err(_) => Ok(Want::Leave(self.give_up())),
         }
@@ -263,20 +316,20 @@ impl Talk {
     // The response to a call that the book answered.
     fn answer_receipt(
         &mut self,
-        kind: ReplyKind,
+        waiting: Waiting,
         receipt: Receipt<Book>,
     ) -> Result<Want, AllocError>
         requires { self.old.leaving ≡ None }
-        ensures want { IfOk result (λ want. Replies (Ok receipt) kind self.old want self.new) }
+        ensures want { IfOk result (λ want. Replies (Ok receipt) waiting self.old want self.new) }
         ensures ok { IsOk result }
     {
         let Receipt { turn, reply } = receipt;
         let changes_nothing = changes_nothing(&reply.body);
-        match self.respond(&Answer::Book(reply), kind, Some(turn)) {
+        match self.respond(&Answer::Book(reply), waiting, Some(turn)) {
             Ok(want) => Ok(want),
             Err(_) => {
                 if changes_nothing {
-                    return self.answer_memory(kind);
+                    return self.answer_memory(waiting);
                 }
                 Ok(Want::Leave(self.give_up()))
             }

@@ -1,5 +1,6 @@
 //! What a connection wants.
 use crate::end::SessionEnd;
+use bcf_http::ReplyKind;
 use bim_model::Bytes;
 use federation_book::BookRequest;
 
@@ -14,4 +15,12 @@ pub enum Want {
     Call(BookRequest),
     /// The session has ended.
     Leave(SessionEnd),
+}
+
+/// What a response needs of the request whose call waits.
+#[derive(Clone, Copy, Debug, PartialEq, Eq)]
+pub struct Waiting {
+    pub kind: ReplyKind,
+    /// The connection is closed behind the response.
+    pub close: bool,
 }
