@@ -5,6 +5,7 @@ pub mod Ending
 pub mod Stepping
 pub mod Fuel
 pub mod Numbers
+pub mod Taking
 pub mod Grammar
 pub mod Statuses
 pub mod Calling

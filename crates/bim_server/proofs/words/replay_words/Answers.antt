@@ -1,10 +1,11 @@
-use Rattle.std.proofs.Common.{◌∙◌, ◌≡◌, ap, true}
-use Rattle.clap.specs.Words.{app_of, is_simple_and_free}
-use Rattle.bim_server.proofs.Grammar.{replay_is_simple, words_refused, words_said}
+use Rattle.std.proofs.Common.{sym, subst}
+use Rattle.clap.specs.Words.{App, app_of}
+use Rattle.bim_server.specs.Words.{IsPlainCommand}
+use Rattle.bim_server.proofs.Grammar.{replay_is_plain, words_refused, words_said}
 use Rattle.bim_server.proofs.words.replay_words.Goals as goal
 
 pub parse-requires : goal.parse-requires
-parse-requires c = ap is_simple_and_free c.in_ok-command.ensures ∙ replay_is_simple
+parse-requires c = subst (λ (command : App). IsPlainCommand command) (sym c.in_ok-command.ensures) replay_is_plain
 
 pub returns-in-Some-clause-words : goal.returns-in-Some-clause-words
 returns-in-Some-clause-words c =
