@@ -43,23 +43,24 @@ untaken : (words : List (List ℕ)) → takes replay_command words ≡ false →
 unfolding replay_words
 untaken words is = ap (λ (b : Bool). (if b then replay_said (matches_of replay_command words) else None)) is
 
-parse_of : (command : App) (lent words : List (List ℕ)) (found : Option ArgMatches) → command ≡ replay_command → lent ≡ words → IsParse command lent found
-    → IsParse replay_command words found
-parse_of command lent words found is same parse =
-    subst (λ (w : List (List ℕ)). IsParse replay_command w found) same (subst (λ (a : App). IsParse a lent found) is parse)
+parse_of : (command : App) (lent words : List (List ℕ)) (found is : Option ArgMatches) → command ≡ replay_command → lent ≡ words → found ≡ is
+    → IsParse command lent found → IsParse replay_command words is
+parse_of command lent words found is same words_are found_is parse =
+    subst (λ (o : Option ArgMatches). IsParse replay_command words o) found_is
+    (subst (λ (w : List (List ℕ)). IsParse replay_command w found) words_are (subst (λ (a : App). IsParse a lent found) same parse))
 
 -- words that are taken say what their values do
-pub words_said : (command : App) (lent words : List (List ℕ)) (m : ArgMatches) (said : Option ReplayWords) → command ≡ replay_command → lent ≡ words
-    → IsParse command lent (Some m) → said ≡ replay_said (rows_of (found_of m)) → said ≡ replay_words words
-words_said command lent words m said is same parse by =
-    let whole : IsParse replay_command words (Some m) = parse_of command lent words (Some m) is same parse in
+pub words_said : (command : App) (lent words : List (List ℕ)) (found : Option ArgMatches) (m : ArgMatches) (said : Option ReplayWords) → command ≡ replay_command
+    → lent ≡ words → found ≡ Some m → IsParse command lent found → said ≡ replay_said (rows_of (found_of m)) → said ≡ replay_words words
+words_said command lent words found m said same words_are found_is parse by =
+    let whole : IsParse replay_command words (Some m) = parse_of command lent words found (Some m) same words_are found_is parse in
     by ∙ ap replay_said whole.1 ∙ sym (taken words whole.0)
 
 -- words that are not taken say nothing
-pub words_refused : (command : App) (lent words : List (List ℕ)) → command ≡ replay_command → lent ≡ words → IsParse command lent None
-    → None ≡ replay_words words
-words_refused command lent words is same parse =
-    let whole : IsParse replay_command words None = parse_of command lent words None is same parse in
+pub words_refused : (command : App) (lent words : List (List ℕ)) (found : Option ArgMatches) → command ≡ replay_command → lent ≡ words → found ≡ None
+    → IsParse command lent found → None ≡ replay_words words
+words_refused command lent words found same words_are found_is parse =
+    let whole : IsParse replay_command words None = parse_of command lent words found None same words_are found_is parse in
     sym (untaken words whole)
 
 -- what the values of the two options say

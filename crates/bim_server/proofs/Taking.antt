@@ -243,16 +243,17 @@ entered has false e = refl
 entered true true e = refl
 entered false true e = cc
 
+one_missing : (r g any all : Bool) → (any ≡ false → all ≡ true) → ((r && not g) || any) ≡ false → ((not r || g) && all) ≡ true
+one_missing true true any all then_all e = then_all e
+one_missing true false any all then_all e = cc
+one_missing false g any all then_all e = then_all e
+
 none_missing : (required given : Rule → Bool) (rules : List Rule) → list_any (λ a. required a && not (given a)) rules ≡ false
     → list_all (λ a. not (required a) || given a) rules ≡ true
 none_missing required given [] e = refl
-none_missing required given (a ∷ rest) e = one (required a) (given a) e
-  where
-    one : (r g : Bool) → ((r && not g) || list_any (λ b. required b && not (given b)) rest) ≡ false
-        → ((not r || g) && list_all (λ b. not (required b) || given b) rest) ≡ true
-    one true true e' = none_missing required given rest e'
-    one true false e' = cc
-    one false g e' = none_missing required given rest e'
+none_missing required given (a ∷ rest) e =
+    one_missing (required a) (given a) (list_any (λ b. required b && not (given b)) rest) (list_all (λ b. not (required b) || given b) rest)
+    (none_missing required given rest) e
 
 lifted : (negates any all : Bool) → (any ≡ false → all ≡ true) → (not negates && any) ≡ false → (negates || all) ≡ true
 lifted true any all then_all e = refl

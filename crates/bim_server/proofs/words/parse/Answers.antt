@@ -8,7 +8,7 @@ returns-in-Ok c =
     found_matches (app_of c.args.command) (map (λ s. s.now) c.args.words.now) c.in-Ok.matches c.requires (c.in-Ok.ensures.kinds c.requires.simple)
     c.in-Ok.ensures.matches
 
-pub returns-in_default : goal.returns-in_default
-returns-in_default c =
+pub returns : goal.returns
+returns c =
     found_nothing (app_of c.args.command) (map (λ s. s.now) c.args.words.now) c.in-Err.error c.in-Err.ensures.passes
     (λ memory. c.in_default.not-OutOfMemory (c.kind.ensures ∙ memory))

@@ -1,4 +1,4 @@
-use Rattle.std.proofs.Common.{◌≡◌, ◌∙◌, ap, ap₂, codes}
+use Rattle.std.proofs.Common.{◌≡◌, ◌∙◌, true, ap, ap₂, codes}
 use Rattle.std.proofs.lemmas.Result.{IfOk-weaker}
 use Rattle.clap.specs.Words.{Shape, app_of, with_rule}
 use Rattle.clap.specs.Simple.{app_of_fields, on_top}
@@ -17,4 +17,4 @@ returns c =
     (named ∙ ap (on_top (λ (s : Shape). record s { no_binary_name = true })) c.new.ensures.app) in
     let timed : app_of c.in_ok-timed.timed ≡ with_rule (bare_command (codes "replay")) (option_of (codes "at")) =
     c.in_ok-timed.ensures.shape c.option_of.ensures.local ∙ ap₂ with_rule plain c.option_of.ensures.rule in
-    IfOk-weaker c.arg.result _ _ (λ command added. added.shape c.option_of-2.ensures.local ∙ ap₂ with_rule timed c.option_of-2.ensures.rule) c.arg.ensures
+    IfOk-weaker c.arg-2.result _ _ (λ command added. added.shape c.option_of-2.ensures.local ∙ ap₂ with_rule timed c.option_of-2.ensures.rule) c.arg-2.ensures
