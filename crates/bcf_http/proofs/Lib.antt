@@ -2,7 +2,6 @@ pub mod Reading
 pub mod Texts
 pub mod Routers
 pub mod Parts
-pub mod Queries
 pub mod Rows
 pub mod Floats
 pub mod Lists
