@@ -1,5 +1,5 @@
 -- One more digit.
-use Rattle.std.proofs.Common.{◌≡◌, ◌+◌, ◌-◌, ◌*◌, ◌<◌, ◌≤◌, ◌^◌, ℕ, Bool, List, [], ◌∷◌, true, false, length, take, get_or, if◌then◌else◌, Option, Some, None, arith, refl, add-one}
+use Rattle.std.proofs.Common.{◌≡◌, ◌+◌, ◌-◌, ◌*◌, ◌<◌, ◌≤◌, ◌^◌, ℕ, List, true, length, take, get_or, if◌then◌else◌, Some, None, arith, refl, add-one}
 use Rattle.std.specs.Prelude.{nat_lt}
 use Rattle.std.specs.List.{list_all}
 use Rattle.std.specs.Char.{is_ascii_digit}

@@ -278,6 +278,10 @@ pub failed_between : (fault : FrameFault) (items : List ℕ) (at : ℕ) (bytes :
     → (false ≡ true) ↔ IsBlank bytes
 failed_between fault items at bytes told x rest = absurd (rest.1 fault x.1)
 
+pub on_err : {A E : Type 0} (r : Result A E) (P : Type 0) → P → OnErr r P
+on_err (Ok a) P x = tt
+on_err (Err e) P x = x
+
 pub feed_ok : {A E : Type 0} (r : Result A E) (stage : Stage) (old mid new piece : List ℕ) (at place : ℕ) → Keeps stage old at mid place → OnOk r (Grows stage mid place new piece)
     → OnOk r ((bytes : List ℕ) (told : Bool) → StandsAt stage old at bytes told → StandsAt stage new place (bytes ++ piece) told)
 unfolding Keeps Grows

@@ -3,6 +3,8 @@ use Rattle.std.proofs.Common.{◌≡◌, ℕ, ◌+◌, ◌≤◌, ◌==◌, ◌|
 use Rattle.std.proofs.lemmas.List.{append_cancel_right}
 use Rattle.std.proofs.lemmas.List.Elements.{All-head, All-tail}
 use Rattle.std.proofs.lemmas.Bool.{ne_eqb}
+use Rattle.std.proofs.Math.Logic.{∥∥₁_map}
+use Rattle.std.proofs.lemmas.Grind.{not_there}
 use Rattle.httparse.specs.Grammar.{LineEnd, crlf, lf, print_end, print_blank, print_version, ReadsSection, HasNoRequest, NeverHasRequest, MayBecomeRequest}
 use Rattle.httparse.specs.Pieces.{RequestStart, Stops, is_newline}
 use Rattle.httparse.proofs.PieceLemmas.{RequestStart_deterministic, Stops_token}
@@ -110,9 +112,15 @@ start_again p bytes rest other (m1, (blank, stops), (m2, (some, token, e2), (m3,
       (p.1.1.0 ++ 32 ∷ v, (some, token, refl), (v, ((long, uri, refl), text), (print_end p.1.1.1.1 ++ other, (small, refl), refl))),
     )
 
-pub started_stays : (bytes more l : List ℕ) → first_line bytes ≡ Some l → IsStarted bytes → IsStarted (bytes ++ more)
-started_stays bytes more l line (p, x) =
+abbrev Starts : List ℕ → Type 0
+Starts bytes = (p : Parts) × RequestStart p bytes (after_line bytes)
+
+starts_more : (bytes more l : List ℕ) → first_line bytes ≡ Some l → Starts bytes → Starts (bytes ++ more)
+starts_more bytes more l line (p, x) =
     (p, subst (λ (r : List ℕ). RequestStart p (bytes ++ more) r) (sym (after_more bytes more l line)) (RequestStart_deterministic.append p bytes (after_line bytes) more x))
+
+pub started_stays : (bytes more l : List ℕ) → first_line bytes ≡ Some l → IsStarted bytes → IsStarted (bytes ++ more)
+started_stays bytes more l line s = ∥∥₁_map s (λ (x : Starts bytes). starts_more bytes more l line x)
 
 -- the parser's unfinished answer, asked once, tells that
 pub may_is_started : (bytes l : List ℕ) → first_line bytes ≡ Some l → MayBecomeRequest bytes → IsStarted bytes
@@ -125,7 +133,7 @@ may_is_started bytes l line may =
     let whole : bytes ++ more ≡ (print_start p ++ after_line bytes) ++ more =
     start_text p (bytes ++ more) pieces.0 pieces.1 ∙ ap (λ r. print_start p ++ r) rest ∙ sym (append_assoc (print_start p) (after_line bytes) more) in
     let text : bytes ≡ print_start p ++ after_line bytes = append_cancel_right bytes (print_start p ++ after_line bytes) more whole in
-    (p, subst (λ (b : List ℕ). RequestStart p b (after_line bytes)) (sym text) (start_again p (bytes ++ more) pieces.0 (after_line bytes) pieces.1))
+    ∣ (p, subst (λ (b : List ℕ). RequestStart p b (after_line bytes)) (sym text) (start_again p (bytes ++ more) pieces.0 (after_line bytes) pieces.1)) ∣₁
 
 -- no head has come where the scan of the field lines is open, but some bytes make one
 pub open_has_none : (bytes : List ℕ) → IsOpen (run Start (after_line bytes)) → HasNoRequest bytes
@@ -135,8 +143,11 @@ open_has_none bytes o h rest reads =
     let here : after_line bytes ≡ pieces.0 = after_start p bytes pieces.0 pieces.1 in
     open_none (after_line bytes) h.fields h.last rest o (subst (λ (t : List ℕ). ReadsSection t h.fields h.last rest) (sym here) pieces.2)
 
-pub open_has_hope : (bytes : List ℕ) → IsStarted bytes → IsOpen (run Start (after_line bytes)) → ¬ (NeverHasRequest bytes)
-open_has_hope bytes (p, x) o never =
+starts_hope : (bytes : List ℕ) → Starts bytes → IsOpen (run Start (after_line bytes)) → ¬ (NeverHasRequest bytes)
+starts_hope bytes (p, x) o never =
     let r = open_may (after_line bytes) o in
     let start = RequestStart_deterministic.append p bytes (after_line bytes) r.0 x in
     never r.0 (request_head (p, (r.1, r.2))) r.3 (request_from_pieces (bytes ++ r.0) (p, (r.1, r.2)) r.3 (after_line bytes ++ r.0, start, r.4))
+
+pub open_has_hope : (bytes : List ℕ) → IsStarted bytes → IsOpen (run Start (after_line bytes)) → ¬ (NeverHasRequest bytes)
+open_has_hope bytes s o never = not_there s (λ (x : Starts bytes). starts_hope bytes x o never)

@@ -1,23 +1,22 @@
 -- From where the parts of a head stand to what it says.
-use Rattle.std.proofs.Common.{◌≡◌, ℕ, zero, suc, ◌<◌, ◌≤◌, ◌==◌, ◌||◌, ◌&&◌, not, Bool, true, false, List, [], ◌∷◌, ◌++◌, length, map, take, if◌then◌else◌, Option, Some, None, Result, Ok, Err, refl, sym, ap, ◌∙◌, arith, subst, codes}
-use Rattle.std.specs.Prelude.{nat_lt, nat_le, IfOk}
+use Rattle.std.proofs.Common.{◌≡◌, ℕ, ◌<◌, ◌≤◌, ◌==◌, ◌||◌, ◌&&◌, not, Bool, true, false, List, [], ◌∷◌, ◌++◌, length, map, if◌then◌else◌, Option, Some, None, Result, Ok, Err, refl, sym, ap, ◌∙◌, arith, codes}
+use Rattle.std.specs.Prelude.{nat_lt, nat_le}
 use Rattle.std.specs.List.{list_any}
 use Rattle.std.specs.Str.{IsUtf8, is_utf8}
 use Rattle.std.proofs.lemmas.Str.{is_utf8-from_IsUtf8, IsUtf8-from_is_utf8}
-use Rattle.std.proofs.lemmas.List.{length-map}
 use Rattle.httparse.specs.declared.spans.HeaderSpan.{HeaderSpan}
 use Rattle.httparse.specs.declared.spans.RequestSpans.{RequestSpans}
 use Rattle.httparse.specs.Grammar.{RequestHead}
-use Rattle.httparse.specs.Spans.{name_and_value, header_bytes, span_bytes, IsRequestAt}
+use Rattle.httparse.specs.Spans.{name_and_value, header_bytes, span_bytes}
 use Rattle.http1.specs.Text.{eq_ignore_case}
 use Rattle.http1.specs.Fields.{is_named, values_named, has_option, elements_named}
 use Rattle.http_frame.specs.declared.types.FrameFault.{FrameFault}
-use Rattle.http_frame.specs.declared.types.FrameFault.TheVariants.{BadHead, HeadTooLong, BadLength, BodyTooLong}
+use Rattle.http_frame.specs.declared.types.FrameFault.TheVariants.{BadHead, HeadTooLong, BodyTooLong}
 use Rattle.http_frame.specs.declared.head.Plan.{Plan}
 use Rattle.http_frame.specs.declared.head.Plan.TheVariants.{Absent, Sized, Chunked}
 use Rattle.http_frame.specs.Heads.{Framing, absent, sized, chunked, badly, framing_by, framing_fault, framing, most_body, fault_of, values_of, user_by, user_of, closes, is_encoded, asks_continue}
-use Rattle.http_frame.specs.Facts.{has_value, has_other_value, values_at, user_in}
-use Rattle.http_frame.specs.Told.{most_by, plan_of, lacks_host, checked_by, facts_at, has_body, asks_at, IsPlan, IsFactsOf, IsAsking, IsAskingAs}
+use Rattle.http_frame.specs.Facts.{has_value, has_other_value, user_in}
+use Rattle.http_frame.specs.Told.{most_by, plan_of, lacks_host, checked_by, facts_at, has_body, asks_at, IsPlan, IsFactsOf, IsAskingAs}
 
 -- ---- values
 

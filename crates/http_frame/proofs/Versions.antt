@@ -1,6 +1,5 @@
 -- The code that reads the version, and its definition.
-use Rattle.std.proofs.Common.{◌≡◌, ℕ, zero, suc, ◌+◌, ◌<◌, ◌≤◌, ◌==◌, ◌||◌, ◌&&◌, not, Bool, true, false, List, [], ◌∷◌, ◌++◌, length, take, drop, get_or, if◌then◌else◌, Option, Some, None, All, reverse, rules, refl, sym, ap, ◌∙◌, arith, append_assoc, drop-cons, add-one, eq-eqb}
-use Rattle.std.specs.Prelude.{codes, bytes_eq}
+use Rattle.std.proofs.Common.{◌≡◌, ℕ, zero, suc, ◌+◌, ◌<◌, ◌≤◌, ◌==◌, ◌||◌, ◌&&◌, Bool, true, false, List, [], ◌∷◌, ◌++◌, length, take, drop, get_or, if◌then◌else◌, Option, Some, None, All, reverse, rules, refl, sym, ap, ◌∙◌, arith, append_assoc, drop-cons, add-one, eq-eqb}
 use Rattle.std.proofs.lemmas.List.{append-nil}
 use Rattle.std.proofs.Math.Seq.{take-suc, drop-length}
 use Rattle.std.proofs.Math.ListN.{drop_of_length-le}
@@ -8,6 +7,8 @@ use Rattle.std.proofs.lemmas.Bool.{ne_eqb}
 use Rattle.http_frame.specs.Heads.{before, line_at, first_line, begins_lf, without_cr, ends_in_version, has_other_version}
 use Rattle.std.proofs.lemmas.List.{reverse-append}
 use Rattle.std.proofs.lemmas.List.Elements.{All-head, All-tail, All-cons, All-append}
+use Rattle.std.proofs.Math.Bool.{Bool-set}
+use Rattle.std.proofs.Math.Logic.{∥∥₁_elim}
 use Rattle.httparse.specs.Grammar.{RequestHead, LineEnd, crlf, lf, print_end, print_version, ReadsRequest}
 use Rattle.httparse.specs.Pieces.{RequestStart}
 use Rattle.httparse.proofs.GrammarLemmas.{request_pieces, request_tree}
@@ -18,7 +19,7 @@ use Rattle.http_frame.specs.Scan.{Parts, after_line, spot_run, IsAsked}
 use Rattle.http_frame.specs.Watched.{is_early, IsWatch}
 use Rattle.http_frame.proofs.Lines.{skip_blank, line_here, token_no_lf, uri_no_lf}
 use Rattle.http_frame.proofs.Watching.{early_is_none}
-use Rattle.http_frame.specs.Lines.{begins_blank, put_before, is_version, is_current}
+use Rattle.http_frame.specs.Lines.{begins_blank, put_before}
 
 -- ---- empty lines
 
@@ -95,37 +96,6 @@ line_nowhere bytes i all h =
     let here : drop i bytes ≡ [] = drop_of_length-le bytes all in
     h ∙ ap (λ t. put_before (take i bytes) (line_at t)) here ∙ ap (put_before (take i bytes)) nothing
 
--- ---- the version
-
-pub short_none : (r : List ℕ) → length r < 9 → ends_in_version r ≡ false
-short_none [] lt = refl
-short_none (b ∷ []) lt = refl
-short_none (b ∷ p ∷ []) lt = refl
-short_none (b ∷ p ∷ a ∷ []) lt = refl
-short_none (b ∷ p ∷ a ∷ s ∷ []) lt = refl
-short_none (b ∷ p ∷ a ∷ s ∷ t ∷ []) lt = refl
-short_none (b ∷ p ∷ a ∷ s ∷ t ∷ u ∷ []) lt = refl
-short_none (b ∷ p ∷ a ∷ s ∷ t ∷ u ∷ v ∷ []) lt = refl
-short_none (b ∷ p ∷ a ∷ s ∷ t ∷ u ∷ v ∷ w ∷ []) lt = refl
-short_none (b ∷ p ∷ a ∷ s ∷ t ∷ u ∷ v ∷ w ∷ x ∷ bytes) lt = absurd (omega arith)
-
--- the nine bytes at the front decide
-abbrev pub other_of : ℕ → ℕ → ℕ → List ℕ → Bool
-other_of minor point major name = is_version minor point major && bytes_eq name (codes "/PTTH ") && not (is_current major minor)
-
-pub nine_last : (r : List ℕ) → 9 ≤ length r
-    → ends_in_version r ≡ other_of (get_or r 0 0) (get_or r 1 0) (get_or r 2 0) (get_or r 3 0 ∷ get_or r 4 0 ∷ get_or r 5 0 ∷ get_or r 6 0 ∷ get_or r 7 0 ∷ get_or r 8 0 ∷ [])
-nine_last [] ge = absurd (omega arith)
-nine_last (b ∷ []) ge = absurd (omega arith)
-nine_last (b ∷ p ∷ []) ge = absurd (omega arith)
-nine_last (b ∷ p ∷ a ∷ []) ge = absurd (omega arith)
-nine_last (b ∷ p ∷ a ∷ s ∷ []) ge = absurd (omega arith)
-nine_last (b ∷ p ∷ a ∷ s ∷ t ∷ []) ge = absurd (omega arith)
-nine_last (b ∷ p ∷ a ∷ s ∷ t ∷ u ∷ []) ge = absurd (omega arith)
-nine_last (b ∷ p ∷ a ∷ s ∷ t ∷ u ∷ v ∷ []) ge = absurd (omega arith)
-nine_last (b ∷ p ∷ a ∷ s ∷ t ∷ u ∷ v ∷ w ∷ []) ge = absurd (omega arith)
-nine_last (b ∷ p ∷ a ∷ s ∷ t ∷ u ∷ v ∷ w ∷ x ∷ bytes) ge = refl
-
 -- ---- a line of the grammar names 1.0 or 1.1
 
 pub line_exact : (xs r : List ℕ) → All (λ b. (b == 10) ≡ false) xs → line_at (xs ++ 10 ∷ r) ≡ Some xs
@@ -193,7 +163,9 @@ watch_version : (s : Spot) (bytes : List ℕ) → s ≡ spot_run Before bytes �
 watch_version Before bytes e asked = none_version (first_line bytes) (early_is_none bytes (ap is_early (sym e)))
 watch_version BeforeCr bytes e asked = none_version (first_line bytes) (early_is_none bytes (ap is_early (sym e)))
 watch_version Line bytes e asked = none_version (first_line bytes) (early_is_none bytes (ap is_early (sym e)))
-watch_version (Fields place) bytes e asked = started_version asked.0 bytes (after_line bytes) asked.1
+watch_version (Fields place) bytes e asked =
+    ∥∥₁_elim asked (Bool-set (has_other_version (first_line bytes)) false)
+    (λ (x : (p : Parts) × RequestStart p bytes (after_line bytes)). started_version x.0 bytes (after_line bytes) x.1)
 
 pub watched_version : (w : Watch) (bytes : List ℕ) → IsWatch w bytes → has_other_version (first_line bytes) ≡ false
 watched_version w bytes is = watch_version w.spot bytes is.0 is.1

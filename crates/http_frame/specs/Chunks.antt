@@ -5,7 +5,6 @@ use Rattle.std.specs.Char.{is_ascii_hexdigit, digit_value}
 use Rattle.std.specs.Str.Parse.{digits_value}
 use Rattle.httparse.specs.Grammar.{ChunkLine, chunk_size, Field}
 use Rattle.httparse.specs.Pieces.{FieldLines}
-use Rattle.http_frame.specs.declared.types.FrameFault.{FrameFault}
 use Rattle.http_frame.specs.declared.types.FrameFault.TheVariants.{HeadTooLong, BodyTooLong, BadChunk}
 use Rattle.http_frame.specs.declared.walk.Place.{Place}
 use Rattle.http_frame.specs.declared.walk.Place.TheVariants as place

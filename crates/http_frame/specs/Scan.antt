@@ -52,7 +52,7 @@ Parts = List LineEnd × (List ℕ × (List ℕ × (ℕ × LineEnd)))
 
 -- the first line is one of the grammar, and the field lines follow
 abbrev pub IsStarted : List ℕ → Type 0
-IsStarted bytes = (p : Parts) × RequestStart p bytes (after_line bytes)
+IsStarted bytes = ∥ ((p : Parts) × RequestStart p bytes (after_line bytes)) ∥₁
 
 -- from the front of a request on
 abbrev pub spot_step : Spot → ℕ → Spot

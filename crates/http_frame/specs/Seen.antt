@@ -6,7 +6,6 @@ use Rattle.httparse.specs.Grammar.{RequestHead}
 use Rattle.httparse.specs.Spans.{span_bytes, header_bytes, IsWithin, IsHeaderWithin}
 use Rattle.http_frame.specs.declared.types.FrameFault.{FrameFault}
 use Rattle.http_frame.specs.declared.head.Plan.{Plan}
-use Rattle.http_frame.specs.declared.seen.GoodHead.{GoodHead}
 use Rattle.http_frame.specs.declared.seen.Seen.{Seen}
 use Rattle.http_frame.specs.declared.seen.Seen.TheVariants.{Unfinished, Fault, Good}
 use Rattle.http_frame.specs.Heads.{most_head, most_body, framing, HasGoodHead, FailsInHead}

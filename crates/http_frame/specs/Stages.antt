@@ -1,5 +1,7 @@
 -- For which bytes a framer stands, by what it keeps.
-use Rattle.std.specs.Prelude.{◌≡◌, ℕ, ◌+◌, ◌≤◌, ◌⊎◌, Bool, true, false, List, ◌++◌, length, take, drop}
+use Rattle.std.specs.Prelude.{◌≡◌, ℕ, ◌≤◌, ◌⊎◌, Bool, true, false, List, ◌++◌, length, take, drop}
+use Rattle.std.specs.Coded.{Unit-prop, le_prop}
+use Rattle.std.proofs.Math.Logic.{∥∥₁_prop}
 use Rattle.httparse.specs.Grammar.{RequestHead}
 use Rattle.http_frame.specs.declared.types.HttpRequest.{HttpRequest}
 use Rattle.http_frame.specs.declared.head.HeadFacts.{HeadFacts}
@@ -10,6 +12,7 @@ use Rattle.http_frame.specs.declared.size_line.SizeSpot.TheVariants.{Digits}
 use Rattle.http_frame.specs.declared.chunks.Part.TheVariants.{Size}
 use Rattle.http_frame.specs.declared.walk.Spot.{Spot}
 use Rattle.http_frame.specs.declared.walk.Spot.TheVariants as spot
+use Rattle.http_frame.specs.declared.watch.Watch.{Watch}
 use Rattle.http_frame.specs.declared.stage.Awaited.{Awaited}
 use Rattle.http_frame.specs.declared.stage.Awaited.TheVariants.{Sized, Chunked, Whole}
 use Rattle.http_frame.specs.declared.stage.Pending.{Pending}
@@ -20,6 +23,7 @@ use Rattle.http_frame.specs.Heads.{Framing, absent, sized, chunked, front, frami
 use Rattle.http_frame.specs.Bodies.{ReadsBody}
 use Rattle.http_frame.specs.Events.{Fails, Asks, IsTold}
 use Rattle.http_frame.specs.Steps.{Answers}
+use Rattle.http_frame.specs.Scan.{spot_run, IsAsked}
 use Rattle.http_frame.specs.Watched.{IsWatch}
 use Rattle.http_frame.specs.Told.{IsFactsOf}
 use Rattle.http_frame.specs.Chunks.{IsReading}
@@ -93,6 +97,34 @@ IsSafe (Head watch) items at =
     × IsWatch watch (take watch.seen (front (drop at items)))
 IsSafe (Body p) items at = (at ≤ length items) × IsFilled p.body at
 IsSafe (Failed fault) items at = at ≤ length items
+
+-- each of these facts holds in one way
+
+IsAsked-prop : (s : Spot) (bytes : List ℕ) → IsProp (IsAsked s bytes)
+IsAsked-prop spot.Before bytes = Unit-prop
+IsAsked-prop spot.BeforeCr bytes = Unit-prop
+IsAsked-prop spot.Line bytes = Unit-prop
+IsAsked-prop (spot.Fields place) bytes = ∥∥₁_prop
+
+IsWatch-prop : IsSet Spot → (watch : Watch) (taken : List ℕ) → IsProp (IsWatch watch taken)
+IsWatch-prop spots watch taken = λ x y. λ i. (
+  spots watch.spot (spot_run spot.Before taken) x.0 y.0 i,
+  IsAsked-prop watch.spot taken x.1 y.1 i,
+)
+
+IsFilled-prop : (body : Awaited) (at : ℕ) → IsProp (IsFilled body at)
+IsFilled-prop (Sized n) at = Unit-prop
+IsFilled-prop (Chunked c) at = le_prop
+IsFilled-prop (Whole filled) at = le_prop
+
+pub IsSafe-prop : IsSet Spot → (stage : Stage) (items : List ℕ) (at : ℕ) → IsProp (IsSafe stage items at)
+IsSafe-prop spots (Head watch) items at = λ x y. λ i. (
+  le_prop x.0 y.0 i,
+  le_prop x.1 y.1 i,
+  IsWatch-prop spots watch (take watch.seen (front (drop at items))) x.2 y.2 i,
+)
+IsSafe-prop spots (Body p) items at = λ x y. λ i. (le_prop x.0 y.0 i, IsFilled-prop p.body at x.1 y.1 i)
+IsSafe-prop spots (Failed fault) items at = le_prop
 
 -- a step answers what the bytes say, and stands for what is left of them
 unfoldable pub Steps : Stage → List ℕ → ℕ → Stepped → List ℕ → Type 0

@@ -1,6 +1,7 @@
 //! The framer: requests from bytes, in whatever pieces these come.
 ghost use Rattle.std.specs.Prelude.{◌≡◌, ◌≤◌, ◌↔◌, ℕ, List, [], ◌++◌, Bool, false, IsTrue, length, drop, IfOk, OnOk, OnErr};
-ghost use Rattle.http_frame.specs.Stages.{IsSafe, Keeps, Grows, is_failed, is_before};
+ghost use Rattle.std.proofs.Props.{props};
+ghost use Rattle.http_frame.specs.Stages.{IsSafe, IsSafe-prop, Keeps, Grows, is_failed, is_before};
 
 use crate::stage::{START, Stage};
 use crate::steps::step;
@@ -15,7 +16,7 @@ pub struct Framer {
     buf: Vec<u8>,
     at: usize,
     stage: Stage,
-    ghost safe: { IsSafe stage buf.items at },
+    ghost safe: { IsSafe stage buf.items at } by { IsSafe-prop (Prim.hlevel props) stage buf.items at },
 }
 
 fn tail(bytes: &[u8], at: usize) -> &[u8]

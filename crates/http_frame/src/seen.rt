@@ -163,7 +163,8 @@ fn seen_in_room(alloc: Global, watch: Watch, bytes: &[u8]) -> Result<Seen, Alloc
     }
 }
 
-/// What the bytes of a request tell up to the end of its head. No byte is walked over twice.
+/// What the bytes of a request tell up to the end of its head. Those that the watch has seen are not walked
+/// over again.
 pub fn seen_of(alloc: Global, watch: Watch, bytes: &[u8]) -> Result<Seen, AllocError>
     requires within { watch.seen ≤ length (front bytes.now) }
     requires watch { IsWatch watch (take watch.seen (front bytes.now)) }

@@ -1,4 +1,4 @@
-use Rattle.std.proofs.Common.{◌≤◌, ◌+◌, length, arith}
+use Rattle.std.proofs.Common.{arith}
 use Rattle.http_frame.proofs.Advancing.{data_advances}
 use Rattle.http_frame.proofs.chunks.take_data.Goals as goal
 

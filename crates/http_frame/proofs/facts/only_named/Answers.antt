@@ -1,4 +1,3 @@
-use Rattle.std.proofs.Common.{sym}
 use Rattle.http_frame.proofs.Told.{two_values}
 use Rattle.http_frame.proofs.facts.only_named.Goals as goal
 

@@ -1,6 +1,5 @@
-use Rattle.std.proofs.Common.{◌≡◌, ◌<◌, List, ℕ, length, arith, subst, sym, codes}
+use Rattle.std.proofs.Common.{◌<◌, length, arith}
 use Rattle.std.proofs.lemmas.Grind.{common_steps}
-use Rattle.std.specs.Prelude.{IfOk}
 use Rattle.http_frame.proofs.Told.{named_user, no_user}
 use Rattle.http_frame.proofs.facts.user_in.Goals as goal
 

@@ -1,4 +1,3 @@
-use Rattle.std.proofs.Common.{arith}
 use Rattle.http_frame.proofs.Digits.{digit_more, past_most}
 use Rattle.http_frame.proofs.head.number_up_to.Goals as goal
 

@@ -10,7 +10,7 @@ returns-in-More-clause-step c =
     let all : length c.read_in-taken.new.buf.items ≤ c.read_in-taken.result.at = omega arith in
     let order = c.read_in-taken.ensures.ordered in
     let fits : c.read_in-taken.result.chunks.filled ≤ length c.read_in-taken.new.buf.items = omega arith in
-    chunked_more c.args.facts c.args.chunks c.args.at c.args.buf.now.items c.read_in-taken.new.buf.items c.truncate.new.buf.items c.read_in-taken.result c.read_in-taken.ensures.advances c.in-More.is all fits c.truncate.ensures.items
+    chunked_more c.args.facts c.args.chunks c.args.at c.args.buf.now.items c.read_in-taken.new.buf.items c.truncate.new.self.items c.read_in-taken.result c.read_in-taken.ensures.advances c.in-More.is all fits c.truncate.ensures.items
 
 pub returns-in-Whole-clause-step : goal.returns-in-Whole-clause-step
 returns-in-Whole-clause-step c =

@@ -1,4 +1,4 @@
-use Rattle.std.proofs.Common.{◌≡◌, List, ℕ, drop, length, ◌≤◌, ◌+◌, arith, subst, sym}
+use Rattle.std.proofs.Common.{drop, ◌+◌, subst, sym}
 use Rattle.http_frame.specs.declared.seen.Seen.{Seen}
 use Rattle.http_frame.specs.declared.stage.Pending.{Pending}
 use Rattle.http_frame.specs.declared.stage.Stage.TheVariants.{Head, Body}

@@ -1,4 +1,4 @@
-use Rattle.std.proofs.Common.{◌≡◌, ◌≤◌, ◌<◌, ◌-◌, length, arith}
+use Rattle.std.proofs.Common.{◌≤◌, ◌<◌, ◌-◌, length, arith}
 use Rattle.http_frame.specs.declared.stage.Awaited.TheVariants.{Sized, Whole}
 use Rattle.http_frame.proofs.Standing.{Owing, steps_after, sized_more, sized_is_whole}
 use Rattle.http_frame.proofs.steps.step_sized.Goals as goal

@@ -1,4 +1,4 @@
-use Rattle.std.proofs.Common.{◌≡◌, ◌≤◌, length, ap, arith}
+use Rattle.std.proofs.Common.{◌≡◌, length, ap, arith}
 use Rattle.http_frame.specs.declared.walk.Spot.TheVariants.{Before}
 use Rattle.http_frame.specs.declared.stage.Awaited.TheVariants.{Whole}
 use Rattle.http_frame.proofs.Standing.{Owing, whole_step, memory_step}

@@ -1,4 +1,3 @@
-use Rattle.std.proofs.Common.{◌∙◌}
 use Rattle.http_frame.proofs.Versions.{line_step, line_found, line_nowhere}
 use Rattle.http_frame.proofs.version.line_end.Goals as goal
 
