@@ -47,6 +47,7 @@ pub gives_none : (s : SourceSeen) → SourceGives s s []
 gives_none s = record {
   left = Loses_empty s.left;
   given = Gains_empty s.given;
+  most = refl;
   ended = λ e. e;
   faults = omega arith;
 }
@@ -55,6 +56,7 @@ pub gives_trans : (a b c : SourceSeen) (x y : List ℕ) → SourceGives a b x �
 gives_trans a b c x y p q = record {
   left = p.left ∙ ap (prepend_known x) q.left ∙ prepend_twice c.left x y;
   given = q.given ∙ ap (λ o. append_known o y) p.given ∙ append_twice a.given x y;
+  most = q.most ∙ p.most;
   ended = λ e. q.ended (p.ended e);
   faults = let first = p.faults in let then = q.faults in omega arith;
 }

@@ -43,6 +43,11 @@ abbrev pub ends_read : {E : Type 0} → Bool → ℕ → Result ℕ E → Bool
 ends_read before room (Ok n) = before || (nat_lt 0 room && n == 0)
 ends_read before room (Err e) = before
 
+-- no more bytes than this, where there is such a bound
+abbrev pub WithinMost : Option ℕ → ℕ → Type 0
+WithinMost None n = ⊤
+WithinMost (Some most) n = n ≤ most
+
 -- of a piece that isn't empty at least one byte is written
 abbrev pub WritesSome : {E : Type 0} → Result ℕ E → List ℕ → Type 0
 WritesSome r piece = IfOk r (λ n. 0 < length piece → 0 < n)

@@ -4,11 +4,12 @@ use Rattle.std.specs.Io.KnownBytes.{IsAtEnd}
 use Rattle.bim_model.specs.Moments.{IsMoment}
 use Rattle.bim_io.specs.Causes.{Gains, Loses, Grows, GivesMoment}
 
--- of a source: the bytes that are left and those that it has given, where it tells them, whether it has answered its
--- end, and how often it has failed
+-- of a source: the bytes that are left and those that it has given, where it tells them, the most that one read gives,
+-- where it has such a bound, whether it has answered its end, and how often it has failed
 pub record SourceSeen : Type 0 where
   pub left : Option (List ℕ)
   pub given : Option (List ℕ)
+  pub most : Option ℕ
   pub ended : Bool
   pub faults : ℕ
 
@@ -31,6 +32,7 @@ EndsEmpty s = IsTrue s.ended → IsAtEnd s.left
 pub record SourceGives (old new : SourceSeen) (bytes : List ℕ) : Type 0 where
   pub left : Loses old.left new.left bytes
   pub given : Gains old.given new.given bytes
+  pub most : new.most ≡ old.most
   pub ended : IsTrue old.ended → IsTrue new.ended
   pub faults : old.faults ≤ new.faults
 

@@ -67,7 +67,7 @@ impl MemSource {
 }
 
 impl Source for MemSource {
-    ghost seen = { λ s. record { left = Some (left_at s.ended s.left); given = Some s.given; ended = s.ended; faults = s.faults } };
+    ghost seen = { λ s. record { left = Some (left_at s.ended s.left); given = Some s.given; most = Some s.most; ended = s.ended; faults = s.faults } };
 
     ghost at_end = { λ s. ended_empty s.ended s.left };
 
@@ -75,6 +75,8 @@ impl Source for MemSource {
         ensures bound { ReadsAtMost result room.new }
         ensures left { ReadTakes (Some (left_at self.old.ended self.old.left)) (Some (left_at self.new.ended self.new.left)) result room.new }
         ensures given { ReadGives (Some self.old.given) (Some self.new.given) result room.new }
+        ensures within { IfOk result (λ n. n ≤ self.old.most) }
+        ensures same { Some self.new.most ≡ Some self.old.most }
         ensures end { self.new.ended ≡ ends_read self.old.ended (length room.new) result }
         ensures cause { HasCause self.old.faults self.new.faults result }
         ensures fails { IsErr result ↔ Contains self.old.fails (counted self.old.calls) }

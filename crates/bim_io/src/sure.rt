@@ -81,7 +81,7 @@ pub(crate) fn is_over(ended: bool, room: &[u8], count: usize) -> bool
 }
 
 impl Source for SureSource {
-    ghost seen = { λ s. record { left = Some (left_at s.ended s.left); given = Some s.given; ended = s.ended; faults = 0 } };
+    ghost seen = { λ s. record { left = Some (left_at s.ended s.left); given = Some s.given; most = Some s.most; ended = s.ended; faults = 0 } };
 
     ghost at_end = { λ s. ended_empty s.ended s.left };
 
@@ -89,6 +89,8 @@ impl Source for SureSource {
         ensures bound { ReadsAtMost result room.new }
         ensures left { ReadTakes (Some (left_at self.old.ended self.old.left)) (Some (left_at self.new.ended self.new.left)) result room.new }
         ensures given { ReadGives (Some self.old.given) (Some self.new.given) result room.new }
+        ensures within { IfOk result (λ n. n ≤ self.old.most) }
+        ensures same { Some self.new.most ≡ Some self.old.most }
         ensures end { self.new.ended ≡ ends_read self.old.ended (length room.new) result }
         ensures cause { HasCause 0 0 result }
         ensures most { self.new.most ≡ self.old.most }

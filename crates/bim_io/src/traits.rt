@@ -1,8 +1,8 @@
 //! What the program asks of the outside. Each object counts its faults.
-ghost use Rattle.std.specs.Prelude.{◌≡◌, ◌∷◌, [], length};
+ghost use Rattle.std.specs.Prelude.{◌≡◌, ◌∷◌, [], length, IfOk};
 ghost use Rattle.std.specs.Io.{ReadsAtMost, WritesAtMost};
 ghost use Rattle.bim_model.specs.Moments.{IsMoment};
-ghost use Rattle.bim_io.specs.Causes.{HasCause, ReadGives, ReadTakes, ends_read, WritesSome, WriteTells, GivesMoment, Grows};
+ghost use Rattle.bim_io.specs.Causes.{HasCause, ReadGives, ReadTakes, ends_read, WithinMost, WritesSome, WriteTells, GivesMoment, Grows};
 ghost use Rattle.bim_io.specs.Seen.{SourceSeen, SinkSeen, ClockSeen, EndsEmpty};
 
 /// A call on the outside failed; the object's count of faults rose.
@@ -11,8 +11,8 @@ pub struct Failed;
 
 /// Where bytes come from.
 pub trait Source {
-    /// The bytes that are left and those that it has given, where it tells them; whether it has answered its end; how
-    /// often it has failed.
+    /// The bytes that are left and those that it has given, where it tells them; the most that one read gives, where it
+    /// has such a bound; whether it has answered its end; how often it has failed.
     ghost seen: { Self → SourceSeen };
 
     /// Reads the next bytes into the room and says how many. 0 for a room that is not empty is the end.
@@ -20,6 +20,8 @@ pub trait Source {
         ensures bound { ReadsAtMost result room.new }
         ensures left { ReadTakes (seen self.old).left (seen self.new).left result room.new }
         ensures given { ReadGives (seen self.old).given (seen self.new).given result room.new }
+        ensures within { IfOk result (WithinMost (seen self.old).most) }
+        ensures same { (seen self.new).most ≡ (seen self.old).most }
         ensures end { (seen self.new).ended ≡ ends_read (seen self.old).ended (length room.new) result }
         ensures cause { HasCause (seen self.old).faults (seen self.new).faults result };
 

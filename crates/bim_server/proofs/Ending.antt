@@ -10,12 +10,12 @@ use Rattle.bim_session.specs.declared.end.SessionEnd.{SessionEnd}
 use Rattle.bim_session.specs.declared.end.SessionEnd.TheVariants as end
 use Rattle.bim_session.specs.declared.want.Want.TheVariants.{Leave}
 use Rattle.bim_session.specs.Session.{Reads, Answered, Ends, TakesUnanswered}
-use Rattle.bim_session.specs.Replay.{Replays, IsReadFault, IsWriteFault, ReadsAsNeeded, beginning, most_read}
+use Rattle.bim_session.specs.Replay.{Replays, IsReadFault, IsWriteFault, ReadsAsNeeded, IsOneRead, beginning}
 use Rattle.bim_session.specs.Talking.{TalkState, MeetsEnd, IsOwnEnd, IsOwnLeaving, IsOwnWant, StopsShort, TakesRequest}
 use Rattle.bim_session.proofs.Reading.{Reads_more}
 use Rattle.bim_server.specs.Loop.{ServerState}
 use Rattle.bim_server.proofs.SoFar.{IsQuiet, SoFar, start_of, stop_of}
-use Rattle.bim_server.proofs.Growing.{leaves_some, open_of, plain_moments, plain_output, exchanged, needed_more, none_needed}
+use Rattle.bim_server.proofs.Growing.{leaves_some, open_of, plain_moments, plain_output, exchanged, needed_more, none_needed, first_most}
 
 -- no call failed
 pub no_fault : (n n' : ℕ) (said : Type 0) → n' ≡ n → (said → ⊥) → ComesOfFault n n' said
@@ -56,7 +56,7 @@ some_end e own = λ n. (λ is. (own n).0 (ap Some is), λ is. (own n).1 (ap Some
 -- it ends after more was exchanged, and perhaps one more step
 finish : (w a b : Outside) (old : TalkState) (server server' : ServerState) (so : SoFar w a old server) (input rest late tail : List ℕ) (e : SessionEnd) (more : List Step)
     → old.leaving ≡ None → Exchanges w b input (so.moments ++ late) (so.output ++ tail) → EndsEmpty b.source
-    → Reads input false so.events rest so.told → ReadsAsNeeded input so.events
+    → Reads input false so.events rest so.told → ReadsAsNeeded w.source.most input so.events
     → ComesOfFault a.source.faults b.source.faults (IsReadFault e) → ComesOfFault a.sink.faults b.sink.faults (IsWriteFault e)
     → IsRun server'.projects (so.steps ++ more) server'.history → IsOneThread (so.steps ++ more) → length (so.steps ++ more) ≡ server'.turns
     → Answered (start_of server') so.events so.asked so.out so.steps
@@ -205,14 +205,15 @@ finish_short w a b old new server so late here stops gave quiet empty =
 
 -- it ends for want of memory where a piece was read that was not fed
 pub finish_unfed : (w a b : Outside) (old : TalkState) (server : ServerState) (so : SoFar w a old server) (piece : List ℕ)
-    → old.leaving ≡ None → IsTold so.told so.rest → IsRest so.rest → length piece ≤ most_read → Exchanges a b piece [] [] → IsQuiet a b → EndsEmpty b.source
+    → old.leaving ≡ None → IsTold so.told so.rest → IsRest so.rest → IsOneRead a.source.most (length piece) → Exchanges a b piece [] [] → IsQuiet a b → EndsEmpty b.source
     → Replays server.projects w b (end.Memory old.served)
 finish_unfed w a b old server so piece here settled nothing short gave quiet empty =
     let same : so.steps ++ [] ≡ so.steps = append-nil so.steps in
     let own : IsOwnEnd (end.Memory old.served) = memory_own old.served in
     finish w a b old server server so (so.input ++ piece) (so.rest ++ piece) [] [] (end.Memory old.served) [] here
     (exchanges_trans w a b so.input so.moments so.output piece [] [] so.exchanges gave) empty
-    (Reads_more so.input false so.events so.rest so.told piece so.reads) (needed_more so.input piece so.events so.rest so.told so.reads settled nothing short)
+    (Reads_more so.input false so.events so.rest so.told piece so.reads) (needed_more w.source.most so.input piece so.events so.rest so.told so.reads settled nothing
+    (first_most w a so.input so.moments so.output (length piece) so.exchanges short))
     (no_fault a.source.faults b.source.faults (IsReadFault (end.Memory old.served)) quiet.0 (own_read (end.Memory old.served) own))
     (no_fault a.sink.faults b.sink.faults (IsWriteFault (end.Memory old.served)) quiet.1 (own_write (end.Memory old.served) own))
     (rw same so.run) (rw same so.one_thread) (rw same so.count) so.answered
@@ -258,7 +259,7 @@ nothing_done w projects empty = record {
     answered = (refl, refl, refl);
     ends = inr (inr (inr (inr (inr (inr (inr (refl, refl, refl, inl (refl, refl))))))));
   };
-  as_needed = none_needed;
+  as_needed = none_needed w.source.most;
   read_fault = no_fault w.source.faults w.source.faults (IsReadFault (end.Memory 0)) refl (own_read (end.Memory 0) (memory_own 0));
   write_fault = no_fault w.sink.faults w.sink.faults (IsWriteFault (end.Memory 0)) refl (own_write (end.Memory 0) (memory_own 0));
 }

@@ -1,6 +1,7 @@
 -- A session so far goes on by one more event.
 use Rattle.std.proofs.Common.{◌≡◌, ◌≢◌, ◌⊎◌, ℕ, ◌+◌, ◌<◌, ◌≤◌, ◌==◌, ◌||◌, List, [], ◌∷◌, ◌++◌, length, Bool, true, false, Option, Some, None, IsTrue, if◌then◌else◌, inl, inr, sym, ◌∙◌, ap, subst, refl, append-nil, append_assoc, add_assoc, arith}
 use Rattle.std.proofs.lemmas.Bool.Decides.{eqb_tells}
+use Rattle.bim_io.specs.Causes.{WithinMost}
 use Rattle.bim_io.specs.Seen.{Outside, Exchanges}
 use Rattle.bim_io.proofs.Calls.{exchanges_none, exchanges_trans}
 use Rattle.http_frame.specs.declared.types.HttpRequest.{HttpRequest}
@@ -13,7 +14,7 @@ use Rattle.federation_book.proofs.Histories.{none_before, one_none}
 use Rattle.bim_session.specs.declared.end.SessionEnd.{SessionEnd}
 use Rattle.bim_session.specs.declared.end.SessionEnd.TheVariants as end
 use Rattle.bim_session.specs.Session.{Standing, Stop, IsBare, Ends, Reads, AnswersEvent, Answered, behind, closes, is_closed, counted, requests, most_requests, closes_after}
-use Rattle.bim_session.specs.Replay.{ReadsAsNeeded, HoldsNoMore, most_read}
+use Rattle.bim_session.specs.Replay.{ReadsAsNeeded, HoldsNoMore, IsOneRead}
 use Rattle.bim_session.specs.Talking.{TalkState, Feeds, is_end, with_framer, with_piece, leaving_after}
 use Rattle.bim_session.proofs.Reading.{Reads_more, Reads_append, requests-push, is_closed-push}
 use Rattle.bim_session.proofs.Sessions.{Answered_push}
@@ -65,12 +66,16 @@ plain_output w a old server so here =
 
 -- ---- the beginning
 
-pub none_needed : ReadsAsNeeded [] []
-none_needed = record {
+none_within : (most : Option ℕ) → WithinMost most 0
+none_within None = tt
+none_within (Some n) = omega arith
+
+pub none_needed : (most : Option ℕ) → ReadsAsNeeded most [] []
+none_needed most = record {
   earlier = [];
   piece = [];
   input_is = refl;
-  one_read = omega arith;
+  one_read = (omega arith, none_within most);
   needed = inl refl;
 }
 
@@ -114,7 +119,7 @@ so_far_start w projects talk fresh = record {
   moments_are = refl;
   output_is = refl;
   reads = (refl, refl);
-  as_needed = none_needed;
+  as_needed = none_needed w.source.most;
   run = refl;
   one_thread = one_none;
   count = refl;
@@ -137,9 +142,9 @@ piece_ends [] over at_end e = at_end refl
 piece_ends (c ∷ cs) over at_end e = cc
 
 -- no more was read than was needed, since nothing was left to answer
-pub needed_more : (input piece : List ℕ) (events : List Event) (rest : List ℕ) (told : Bool) → Reads input false events rest told → IsTold told rest → IsRest rest
-    → length piece ≤ most_read → ReadsAsNeeded (input ++ piece) events
-needed_more input piece events rest told reads settled nothing short = record {
+pub needed_more : (most : Option ℕ) (input piece : List ℕ) (events : List Event) (rest : List ℕ) (told : Bool) → Reads input false events rest told → IsTold told rest → IsRest rest
+    → IsOneRead most (length piece) → ReadsAsNeeded most (input ++ piece) events
+needed_more most input piece events rest told reads settled nothing short = record {
   earlier = input;
   piece = piece;
   input_is = refl;
@@ -156,10 +161,14 @@ needed_more input piece events rest told reads settled nothing short = record {
   });
 }
 
+-- a source keeps the bound of its reads
+pub first_most : (w a : Outside) (input moments output : List ℕ) (n : ℕ) → Exchanges w a input moments output → IsOneRead a.source.most n → IsOneRead w.source.most n
+first_most w a input moments output n gave short = subst (λ (o : Option ℕ). IsOneRead o n) gave.gave.most short
+
 -- a piece is fed, or the end
 pub so_far_fed : (w a b : Outside) (old mid new : TalkState) (server : ServerState) (so : SoFar w a old server) (piece : List ℕ)
     → old.leaving ≡ None → IsTold so.told so.rest → IsRest so.rest → Stands mid.framer so.rest so.told → mid ≡ with_framer mid.framer old
-    → length piece ≤ most_read → Feeds piece mid new → Exchanges a b piece [] [] → IsQuiet a b → (piece ≡ [] → IsTrue b.source.ended)
+    → IsOneRead a.source.most (length piece) → Feeds piece mid new → Exchanges a b piece [] [] → IsQuiet a b → (piece ≡ [] → IsTrue b.source.ended)
     → SoFar w b new server
 so_far_fed w a b old mid new server so piece here settled nothing stands same short feeds gave quiet at_end =
     let goes = open_of w a old server so here in
@@ -181,7 +190,7 @@ so_far_fed w a b old mid new server so piece here settled nothing stands same sh
       moments_are = ap (λ l. l ++ []) (plain_moments w a old server so here);
       output_is = ap (λ l. l ++ []) (plain_output w a old server so here);
       reads = Reads_more so.input false so.events so.rest so.told piece so.reads;
-      as_needed = needed_more so.input piece so.events so.rest so.told so.reads settled nothing short;
+      as_needed = needed_more w.source.most so.input piece so.events so.rest so.told so.reads settled nothing (first_most w a so.input so.moments so.output (length piece) so.exchanges short);
       run = so.run;
       one_thread = so.one_thread;
       count = so.count;
@@ -259,8 +268,8 @@ counted_one frame.continue = omega arith
 counted_one (frame.request r) = omega arith
 
 -- of what was read before the last piece, it is still so where one more event was answered
-needed_push : (input : List ℕ) (events : List Event) (event : Event) → ReadsAsNeeded input events → ReadsAsNeeded input (events ++ event ∷ [])
-needed_push input events event needs = record {
+needed_push : (most : Option ℕ) (input : List ℕ) (events : List Event) (event : Event) → ReadsAsNeeded most input events → ReadsAsNeeded most input (events ++ event ∷ [])
+needed_push most input events event needs = record {
   earlier = needs.earlier;
   piece = needs.piece;
   input_is = needs.input_is;
@@ -317,7 +326,7 @@ so_far_push w a b old new server server' so event later mark asked bytes first h
       moments_are = ap (λ l. l ++ asked) (plain_moments w a old server so here) ∙ sym (append-nil (so.asked ++ asked));
       output_is = ap (λ o. o ++ bytes) (plain_output w a old server so here) ∙ sym (append-nil (so.out ++ bytes));
       reads = Reads_append so.input false so.events so.rest so.told (event ∷ []) later mark so.reads reads;
-      as_needed = needed_push so.input so.events event so.as_needed;
+      as_needed = needed_push w.source.most so.input so.events event so.as_needed;
       run = run;
       one_thread = one;
       count = count;

@@ -63,7 +63,7 @@ pub record SoFar (before now : Outside) (talk : TalkState) (server : ServerState
   pub moments_are : moments ≡ asked ++ late
   pub output_is : output ≡ out ++ tail
   pub reads : Reads input false events rest told
-  pub as_needed : ReadsAsNeeded input events
+  pub as_needed : ReadsAsNeeded before.source.most input events
   pub run : IsRun server.projects steps server.history
   pub one_thread : IsOneThread steps
   pub count : length steps ≡ server.turns

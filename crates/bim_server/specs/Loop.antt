@@ -1,5 +1,5 @@
 -- What a step of a session over a one-thread book does.
-use Rattle.std.specs.Prelude.{◌≡◌, ◌⊎◌, ◌≤◌, ℕ, ◌+◌, ◌++◌, List, [], length, Some, Result, Ok, Err, IsTrue}
+use Rattle.std.specs.Prelude.{◌≡◌, ◌⊎◌, ℕ, ◌+◌, ◌++◌, List, [], length, Some, Result, Ok, Err, IsTrue}
 use Rattle.std.specs.declared.alloc.AllocError.{AllocError}
 use Rattle.bim_io.specs.Causes.{Rose}
 use Rattle.bim_io.specs.Seen.{SourceSeen, SinkSeen, Outside, SourceGives, SinkTakes}
@@ -12,7 +12,7 @@ use Rattle.bim_session.specs.declared.end.SessionEnd.TheVariants as end
 use Rattle.bim_session.specs.declared.want.Waiting.{Waiting}
 use Rattle.bim_session.specs.declared.want.Want.{Want}
 use Rattle.bim_session.specs.declared.want.Want.TheVariants.{More, Write, Call, Leave}
-use Rattle.bim_session.specs.Replay.{most_read}
+use Rattle.bim_session.specs.Replay.{IsOneRead}
 use Rattle.bim_session.specs.Talking.{TalkState, BookReceipt, Feeds, Wants, LacksNext, IsOwnWant, AnswersCall, with_answer}
 use Rattle.bim_server.specs.Writes.{WritesFront}
 use Rattle.bim_server.specs.declared.session.Progress.{Progress}
@@ -56,10 +56,10 @@ StopsReading source source' served piece e =
 -- a read gave a piece, which was fed, or the end; or it ended the session
 abbrev pub Reading : SourceSeen → SourceSeen → TalkState → Progress → TalkState → Type 0
 Reading source source' old Again new =
-    (piece : List ℕ) × SourceGives source source' piece × (length piece ≤ most_read) × (source'.faults ≡ source.faults)
-    × Feeds piece old new × (piece ≡ [] → IsTrue source'.ended)
+    (piece : List ℕ) × SourceGives source source' piece × IsOneRead source.most (length piece)
+    × (source'.faults ≡ source.faults) × Feeds piece old new × (piece ≡ [] → IsTrue source'.ended)
 Reading source source' old (End e) new =
-    (piece : List ℕ) × SourceGives source source' piece × (length piece ≤ most_read)
+    (piece : List ℕ) × SourceGives source source' piece × IsOneRead source.most (length piece)
     × StopsReading source source' old.served piece e
 
 -- the bytes were written, or a front of them, which ends the session

@@ -1,6 +1,6 @@
 -- A session over a one-thread book, as a run with one actor.
-use Rattle.std.specs.Prelude.{◌≡◌, ◌⊎◌, ◌≤◌, ◌++◌, ℕ, List, [], length, Bool, false}
-use Rattle.bim_io.specs.Causes.{ComesOfFault}
+use Rattle.std.specs.Prelude.{◌≡◌, ◌⊎◌, ◌≤◌, ◌++◌, ℕ, List, [], length, Bool, false, Option}
+use Rattle.bim_io.specs.Causes.{ComesOfFault, WithinMost}
 use Rattle.bim_io.specs.Seen.{Outside, EndsEmpty, Exchanges}
 use Rattle.http_frame.specs.Events.{Event, IsRest, IsTold}
 use Rattle.federation_book.specs.declared.types.Entry.{Entry}
@@ -22,9 +22,13 @@ IsWriteFault end = (n : ℕ) × (end ≡ WriteFault n)
 abbrev pub beginning : ℕ → List Entry → ℕ → Standing
 beginning projects history top = record { projects = projects; history = history; last = 0; top = top; served = 0 }
 
--- the most bytes that one read gives
+-- the most bytes that a session takes by one read
 abbrev pub most_read : ℕ
 most_read = MOST_READ
+
+-- one read of a source that gives no more than this at once, where it has such a bound, may give so many bytes
+abbrev pub IsOneRead : Option ℕ → ℕ → Type 0
+IsOneRead most n = (n ≤ most_read) × WithinMost most n
 
 -- these bytes hold no event that is not among the first of those answered
 pub record HoldsNoMore (bytes : List ℕ) (events : List Event) : Type 0 where
@@ -37,12 +41,13 @@ pub record HoldsNoMore (bytes : List ℕ) (events : List Event) : Type 0 where
   pub settled : IsTold told rest
   pub nothing : IsRest rest
 
--- No more was read than was needed: what was read before the last piece holds no event that was not answered.
-pub record ReadsAsNeeded (input : List ℕ) (events : List Event) : Type 0 where
+-- No more was read than was needed: what was read before the last piece, which one read may have given, holds no event
+-- that was not answered.
+pub record ReadsAsNeeded (most : Option ℕ) (input : List ℕ) (events : List Event) : Type 0 where
   pub earlier : List ℕ
   pub piece : List ℕ
   pub input_is : input ≡ earlier ++ piece
-  pub one_read : length piece ≤ most_read
+  pub one_read : IsOneRead most (length piece)
   pub needed : (earlier ≡ []) ⊎ HoldsNoMore earlier events
 
 -- A source gave the input and has nothing left once it answered its end, a clock gave the moments, and a sink took the
@@ -53,7 +58,7 @@ pub record ReadsAsNeeded (input : List ℕ) (events : List Event) : Type 0 where
 -- What is written before a read: since a session ends by the first call that fails, a read or a write, nothing is written
 -- after a read that fails, and nothing is read after a write that fails. So a source whose n-th read fails shows that all
 -- events of what the reads before it gave were answered before it, and a sink whose n-th write fails shows that no read
--- came between an event and its answer.
+-- came between an event and its answer; where the source gives a byte at a time, not a byte more was taken.
 pub record Replays (projects : ℕ) (before after : Outside) (end : SessionEnd) : Type 0 where
   pub input : List ℕ
   pub moments : List ℕ
@@ -65,7 +70,7 @@ pub record Replays (projects : ℕ) (before after : Outside) (end : SessionEnd) 
   pub run : IsRun projects steps history
   pub one_thread : IsOneThread steps
   pub session : Session (beginning projects history (length steps)) after.source.ended input moments output steps end
-  pub as_needed : ReadsAsNeeded input session.events
+  pub as_needed : ReadsAsNeeded before.source.most input session.events
   pub read_fault : ComesOfFault before.source.faults after.source.faults (IsReadFault end)
   pub write_fault : ComesOfFault before.sink.faults after.sink.faults (IsWriteFault end)
 
