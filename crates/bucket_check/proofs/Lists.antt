@@ -1,5 +1,5 @@
 -- Lists of exactly what has a property, in order: there is one.
-use Rattle.std.proofs.Common.{◌≡◌, ℕ, zero, suc, ◌+◌, ◌<◌, ◌⊎◌, inl, inr, Bool, true, false, cond, List, [], ◌∷◌, ◌++◌, length, get_or, filter, true≢false, refl, sym, ap₂, subst, arith, ◌∙◌}
+use Rattle.std.proofs.Common.{◌≡◌, ℕ, zero, suc, ◌<◌, ◌⊎◌, inl, inr, Bool, true, false, cond, List, [], ◌∷◌, ◌++◌, length, get_or, filter, true≢false, refl, sym, ap₂, subst, arith}
 use Rattle.std.specs.List.{AllPairs, All, Contains, flat_map}
 use Rattle.std.proofs.lemmas.List.Elements.{All-contains, All-filter, All-head, All-tail, filter_passes, Contains-get_or}
 use Rattle.std.proofs.lemmas.List.Kept.{AllPairs-filter}

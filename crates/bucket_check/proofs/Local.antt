@@ -1,6 +1,6 @@
 -- What is found among the members of a cell is what the cell owns.
-use Rattle.std.proofs.Common.{◌≡◌, ℕ, suc, ◌+◌, ◌<◌, ◌≤◌, ◌⊎◌, inl, inr, Bool, true, false, cond, List, [], ◌∷◌, length, get_or, map, Option, Some, None, refl, sym, ap, ap₂, subst, arith, ◌∙◌}
-use Rattle.std.specs.List.{AllPairs, All, Contains}
+use Rattle.std.proofs.Common.{◌≡◌, ℕ, ◌<◌, ◌≤◌, ◌⊎◌, inl, inr, Bool, true, false, cond, List, length, get_or, map, Option, Some, None, refl, sym, ap, ap₂, subst, arith, ◌∙◌}
+use Rattle.std.specs.List.{AllPairs, Contains}
 use Rattle.std.proofs.lemmas.Bool.{cases_eq, cases_lt}
 use Rattle.std.proofs.lemmas.List.{get_or-map, length-map, get_or_default}
 use Rattle.std.proofs.lemmas.List.Elements.{Contains-get_or}
@@ -15,9 +15,9 @@ use Rattle.bucket_grid.specs.Subjects.{subject_at, IsBoxOf, AreBoxes}
 use Rattle.bucket_grid.proofs.Zips.{zip_length}
 use Rattle.bucket_grid.proofs.Rising.{places_rise, places_within}
 use Rattle.bucket_check.specs.declared.pair.SetPair.{SetPair}
-use Rattle.bucket_check.specs.Clashes.{clash_of, is_cell, owner, own_clashes, pairs_by, IsBefore}
+use Rattle.bucket_check.specs.Clashes.{clash_of, is_cell, owner, own_clashes, IsBefore}
 use Rattle.bucket_check.specs.Sets.{own_rule, rule_at, number_at, pair_at, found_among}
-use Rattle.bucket_check.proofs.Lists.{Lists, lists_one}
+use Rattle.bucket_check.proofs.Lists.{lists_one}
 use Rattle.bucket_check.proofs.Pairs.{once, IsPairBy, pairs_list}
 use Rattle.bucket_check.proofs.Owned.{clash_owned, member}
 use Rattle.bucket_check.proofs.Merged.{one_cell, IsOwn, own_list}

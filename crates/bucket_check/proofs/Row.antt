@@ -1,5 +1,5 @@
 -- A member's row: the places that the filter of boxes gives are enough.
-use Rattle.std.proofs.Common.{◌≡◌, ℕ, zero, suc, ◌+◌, ◌-◌, ◌*◌, ◌<◌, ◌≤◌, ◌⊎◌, inl, inr, max, leb, ltb, ◌&&◌, Bool, true, false, cond, List, [], ◌∷◌, ◌++◌, length, get_or, take, drop, map, filter, true≢false, Option, Some, None, refl, sym, ap, ap₂, subst, arith, ◌∙◌, append-nil, drop-cons, add-one, unsigned_abs, ℤ}
+use Rattle.std.proofs.Common.{◌≡◌, ℕ, zero, suc, ◌+◌, ◌-◌, ◌*◌, ◌<◌, ◌≤◌, ◌⊎◌, inl, inr, leb, ltb, ◌&&◌, Bool, true, false, cond, List, [], ◌∷◌, ◌++◌, length, take, drop, map, filter, true≢false, Option, Some, None, refl, sym, ap, ap₂, subst, arith, ◌∙◌, append-nil, drop-cons, add-one, unsigned_abs, ℤ}
 use Rattle.std.specs.List.{All, flat_map}
 use Rattle.std.specs.Str.{bytes_eq}
 use Rattle.std.proofs.lemmas.Bool.{cases_lt, and_parts, and_from, le-leb, leb-true, lt-leb}
@@ -8,8 +8,6 @@ use Rattle.std.proofs.lemmas.List.{length-map, get_or-map, length-drop}
 use Rattle.std.proofs.lemmas.List.Elements.{filter-append, All-filter, All-same}
 use Rattle.bim_model.specs.declared.geometry.Extent.{Extent}
 use Rattle.bim_model.specs.declared.geometry.TheConstants.{PER_MM}
-use Rattle.bim_model.specs.declared.rules.Rule.{Rule}
-use Rattle.bim_model.specs.declared.rules.Found.{Found}
 use Rattle.bim_model.specs.Rules.{greatest_distance}
 use Rattle.bim_model.specs.Gaps.{gap, is_within}
 use Rattle.bim_model.specs.Snapshots.{Version}

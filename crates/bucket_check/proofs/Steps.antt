@@ -1,5 +1,5 @@
 -- Steps of the loops over a bucket's members.
-use Rattle.std.proofs.Common.{◌≡◌, ℕ, zero, suc, ◌+◌, ◌-◌, ◌*◌, ◌<◌, ◌≤◌, ◌⊎◌, inl, inr, cond, ltb, List, [], ◌∷◌, ◌++◌, length, get_or, take, map, Option, All, refl, sym, ap, ap₂, subst, arith, ◌∙◌, append-nil}
+use Rattle.std.proofs.Common.{◌≡◌, ℕ, zero, suc, ◌+◌, ◌-◌, ◌*◌, ◌<◌, ◌≤◌, ◌⊎◌, inl, inr, List, [], ◌∷◌, ◌++◌, length, get_or, take, Option, All, refl, sym, ap, ap₂, subst, arith, ◌∙◌, append-nil}
 use Rattle.std.specs.List.{flat_map}
 use Rattle.std.proofs.Math.Nat.{mul-le-mul}
 use Rattle.std.proofs.lemmas.Bool.{cases_lt}
@@ -9,10 +9,9 @@ use Rattle.bim_model.specs.declared.geometry.Extent.{Extent}
 use Rattle.bucket_grid.specs.declared.cell.Cell.{Cell}
 use Rattle.bucket_grid.specs.Cells.{holds, members, IsBucket}
 use Rattle.bucket_grid.specs.Grids.{GridValue}
-use Rattle.bucket_grid.specs.Table.{upto}
 use Rattle.bucket_grid.proofs.Rising.{places_within}
 use Rattle.bucket_check.specs.declared.pair.SetPair.{SetPair}
-use Rattle.bucket_check.specs.Clashes.{pair_if, pairs_by}
+use Rattle.bucket_check.specs.Clashes.{pairs_by}
 use Rattle.bucket_check.specs.Sets.{rule_at, found_among, own_places}
 use Rattle.bucket_check.proofs.Row.{count_places, triangle}
 

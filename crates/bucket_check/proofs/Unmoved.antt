@@ -1,6 +1,6 @@
 -- A cell with members of the same keys, classes, storeys and surfaces owns the same clashes, by their places.
-use Rattle.std.proofs.Common.{◌≡◌, ℕ, ◌+◌, ◌<◌, ◌&&◌, ltb, Bool, cond, List, [], ◌∷◌, ◌++◌, length, get_or, map, Option, Some, None, refl, sym, ap, ap₂, subst, arith, ◌∙◌}
-use Rattle.std.specs.List.{All, AllZip, flat_map}
+use Rattle.std.proofs.Common.{◌≡◌, ℕ, ◌+◌, ◌<◌, ◌&&◌, ltb, Bool, cond, List, [], ◌∷◌, length, get_or, Option, Some, None, refl, sym, ap, ap₂, subst, arith, ◌∙◌}
+use Rattle.std.specs.List.{flat_map}
 use Rattle.std.specs.Str.{bytes_eq}
 use Rattle.std.proofs.lemmas.List.{length-map, get_or-map}
 use Rattle.bim_model.specs.declared.geometry.Extent.{Extent}
@@ -23,10 +23,9 @@ use Rattle.bucket_grid.specs.Table.{upto}
 use Rattle.bucket_grid.proofs.Zips.{zip_at, zip_length}
 use Rattle.bucket_grid.proofs.Parts.{all_upto}
 use Rattle.bucket_grid.proofs.Rising.{places_within}
-use Rattle.bucket_check.specs.declared.pair.SetPair.{SetPair}
 use Rattle.bucket_check.proofs.Lists.{flat_same}
 use Rattle.bucket_check.specs.Clashes.{in_grid_numbers, rule_between, clash_by, clash_of, is_cell, pair_if, pairs_by}
-use Rattle.bucket_check.specs.Sets.{own_rule, rule_at, number_at, own_places, IsSame, subjects_at, IsUnmoved}
+use Rattle.bucket_check.specs.Sets.{rule_at, number_at, own_places, IsSame, subjects_at, IsUnmoved}
 
 -- rules that agree below n list the same pairs
 pairs_like : (n : ℕ) (f g : ℕ → ℕ → Option ℕ) → ((a b : ℕ) → a < n → b < n → f a b ≡ g a b) → pairs_by n f ≡ pairs_by n g

@@ -1,8 +1,8 @@
 -- Rules read one after the other.
-use Rattle.std.proofs.Common.{◌≡◌, ℕ, suc, ◌+◌, ◌<◌, ◌≤◌, Bool, true, false, ◌&&◌, List, [], ◌∷◌, ◌++◌, length, get_or, drop, Result, Ok, Err, IsErrAnd, is_some, refl, sym, ap, ap₂, ◌∙◌, arith, append-nil, append_assoc, drop-cons, add-one}
+use Rattle.std.proofs.Common.{◌≡◌, ℕ, suc, ◌+◌, ◌<◌, Bool, true, false, ◌&&◌, List, [], ◌∷◌, ◌++◌, length, get_or, drop, Result, Ok, Err, IsErrAnd, is_some, refl, sym, ap, ◌∙◌, append-nil, append_assoc, drop-cons, add-one}
 use Rattle.serde_json.specs.Find.{as_object}
 use Rattle.serde_json.specs.View.{view, items_view}
-use Rattle.serde_json.specs.Data.{Items, no_items, item}
+use Rattle.serde_json.specs.Data.{item}
 use Rattle.serde_json.specs.declared.value.Value.{Value}
 use Rattle.bim_model.specs.declared.rules.Rule.{Rule}
 use Rattle.clash_rules.specs.declared.fault.RuleFault.{RuleFault}

@@ -1,4 +1,3 @@
-use Rattle.std.proofs.Common.{◌≡◌}
 use Rattle.bucket_check.proofs.Tested.{none_added, some_added}
 use Rattle.bucket_check.proofs.checks.add_pair.Goals as goal
 

@@ -1,7 +1,6 @@
-use Rattle.std.proofs.Common.{◌≡◌, sym, ap, ◌∙◌}
+use Rattle.std.proofs.Common.{sym, ◌∙◌}
 use Rattle.bim_model.specs.Keys.{subjects_of}
 use Rattle.bucket_grid.specs.Subjects.{subject_at}
-use Rattle.bucket_check.specs.Clashes.{clash_by}
 use Rattle.bucket_check.proofs.Known.{small_distance}
 use Rattle.bucket_check.proofs.Tested.{decides}
 use Rattle.bucket_check.proofs.checks.clash_of.Goals as goal

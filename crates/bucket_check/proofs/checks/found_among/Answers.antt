@@ -1,8 +1,7 @@
-use Rattle.std.proofs.Common.{◌≡◌, ◌+◌, ◌-◌, ◌*◌, ◌<◌, ◌≤◌, ℕ, List, [], All, length, map, refl, sym, ap, subst, ◌∙◌, arith, rules}
+use Rattle.std.proofs.Common.{◌≡◌, ◌<◌, List, [], All, length, map, refl, sym, ap, subst, ◌∙◌, arith, rules}
 use Rattle.std.specs.List.{flat_map}
 use Rattle.bim_model.specs.Rules.{greatest_distance}
 use Rattle.bim_model.specs.declared.geometry.Extent.{Extent}
-use Rattle.bim_model.specs.declared.rules.Rule.{Rule}
 use Rattle.box_lanes.specs.Places.{box_at}
 use Rattle.bucket_grid.specs.Table.{upto}
 use Rattle.bucket_grid.proofs.Upto.{upto_more}

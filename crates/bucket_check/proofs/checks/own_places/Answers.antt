@@ -1,6 +1,5 @@
-use Rattle.std.proofs.Common.{◌≡◌, ◌≤◌, ℕ, List, length, ap, ◌∙◌, arith}
+use Rattle.std.proofs.Common.{◌≡◌, length, ap, arith}
 use Rattle.std.proofs.lemmas.Result.{IfOk-weaker}
-use Rattle.bucket_check.specs.declared.pair.SetPair.{SetPair}
 use Rattle.bucket_check.specs.Sets.{found_among, own_places}
 use Rattle.bucket_check.proofs.Steps.{members_are, all_rows, fewer_pairs}
 use Rattle.bucket_check.proofs.checks.own_places.Goals as goal

@@ -1,4 +1,4 @@
-use Rattle.std.proofs.Common.{◌≡◌, ◌∙◌}
+use Rattle.std.proofs.Common.{◌∙◌}
 use Rattle.bucket_check.proofs.Tested.{owned, of_another}
 use Rattle.bucket_check.proofs.checks.own_rule.Goals as goal
 

@@ -1,4 +1,4 @@
-use Rattle.std.proofs.Common.{◌≡◌, ap, ◌∙◌}
+use Rattle.std.proofs.Common.{ap, ◌∙◌}
 use Rattle.bucket_check.specs.Clashes.{is_cell}
 use Rattle.bucket_check.proofs.Tested.{owner_is}
 use Rattle.bucket_check.proofs.checks.owns.Goals as goal

@@ -1,4 +1,3 @@
-use Rattle.std.proofs.Common.{◌≡◌}
 use Rattle.bucket_check.proofs.Known.{in_grid}
 use Rattle.bucket_check.proofs.Tested.{near_then, near_else}
 use Rattle.bucket_check.proofs.checks.rule_if_near.Goals as goal

@@ -1,4 +1,4 @@
-use Rattle.std.proofs.Common.{◌≡◌, List, map, ap, sym, subst, ◌∙◌}
+use Rattle.std.proofs.Common.{◌≡◌, List, map, ap, subst, ◌∙◌}
 use Rattle.bim_model.specs.Rules.{IsRules}
 use Rattle.bim_model.specs.Keys.{subjects_of}
 use Rattle.bim_model.specs.declared.rules.Rule.{Rule}
@@ -7,7 +7,7 @@ use Rattle.bucket_grid.specs.Cells.{members}
 use Rattle.bucket_grid.specs.Grids.{GridValue}
 use Rattle.bucket_grid.specs.Subjects.{AreBoxes}
 use Rattle.bucket_check.specs.Clashes.{own_clashes}
-use Rattle.bucket_check.specs.Sets.{SetValue, pair_at, own_places}
+use Rattle.bucket_check.specs.Sets.{SetValue, pair_at}
 use Rattle.bucket_check.proofs.Local.{found}
 use Rattle.bucket_check.proofs.set.BucketSet.pairs.Goals as goal
 
