@@ -1,5 +1,5 @@
 -- The parts of a path of ASCII characters are text.
-use Rattle.std.proofs.Common.{◌≡◌, ◌+◌, ◌-◌, ◌&&◌, leb, ℕ, List, [], ◌∷◌, length, take, drop, Bool, true, false, cond, Some, refl}
+use Rattle.std.proofs.Common.{◌≡◌, ◌-◌, ◌&&◌, leb, ℕ, List, [], ◌∷◌, length, take, drop, Bool, true, false, cond, Some, refl}
 use Rattle.std.specs.List.{list_all}
 use Rattle.std.specs.Char.{is_ascii}
 use Rattle.std.specs.Str.{IsAscii, IsUtf8}
