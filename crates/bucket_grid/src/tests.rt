@@ -1,7 +1,7 @@
 //! Versions of few boxes, worked out by another program.
 use crate::{
-    Cell, Grid, GridError, Member, cells_hold_points, close_boxes_have_an_owner, has_few_elements,
-    memberships_are_one, near_elements_have_an_owner, owners_are_one,
+    Cell, Grid, GridError, Member, cells_are_counted, cells_hold_points, close_boxes_have_an_owner,
+    has_few_elements, memberships_are_one, near_elements_have_an_owner, owners_are_one,
 };
 use bim_model::{
     Element, Guid, Items, Model, NamedModel, PER_MM, Point, Rules, Shared, Snapshot, Text, Triangle,
@@ -154,6 +154,7 @@ fn laws_are_called() {
     memberships_are_one();
     owners_are_one();
     cells_hold_points();
+    cells_are_counted();
     close_boxes_have_an_owner();
     near_elements_have_an_owner();
 }
