@@ -1,7 +1,7 @@
 -- The clashes of a version, and the part of them that a cell owns.
 --
--- An element of a version is spoken of by its number: its place in the list of all elements by rising key. So of
--- two elements the one with the lower number has the lower key.
+-- An element of a version is spoken of by its number: its place in the list of all elements by rising key. So
+-- of two elements the one with the lower number has the lower key.
 use Rattle.std.specs.Prelude.{ℕ, ◌*◌, ◌<◌, ◌⊎◌, ◌≡◌, nat_lt, unsigned_abs, Bool, ◌&&◌, cond, List, [], ◌∷◌, length, filter, Option, Some, None}
 use Rattle.std.specs.List.{flat_map}
 use Rattle.std.specs.Ordering.{int_eq}

@@ -16,9 +16,9 @@ use Rattle.bucket_check.specs.Clashes.{clash_of, is_cell, pairs_by}
 -- the rule by which two elements clash, where the cell owns them
 abbrev pub own_rule : Version → List Extent → Cell → ℕ → ℕ → Option ℕ
 own_rule version boxes cell a b =
+    let subjects = subjects_of version.models in
     cond (is_cell (owner_of (box_at boxes a) (box_at boxes b)) cell)
-    (clash_of version.rules (subject_at (subjects_of version.models) a) (subject_at (subjects_of version.models) b))
-    None
+    (clash_of version.rules (subject_at subjects a) (subject_at subjects b)) None
 
 -- the number of the member at a place
 abbrev pub number_at : List ℕ → ℕ → ℕ
@@ -30,7 +30,8 @@ pair_at numbers p = record { a = number_at numbers p.a; b = number_at numbers p.
 
 -- the rule of the members at two places
 abbrev pub rule_at : Version → List Extent → Cell → List ℕ → ℕ → ℕ → Option ℕ
-rule_at version boxes cell numbers i j = own_rule version boxes cell (number_at numbers i) (number_at numbers j)
+rule_at version boxes cell numbers i j =
+    own_rule version boxes cell (number_at numbers i) (number_at numbers j)
 
 -- the clashes among these members that a cell owns, by their places
 abbrev pub found_among : Version → List Extent → Cell → List ℕ → List SetPair
@@ -60,4 +61,5 @@ subjects_at grid numbers = map (subject_at (subjects_of grid.version.models)) nu
 pub record IsUnmoved (before after : GridValue) (cell : Cell) : Type 0 where
   pub rules : before.version.rules ≡ after.version.rules
   pub members :
-      AllZip IsSame (subjects_at before (members before.boxes cell)) (subjects_at after (members after.boxes cell))
+      AllZip IsSame (subjects_at before (members before.boxes cell))
+      (subjects_at after (members after.boxes cell))

@@ -137,7 +137,8 @@ fn add_row<L: Ledger>(
     requires few { length members.now ≤ MOST_ELEMENTS }
     requires members_in { All (λ n. n < length grid.now.boxes) members.now }
     ensures pairs { OnOk result (pairs.new.items ≡ pairs.old.items
-        ++ flat_map (λ j. pair_if first j (rule_at grid.now.version grid.now.boxes cell members.now first j)) places.now) }
+        ++ flat_map (λ j.
+        pair_if first j (rule_at grid.now.version grid.now.boxes cell members.now first j)) places.now) }
     ensures steps { steps.new ≤ steps.old + length places.now }
 {
     for place in places {
@@ -218,9 +219,9 @@ fn own_places<L: Ledger>(
     found_among(alloc, grid, cell, members, room, steps)
 }
 
-/// Checks a bucket: the set has exactly the clashes of the version that the bucket owns, in the order of keys. Of m
-/// members at most m(m - 1)/2 pairs are tested exactly, each in one step. An error where memory is wanting. The room
-/// may be used again for any bucket.
+/// Checks a bucket: the set has exactly the clashes of the version that the bucket owns, in the order of
+/// keys. Of m members at most m(m - 1)/2 pairs are tested exactly, each in one step. An error where memory is
+/// wanting. The room may be used again for any bucket.
 pub fn check<L: Ledger>(
     alloc: Global,
     work: BucketWork,

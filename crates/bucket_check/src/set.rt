@@ -46,8 +46,8 @@ impl BucketSet {
         &self.work
     }
 
-    /// The pairs in the order of keys, by the places of the elements among the bucket's members, lent. They are exactly
-    /// the clashes that the bucket owns.
+    /// The pairs in the order of keys, by the places of the elements among the bucket's members, lent. They
+    /// are exactly the clashes that the bucket owns.
     pub fn pairs(&self) -> &[SetPair]
         ensures same { result.now ≡ self.now.pairs }
         ensures found { result.now ≡ own_places self.now.work.grid self.now.work.cell }
@@ -59,8 +59,8 @@ impl BucketSet {
         self.pairs.get().as_slice()
     }
 
-    /// The set of another work, on the same cell in a grid of equal rules where it has members of the same keys,
-    /// classes, storeys and surfaces. The list of its pairs is shared.
+    /// The set of another work, on the same cell in a grid of equal rules where it has members of the same
+    /// keys, classes, storeys and surfaces. The list of its pairs is shared.
     pub fn moved(&self, work: BucketWork) -> Result<BucketSet, AllocError>
         requires cell { work.cell ≡ self.now.work.cell }
         requires unmoved { IsUnmoved self.now.work.grid work.grid work.cell }

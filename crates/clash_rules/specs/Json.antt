@@ -45,7 +45,8 @@ class_in name rule = option_and_then if_class (option_and_then as_str (get name 
 -- a member that need not be there: what stands for it where it is absent, and how its text is read
 abbrev pub optional : {A : Type 0} → A → (List ℕ → Option A) → Option Data → Option A
 optional absent read None = Some absent
-optional absent read (Some value) = cond (is_some (as_null value)) (Some absent) (option_and_then read (as_str value))
+optional absent read (Some value) =
+    cond (is_some (as_null value)) (Some absent) (option_and_then read (as_str value))
 
 -- the storeys that a text names: `any`, `same` or `different`
 unfoldable pub storey_named : List ℕ → Option StoreyTest
@@ -92,8 +93,8 @@ unfoldable pub tests_in : Data → Option Tests
 tests_in rule =
     option_and_then (λ s.
     option_and_then (λ m.
-    option_and_then (λ w. Some (record { storey = s; models = m; word = w })) (word_in rule)) (models_in rule))
-    (storey_in rule)
+    option_and_then (λ w. Some (record { storey = s; models = m; word = w })) (word_in rule))
+    (models_in rule)) (storey_in rule)
 
 -- what a number spells as a distance: none is bad unless it is whole
 unfoldable pub if_whole : Option ℤ → Spelled
@@ -169,7 +170,8 @@ abbrev pub are_objects : Items → Bool
 are_objects no_items = true
 are_objects (item d ds) = is_some (as_object d) && are_objects ds
 
--- an array of rules: first its length, then whether it has objects alone, then the first rule that has a fault
+-- an array of rules: first its length, then whether it has objects alone, then the first rule that has a
+-- fault
 unfoldable pub rules_of_items : Items → Result (List Rule) RuleFault
 rules_of_items items =
     cond (nat_lt MOST_RULES (item_count items)) (Err (TooManyRules (item_count items)))

@@ -1,4 +1,5 @@
-//! Rules are read where there is memory, and decide. The rules and faults of many texts are told apart by `bench/clash_rules`.
+//! Rules are read where there is memory, and decide. The rules and faults of many texts are told apart by
+//! `bench/clash_rules`.
 use crate::{RuleError, RuleFault, from_json, rule_of};
 use bim_model::{Element, Guid, Items, Rules, Text};
 use serde_json::Value;
