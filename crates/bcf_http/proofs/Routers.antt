@@ -37,7 +37,8 @@ module _ {K : Type 0} (P : K → Type 0) where
   with_suffix-all s [] all = tt
   with_suffix-all s ((t, k) ∷ r) all = by (same_text (segment t) s) (with_suffix-all s r all.1)
     where
-      by : (v : Bool) → AllKeys (with_suffix s r) → AllKeys (cond v ((t, k) ∷ with_suffix s r) (with_suffix s r))
+      by : (v : Bool) → AllKeys (with_suffix s r)
+          → AllKeys (cond v ((t, k) ∷ with_suffix s r) (with_suffix s r))
       by true rest = (all.0, rest)
       by false rest = rest
 
@@ -48,7 +49,10 @@ module _ {K : Type 0} (P : K → Type 0) where
       (length (segment path) - length (longest_suffix (segment path) r)) (length path)
     where
       by : (u v : Bool) (n m : ℕ)
-          → AllKeys (cond {A = ℕ × RowsOf K} u (n, with_suffix (longest_suffix (segment path) r) r) (cond v (0, []) (m, r))).1
+          → AllKeys (
+          cond {A = ℕ × RowsOf K} u
+          (n, with_suffix (longest_suffix (segment path) r) r) (cond v (0, []) (m, r))
+          ).1
       by true v n m = with_suffix-all (longest_suffix (segment path) r) r all
       by false true n m = tt
       by false false n m = all

@@ -25,6 +25,7 @@ use Rattle.bcf_http.specs.Responses.{response_bytes}
 abbrev pub query_text : QueryName → List ℕ
 query_text Grid = codes "grid"
 
+-- a fault that the request alone decides
 abbrev pub request_fault_tree : RequestFault → Data
 request_fault_tree NoRoute = error_tree (codes "H7") (codes "NoRoute")
 request_fault_tree (Method row) = error_tree (codes "H8") (codes "Method")
@@ -33,6 +34,7 @@ request_fault_tree (Query name) = error_named (codes "H11") (codes "Query") (que
 request_fault_tree BadJson = error_tree (codes "H9") (codes "BadJson")
 request_fault_tree (Body Title) = error_tree (codes "B3") (codes "Title")
 
+-- a fault of framing
 abbrev pub frame_fault_tree : FrameFault → Data
 frame_fault_tree frame.BadHead = error_tree (codes "H1") (codes "BadHead")
 frame_fault_tree frame.HeadTooLong = error_tree (codes "H2") (codes "HeadTooLong")
@@ -44,11 +46,14 @@ frame_fault_tree frame.Version = error_tree (codes "H6") (codes "Version")
 -- the tree of a reply of the book, for a project
 abbrev pub IsReplyTree : ℕ → ReplyBody → Data → Type 0
 IsReplyTree project (reply.TopicIs topic) tree = IsTopicTree project topic tree
-IsReplyTree project (reply.TopicList topics) tree = (items : Items) × AreTopicTrees project topics items × (tree ≡ array items)
-IsReplyTree project (reply.Changed version elements triangles left) tree = tree ≡ changed_tree version elements triangles left
+IsReplyTree project (reply.TopicList topics) tree =
+    (items : Items) × AreTopicTrees project topics items × (tree ≡ array items)
+IsReplyTree project (reply.Changed version elements triangles left) tree =
+    tree ≡ changed_tree version elements triangles left
 IsReplyTree project (reply.Version version newest snapshot) tree = IsVersionTree version newest snapshot tree
 IsReplyTree project (reply.Refused NoProject) tree = tree ≡ error_tree (codes "K1") (codes "NoProject")
 
+-- the tree of an answer, for a project
 abbrev pub IsAnswerTree : ℕ → Answer → Data → Type 0
 IsAnswerTree project (answer.Book reply) tree = IsReplyTree project reply.body tree
 IsAnswerTree project (answer.Refused fault) tree = tree ≡ request_fault_tree fault
@@ -56,6 +61,7 @@ IsAnswerTree project (answer.Built fault) tree = tree ≡ upload_fault_tree faul
 IsAnswerTree project (answer.Frame fault) tree = tree ≡ frame_fault_tree fault
 IsAnswerTree project answer.Memory tree = tree ≡ error_tree (codes "M1") (codes "Memory")
 
+-- the status of a reply of the book, where success is answered 201 or not
 abbrev pub reply_status : Bool → ReplyBody → ℕ
 reply_status created (reply.TopicIs topic) = if created then 201 else 200
 reply_status created (reply.TopicList topics) = 200
@@ -63,6 +69,7 @@ reply_status created (reply.Changed version elements triangles left) = if create
 reply_status created (reply.Version version newest snapshot) = 200
 reply_status created (reply.Refused NoProject) = 404
 
+-- the status of a fault that the request alone decides
 abbrev pub fault_status : RequestFault → ℕ
 fault_status NoRoute = 404
 fault_status (Method row) = 405
@@ -71,6 +78,7 @@ fault_status (Query name) = 400
 fault_status BadJson = 400
 fault_status (Body Title) = 422
 
+-- the status of a fault of framing
 abbrev pub frame_status : FrameFault → ℕ
 frame_status frame.BadHead = 400
 frame_status frame.HeadTooLong = 431
@@ -79,6 +87,7 @@ frame_status frame.BodyTooLong = 413
 frame_status frame.BadChunk = 400
 frame_status frame.Version = 505
 
+-- the status of an answer
 abbrev pub status_of : Bool → Answer → ℕ
 status_of created (answer.Book reply) = reply_status created reply.body
 status_of created (answer.Refused fault) = fault_status fault
@@ -99,4 +108,5 @@ IsResponse answer kind turn close bytes =
 
 -- the tree of an answer as compact text
 abbrev pub IsAnswerText : ℕ → Answer → List ℕ → Type 0
-IsAnswerText project answer text = (tree : Data) × IsAnswerTree project answer tree × (text ≡ compact_text tree)
+IsAnswerText project answer text =
+    (tree : Data) × IsAnswerTree project answer tree × (text ≡ compact_text tree)

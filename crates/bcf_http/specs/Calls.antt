@@ -28,6 +28,7 @@ use Rattle.bcf_http.specs.Targets.{query_of}
 use Rattle.bcf_http.specs.Queries.{grid_asked}
 use Rattle.bcf_http.specs.Places.{Place, topics, model, version, row_of, project_at, place_of}
 
+-- the tree, where it is an object
 abbrev pub if_object : Data → Option Data
 if_object tree = if is_object tree then Some tree else None
 
@@ -35,6 +36,7 @@ if_object tree = if is_object tree then Some tree else None
 unfoldable pub object_of : List ℕ → Option Data
 object_of body = if is_utf8 body then option_and_then if_object (read body) else None
 
+-- a fault of a body as one of its request
 abbrev pub with_fault : Result TopicBody BodyFault → Result TopicBody RequestFault
 with_fault (Ok body) = Ok body
 with_fault (Err fault) = Err (Body fault)
@@ -44,17 +46,21 @@ abbrev pub topic_asked : Option Data → Result TopicBody RequestFault
 topic_asked None = Err BadJson
 topic_asked (Some tree) = with_fault (topic_body tree)
 
+-- who asks, and when
 abbrev pub author_of : ℕ → HttpRequest → Author
 author_of moment request = record { user = request.user; moment = moment }
 
+-- the call that makes a topic, or the fault of the body
 abbrev pub post_call : ℕ → HttpRequest → ℕ → Result TopicBody RequestFault → Result HttpCall RequestFault
-post_call moment request project (Ok body) = Ok (Ask (PostTopic project body (author_of moment request) (length request.body)))
+post_call moment request project (Ok body) =
+    Ok (Ask (PostTopic project body (author_of moment request) (length request.body)))
 post_call moment request project (Err fault) = Err fault
 
 -- what is asked of the topics of a project: one more by POST, else all of them
 abbrev pub topics_call : ℕ → HttpRequest → ℕ → Result HttpCall RequestFault
 topics_call moment request project =
-    if bytes_eq request.method (codes "POST") then post_call moment request project (topic_asked (object_of request.body))
+    if bytes_eq request.method (codes "POST")
+    then post_call moment request project (topic_asked (object_of request.body))
     else Ok (Ask (ListTopics project))
 
 -- a model is to be built of the body, and put into the project under its name
@@ -65,10 +71,11 @@ model_call request project name (Some mode) = Ok (Build project name mode reques
 -- what is asked for at a place, by a method of its row
 abbrev pub call_at : ℕ → HttpRequest → Place → Result HttpCall RequestFault
 call_at moment request (topics project) = topics_call moment request project
-call_at moment request (model project name) = model_call request project name (grid_asked (query_of request.target))
+call_at moment request (model project name) =
+    model_call request project name (grid_asked (query_of request.target))
 call_at moment request (version project wanted) = Ok (Ask (ReadVersion project wanted))
 
--- the same of any request that names the place: its method comes before the encoding of its body, and this before all else
+-- what is asked for where a place is named: the method is judged first, then the encoding, then the rest
 abbrev pub asked_at : ℕ → HttpRequest → Option Place → Result HttpCall RequestFault
 asked_at moment request None = Err NoRoute
 asked_at moment request (Some place) =
@@ -95,13 +102,19 @@ creates method row.Topics = bytes_eq method (codes "POST")
 creates method row.Model = bytes_eq method (codes "PUT")
 creates method row.Version = false
 
+-- the method is HEAD
 abbrev pub is_head : HttpRequest → Bool
 is_head request = bytes_eq request.method (codes "HEAD")
 
+-- what a response needs of its request, by the place that this names
 abbrev pub kind_at : HttpRequest → Option Place → ReplyKind
 kind_at request None = record { project = 0; created = false; head = is_head request }
 kind_at request (Some place) =
-    record { project = number_of (project_at place); created = creates request.method (row_of place); head = is_head request }
+    record {
+      project = number_of (project_at place);
+      created = creates request.method (row_of place);
+      head = is_head request;
+    }
 
 -- what a response needs of its request
 unfoldable pub kind_of : HttpRequest → ReplyKind
@@ -117,6 +130,7 @@ IsTreeOf (Ok value) meant = meant ≡ Some (view value)
 IsTreeOf (Err (Fault fault)) meant = (fault ≡ BadJson) × (meant ≡ None)
 IsTreeOf (Err Memory) meant = ⊤
 
+-- the topic, or the fault, is what is meant, or want of memory
 abbrev pub IsTopicAs : Result TopicBody Refusal → Result TopicBody RequestFault → Type 0
 IsTopicAs (Ok body) meant = meant ≡ Ok body
 IsTopicAs (Err (Fault fault)) meant = meant ≡ Err fault

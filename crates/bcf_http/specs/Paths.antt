@@ -32,7 +32,8 @@ joined (m ∷ []) = m
 joined (m ∷ n ∷ ms) = m ++ codes ", " ++ joined (n ∷ ms)
 
 -- the routes with one more, by what its address gives
-abbrev pub with_read : RowsOf (RouteOf RoutePath) → RoutePath → Result Scan InsertError → RowsOf (RouteOf RoutePath)
+abbrev pub with_read : RowsOf (RouteOf RoutePath) → RoutePath → Result Scan InsertError
+    → RowsOf (RouteOf RoutePath)
 with_read routes path (Ok scan) = placed (scan.pattern, route_from scan path) routes
 with_read routes path (Err error) = routes
 

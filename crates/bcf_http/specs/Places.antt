@@ -1,5 +1,5 @@
 -- What a target names by the table of routes.
-use Rattle.std.specs.Prelude.{ℕ, List, Bool, if◌then◌else◌, Option, Some, None, option_map, option_and_then, codes}
+use Rattle.std.specs.Prelude.{ℕ, List, if◌then◌else◌, Option, Some, None, option_map, option_and_then, codes}
 use Rattle.std.specs.List.{list_all}
 use Rattle.std.specs.Char.{is_ascii}
 use Rattle.matchit.specs.Seek.{first}
@@ -15,7 +15,7 @@ use Rattle.bcf_http.specs.Paths.{table}
 use Rattle.bcf_http.specs.Targets.{path_of}
 use Rattle.bcf_http.specs.Forms.{identifier_in, if_name, wanted_in}
 
--- what a path names: the topics of the project with an identifier, a model of it by its name, or a version of it
+-- what a path names of the project with an identifier: its topics, a model by its name, or a version
 pub data Place : Type 0 where
   topics : ℕ → Place
   model : ℕ → List ℕ → Place
@@ -74,7 +74,7 @@ abbrev pub place_on : List ℕ → Option (RouteOf RoutePath) → Option Place
 place_on path None = None
 place_on path (Some route) = place_by route.value (parts_by route path)
 
--- what a path names: it has ASCII characters alone (RFC 3986, 2), and the router finds its route among those of the table
+-- what a path of ASCII characters (RFC 3986, 2) names on the route that a router finds in the table
 abbrev pub place_at : List ℕ → Option Place
 place_at path = if list_all is_ascii path then place_on path (first table path) else None
 

@@ -8,8 +8,11 @@ use Rattle.bcf_http.specs.Paths.{joined, methods_of}
 
 -- the status, with the phrase that the crate http gives to it
 unfoldable pub status_line : ℕ → List ℕ
-status_line status = codes "HTTP/1.1 " ++ code_digits status ++ codes " " ++ unwrap_or (reason_phrase status) [] ++ codes "\r\n"
+status_line status =
+    codes "HTTP/1.1 " ++ code_digits status ++ codes " " ++ unwrap_or (reason_phrase status) []
+    ++ codes "\r\n"
 
+-- each body is JSON
 abbrev pub type_line : List ℕ
 type_line = codes "Content-Type: application/json\r\n"
 
@@ -23,9 +26,11 @@ unfoldable pub turn_line : Option ℕ → List ℕ
 turn_line None = []
 turn_line (Some turn) = codes "X-Book-Turn: " ++ decimal turn ++ codes "\r\n"
 
+-- the connection is closed behind the response
 unfoldable pub close_line : Bool → List ℕ
 close_line close = if close then codes "Connection: close\r\n" else []
 
+-- how many bytes the body has, and the empty line that ends the head
 unfoldable pub length_line : ℕ → List ℕ
 length_line n = codes "Content-Length: " ++ decimal n ++ codes "\r\n\r\n"
 
@@ -36,12 +41,15 @@ body_part head text = if head then [] else text
 -- the lines before the body, for a turn or none
 unfoldable pub head_text : Option ℕ → Bool → ℕ → Option RoutePath → ℕ → List ℕ
 head_text turn close status allow length =
-    status_line status ++ type_line ++ allow_line allow ++ turn_line turn ++ close_line close ++ length_line length
+    status_line status ++ type_line ++ allow_line allow ++ turn_line turn ++ close_line close
+    ++ length_line length
 
 -- the response with this text as its body
 unfoldable pub response_text : Option ℕ → Bool → Bool → ℕ → Option RoutePath → List ℕ → List ℕ
-response_text turn close head status allow text = head_text turn close status allow (length text) ++ body_part head text
+response_text turn close head status allow text =
+    head_text turn close status allow (length text) ++ body_part head text
 
 -- the response whose body is the tree as compact text, as serde_json writes it
 abbrev pub response_bytes : Option ℕ → Bool → Bool → ℕ → Option RoutePath → Data → List ℕ
-response_bytes turn close head status allow tree = response_text turn close head status allow (compact_text tree)
+response_bytes turn close head status allow tree =
+    response_text turn close head status allow (compact_text tree)

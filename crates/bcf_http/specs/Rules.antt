@@ -65,7 +65,9 @@ kind_tree Ignore a b level models storey = ignore_tree a b level models storey
 
 -- a rule
 abbrev pub rule_tree : Rule → Data
-rule_tree r = kind_tree r.kind (class_text r.a) (class_text r.b) (storey_tree r.level) (models_text r.models) (storeys_text r.storey)
+rule_tree r =
+    kind_tree r.kind (class_text r.a) (class_text r.b) (storey_tree r.level) (models_text r.models)
+    (storeys_text r.storey)
 
 -- rules, one after another
 abbrev pub rule_items : List Rule → Items

@@ -12,34 +12,47 @@ message code name = code ++ codes " " ++ name
 
 -- an error without fields
 unfoldable pub error_tree : List ℕ → List ℕ → Data
-error_tree code name = object (member (codes "code") (string code) (member (codes "message") (string (message code name)) no_members))
+error_tree code name =
+    object (member (codes "code") (string code)
+    (member (codes "message") (string (message code name)) no_members))
 
 -- an error at a place of the bytes
 unfoldable pub error_at : List ℕ → List ℕ → ℕ → Data
 error_at code name at =
-    object (member (codes "at") (number (unsigned at)) (member (codes "code") (string code) (member (codes "message") (string (message code name)) no_members)))
+    object (member (codes "at") (number (unsigned at))
+    (member (codes "code") (string code)
+    (member (codes "message") (string (message code name)) no_members)))
 
 -- an error of an instance
 unfoldable pub error_of : List ℕ → List ℕ → ℕ → Data
 error_of code name id =
-    object (member (codes "code") (string code) (member (codes "id") (number (unsigned id)) (member (codes "message") (string (message code name)) no_members)))
+    object (member (codes "code") (string code)
+    (member (codes "id") (number (unsigned id))
+    (member (codes "message") (string (message code name)) no_members)))
 
 -- an error of an instance that refers to another
 unfoldable pub error_to : List ℕ → List ℕ → ℕ → ℕ → Data
 error_to code name id to =
-    object (member (codes "code") (string code) (member (codes "id") (number (unsigned id))
-    (member (codes "message") (string (message code name)) (member (codes "to") (number (unsigned to)) no_members))))
+    object (member (codes "code") (string code)
+    (member (codes "id") (number (unsigned id))
+    (member (codes "message") (string (message code name))
+    (member (codes "to") (number (unsigned to)) no_members))))
 
 -- an error of too many
 unfoldable pub error_many : List ℕ → List ℕ → List ℕ → Data
 error_many code name what =
-    object (member (codes "code") (string code) (member (codes "message") (string (message code name)) (member (codes "what") (string what) no_members)))
+    object (member (codes "code") (string code)
+    (member (codes "message") (string (message code name))
+    (member (codes "what") (string what) no_members)))
 
 -- an error of something by its name
 unfoldable pub error_named : List ℕ → List ℕ → List ℕ → Data
 error_named code name what =
-    object (member (codes "code") (string code) (member (codes "message") (string (message code name)) (member (codes "name") (string what) no_members)))
+    object (member (codes "code") (string code)
+    (member (codes "message") (string (message code name))
+    (member (codes "name") (string what) no_members)))
 
+-- what is too many
 abbrev pub many_word : Many → List ℕ
 many_word many.Bytes = codes "bytes"
 many_word many.Instances = codes "instances"
@@ -47,6 +60,7 @@ many_word many.Values = codes "values"
 many_word many.Corners = codes "corners"
 many_word many.Triangles = codes "triangles"
 
+-- a fault of an upload, with its fields
 abbrev pub upload_fault_tree : UploadFault → Data
 upload_fault_tree fault.NotPart21 = error_tree (codes "U1") (codes "NotPart21")
 upload_fault_tree (fault.BadToken at) = error_at (codes "U2") (codes "BadToken") at

@@ -9,6 +9,7 @@ use Rattle.bim_model.specs.declared.geometry.Extent.{Extent}
 use Rattle.bim_model.specs.declared.element.Element.{Element}
 use Rattle.bim_model.specs.declared.named_model.NamedModel.{NamedModel}
 
+-- a length in grid numbers
 abbrev pub length_tree : ℤ → Data
 length_tree z = number (of_integer z)
 
@@ -18,6 +19,7 @@ box_tree e =
     array (item (length_tree e.low.x) (item (length_tree e.low.y) (item (length_tree e.low.z)
     (item (length_tree e.high.x) (item (length_tree e.high.y) (item (length_tree e.high.z) no_items))))))
 
+-- an element by its parts, with the number of its triangles
 unfoldable pub element_tree : Data → List ℕ → List ℕ → List ℕ → Data → ℕ → Data
 element_tree box class guid name storey triangles =
     object (member (codes "box") box
@@ -31,7 +33,8 @@ element_tree box class guid name storey triangles =
 abbrev pub IsElementTree : Element → Data → Type 0
 IsElementTree e tree =
     (extent : Extent) × IsExtentOf e.triangles extent
-    × (tree ≡ element_tree (box_tree extent) e.class e.guid.chars e.name (storey_tree e.storey) (length e.triangles))
+    × (tree
+    ≡ element_tree (box_tree extent) e.class e.guid.chars e.name (storey_tree e.storey) (length e.triangles))
 
 -- elements, one after another
 abbrev pub AreElementTrees : List Element → Items → Type 0
@@ -40,12 +43,15 @@ AreElementTrees [] (item d ds) = ⊥
 AreElementTrees (e ∷ es) no_items = ⊥
 AreElementTrees (e ∷ es) (item d ds) = IsElementTree e d × AreElementTrees es ds
 
+-- a model by its elements and its name
 unfoldable pub model_tree : Items → List ℕ → Data
-model_tree elements name = object (member (codes "elements") (array elements) (member (codes "name") (string name) no_members))
+model_tree elements name =
+    object (member (codes "elements") (array elements) (member (codes "name") (string name) no_members))
 
 -- a model under its name
 abbrev pub IsModelTree : NamedModel → Data → Type 0
-IsModelTree m tree = (elements : Items) × AreElementTrees m.model elements × (tree ≡ model_tree elements m.name)
+IsModelTree m tree =
+    (elements : Items) × AreElementTrees m.model elements × (tree ≡ model_tree elements m.name)
 
 -- models, one after another
 abbrev pub AreModelTrees : List NamedModel → Items → Type 0
@@ -54,6 +60,7 @@ AreModelTrees [] (item d ds) = ⊥
 AreModelTrees (m ∷ ms) no_items = ⊥
 AreModelTrees (m ∷ ms) (item d ds) = IsModelTree m d × AreModelTrees ms ds
 
+-- a version by its models, the number of the newest one, its rules and its number
 unfoldable pub version_tree : Items → ℕ → Items → ℕ → Data
 version_tree models newest rules version =
     object (member (codes "models") (array models)
@@ -64,7 +71,8 @@ version_tree models newest rules version =
 -- a version with its models and its rules
 abbrev pub IsVersionTree : ℕ → ℕ → Version → Data → Type 0
 IsVersionTree version newest snapshot tree =
-    (trees : Items) × AreModelTrees snapshot.models trees × (tree ≡ version_tree trees newest (rule_items snapshot.rules) version)
+    (trees : Items) × AreModelTrees snapshot.models trees
+    × (tree ≡ version_tree trees newest (rule_items snapshot.rules) version)
 
 -- what an upload made
 unfoldable pub changed_tree : ℕ → ℕ → ℕ → ℕ → Data

@@ -114,8 +114,9 @@ fn text_of(alloc: Global, project: u32, answer: &Answer) -> Result<String, Alloc
     tree.to_string(alloc)
 }
 
-/// The response to a request of this kind: it prints the methods that are allowed, where another was asked for, the turn, if
-/// there is one, and `Connection: close` where the connection is closed behind it; no body, where the method is HEAD.
+/// The response to a request of this kind. It prints the methods that are allowed, where another was asked
+/// for, the turn, if there is one, and `Connection: close` where the connection is closed behind it. It has no
+/// body where the method is HEAD.
 pub fn to_response(
     alloc: Global,
     answer: &Answer,

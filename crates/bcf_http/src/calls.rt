@@ -263,8 +263,8 @@ fn model_call(
     }
 }
 
-/// What a request asks for at a moment, in seconds since 1970; or the first fault that the request alone decides: that its
-/// target names nothing, that this hasn't the method, that the body is encoded, the query, the body.
+/// What a request asks for at a moment, in seconds since 1970; or the first fault that the request alone
+/// decides: its target names nothing, this hasn't the method, the body is encoded, the query, the body.
 #[tactic(auto, unfolding(crate::specs::Calls::asked_by))]
 pub fn to_call(
     alloc: Global,

@@ -20,7 +20,7 @@ pub fn are_ascii(path: &[u8]) -> bool
     path.iter().all(|byte| byte.is_ascii())
 }
 
-#[tactic(auto, unfolding(crate::specs::Forms::identifier_in), using(crate::proofs::Forms::none_in))]
+#[tactic(auto, unfolding(crate::specs::Forms::identifier_in), using(crate::proofs::Texts::none_in))]
 fn identifier_in(text: &str) -> Option<u128>
     ensures { result ≡ identifier_in text.now }
 {
@@ -116,8 +116,8 @@ fn resource_for<'t>(row: RoutePath, params: &Params<'_, 't>, project: u128) -> O
     }
 }
 
-/// What the parameters name on a row, where each has its form: an identifier that `uuid` reads, a name of 1 to 64
-/// characters of `A-Za-z0-9_.-`, `newest`.
+/// What the parameters name on a row, where each has its form: an identifier that `uuid` reads, a name of
+/// 1 to 64 characters of `A-Za-z0-9_.-`, `newest`.
 pub fn resource_by<'t>(row: RoutePath, params: &Params<'_, 't>) -> Option<Resource<'t>>
     requires { AllText (parts_of params.now) }
     ensures { option_map place_lent result ≡ place_by row (parts_of params.now) }

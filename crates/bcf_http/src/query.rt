@@ -56,8 +56,8 @@ fn mode_in(alloc: Global, value: &[u8]) -> Result<Option<Mode>, AllocError>
     Ok(None)
 }
 
-/// How lengths come on the grid by a query: exactly, where it doesn't say; `None` where `grid` stands twice or has another
-/// value than `exact` and `snap`.
+/// How lengths come on the grid by a query: exactly, where it doesn't say; `None` where `grid` stands twice
+/// or has another value than `exact` and `snap`.
 #[tactic(auto, unfolding(crate::specs::Queries::grid_asked))]
 pub fn grid_asked(alloc: Global, query: &[u8]) -> Result<Option<Mode>, AllocError>
     ensures { IfOk result (λ mode. mode ≡ grid_asked query.now) }

@@ -1,6 +1,6 @@
 //! Responses, byte for byte (RFC 9112, 4 and 6).
-ghost use Rattle.std.specs.Prelude.{◌≡◌, IfOk, string_bytes};
-ghost use Rattle.bcf_http.specs.Responses.{status_line, allow_line, turn_line, close_line, length_line, head_text, body_part, response_text};
+ghost use Rattle.std.specs.Prelude.{◌≡◌, ◌++◌, IfOk, string_bytes};
+ghost use Rattle.bcf_http.specs.Responses.{status_line, type_line, allow_line, turn_line, close_line, length_line, head_text, body_part, response_text};
 
 use crate::paths::{RoutePath, methods_text};
 use bim_model::Bytes;
@@ -64,6 +64,20 @@ fn body_part(head: bool, text: &str) -> &str
     if head { "" } else { text }
 }
 
+// The lines that the status settles.
+fn first_lines(
+    alloc: Global,
+    status: StatusCode,
+    allow: Option<RoutePath>,
+) -> Result<String, AllocError>
+    ensures { IfOk result (λ s. string_bytes s ≡ status_line status ++ type_line ++ allow_line allow) }
+{
+    let mut text = status_line(alloc, status)?;
+    text.push_str("Content-Type: application/json\r\n")?;
+    text.push_str(allow_line(alloc, allow)?.as_str())?;
+    Ok(text)
+}
+
 // The lines before the body.
 #[tactic(auto, unfolding(crate::specs::Responses::head_text))]
 fn head_text(
@@ -76,9 +90,7 @@ fn head_text(
 ) -> Result<String, AllocError>
     ensures { IfOk result (λ s. string_bytes s ≡ head_text turn close status allow length) }
 {
-    let mut text = status_line(alloc, status)?;
-    text.push_str("Content-Type: application/json\r\n")?;
-    text.push_str(allow_line(alloc, allow)?.as_str())?;
+    let mut text = first_lines(alloc, status, allow)?;
     text.push_str(turn_line(alloc, turn)?.as_str())?;
     text.push_str(close_line(close))?;
     text.push_str(length_line(alloc, length)?.as_str())?;

@@ -26,7 +26,8 @@ fn element_tree(
     storey: Value,
     triangles: usize,
 ) -> Result<Value, AllocError>
-    ensures { IfOk result (λ v. view v ≡ element_tree (view extent) class.now guid.now name.now (view storey) triangles) }
+    ensures { IfOk result (λ v. view v
+        ≡ element_tree (view extent) class.now guid.now name.now (view storey) triangles) }
 {
     json!(in alloc; {
         "box": extent,
@@ -58,7 +59,8 @@ fn element_out(alloc: Global, element: &Element) -> Result<Value, AllocError>
 
 fn push_element(alloc: Global, trees: &mut Vec<Value>, element: &Element) -> Result<(), AllocError>
     requires { IsModelled element.now }
-    ensures { OnOk result ((v : _) × IsElementTree element.now (view v) × (trees.new.items ≡ trees.old.items ++ v ∷ [])) }
+    ensures { OnOk result ((v : _) × IsElementTree element.now (view v)
+        × (trees.new.items ≡ trees.old.items ++ v ∷ [])) }
 {
     trees.push(element_out(alloc, element)?)?;
     Ok(())
@@ -86,7 +88,8 @@ fn model_tree(alloc: Global, elements: Vec<Value>, name: &str) -> Result<Value, 
 }
 
 fn push_model(alloc: Global, trees: &mut Vec<Value>, model: &NamedModel) -> Result<(), AllocError>
-    ensures { OnOk result ((v : _) × IsModelTree model.now (view v) × (trees.new.items ≡ trees.old.items ++ v ∷ [])) }
+    ensures { OnOk result ((v : _) × IsModelTree model.now (view v)
+        × (trees.new.items ≡ trees.old.items ++ v ∷ [])) }
 {
     let elements = elements_out(alloc, model.model.get().elements())?;
     trees.push(model_tree(alloc, elements, model.name.as_str())?)?;
@@ -113,7 +116,8 @@ fn version_tree(
     rules: Vec<Value>,
     version: u64,
 ) -> Result<Value, AllocError>
-    ensures { IfOk result (λ v. view v ≡ version_tree (items_view models.items) newest (items_view rules.items) version) }
+    ensures { IfOk result (λ v. view v
+        ≡ version_tree (items_view models.items) newest (items_view rules.items) version) }
 {
     let models = Value::Array(models);
     let rules = Value::Array(rules);
@@ -134,8 +138,8 @@ pub fn version_out(
     version_tree(alloc, trees, newest, rules, version)
 }
 
-/// What an upload made, as an object: the number of the version, how many elements and triangles the uploaded model has, and how many buckets
-/// are to be checked.
+/// What an upload made, as an object: the number of the version, how many elements and triangles the uploaded
+/// model has, and how many buckets are to be checked.
 #[tactic(auto, unfolding(crate::specs::Versions::changed_tree))]
 pub fn changed_out(
     alloc: Global,

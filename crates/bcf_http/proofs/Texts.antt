@@ -9,12 +9,12 @@ use Rattle.uuid.specs.Text.{parsed}
 use Rattle.bcf_http.specs.Forms.{number_of_bytes, identifier_in}
 
 none_by : (o : Option (List ℕ)) → (((u : List ℕ) × (o ≡ Some u)) → ⊥) → option_map number_of_bytes o ≡ None
-none_by None no = refl
-none_by (Some u) no = absurd (no (u, refl))
+none_by None never = refl
+none_by (Some u) never = absurd (never (u, refl))
 
 pub none_in : (text : List ℕ) → (((u : List ℕ) × (parsed text ≡ Some u)) → ⊥) → identifier_in text ≡ None
 unfolding identifier_in
-none_in text no = none_by (parsed text) no
+none_in text never = none_by (parsed text) never
 
 low : (b : ℕ) → is_ascii b ≡ true → b < 128
 low b e = grind (arith, common_steps, e)
