@@ -1,5 +1,5 @@
 -- From what the framer and the parts of a talk answer to what a talk wants.
-use Rattle.std.proofs.Common.{◌≡◌, ◌⊎◌, ℕ, ◌+◌, Bool, true, false, List, [], ◌∷◌, Option, Some, None, Result, Ok, Err, IfOk, OnOk, OnErr, inl, inr, refl, sym, ap, ◌∙◌, subst}
+use Rattle.std.proofs.Common.{◌≡◌, ◌⊎◌, ℕ, ◌+◌, ◌≤◌, length, arith, Bool, true, false, List, [], ◌∷◌, ◌++◌, Option, Some, None, Result, Ok, Err, IfOk, OnOk, OnErr, inl, inr, refl, sym, ap, ◌∙◌, subst}
 use Rattle.std.specs.declared.alloc.AllocError.{AllocError}
 use Rattle.http_frame.specs.declared.types.HttpRequest.{HttpRequest}
 use Rattle.http_frame.specs.declared.types.FrameFault.{FrameFault}
@@ -13,7 +13,7 @@ use Rattle.bim_session.specs.declared.end.SessionEnd.{SessionEnd}
 use Rattle.bim_session.specs.declared.want.Want.{Want}
 use Rattle.bim_session.specs.declared.want.Want.TheVariants.{More, Write, Call, Leave}
 use Rattle.bim_session.specs.Session.{closes_after, continue_bytes, IsFaultResponse}
-use Rattle.bim_session.specs.Talking.{TalkState, IsOwnLeaving, IsOwnWant, Wants, StopsNext, LacksNext, Talks, TakesRequest, Writes, WantsFor, AtRest, StopsShort, waiting_for, with_answer, with_call, with_fault, with_framer, with_memory}
+use Rattle.bim_session.specs.Talking.{TalkState, IsOwnLeaving, IsOwnWant, GrowsBy, Feeds, is_end, Wants, StopsNext, LacksNext, Talks, TakesRequest, Writes, WantsFor, AtRest, StopsShort, waiting_for, with_answer, with_call, with_fault, with_framer, with_memory}
 
 pub none_of : (o : Option SessionEnd) → ((e : SessionEnd) → o ≡ Some e → ⊥) → o ≡ None
 none_of None not_some = refl
@@ -30,6 +30,19 @@ own_leaving leaving e own is = λ n. (λ w. (own n).0 (is ∙ ap Some (leave_is 
 
 stands_at : (f : Framer) (a b : List ℕ) (t u : Bool) → a ≡ b → t ≡ u → Stands f a t → Stands f b u
 stands_at f a b t u e d stands = subst (λ (v : Bool). Stands f b v) d (subst (λ (w : List ℕ). Stands f w t) e stands)
+
+-- ---- what is fed
+
+not_end : (piece : List ℕ) → 1 ≤ length piece → is_end piece ≡ false
+not_end [] some = absurd (omega (arith, some))
+not_end (b ∷ bs) some = refl
+
+-- a piece that is not empty is fed
+pub fed_bytes : (result : Result (Unit {0}) AllocError) (old : TalkState) (f : Framer) (piece : List ℕ) → 1 ≤ length piece → old.ended ≡ false
+    → OnOk result (GrowsBy piece old.framer f) → OnOk result (Feeds piece old (with_framer f old))
+fed_bytes (Ok u) old f piece some going grows =
+    (grows, λ i. record old { framer = f; ended = (going ∙ sym (not_end piece some)) i })
+fed_bytes (Err e) old f piece some going grows = tt
 
 -- ---- what is wanted next
 

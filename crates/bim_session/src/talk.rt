@@ -40,10 +40,14 @@ pub struct Talk {
 
 impl Model for Talk {
     ghost use Rattle.std.specs.Prelude.{◌≡◌, ◌<◌, ◌≤◌, None};
+    ghost use Rattle.std.specs.Coded.{codes};
+    ghost use Rattle.http_frame.specs.contracts.framer.Framer as the_framer;
     ghost use Rattle.bim_session.specs.Session.{most_requests};
     ghost use Rattle.bim_session.specs.Talking.{TalkState, IsOwnLeaving};
 
     ghost Value = { TalkState };
+
+    ghost coded = { Prim.hlevel (codes, the_framer.the_row.coded) };
 
     ghost view = { λ t. record { framer = t.framer; ended = t.ended; served = t.served; waits = t.waits; leaving = t.leaving } };
 
