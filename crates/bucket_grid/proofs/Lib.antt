@@ -15,3 +15,4 @@ pub mod Searching
 pub mod Alone
 pub mod Points
 pub mod Near
+pub mod Counted

@@ -30,19 +30,19 @@ places_upto p boxes (suc n) h =
 pub members_upto : (boxes : List Extent) (c : Cell) → members boxes c ≡ filter (λ i. holds c (box_at boxes i)) (upto (length boxes))
 members_upto boxes c = ap (places_from 0 (holds c)) (sym (take-length boxes)) ∙ places_upto (holds c) boxes (length boxes) (omega arith)
 
-less_x : (a b c d e f : ℤ) → a <ℤ b → ordering_then (int_cmp a b) (ordering_then (int_cmp c d) (int_cmp e f)) ≡ Less
+pub less_x : (a b c d e f : ℤ) → a <ℤ b → ordering_then (int_cmp a b) (ordering_then (int_cmp c d) (int_cmp e f)) ≡ Less
 less_x a b c d e f h = grind (arith, ints)
 
-less_y : (a b c d e f : ℤ) → a ≡ b → c <ℤ d → ordering_then (int_cmp a b) (ordering_then (int_cmp c d) (int_cmp e f)) ≡ Less
+pub less_y : (a b c d e f : ℤ) → a ≡ b → c <ℤ d → ordering_then (int_cmp a b) (ordering_then (int_cmp c d) (int_cmp e f)) ≡ Less
 less_y a b c d e f h k = grind (arith, ints)
 
-less_z : (a b c d e f : ℤ) → a ≡ b → c ≡ d → e <ℤ f → ordering_then (int_cmp a b) (ordering_then (int_cmp c d) (int_cmp e f)) ≡ Less
+pub less_z : (a b c d e f : ℤ) → a ≡ b → c ≡ d → e <ℤ f → ordering_then (int_cmp a b) (ordering_then (int_cmp c d) (int_cmp e f)) ≡ Less
 less_z a b c d e f h k l = grind (arith, ints)
 
-further : (low a b : ℤ) (j k : ℕ) → j < k → a ≡ low +ℤ pos j → b ≡ low +ℤ pos k → a <ℤ b
+pub further : (low a b : ℤ) (j k : ℕ) → j < k → a ≡ low +ℤ pos j → b ≡ low +ℤ pos k → a <ℤ b
 further low a b j k h e f = omega (arith, ints)
 
-along : (low a b : ℤ) → a ≡ low → b ≡ low → a ≡ b
+pub along : (low a b : ℤ) → a ≡ low → b ≡ low → a ≡ b
 along low a b e f = e ∙ sym f
 
 abbrev R : Bucket → Bucket → Type 0
@@ -140,14 +140,14 @@ parts : (x y z : Bool) → (x && y && z) ≡ true → (x ≡ true) × (y ≡ tru
 parts x y z h = let p = and_parts (x && y) z h in let q = and_parts x y p.0 in (q.0, q.1, p.1)
 
 -- what is at least low is a number above it
-above : (low i d : ℤ) → (i -ℤ low) ≡ d → low ≤ℤ i → (k : ℕ) × (i ≡ low +ℤ pos k)
+pub above : (low i d : ℤ) → (i -ℤ low) ≡ d → low ≤ℤ i → (k : ℕ) × (i ≡ low +ℤ pos k)
 above low i (pos k) e h = (k, omega (arith, ints))
 above low i (negsuc k) e h = absurd (omega (arith, ints))
 
 below : (low i last : ℤ) (k l count : ℕ) → i ≡ low +ℤ pos k → low +ℤ pos l ≡ last → i ≤ℤ last → l < count → k < count
 below low i last k l count e g h lt = omega (arith, ints)
 
-tested : (a b : ℤ) → int_le a b ≡ true → a ≤ℤ b
+pub tested : (a b : ℤ) → int_le a b ≡ true → a ≤ℤ b
 tested a b e = grind (arith, ints)
 
 -- a cell that is covered lies so far on

@@ -1,5 +1,6 @@
 -- Laws of cells, members and owners.
-use Rattle.std.specs.Prelude.{◌≡◌, ◌↔◌, ◌*◌, ℕ, pos, ◌+ℤ◌, ◌-ℤ◌, ◌*ℤ◌, ◌≤ℤ◌, ◌<ℤ◌, unsigned_abs, true, IsTrue, Bool, List, Some}
+use Rattle.std.specs.Prelude.{◌≡◌, ◌↔◌, ◌*◌, ℕ, pos, ◌+ℤ◌, ◌-ℤ◌, ◌*ℤ◌, ◌≤ℤ◌, ◌<ℤ◌, unsigned_abs, true, IsTrue, Bool, List, length, Some, All, Any, AllPairs}
+use Rattle.std.specs.declared.cmp.Ordering.TheVariants.{Less}
 use Rattle.bim_model.specs.declared.geometry.TheConstants.{PER_MM}
 use Rattle.bim_model.specs.declared.geometry.Point.{Point}
 use Rattle.bim_model.specs.declared.geometry.Extent.{Extent}
@@ -12,7 +13,7 @@ use Rattle.bim_model.specs.Gaps.{is_within}
 use Rattle.clearance.specs.Near.{ElementsNear}
 use Rattle.bucket_grid.specs.declared.cell.Cell.{Cell}
 use Rattle.bucket_grid.specs.declared.cell.TheConstants.{SIDE, GROWTH}
-use Rattle.bucket_grid.specs.Cells.{holds, IsOwner}
+use Rattle.bucket_grid.specs.Cells.{holds, cell_count, cell_cmp, IsOwner}
 use Rattle.bucket_grid.specs.Places.{IsInOrder}
 
 -- a point of the box when it is grown by a metre on each side
@@ -38,6 +39,18 @@ abbrev pub CellsHoldPoints : Type 0
 CellsHoldPoints =
     (c : Cell) (box : Extent) → IsInOrder box
     → (holds c box ≡ true) ↔ ((p : Point) × IsAround box p × IsInCell c p)
+
+-- these are the cells that hold a box, each once, by rising x, y and z
+pub record AreCellsOf (box : Extent) (cells : List Cell) : Type 0 where
+  pub rising : AllPairs (λ (c d : Cell). cell_cmp c d ≡ Less) cells
+  pub each : All (λ (c : Cell). holds c box ≡ true) cells
+  pub all : (c : Cell) → holds c box ≡ true → Any (λ (d : Cell). d ≡ c) cells
+
+-- the cells that hold a box can be listed, and are as many as the product of its spans of cells
+abbrev pub CellsAreCounted : Type 0
+CellsAreCounted =
+    (box : Extent) → IsInOrder box
+    → (cells : List Cell) × AreCellsOf box cells × (length cells ≡ cell_count box)
 
 -- the two boxes share a cell, and the least such cell is the only one that owns them
 pub record HaveOneOwner (a b : Extent) : Type 0 where

@@ -4,7 +4,7 @@ ghost use Rattle.bim_model.specs.Snapshots.{Version};
 ghost use Rattle.bim_model.specs.declared.geometry.Extent.{Extent};
 ghost use Rattle.bucket_grid.specs.Cells.{IsOwner};
 ghost use Rattle.bucket_grid.specs.Grids.{HasMemberships};
-ghost use Rattle.bucket_grid.specs.Laws.{CellsHoldPoints, CloseBoxesHaveAnOwner, NearElementsHaveAnOwner};
+ghost use Rattle.bucket_grid.specs.Laws.{CellsAreCounted, CellsHoldPoints, CloseBoxesHaveAnOwner, NearElementsHaveAnOwner};
 ghost use Rattle.bucket_grid.specs.declared.cell.Cell.{Cell};
 
 /// A version has one number of memberships.
@@ -20,6 +20,12 @@ pub fn owners_are_one()
 /// An element is a member of a cell exactly where a point of its box, grown by a metre on each side, lies in the cell.
 pub fn cells_hold_points()
     ensures { CellsHoldPoints }
+{}
+
+/// The cells of which an element is a member can be listed, each once, and are as many as its box counts for among the
+/// memberships.
+pub fn cells_are_counted()
+    ensures { CellsAreCounted }
 {}
 
 /// Two boxes at most a metre apart on each axis share a cell, and one cell owns them.

@@ -16,8 +16,8 @@ mod tests;
 pub use cell::{Cell, GROWTH, SIDE};
 pub use grid::{Grid, GridError, MOST_ELEMENTS, MOST_MEMBERSHIPS};
 pub use laws::{
-    cells_hold_points, close_boxes_have_an_owner, memberships_are_one, near_elements_have_an_owner,
-    owners_are_one,
+    cells_are_counted, cells_hold_points, close_boxes_have_an_owner, memberships_are_one,
+    near_elements_have_an_owner, owners_are_one,
 };
 pub use owner::{owner_of, shared_cell};
 pub use subjects::{Member, has_few_elements};

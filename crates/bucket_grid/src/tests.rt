@@ -1,5 +1,8 @@
 //! Versions of few boxes, worked out by another program.
-use crate::{Cell, Grid, GridError, Member, has_few_elements};
+use crate::{
+    Cell, Grid, GridError, Member, cells_are_counted, cells_hold_points, close_boxes_have_an_owner,
+    has_few_elements, memberships_are_one, near_elements_have_an_owner, owners_are_one,
+};
 use bim_model::{
     Element, Guid, Items, Model, NamedModel, PER_MM, Point, Rules, Shared, Snapshot, Text, Triangle,
 };
@@ -144,4 +147,14 @@ fn elements(rt: HostRuntime) -> Result<(), Fail> {
     assert_eq!(rt; grid.rules().list().len(), 0);
     assert_eq!(rt; grid.snapshot().models().len(), 2);
     Ok(())
+}
+
+#[test]
+fn laws_are_called() {
+    memberships_are_one();
+    owners_are_one();
+    cells_hold_points();
+    cells_are_counted();
+    close_boxes_have_an_owner();
+    near_elements_have_an_owner();
 }
