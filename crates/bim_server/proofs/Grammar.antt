@@ -1,7 +1,7 @@
 -- What the parser of command lines finds in words, and what they say.
-use Rattle.std.proofs.Common.{◌≡◌, ◌≢◌, ◌∙◌, ℕ, true, List, [], ◌∷◌, Option, Some, None, codes, refl, sym, ap, ap₂, subst, inl, inr}
+use Rattle.std.proofs.Common.{◌≡◌, ◌∙◌, ℕ, Bool, true, false, List, [], ◌∷◌, Option, Some, None, if◌then◌else◌, codes, refl, sym, ap, ap₂, subst}
 use Rattle.std.proofs.lemmas.Bool.{and_parts}
-use Rattle.clap.specs.Words.{App, HasKind, HasMatchesOf, Kinds, built, fault_of, first_value, found_of, is_simple, is_simple_and_free, kind_of, matches_of, rows_of}
+use Rattle.clap.specs.Words.{App, HasMatchesOf, built, fault_of, first_value, found_of, is_simple, kind_of, matches_of, rows_of, takes}
 use Rattle.clap.specs.Faults.{is_free_app}
 use Rattle.clap.specs.declared.error.Error.{Error}
 use Rattle.clap.specs.declared.error.kind.ErrorKind.TheVariants.{OutOfMemory}
@@ -10,60 +10,57 @@ use Rattle.clap.specs.declared.parser.matches.Found.{Found}
 use Rattle.clap.proofs.WalkLemmas.{first_value-rows}
 use Rattle.bim_server.specs.declared.words.ReplayWords.{ReplayWords}
 use Rattle.bim_server.specs.declared.words.Time.{Time}
-use Rattle.bim_server.specs.Words.{IsParse, both_said, projects_said, replay_command, replay_said, replay_words, time_said, without_fault}
+use Rattle.bim_server.specs.Words.{IsParse, IsPlainCommand, both_said, projects_said, replay_command, replay_said, replay_words, time_said}
+use Rattle.bim_server.proofs.Taking.{takes_faultless}
 
 -- `replay` is a command whose parse is known
-pub replay_is_simple : is_simple_and_free replay_command ≡ true
+pub replay_is_plain : IsPlainCommand replay_command
 unfolding replay_command
-replay_is_simple = refl
+replay_is_plain = record { simple = refl; alone = refl; defaults = refl }
 
-simple_of : (command : App) → is_simple_and_free command ≡ true → is_simple command ≡ true
-simple_of command is = (and_parts (is_simple command) (is_free_app (built command)) is).0
+simple_of : (command : App) → IsPlainCommand command → is_simple command ≡ true
+simple_of command is = (and_parts (is_simple command) (is_free_app (built command)) is.simple).0
 
 -- a parse that gave matches
-pub found_matches : (command : App) (words : List (List ℕ)) (m : ArgMatches) → is_simple_and_free command ≡ true → fault_of command words ≡ []
+pub found_matches : (command : App) (words : List (List ℕ)) (m : ArgMatches) → IsPlainCommand command → fault_of command words ≡ []
     → HasMatchesOf command words m → IsParse command words (Some m)
-found_matches command words m simple none has = (none, (has (simple_of command simple)).0)
+found_matches command words m is none has = (takes_faultless command words is.simple is.alone is.defaults none, (has (simple_of command is)).0)
 
-has_fault : (kinds : Kinds) (e : Error) → HasKind kinds e → (kind_of e ≡ OutOfMemory → ⊥) → kinds ≢ []
-has_fault [] e (inl memory) other = absurd (other memory)
-has_fault [] e (inr among) other = absurd among
-has_fault (k ∷ ks) e has other = λ none. cc
+false_unless : (b : Bool) → (b ≡ true → ⊥) → b ≡ false
+false_unless true never = absurd (never refl)
+false_unless false never = refl
 
 -- a parse that failed for another reason than want of memory
-pub found_fault : (command : App) (words : List (List ℕ)) (e : Error) → HasKind (fault_of command words) e → (kind_of e ≡ OutOfMemory → ⊥)
+pub found_nothing : (command : App) (words : List (List ℕ)) (e : Error) → (takes command words ≡ true → kind_of e ≡ OutOfMemory) → (kind_of e ≡ OutOfMemory → ⊥)
     → IsParse command words None
-found_fault command words e has other = has_fault (fault_of command words) e has other
+found_nothing command words e passes other = false_unless (takes command words) (λ taken. other (passes taken))
 
-nothing_said : {X : Type 0} (kinds : Kinds) (said : Option X) → kinds ≢ [] → without_fault kinds said ≡ None
-nothing_said [] said some = absurd (some refl)
-nothing_said (k ∷ ks) said some = refl
-
-taken : (words : List (List ℕ)) → fault_of replay_command words ≡ [] → replay_words words ≡ replay_said (matches_of replay_command words)
+taken : (words : List (List ℕ)) → takes replay_command words ≡ true → replay_words words ≡ replay_said (matches_of replay_command words)
 unfolding replay_words
-taken words none = ap (λ (kinds : Kinds). without_fault kinds (replay_said (matches_of replay_command words))) none
+taken words is = ap (λ (b : Bool). (if b then replay_said (matches_of replay_command words) else None)) is
 
-untaken : (words : List (List ℕ)) → fault_of replay_command words ≢ [] → replay_words words ≡ None
+untaken : (words : List (List ℕ)) → takes replay_command words ≡ false → replay_words words ≡ None
 unfolding replay_words
-untaken words some = nothing_said (fault_of replay_command words) (replay_said (matches_of replay_command words)) some
+untaken words is = ap (λ (b : Bool). (if b then replay_said (matches_of replay_command words) else None)) is
 
-parse_of : (command : App) (lent words : List (List ℕ)) (found : Option ArgMatches) → command ≡ replay_command → lent ≡ words → IsParse command lent found
-    → IsParse replay_command words found
-parse_of command lent words found is same parse =
-    subst (λ (w : List (List ℕ)). IsParse replay_command w found) same (subst (λ (a : App). IsParse a lent found) is parse)
+parse_of : (command : App) (lent words : List (List ℕ)) (found is : Option ArgMatches) → command ≡ replay_command → lent ≡ words → found ≡ is
+    → IsParse command lent found → IsParse replay_command words is
+parse_of command lent words found is same words_are found_is parse =
+    subst (λ (o : Option ArgMatches). IsParse replay_command words o) found_is
+    (subst (λ (w : List (List ℕ)). IsParse replay_command w found) words_are (subst (λ (a : App). IsParse a lent found) same parse))
 
 -- words that are taken say what their values do
-pub words_said : (command : App) (lent words : List (List ℕ)) (m : ArgMatches) (said : Option ReplayWords) → command ≡ replay_command → lent ≡ words
-    → IsParse command lent (Some m) → said ≡ replay_said (rows_of (found_of m)) → said ≡ replay_words words
-words_said command lent words m said is same parse by =
-    let whole : IsParse replay_command words (Some m) = parse_of command lent words (Some m) is same parse in
+pub words_said : (command : App) (lent words : List (List ℕ)) (found : Option ArgMatches) (m : ArgMatches) (said : Option ReplayWords) → command ≡ replay_command
+    → lent ≡ words → found ≡ Some m → IsParse command lent found → said ≡ replay_said (rows_of (found_of m)) → said ≡ replay_words words
+words_said command lent words found m said same words_are found_is parse by =
+    let whole : IsParse replay_command words (Some m) = parse_of command lent words found (Some m) same words_are found_is parse in
     by ∙ ap replay_said whole.1 ∙ sym (taken words whole.0)
 
 -- words that are not taken say nothing
-pub words_refused : (command : App) (lent words : List (List ℕ)) → command ≡ replay_command → lent ≡ words → IsParse command lent None
-    → None ≡ replay_words words
-words_refused command lent words is same parse =
-    let whole : IsParse replay_command words None = parse_of command lent words None is same parse in
+pub words_refused : (command : App) (lent words : List (List ℕ)) (found : Option ArgMatches) → command ≡ replay_command → lent ≡ words → found ≡ None
+    → IsParse command lent found → None ≡ replay_words words
+words_refused command lent words found same words_are found_is parse =
+    let whole : IsParse replay_command words None = parse_of command lent words found None same words_are found_is parse in
     sym (untaken words whole)
 
 -- what the values of the two options say

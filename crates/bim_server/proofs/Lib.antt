@@ -6,6 +6,7 @@ pub mod Ending
 pub mod Stepping
 pub mod Running
 pub mod Numbers
+pub mod Taking
 pub mod Grammar
 pub mod Statuses
 pub mod Calling

@@ -46,12 +46,12 @@ read_within least most (Err e) = None
 
 pub word_read : {E : Type 0} (least most : ℕ) (text : List ℕ) (read : Result ℕ E) → is_number text ≡ true → most < 2 ^ 64 → ParsesUnsigned 64 10 text read
     → read_within least most read ≡ number_word least most text
-word_read least most text (Ok number) is small parses =
-    let value = parse_digits numerals 64 text (Ok number) parses (number_parts text is).digits in
+word_read {E} least most text (Ok number) is small parses =
+    let value = parse_digits numerals {E = E} 64 text (Ok number) parses (number_parts text is).digits in
     ap (within least most) value.1 ∙ sym (written least most text is)
-word_read least most text (Err e) is small parses =
+word_read {E} least most text (Err e) is small parses =
     let parts = number_parts text is in
-    let none = parse_digits numerals 64 text (Err e) parses parts.digits in
+    let none = parse_digits numerals {E = E} 64 text (Err e) parses parts.digits in
     elim (cases_lt (digits_value 10 text) (2 ^ 64)) [
       | inl below ↦ absurd (none ((let some : 1 ≤ length text = parts.some in omega arith), below))
       | inr above ↦ beyond least most (digits_value 10 text) (omega arith) ∙ sym (written least most text is)

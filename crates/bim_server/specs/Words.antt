@@ -1,11 +1,12 @@
--- The words of the command line. Which words a command takes is what the parser of command lines finds of them; what they
--- say is read of the values that it finds.
-use Rattle.std.specs.Prelude.{◌≡◌, ◌≢◌, ◌≤◌, ◌&&◌, ℕ, Bool, List, [], ◌∷◌, length, true, nat_le, if◌then◌else◌, Option, Some, None, option_map, codes}
+-- The words of the command line. The parser of command lines says which words a command takes; what they say is read of the
+-- values that it finds.
+use Rattle.std.specs.Prelude.{◌≡◌, ◌≤◌, ◌&&◌, ℕ, Bool, List, [], ◌∷◌, length, true, false, nat_le, if◌then◌else◌, Option, Some, None, option_map, codes}
 use Rattle.std.specs.List.{list_all}
 use Rattle.std.specs.Char.{is_ascii_digit}
 use Rattle.std.specs.Str.Parse.{digits_value}
-use Rattle.clap.specs.Words.{App, Kinds, Row, Rule, fault_of, first_of, found_of, matches_of, new_app, new_rule, rows_of, with_rule}
+use Rattle.clap.specs.Words.{App, Row, Rule, built, first_of, found_of, is_simple_and_free, matches_of, new_app, new_rule, rows_of, takes, with_rule}
 use Rattle.clap.specs.Simple.{on_top}
+use Rattle.clap.specs.Takes.{default_passes}
 use Rattle.clap.specs.declared.builder.action.ArgAction.TheVariants.{Set}
 use Rattle.clap.specs.declared.parser.matches.ArgMatches.{ArgMatches}
 use Rattle.bim_model.specs.Moments.{last_moment, IsMoment}
@@ -31,22 +32,24 @@ abbrev pub option_of : List ℕ → Rule
 option_of name = record (new_rule name) { long = Some name; action = Some Set }
 
 -- a command of the words behind its name, without options, help and version
-abbrev pub plain_command : List ℕ → App
-plain_command name = on_top (λ s. record s { no_binary_name = true; disable_help_flag = true }) (new_app name)
+abbrev pub bare_command : List ℕ → App
+bare_command name = on_top (λ s. record s { no_binary_name = true; disable_help_flag = true }) (new_app name)
 
 -- `replay` has two options, in any order
 unfoldable pub replay_command : App
-replay_command = with_rule (with_rule (plain_command (codes "replay")) (option_of (codes "at"))) (option_of (codes "projects"))
+replay_command = with_rule (with_rule (bare_command (codes "replay")) (option_of (codes "at"))) (option_of (codes "projects"))
 
--- what a parse found: nothing where the command has a fault to find in the words, else its values
+-- a command of which it is known what a parse finds: it has no subcommands, no argument that depends on another, and
+-- defaults that their arguments take
+pub record IsPlainCommand (command : App) : Type 0 where
+  pub simple : is_simple_and_free command ≡ true
+  pub alone : (built command).subs ≡ []
+  pub defaults : list_all default_passes (built command).top.rules ≡ true
+
+-- a parse finds the values of exactly the words that the command takes
 abbrev pub IsParse : App → List (List ℕ) → Option ArgMatches → Type 0
-IsParse command words None = fault_of command words ≢ []
-IsParse command words (Some found) = (fault_of command words ≡ []) × (rows_of (found_of found) ≡ matches_of command words)
-
--- what is said, where there is no fault
-abbrev pub without_fault : {X : Type 0} → Kinds → Option X → Option X
-without_fault [] said = said
-without_fault (kind ∷ kinds) said = None
+IsParse command words None = takes command words ≡ false
+IsParse command words (Some found) = (takes command words ≡ true) × (rows_of (found_of found) ≡ matches_of command words)
 
 -- a moment stands in place of the clock
 abbrev pub time_said : Option (List ℕ) → Option Time
@@ -66,10 +69,10 @@ both_said _ _ = None
 abbrev pub replay_said : List Row → Option ReplayWords
 replay_said rows = both_said (time_said (first_of (codes "at") rows)) (projects_said (first_of (codes "projects") rows))
 
--- what the words behind `replay` say: nothing where they are outside its grammar, which are those in which the parser
--- finds a fault, and those with a value of another form
+-- what the words behind `replay` say: nothing where they are outside its grammar, which are those that the command doesn't
+-- take, and those with a value of another form
 unfoldable pub replay_words : List (List ℕ) → Option ReplayWords
-replay_words words = without_fault (fault_of replay_command words) (replay_said (matches_of replay_command words))
+replay_words words = if takes replay_command words then replay_said (matches_of replay_command words) else None
 
 abbrev pub usage_line : List ℕ
 usage_line = codes "usage: bim_server replay|check|generate|serve\n"

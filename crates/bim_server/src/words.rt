@@ -1,10 +1,10 @@
 //! The words of the command line. A parser of command lines takes them apart; what their values say is judged here.
-ghost use Rattle.std.specs.Prelude.{◌≡◌, ◌≤◌, ℕ, true, map, option_map, IfOk, IfSome};
+ghost use Rattle.std.specs.Prelude.{◌≡◌, ◌≤◌, ℕ, false, map, option_map, IfOk, IfSome};
 ghost use Rattle.std.specs.List.{list_all};
 ghost use Rattle.std.specs.Char.{is_ascii_digit};
 ghost use Rattle.std.specs.Str.{bytes_eq};
-ghost use Rattle.clap.specs.Words.{app_of, found_of, is_simple_and_free, rows_of, rule_of};
-ghost use Rattle.bim_server.specs.Words.{is_number, within, number_word, option_of, replay_command, IsParse, time_said, projects_said, both_said, replay_said, replay_words, IsTime, IsCount, IsReplay};
+ghost use Rattle.clap.specs.Words.{app_of, found_of, rows_of, rule_of};
+ghost use Rattle.bim_server.specs.Words.{is_number, within, number_word, option_of, replay_command, IsPlainCommand, IsParse, time_said, projects_said, both_said, replay_said, replay_words, IsTime, IsCount, IsReplay};
 
 use bim_model::{Moment, Text};
 use clap::error::ErrorKind;
@@ -106,9 +106,9 @@ fn lent_words<'a>(alloc: Global, words: &'a [Text]) -> Result<Vec<&'a str>, Allo
     Ok(lent)
 }
 
-// What a command finds in words, where it takes them.
+// What a parse finds in words, where the command takes them.
 fn parse<'a>(command: Command<'a>, words: &'a [&str]) -> Result<Option<ArgMatches<'a>>, AllocError>
-    requires { is_simple_and_free (app_of command.entry) ≡ true }
+    requires { IsPlainCommand (app_of command) }
     ensures { IfOk result (IsParse (app_of command.entry) (map (λ s. s.now) words.entry.now)) }
 {
     match command.try_get_matches_from(words) {

@@ -1,8 +1,8 @@
-use Rattle.std.proofs.Common.{◌≡◌, ◌∙◌, ap, ap₂, codes}
+use Rattle.std.proofs.Common.{◌≡◌, ◌∙◌, true, ap, ap₂, codes}
 use Rattle.std.proofs.lemmas.Result.{IfOk-weaker}
 use Rattle.clap.specs.Words.{Shape, app_of, with_rule}
 use Rattle.clap.specs.Simple.{app_of_fields, on_top}
-use Rattle.bim_server.specs.Words.{option_of, plain_command, replay_command}
+use Rattle.bim_server.specs.Words.{bare_command, option_of, replay_command}
 use Rattle.bim_server.proofs.words.replay_command.Goals as goal
 
 pub returns : goal.returns
@@ -12,9 +12,9 @@ returns c =
     ap app_of_fields c.no_binary_name.ensures in
     let helpless : app_of c.disable_help_flag-plain.result ≡ on_top (λ (s : Shape). record s { disable_help_flag = true }) (app_of c.no_binary_name.result) =
     ap app_of_fields c.disable_help_flag-plain.ensures in
-    let plain : app_of c.disable_help_flag-plain.result ≡ plain_command (codes "replay") =
+    let plain : app_of c.disable_help_flag-plain.result ≡ bare_command (codes "replay") =
     helpless ∙ ap (on_top (λ (s : Shape). record s { disable_help_flag = true }))
     (named ∙ ap (on_top (λ (s : Shape). record s { no_binary_name = true })) c.new.ensures.app) in
-    let timed : app_of c.in_ok-timed.timed ≡ with_rule (plain_command (codes "replay")) (option_of (codes "at")) =
+    let timed : app_of c.in_ok-timed.timed ≡ with_rule (bare_command (codes "replay")) (option_of (codes "at")) =
     c.in_ok-timed.ensures.shape c.option_of.ensures.local ∙ ap₂ with_rule plain c.option_of.ensures.rule in
-    IfOk-weaker c.arg.result _ _ (λ command added. added.shape c.option_of-2.ensures.local ∙ ap₂ with_rule timed c.option_of-2.ensures.rule) c.arg.ensures
+    IfOk-weaker c.arg-2.result _ _ (λ command added. added.shape c.option_of-2.ensures.local ∙ ap₂ with_rule timed c.option_of-2.ensures.rule) c.arg-2.ensures
