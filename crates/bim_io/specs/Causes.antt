@@ -25,7 +25,8 @@ pub record ComesOfFault (before now : ℕ) (said : Type 0) : Type 0 where
 abbrev pub Gains : Option (List ℕ) → Option (List ℕ) → List ℕ → Type 0
 Gains old new bs = new ≡ append_known old bs
 
--- What is left of a source loses bs from its front, where it tells it. It tells it afterwards exactly where it did before.
+-- What is left of a source loses bs from its front, where it tells it. It tells it afterwards exactly where
+-- it did before.
 abbrev pub Loses : Option (List ℕ) → Option (List ℕ) → List ℕ → Type 0
 Loses old new bs = old ≡ prepend_known bs new
 
@@ -33,7 +34,8 @@ Loses old new bs = old ≡ prepend_known bs new
 abbrev pub ReadGives : {E : Type 0} → Option (List ℕ) → Option (List ℕ) → Result ℕ E → List ℕ → Type 0
 ReadGives old new r room = MatchResult r (λ n. Gains old new (take n room)) (λ _. new ≡ old)
 
--- a read took these n bytes off what was left, none only where nothing was left or no room, and nothing where it failed
+-- a read took these n bytes off what was left, none only where nothing was left or no room, and nothing where
+-- it failed
 abbrev pub ReadTakes : {E : Type 0} → Option (List ℕ) → Option (List ℕ) → Result ℕ E → List ℕ → Type 0
 ReadTakes old new r room =
     MatchResult r (λ n. Loses old new (take n room) × (n ≡ 0 → 0 < length room → IsAtEnd new)) (λ _. new ≡ old)

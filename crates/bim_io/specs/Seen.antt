@@ -4,8 +4,8 @@ use Rattle.std.specs.Io.KnownBytes.{IsAtEnd}
 use Rattle.bim_model.specs.Moments.{IsMoment}
 use Rattle.bim_io.specs.Causes.{Gains, Loses, Grows, GivesMoment}
 
--- of a source: the bytes that are left and those that it has given, where it tells them, the most that one read gives,
--- where it has such a bound, whether it has answered its end, and how often it has failed
+-- of a source: the bytes that are left and those that it has given, where it tells them, the most that one
+-- read gives, where it has such a bound, whether it has answered its end, and how often it has failed
 pub record SourceSeen : Type 0 where
   pub left : Option (List ℕ)
   pub given : Option (List ℕ)
@@ -18,7 +18,8 @@ pub record SinkSeen : Type 0 where
   pub held : Option (List ℕ)
   pub faults : ℕ
 
--- of a clock: the one moment that it gives, where it has one, and the moments that it gave, where it tells them
+-- of a clock: the one moment that it gives, where it has one, and the moments that it gave, where it tells
+-- them
 pub record ClockSeen : Type 0 where
   pub one : Option ℕ
   pub gave : Option (List ℕ)
@@ -27,8 +28,8 @@ pub record ClockSeen : Type 0 where
 abbrev pub EndsEmpty : SourceSeen → Type 0
 EndsEmpty s = IsTrue s.ended → IsAtEnd s.left
 
--- a source gave these bytes, which were the next that were left; an end that it answered stands, and its count of faults
--- didn't fall
+-- a source gave these bytes, which were the next that were left; an end that it answered stands, and its
+-- count of faults didn't fall
 pub record SourceGives (old new : SourceSeen) (bytes : List ℕ) : Type 0 where
   pub left : Loses old.left new.left bytes
   pub given : Gains old.given new.given bytes

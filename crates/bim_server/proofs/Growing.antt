@@ -15,7 +15,7 @@ use Rattle.bim_session.specs.declared.end.SessionEnd.{SessionEnd}
 use Rattle.bim_session.specs.declared.end.SessionEnd.TheVariants as end
 use Rattle.bim_session.specs.Session.{Standing, Stop, IsBare, Ends, Reads, AnswersEvent, Answered, behind, closes, is_closed, counted, requests, most_requests, closes_after}
 use Rattle.bim_session.specs.Replay.{ReadsAsNeeded, HoldsNoMore, IsOneRead}
-use Rattle.bim_session.specs.Talking.{TalkState, Feeds, is_end, with_framer, with_piece, leaving_after}
+use Rattle.bim_session.specs.Talking.{TalkState, fresh, Feeds, is_end, with_framer, with_piece, leaving_after}
 use Rattle.bim_session.proofs.Reading.{Reads_more, Reads_append, requests-push, is_closed-push}
 use Rattle.bim_session.proofs.Sessions.{Answered_push}
 use Rattle.bim_server.specs.Loop.{ServerState}
@@ -88,7 +88,7 @@ pub record IsFresh (talk : TalkState) : Type 0 where
   pub leaving : talk.leaving ≡ None
 
 pub fresh_of : (talk : TalkState) → Stands talk.framer [] false
-    → talk ≡ record { framer = talk.framer; ended = false; served = 0; waits = None; leaving = None } → IsFresh talk
+    → talk ≡ fresh talk.framer → IsFresh talk
 fresh_of talk stands is = record {
   stands = stands;
   ended = ap (λ (t : TalkState). t.ended) is;
@@ -102,7 +102,7 @@ abbrev pub new_server : ℕ → ServerState
 new_server projects = record { projects = projects; history = []; turns = 0 }
 
 pub so_far_start : (w : Outside) (projects : ℕ) (talk : TalkState) → IsFresh talk → SoFar w w talk (new_server projects)
-so_far_start w projects talk fresh = record {
+so_far_start w projects talk is_fresh = record {
   input = [];
   moments = [];
   output = [];
@@ -125,13 +125,13 @@ so_far_start w projects talk fresh = record {
   count = refl;
   earlier = none_before 1;
   answered = (refl, refl, refl);
-  stands = fresh.stands;
-  served = fresh.served;
-  idle = fresh.waits;
+  stands = is_fresh.stands;
+  served = is_fresh.served;
+  idle = is_fresh.waits;
   few = omega arith;
   most = omega arith;
-  ended_is = λ e. absurd (let f : false ≡ true = sym fresh.ended ∙ e in cc);
-  leaving = leaves_here (stop_of (start_of (new_server projects)) [] [] w.source.ended [] false [] [] []) talk.leaving fresh.leaving
+  ended_is = λ e. absurd (let f : false ≡ true = sym is_fresh.ended ∙ e in cc);
+  leaving = leaves_here (stop_of (start_of (new_server projects)) [] [] w.source.ended [] false [] [] []) talk.leaving is_fresh.leaving
       (record { open_ = refl; room = omega arith; bare = (refl, refl, refl) });
 }
 

@@ -5,7 +5,7 @@ use Rattle.http_frame.specs.Framers.{Stands}
 use Rattle.bim_session.specs.declared.end.SessionEnd.{SessionEnd}
 use Rattle.bim_session.specs.declared.end.SessionEnd.TheVariants as end
 use Rattle.bim_session.specs.Replay.{Replays}
-use Rattle.bim_session.specs.Talking.{TalkState, IsOwnLeaving}
+use Rattle.bim_session.specs.Talking.{TalkState, IsOwnLeaving, fresh}
 use Rattle.bim_server.specs.Loop.{ServerState, StepsOn}
 use Rattle.bim_server.specs.declared.session.Progress.{Progress}
 use Rattle.bim_server.specs.declared.session.Progress.TheVariants.{Again, End}
@@ -16,9 +16,9 @@ use Rattle.bim_server.proofs.Stepping.{steps_on}
 
 -- nothing was done yet
 pub starts : (w : Outside) (projects : ℕ) (talk : TalkState) (server : ServerState) → Stands talk.framer [] false
-    → talk ≡ record { framer = talk.framer; ended = false; served = 0; waits = None; leaving = None } → server ≡ new_server projects → SoFar w w talk server
-starts w projects talk server stands fresh is =
-    subst (λ (s : ServerState). SoFar w w talk s) (sym is) (so_far_start w projects talk (fresh_of talk stands fresh))
+    → talk ≡ fresh talk.framer → server ≡ new_server projects → SoFar w w talk server
+starts w projects talk server stands is_fresh is =
+    subst (λ (s : ServerState). SoFar w w talk s) (sym is) (so_far_start w projects talk (fresh_of talk stands is_fresh))
 
 -- the session goes on
 pub again : (w a b : Outside) (old new : TalkState) (server server' : ServerState) (result : Progress) → SoFar w a old server

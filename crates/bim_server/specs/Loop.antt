@@ -20,7 +20,8 @@ use Rattle.bim_server.specs.declared.session.Progress.TheVariants.{Again, End}
 
 -- ---- the book
 
--- what contracts see of a one-thread book: how many projects it has, its history, and how many turns were taken
+-- what contracts see of a one-thread book: how many projects it has, its history, and how many turns were
+-- taken
 pub record ServerState : Type 0 where
   pub projects : ℕ
   pub history : List Entry
@@ -68,16 +69,19 @@ Writing served sink sink' bytes Again = SinkTakes sink sink' bytes × (sink'.fau
 Writing served sink sink' bytes (End e) = (e ≡ end.WriteFault served) × WritesFront sink sink' bytes
 
 -- how the answer to a call ends a session: memory was wanting for it, or it was not written whole
-abbrev pub StopsAnswering : SinkSeen → SinkSeen → ℕ → Result BookReceipt AllocError → Waiting → SessionEnd → Type 0
+abbrev pub StopsAnswering : SinkSeen → SinkSeen → ℕ → Result BookReceipt AllocError → Waiting
+    → SessionEnd → Type 0
 StopsAnswering sink sink' served receipt waiting e =
     ((e ≡ end.Memory served) × (sink' ≡ sink))
-    ⊎ ((bytes : List ℕ) × AnswersCall receipt waiting bytes × (e ≡ end.WriteFault served) × WritesFront sink sink' bytes)
+    ⊎ ((bytes : List ℕ) × AnswersCall receipt waiting bytes × (e ≡ end.WriteFault served)
+    × WritesFront sink sink' bytes)
 
 -- the book was called for the request that waits, and its response written; or that ended the session
-abbrev pub Called : BookRequest → SinkSeen → SinkSeen → TalkState → ServerState → Progress → TalkState → ServerState → Type 0
+abbrev pub Called : BookRequest → SinkSeen → SinkSeen → TalkState → ServerState → Progress → TalkState
+    → ServerState → Type 0
 Called call sink sink' talk server Again talk' server' =
-    (waiting : Waiting) × (talk.waits ≡ Some waiting) × (receipt : Result BookReceipt AllocError) × (bytes : List ℕ)
-    × Calls call server receipt server' × AnswersCall receipt waiting bytes
+    (waiting : Waiting) × (talk.waits ≡ Some waiting)
+    × (receipt : Result BookReceipt AllocError) × (bytes : List ℕ) × Calls call server receipt server' × AnswersCall receipt waiting bytes
     × (talk' ≡ with_answer waiting.close talk) × SinkTakes sink sink' bytes × (sink'.faults ≡ sink.faults)
 Called call sink sink' talk server (End e) talk' server' =
     (waiting : Waiting) × (talk.waits ≡ Some waiting) × (receipt : Result BookReceipt AllocError)
@@ -86,7 +90,8 @@ Called call sink sink' talk server (End e) talk' server' =
 -- ---- a step
 
 -- what a talk wanted was done, before which so many requests were answered
-abbrev pub Does : ℕ → Outside → Outside → TalkState → ServerState → Want → Progress → TalkState → ServerState → Type 0
+abbrev pub Does : ℕ → Outside → Outside → TalkState → ServerState → Want → Progress → TalkState
+    → ServerState → Type 0
 Does served before after talk server More progress talk' server' =
     Reading before.source after.source talk progress talk' × (after.sink ≡ before.sink) × (server' ≡ server)
 Does served before after talk server (Write bytes) progress talk' server' =

@@ -72,7 +72,8 @@ fn call_book<K: Sink>(
     requires waits { IsSome talk.old.waits }
     requires leaving { talk.old.leaving ≡ None }
     requires turns { server.old.turns < 2 ^ 63 }
-    ensures step { Called call (K.seen sink.old) (K.seen sink.new) talk.old server.old result talk.new server.new }
+    ensures step { Called call (K.seen sink.old) (K.seen sink.new) talk.old server.old result talk.new
+        server.new }
     ensures earlier { IsBefore (server.new.turns + 1) server.new.history }
     ensures projects { server.new.projects ≡ server.old.projects }
 {
@@ -99,7 +100,8 @@ fn take_step<S: Source, K: Sink, C: Clock>(
     requires turns { server.old.turns < 2 ^ 63 }
     requires earlier { IsBefore (server.old.turns + 1) server.old.history }
     ensures step { StepsOn (outside (S.seen source.old) (K.seen sink.old) (C.seen clock.old))
-        (outside (S.seen source.new) (K.seen sink.new) (C.seen clock.new)) talk.old server.old result talk.new server.new }
+        (outside (S.seen source.new) (K.seen sink.new) (C.seen clock.new)) talk.old server.old result talk.new
+        server.new }
     ensures projects { server.new.projects ≡ server.old.projects }
 {
     let served = talk.served();
@@ -131,7 +133,8 @@ pub fn run_session<S: Source, K: Sink, C: Clock>(
     let Ok(mut server) = OneThread::new(alloc, projects) else {
         return SessionEnd::Memory { served: 0 };
     };
-    // No session comes near so many steps: each one answers, or reads a piece of a request whose bytes are bounded.
+    // No session comes near so many steps: each one answers, or reads a piece of a request whose bytes are
+    // bounded.
     'steps: for _ in 0..u64::MAX {
         match take_step(&mut talk, &mut server, source, sink, clock) {
             Progress::Again => {}

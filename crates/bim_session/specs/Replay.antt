@@ -20,13 +20,15 @@ IsWriteFault end = (n : ℕ) × (end ≡ WriteFault n)
 
 -- where a session over a new book begins, whose steps have turns up to this one
 abbrev pub beginning : ℕ → List Entry → ℕ → Standing
-beginning projects history top = record { projects = projects; history = history; last = 0; top = top; served = 0 }
+beginning projects history top =
+    record { projects = projects; history = history; last = 0; top = top; served = 0 }
 
 -- the most bytes that a session takes by one read
 abbrev pub most_read : ℕ
 most_read = MOST_READ
 
--- one read of a source that gives no more than this at once, where it has such a bound, may give so many bytes
+-- one read of a source that gives no more than this at once, where it has such a bound, may give so many
+-- bytes
 abbrev pub IsOneRead : Option ℕ → ℕ → Type 0
 IsOneRead most n = (n ≤ most_read) × WithinMost most n
 
@@ -41,8 +43,8 @@ pub record HoldsNoMore (bytes : List ℕ) (events : List Event) : Type 0 where
   pub settled : IsTold told rest
   pub nothing : IsRest rest
 
--- No more was read than was needed: what was read before the last piece, which one read may have given, holds no event
--- that was not answered.
+-- No more was read than was needed: what was read before the last piece, which one read may have given, holds
+-- no event that was not answered.
 pub record ReadsAsNeeded (most : Option ℕ) (input : List ℕ) (events : List Event) : Type 0 where
   pub earlier : List ℕ
   pub piece : List ℕ
@@ -50,15 +52,17 @@ pub record ReadsAsNeeded (most : Option ℕ) (input : List ℕ) (events : List E
   pub one_read : IsOneRead most (length piece)
   pub needed : (earlier ≡ []) ⊎ HoldsNoMore earlier events
 
--- A source gave the input and has nothing left once it answered its end, a clock gave the moments, and a sink took the
--- output. The steps of the session are the turns of a run with one actor, from 1 without a gap, and its history is the one
--- whose entries below a printed turn decide the reply. It ends by a fault exactly where a read or a write failed. Where an
--- object doesn't tell, some input, some moments and some output are meant.
+-- A source gave the input and has nothing left once it answered its end, a clock gave the moments, and a sink
+-- took the output. The steps of the session are the turns of a run with one actor, from 1 without a gap, and
+-- its history is the one whose entries below a printed turn decide the reply. It ends by a fault exactly
+-- where a read or a write failed. Where an object doesn't tell, some input, some moments and some output are
+-- meant.
 --
--- What is written before a read: since a session ends by the first call that fails, a read or a write, nothing is written
--- after a read that fails, and nothing is read after a write that fails. So a source whose n-th read fails shows that all
--- events of what the reads before it gave were answered before it, and a sink whose n-th write fails shows that no read
--- came between an event and its answer; where the source gives a byte at a time, not a byte more was taken.
+-- What is written before a read: since a session ends by the first call that fails, a read or a write,
+-- nothing is written after a read that fails, and nothing is read after a write that fails. So a source whose
+-- n-th read fails shows that all events of what the reads before it gave were answered before it, and a sink
+-- whose n-th write fails shows that no read came between an event and its answer; where the source gives a
+-- byte at a time, not a byte more was taken.
 pub record Replays (projects : ℕ) (before after : Outside) (end : SessionEnd) : Type 0 where
   pub input : List ℕ
   pub moments : List ℕ
@@ -69,7 +73,8 @@ pub record Replays (projects : ℕ) (before after : Outside) (end : SessionEnd) 
   pub empty : EndsEmpty after.source
   pub run : IsRun projects steps history
   pub one_thread : IsOneThread steps
-  pub session : Session (beginning projects history (length steps)) after.source.ended input moments output steps end
+  pub session : Session (beginning projects history (length steps)) after.source.ended
+      input moments output steps end
   pub as_needed : ReadsAsNeeded before.source.most input session.events
   pub read_fault : ComesOfFault before.source.faults after.source.faults (IsReadFault end)
   pub write_fault : ComesOfFault before.sink.faults after.sink.faults (IsWriteFault end)

@@ -25,8 +25,8 @@ use Rattle.bim_session.specs.declared.end.SessionEnd.TheVariants.{Closed, Asked,
 
 -- ---- what the bytes spell
 
--- The bytes begin with these events, and the rest follows. Told: the Continue of the first request was answered,
--- before the events, and after them.
+-- The bytes begin with these events, and the rest follows. Told: the Continue of the first request was
+-- answered, before the events, and after them.
 abbrev pub Reads : List ℕ → Bool → List Event → List ℕ → Bool → Type 0
 Reads bytes told [] rest mark = (bytes ≡ rest) × (told ≡ mark)
 Reads bytes told (frame.continue ∷ events) rest mark =
@@ -50,8 +50,8 @@ requests (event ∷ events) = counted event + requests events
 abbrev pub most_requests : ℕ
 most_requests = MOST_REQUESTS
 
--- the connection is closed behind the answer to the request of this number, counted from 1, which asks for that or is
--- the last that is answered
+-- the connection is closed behind the answer to the request of this number, counted from 1, which asks for
+-- that or is the last that is answered
 abbrev pub closes_after : HttpRequest → ℕ → Bool
 closes_after request number = request.close || number == most_requests
 
@@ -67,8 +67,8 @@ is_closed served (event ∷ events) = closes served event || is_closed (served +
 
 -- ---- the answer to a request
 
--- where a session stands between two answers: how many projects there are, the history, the last turn of its steps and
--- the greatest that one may have, and how many requests were answered
+-- where a session stands between two answers: how many projects there are, the history, the last turn of its
+-- steps and the greatest that one may have, and how many requests were answered
 pub record Standing : Type 0 where
   pub projects : ℕ
   pub history : List Entry
@@ -85,7 +85,8 @@ pub record Asking : Type 0 where
 abbrev pub asking : Standing → ℕ → HttpRequest → Asking
 asking standing moment request = record { standing = standing; moment = moment; request = request }
 
--- the call of the book that what is asked for means: itself, or the upload of a model that the profile accepts
+-- the call of the book that what is asked for means: itself, or the upload of a model that the profile
+-- accepts
 abbrev pub MeansCall : Result HttpCall RequestFault → BookRequest → Type 0
 MeansCall (Ok (Ask asked)) call = asked ≡ call
 MeansCall (Ok (Build project name mode body)) call =
@@ -112,8 +113,8 @@ abbrev pub IsResponseTo : Asking → Answer → Option ℕ → List ℕ → Type
 IsResponseTo a answer turn bytes =
     IsResponse answer (kind_of a.request) turn (closes_after a.request (a.standing.served + 1)) bytes
 
--- the request took the one step of the book that it means, at a turn above those before; the step's entry is what the
--- change adds
+-- the request took the one step of the book that it means, at a turn above those before; the step's entry is
+-- what the change adds
 pub record TakesTurn (a : Asking) (steps : List Step) : Type 0 where
   pub step : Step
   pub one : steps ≡ step ∷ []
@@ -134,7 +135,8 @@ pub record IsPlain (a : Asking) (bytes : List ℕ) (steps : List Step) : Type 0 
 pub record IsBooked (a : Asking) (bytes : List ℕ) (steps : List Step) : Type 0 where
   pub taken : TakesTurn a steps
   pub response : IsResponseTo a
-      (answer.Book (reply_of a.standing.projects (at_turn taken.step.stamp.turn a.standing.history) taken.step.request))
+      (answer.Book (reply_of a.standing.projects (at_turn taken.step.stamp.turn a.standing.history)
+      taken.step.request))
       (Some taken.step.stamp.turn) bytes
 
 -- the step that the request took changes nothing
@@ -176,12 +178,13 @@ past s event steps = record s { last = last_turn s.last steps; served = s.served
 abbrev pub behind : Standing → List Event → List Step → Standing
 behind s events steps = record s { last = last_turn s.last steps; served = s.served + requests events }
 
--- The events are answered in their order, each once, and each request at the moment of its own; what is written is the
--- answers. Behind the answer that closes the connection none is answered.
+-- The events are answered in their order, each once, and each request at the moment of its own; what is
+-- written is the answers. Behind the answer that closes the connection none is answered.
 abbrev pub Answered : Standing → List Event → List ℕ → List ℕ → List Step → Type 0
 Answered s [] moments out steps = (moments ≡ []) × (out ≡ []) × (steps ≡ [])
 Answered s (event ∷ events) moments out steps =
-    (asked : List ℕ) × (after : List ℕ) × (bytes : List ℕ) × (later : List ℕ) × (first : List Step) × (others : List Step)
+    (asked : List ℕ) × (after : List ℕ) × (bytes : List ℕ) × (later : List ℕ)
+    × (first : List Step) × (others : List Step)
     × (moments ≡ asked ++ after) × (out ≡ bytes ++ later) × (steps ≡ first ++ others)
     × AnswersEvent s event asked bytes first × (closes s.served event ≡ true → events ≡ [])
     × Answered (past s event first) events after later others
@@ -192,9 +195,10 @@ IsFaultResponse fault bytes = IsResponse (answer.Frame fault) no_kind None true 
 
 -- ---- how a session ends
 
--- where a session stops, and whether its last answer closed the connection; whether the input has answered its end; the
--- bytes that are left, and whether the Continue of the request there was answered; and what came after the answers: the
--- moments that were asked for, the bytes that were written and the steps that were taken
+-- where a session stops, and whether its last answer closed the connection; whether the input has answered
+-- its end; the bytes that are left, and whether the Continue of the request there was answered; and what came
+-- after the answers: the moments that were asked for, the bytes that were written and the steps that were
+-- taken
 pub record Stop : Type 0 where
   pub standing : Standing
   pub closed : Bool
@@ -212,7 +216,8 @@ IsBare s = (s.moments ≡ []) × (s.bytes ≡ []) × (s.steps ≡ [])
 -- the response to the fault with which the bytes that are left begin, for which nothing was asked for or done
 abbrev pub AnswersFault : Stop → FrameFault → List ℕ → Type 0
 AnswersFault s fault bytes =
-    Spells s.rest s.told [] (frame.bad fault) × IsFaultResponse fault bytes × (s.moments ≡ []) × (s.steps ≡ [])
+    Spells s.rest s.told [] (frame.bad fault) × IsFaultResponse fault bytes
+    × (s.moments ≡ []) × (s.steps ≡ [])
 
 -- these bytes are the next that a session writes: the answer to the next event, or the response to a fault
 abbrev pub IsNext : Stop → List ℕ → Type 0
@@ -256,7 +261,8 @@ EndsSpent s end =
 -- all was answered, and then the fault in which the bytes end
 abbrev pub EndsFrame : Stop → SessionEnd → Type 0
 EndsFrame s end =
-    (fault : FrameFault) × (end ≡ Frame s.standing.served fault) × (s.closed ≡ false) × AnswersFault s fault s.bytes
+    (fault : FrameFault) × (end ≡ Frame s.standing.served fault) × (s.closed ≡ false)
+    × AnswersFault s fault s.bytes
 
 -- all that the bytes hold was answered, and a read failed
 abbrev pub EndsReading : Stop → SessionEnd → Type 0
@@ -281,10 +287,11 @@ Ends s end =
     EndsClosed s end ⊎ (EndsAsked s end ⊎ (EndsCut s end ⊎ (EndsReading s end
     ⊎ (EndsWriting s end ⊎ (EndsFrame s end ⊎ (EndsSpent s end ⊎ EndsMemory s end))))))
 
--- A session from a standing that took this input, asked for these moments and wrote this output, by these steps. Each
--- request that it took has one of the moments, in their order, and there is no other. `ended` says whether the input has
--- answered its end.
-pub record Session (start : Standing) (ended : Bool) (input moments output : List ℕ) (steps : List Step) (end : SessionEnd) : Type 0 where
+-- A session from a standing that took this input, asked for these moments and wrote this output, by these
+-- steps. Each request that it took has one of the moments, in their order, and there is no other. `ended`
+-- says whether the input has answered its end.
+pub record Session (start : Standing) (ended : Bool) (input moments output : List ℕ) (steps : List Step)
+    (end : SessionEnd) : Type 0 where
   pub events : List Event
   pub rest : List ℕ
   pub told : Bool

@@ -27,14 +27,18 @@ use Rattle.bim_session.specs.declared.want.Want.{Want}
 use Rattle.bim_session.specs.declared.want.Want.TheVariants.{More, Write, Call, Leave}
 use Rattle.bim_session.specs.Session.{most_requests, closes_after, continue_bytes, IsFaultResponse, Means, IsRefusedBy}
 
--- what contracts see of a talk: its framer, whether the end was fed, how many requests were answered, what the response to
--- the call that waits needs of its request, and how the talk ends once all is written
+-- what contracts see of a talk: its framer, whether the end was fed, how many requests were answered, what
+-- the response to the call that waits needs of its request, and how the talk ends once all is written
 pub record TalkState : Type 0 where
   pub framer : Framer
   pub ended : Bool
   pub served : ℕ
   pub waits : Option Waiting
   pub leaving : Option SessionEnd
+
+-- a talk that has been fed nothing, over a framer
+abbrev pub fresh : Framer → TalkState
+fresh framer = record { framer = framer; ended = false; served = 0; waits = None; leaving = None }
 
 -- the same talk over another framer
 abbrev pub with_framer : Framer → TalkState → TalkState
@@ -52,7 +56,8 @@ with_piece framer piece s = record s { framer = framer; ended = is_end piece }
 
 -- the one framer stands for what the other does, and then the piece
 abbrev pub GrowsBy : List ℕ → Framer → Framer → Type 0
-GrowsBy piece old new = (bytes : List ℕ) (told : Bool) → Stands old bytes told → Stands new (bytes ++ piece) told
+GrowsBy piece old new =
+    (bytes : List ℕ) (told : Bool) → Stands old bytes told → Stands new (bytes ++ piece) told
 
 -- the talk stands for the piece too, or the input has ended
 abbrev pub Feeds : List ℕ → TalkState → TalkState → Type 0
@@ -73,7 +78,8 @@ waiting_for request number = record { kind = kind_of request; close = closes_aft
 -- how a session ends behind the answer to the request of this number, if it does
 abbrev pub leaving_after : ℕ → Bool → Option SessionEnd
 leaving_after number close =
-    if number == most_requests then Some (end.Spent number) else (if close then Some (end.Asked number) else None)
+    if number == most_requests then Some (end.Spent number)
+    else (if close then Some (end.Asked number) else None)
 
 -- one more request is answered, behind which the connection is closed or not
 abbrev pub with_answer : Bool → TalkState → TalkState
@@ -136,9 +142,11 @@ AtRest s More = s.ended ≡ false
 AtRest s (Write bytes) = ⊥
 AtRest s (Call call) = ⊥
 AtRest s (Leave e) =
-    (s.ended ≡ true) × ((rest : List ℕ) (told : Bool) → Stands s.framer rest told → IsRest rest → MeetsEnd rest s.served e)
+    (s.ended ≡ true)
+    × ((rest : List ℕ) (told : Bool) → Stands s.framer rest told → IsRest rest → MeetsEnd rest s.served e)
 
--- a talk that stood for these bytes took a request at the one moment that was asked for, and its framer stands for the rest
+-- a talk that stood for these bytes took a request at the one moment that was asked for, and its framer
+-- stands for the rest
 pub record TakesRequest (rest : List ℕ) (told : Bool) (moments : List ℕ) (framer : Framer) : Type 0 where
   pub moment : ℕ
   pub request : HttpRequest
@@ -171,12 +179,12 @@ AnswersFault rest told moments old bytes new =
     (fault : FrameFault) × TakesNone rest told moments new.framer × Spells rest told [] (frame.bad fault)
     × IsFaultResponse fault bytes × (new ≡ with_fault fault (with_framer new.framer old))
 
--- What a talk that stood for these bytes wants next, for which it asked for these moments: one for the request that it
--- took, if it took one.
+-- What a talk that stood for these bytes wants next, for which it asked for these moments: one for the
+-- request that it took, if it took one.
 abbrev pub Talks : List ℕ → Bool → List ℕ → TalkState → Want → TalkState → Type 0
 Talks rest told moments old More new =
-    (old.leaving ≡ None) × (old.ended ≡ false) × IsTold told rest × IsRest rest × TakesNone rest told moments new.framer
-    × (new ≡ with_framer new.framer old)
+    (old.leaving ≡ None) × (old.ended ≡ false) × IsTold told rest × IsRest rest
+    × TakesNone rest told moments new.framer × (new ≡ with_framer new.framer old)
 Talks rest told moments old (Write bytes) new =
     (old.leaving ≡ None)
     × (Continues rest told moments old bytes new
@@ -188,7 +196,8 @@ Talks rest told moments old (Call call) new =
 Talks rest told moments old (Leave e) new =
     (moments ≡ [])
     × ((old.leaving ≡ Some e)
-    ⊎ ((old.leaving ≡ None) × (old.ended ≡ true) × IsTold told rest × IsRest rest × MeetsEnd rest old.served e))
+    ⊎ ((old.leaving ≡ None) × (old.ended ≡ true) × IsTold told rest × IsRest rest
+    × MeetsEnd rest old.served e))
 
 -- what the talk is ready for: to be fed where it wants more, to be answered where it wants a call
 abbrev pub IsReady : Want → TalkState → Type 0

@@ -32,8 +32,9 @@ fn upload_of(
     })
 }
 
-/// The call of the book that a request means at a moment, in seconds since 1970; or how the request is answered without one:
-/// by the fault that it alone decides, or by want of memory. The model of an upload is built here, before any turn is taken.
+/// The call of the book that a request means at a moment, in seconds since 1970; or how the request is
+/// answered without one: by the fault that it alone decides, or by want of memory. The model of an upload is
+/// built here, before any turn is taken.
 pub fn call_of(
     alloc: Global,
     routes: &Routes,

@@ -3,9 +3,10 @@ ghost use Rattle.std.specs.Prelude.{◌≡◌, ℕ, List, ◌++◌, Bool};
 ghost use Rattle.http_frame.specs.Events.{Event, Ending, Spells};
 ghost use Rattle.bim_session.specs.Session.{Reads};
 
-/// The events that a session reads, and those that the rest spells, are what the whole bytes spell, and they end as the
-/// rest does.
+/// The events that a session reads, and those that the rest spells, are what the whole bytes spell, and they
+/// end as the rest does.
 pub fn answers_are_to_the_events()
     ensures { (bytes rest : List ℕ) (told mark : Bool) (events more : List Event) (ending : Ending)
-        → Reads bytes told events rest mark → Spells rest mark more ending → Spells bytes told (events ++ more) ending }
+        → Reads bytes told events rest mark → Spells rest mark more ending
+        → Spells bytes told (events ++ more) ending }
 {}

@@ -4,7 +4,7 @@ ghost use Rattle.bim_model.specs.Moments.{IsMoment};
 ghost use Rattle.http_frame.specs.Framers.{Stands};
 ghost use Rattle.bim_session.specs.Session.{most_requests, closes_after, continue_bytes, IsFaultResponse};
 ghost use Rattle.bcf_http.specs.Answers.{IsResponse};
-ghost use Rattle.bim_session.specs.Talking.{Feeds, Stays, with_answer, with_fault, with_framer, with_memory, WantsFor, Writes, Wants, StopsNext, LacksNext, Replies, LacksFor, AtRest, IsReady, IsOwnLeaving, IsOwnWant, leaving_after, ChangesNothing};
+ghost use Rattle.bim_session.specs.Talking.{fresh, Feeds, Stays, with_answer, with_fault, with_framer, with_memory, WantsFor, Writes, Wants, StopsNext, LacksNext, Replies, LacksFor, AtRest, IsReady, IsOwnLeaving, IsOwnWant, leaving_after, ChangesNothing};
 
 use crate::calls::call_of;
 use crate::end::SessionEnd;
@@ -49,9 +49,16 @@ impl Model for Talk {
 
     ghost coded = { Prim.hlevel (codes, the_framer.the_row.coded) };
 
-    ghost view = { λ t. record { framer = t.framer; ended = t.ended; served = t.served; waits = t.waits; leaving = t.leaving } };
+    ghost view = { λ t. record {
+      framer = t.framer;
+      ended = t.ended;
+      served = t.served;
+      waits = t.waits;
+      leaving = t.leaving;
+    } };
 
-    ghost invariant = { λ t. (t.served ≤ most_requests) × (t.leaving ≡ None → t.served < most_requests) × IsOwnLeaving t.leaving };
+    ghost invariant = { λ t. (t.served ≤ most_requests) × (t.leaving ≡ None → t.served < most_requests)
+        × IsOwnLeaving t.leaving };
 }
 
 // Whether the connection is closed behind the answer to the request of this number.
@@ -91,7 +98,7 @@ fn changes_nothing(reply: &ReplyBody) -> bool
 impl Talk {
     /// A talk that has been fed nothing.
     pub fn new(alloc: Global) -> Result<Talk, AllocError>
-        ensures fresh { IfOk result (λ talk. talk ≡ record { framer = talk.framer; ended = false; served = 0; waits = None; leaving = None }) }
+        ensures fresh { IfOk result (λ talk. talk ≡ fresh talk.framer) }
         ensures stands { IfOk result (λ talk. Stands talk.framer [] false) }
     {
         let framer = Framer::new(alloc)?;
@@ -122,8 +129,8 @@ impl Talk {
         self.leaving
     }
 
-    /// Appends the piece to the bytes fed. An empty piece says that the input has ended; nothing is fed after it. An
-    /// `Err` leaves the talk as it was.
+    /// Appends the piece to the bytes fed. An empty piece says that the input has ended; nothing is fed after
+    /// it. An `Err` leaves the talk as it was.
     pub fn feed(&mut self, piece: &[u8]) -> Result<(), AllocError>
         requires { self.old.ended ≡ false }
         ensures ok { OnOk result (Feeds piece.now self.old self.new) }
@@ -138,12 +145,13 @@ impl Talk {
         }
     }
 
-    /// What is to be done next. A request that is taken is read at a moment of its own, which the clock is asked for then;
-    /// for nothing else is it asked. More bytes are wanted only where all events of those fed were answered. An `Err` ends
-    /// the talk for want of memory: each later call says so.
+    /// What is to be done next. A request that is taken is read at a moment of its own, which the clock is
+    /// asked for then; for nothing else is it asked. More bytes are wanted only where all events of those fed
+    /// were answered. An `Err` ends the talk for want of memory: each later call says so.
     pub fn next<C: Clock>(&mut self, clock: &mut C) -> Result<Want, AllocError>
         requires idle { self.old.waits ≡ None }
-        ensures want { IfOk result (λ want. Wants (C.seen clock.old) (C.seen clock.new) self.old want self.new) }
+        ensures want { IfOk result (λ want.
+            Wants (C.seen clock.old) (C.seen clock.new) self.old want self.new) }
         ensures lacks { OnErr result (LacksNext (C.seen clock.old) (C.seen clock.new) self.old self.new) }
         ensures ready { IfOk result (λ want. IsReady want self.new) }
         ensures own { IfOk result IsOwnWant }
@@ -160,7 +168,8 @@ impl Talk {
     #[tactic(auto, using(crate::proofs::Talks::none_of))]
     fn step<C: Clock>(&mut self, clock: &mut C) -> Result<Want, AllocError>
         requires idle { self.old.waits ≡ None }
-        ensures want { IfOk result (λ want. Wants (C.seen clock.old) (C.seen clock.new) self.old want self.new) }
+        ensures want { IfOk result (λ want.
+            Wants (C.seen clock.old) (C.seen clock.new) self.old want self.new) }
         ensures err { OnErr result (self.old.leaving ≡ None) }
         ensures same { OnErr result (self.new ≡ with_framer self.new.framer self.old) }
         ensures short { OnErr result (StopsNext (C.seen clock.old) (C.seen clock.new) self.old self.new) }
@@ -288,12 +297,13 @@ impl Talk {
         }
     }
 
-    /// Takes the book's answer to the call that waits, or want of memory for it, and says what is to be done next: the
-    /// response is written, or the talk ends for want of memory. An `Err` does not come.
+    /// Takes the book's answer to the call that waits, or want of memory for it, and says what is to be done
+    /// next: the response is written, or the talk ends for want of memory. An `Err` does not come.
     pub fn answer(&mut self, receipt: Result<Receipt<Book>, AllocError>) -> Result<Want, AllocError>
         requires waits { IsSome self.old.waits }
         requires open_ { self.old.leaving ≡ None }
-        ensures want { IfOk result (λ want. IfSome self.old.waits (λ waiting. Replies receipt waiting self.old want self.new)) }
+        ensures want { IfOk result (λ want.
+            IfSome self.old.waits (λ waiting. Replies receipt waiting self.old want self.new)) }
         ensures ok { IsOk result }
     {
         let Some(waiting) = self.waits else {
