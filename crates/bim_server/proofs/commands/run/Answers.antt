@@ -1,9 +1,6 @@
-use Rattle.std.proofs.Common.{inl, arith}
+use Rattle.std.proofs.Common.{arith}
 use Rattle.bim_server.proofs.Statuses.{unread_status, unwritten_status}
 use Rattle.bim_server.proofs.commands.run.Goals as goal
-
-pub returns-in-empty-clause-does : goal.returns-in-empty-clause-does
-returns-in-empty-clause-does g c = inl (c.print_usage.ensures (g.S.Source.seen c.args.source.now) (g.C.Clock.seen c.args.clock.now))
 
 pub returns-in-empty-clause-read : goal.returns-in-empty-clause-read
 returns-in-empty-clause-read g c =
