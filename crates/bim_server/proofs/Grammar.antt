@@ -1,5 +1,5 @@
 -- What the parser of command lines finds in words, and what they say.
-use Rattle.std.proofs.Common.{◌≡◌, ◌∙◌, ℕ, Bool, true, false, List, [], ◌∷◌, Option, Some, None, if◌then◌else◌, codes, refl, sym, ap, ap₂, subst}
+use Rattle.std.proofs.Common.{◌≡◌, ◌∙◌, ℕ, Bool, true, false, List, [], Option, Some, None, if◌then◌else◌, codes, refl, sym, ap, ap₂, subst}
 use Rattle.std.proofs.lemmas.Bool.{and_parts}
 use Rattle.clap.specs.Words.{App, HasMatchesOf, built, fault_of, first_value, found_of, is_simple, kind_of, matches_of, rows_of, takes}
 use Rattle.clap.specs.Faults.{is_free_app}

@@ -1,4 +1,4 @@
-use Rattle.std.proofs.Common.{◌≡◌, Option, inl, inr, refl, subst, arith}
+use Rattle.std.proofs.Common.{Option, inl, inr, refl, subst, arith}
 use Rattle.bim_io.specs.Seen.{outside}
 use Rattle.bim_server.specs.declared.words.ReplayWords.{ReplayWords}
 use Rattle.bim_server.specs.Commands.{Does}
