@@ -1,5 +1,5 @@
 //! A chunked body while its bytes come (RFC 9112, 7.1): what the chunks hold is joined in place.
-ghost use Rattle.std.specs.Prelude.{◌≡◌, ◌≤◌, ◌<◌, ◌+◌, ◌++◌, ◌==◌, ℕ, Bool, List, length, take, drop};
+ghost use Rattle.std.specs.Prelude.{◌≡◌, ◌≤◌, ◌<◌, ◌+◌, ◌==◌, length};
 ghost use Rattle.std.specs.Char.{digit_value};
 ghost use Rattle.http_frame.specs.Chunks.{value_step, size_turn, trailers_on, trailer_turn, chunk_step, data_left, is_over, IsOrdered, Advances};
 

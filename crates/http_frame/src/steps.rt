@@ -1,5 +1,5 @@
 //! The steps of a framer, from what it keeps to what it answers.
-ghost use Rattle.std.specs.Prelude.{◌≡◌, ◌≤◌, ◌<◌, ◌+◌, ℕ, List, length, take, drop, IfOk, OnOk, OnErr, false};
+ghost use Rattle.std.specs.Prelude.{◌≡◌, ◌≤◌, ◌<◌, ◌+◌, length, take, drop, IfOk, OnOk, OnErr, false};
 ghost use Rattle.http_frame.specs.Chunks.{IsOrdered, Advances};
 ghost use Rattle.http_frame.specs.Seen.{IsSeen};
 ghost use Rattle.http_frame.specs.Stages.{IsSafe, Steps, request_by, pending_of};
@@ -12,7 +12,7 @@ use crate::stage::{Awaited, Pending, START, Stage};
 use crate::types::{FrameError, FrameStep, HttpRequest};
 use crate::watch::Watch;
 use bim_model::Items;
-use std::alloc::{AllocError, Global};
+use std::alloc::AllocError;
 use std::mem;
 
 /// What a step leaves, and what it answers.

@@ -1,5 +1,5 @@
 //! The field lines of a head, byte by byte, so that none is looked at twice.
-ghost use Rattle.std.specs.Prelude.{◌≡◌, ℕ, List};
+ghost use Rattle.std.specs.Prelude.{◌≡◌};
 ghost use Rattle.http_frame.specs.Scan.{step, spot_step, spot_run};
 ghost use Rattle.http_frame.specs.Watched.{is_open};
 

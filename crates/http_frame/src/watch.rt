@@ -1,5 +1,5 @@
 //! The head of a request while its bytes come: each byte is walked over once, and the parser is asked twice.
-ghost use Rattle.std.specs.Prelude.{◌≡◌, ◌≤◌, ℕ, List, length, take, drop};
+ghost use Rattle.std.specs.Prelude.{◌≡◌, ◌≤◌, length, take, drop};
 ghost use Rattle.http_frame.specs.Watched.{IsWatch, IsLook, is_early, look_of};
 
 use crate::judge::{Judged, ask_parser};
