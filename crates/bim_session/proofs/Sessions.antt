@@ -1,6 +1,5 @@
 -- How a session grows by one more event, and its history by one more step.
-use Rattle.std.proofs.Common.{◌≡◌, ◌⊎◌, ℕ, ◌+◌, ◌<◌, ◌≤◌, List, [], ◌∷◌, ◌++◌, Bool, true, false, Some, inl, inr, sym, ◌∙◌, ap, subst, refl, append_assoc, append-nil, add_assoc, arith}
-use Rattle.http_frame.specs.declared.types.HttpRequest.{HttpRequest}
+use Rattle.std.proofs.Common.{◌≡◌, ◌⊎◌, ℕ, ◌+◌, ◌≤◌, List, [], ◌∷◌, ◌++◌, true, false, Some, inl, inr, sym, ◌∙◌, ap, subst, refl, append_assoc, append-nil, add_assoc, arith}
 use Rattle.http_frame.specs.Events.{Event}
 use Rattle.http_frame.specs.Events as frame
 use Rattle.federation_book.specs.declared.types.Entry.{Entry}
@@ -8,7 +7,7 @@ use Rattle.federation_book.specs.History.{reply_of, added_by, at_turn, of_turn, 
 use Rattle.federation_book.specs.Runs.{Step}
 use Rattle.federation_book.proofs.Histories.{AreAbove, AreOf, added_of, at_turn-grown, of_turn-grown, at_turn-new, of_turn-new}
 use Rattle.bcf_http.specs.declared.answers.Answer.TheVariants as answer
-use Rattle.bim_session.specs.Session.{Standing, Asking, asking, Means, TakesTurn, IsResponseTo, IsBooked, TakesIdly, Answers, AnswersEvent, Answered, last_turn, counted, requests, closes, is_closed, past, behind}
+use Rattle.bim_session.specs.Session.{Standing, Asking, asking, TakesTurn, IsResponseTo, IsBooked, TakesIdly, Answers, AnswersEvent, Answered, last_turn, counted, requests, closes, is_closed, past, behind}
 use Rattle.bim_session.proofs.Reading.{or_false}
 
 -- ---- later entries

@@ -15,7 +15,6 @@ use Rattle.federation_book.specs.declared.types.BookReply.{BookReply}
 use Rattle.federation_book.specs.declared.types.Entry.{Entry}
 use Rattle.federation_book.specs.declared.types.ReplyBody.{ReplyBody}
 use Rattle.federation_book.specs.declared.types.ReplyBody.TheVariants as reply
-use Rattle.bcf_http.specs.declared.calls.ReplyKind.{ReplyKind}
 use Rattle.bcf_http.specs.declared.answers.Answer.{Answer}
 use Rattle.bcf_http.specs.declared.answers.Answer.TheVariants as answer
 use Rattle.bcf_http.specs.Calls.{kind_of}
