@@ -38,18 +38,6 @@ element_in models s p m es i e f =
     let all : i.named.model ≡ es = sym (f ∙ ap (λ (n : NamedModel). n.model) (named_is models s p m i e)) in
     subst (λ (l : List Element). p.element < length l) all i.element_in
 
--- a number of a box is a number of an element, and of a place
-pub in_places : (models : List NamedModel) (boxes : List Extent) (places : List Member) (n : ℕ) → AllZip IsBoxOf (subjects_of models) boxes → AllZip (IsPlace models) (subjects_of models) places → n < length boxes → (n < length (subjects_of models)) × (n < length places)
-in_places models boxes places n b p h =
-    let l = zip_length IsBoxOf (subjects_of models) boxes b in
-    let m = zip_length (IsPlace models) (subjects_of models) places p in
-    (omega (arith, l, h), omega (arith, l, m, h))
-
-pub place_of : (models : List NamedModel) (boxes : List Extent) (places : List Member) (n : ℕ) (d p : Member) → AllZip IsBoxOf (subjects_of models) boxes → AllZip (IsPlace models) (subjects_of models) places → n < length boxes → p ≡ get_or places n d → IsPlace models (subject_at (subjects_of models) n) p
-place_of models boxes places n d p b z h e =
-    let i = in_places models boxes places n b z h in
-    place_at models places n p z i.0 (e ∙ get_or_default places n d none i.1)
-
 pub model_within : (models : List NamedModel) (s : Subject) (p : Member) (d : NamedModel) → (i : IsPlace models s p) → p.element < length (get_or models p.model d).model
 model_within models s p d i = element_in models s p (get_or models p.model d) (get_or models p.model d).model i (get_or_default models p.model d (get_or models p.model d) i.model_in) refl
 
