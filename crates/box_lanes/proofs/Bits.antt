@@ -60,13 +60,6 @@ bits_of p xs at from end whole h k e =
     ap (λ n. n / 2 ^ (from - at)) e ∙ mask_drop (map p (take (end - at) (drop at xs))) (from - at)
     ∙ ap mask_l (drop-map p (from - at) (take (end - at) (drop at xs))) ∙ ap (λ l. mask_l (map p l)) (part_of xs at from end h k)
 
--- the bits of the first n of a list, of those of a block of eight that reaches over its end
-pub block_bits : {A : Type 0} (p : A → Bool) (xs : List A) (at n count : ℕ) → n ≤ 8 → at + n ≤ count → mask_l (map p (take 8 (drop at xs))) % 2 ^ n ≡ mask_l (map p (take n (drop at (take count xs))))
-block_bits p xs at n count h k =
-    let parts : at + (count - at) ≡ count = omega arith in
-    mask_take (map p (take 8 (drop at xs))) n ∙ ap mask_l (take-map p n (take 8 (drop at xs)))
-    ∙ ap (λ l. mask_l (map p l)) (take-take n 8 (drop at xs) h ∙ sym (take-take n (count - at) (drop at xs) (omega arith)) ∙ ap (take n) (sym (drop-take at (count - at) xs) ∙ ap (λ m. drop at (take m xs)) parts))
-
 module _ {A : Type 0} (p : A → Bool) where
   -- one part and the next
   pub part_more : (xs : List A) (a b c : ℕ) → a ≤ b → b ≤ c → c ≤ length xs → part p xs a c ≡ part p xs a b ++ part p xs b c

@@ -35,13 +35,6 @@ top-lane false = refl
 at_most-lanes : (x y : ℤ) → SFits w32 x → SFits w32 y → at_most (of_z w32 x) (of_z w32 y) ≡ lane (le_z x y)
 at_most-lanes x y X Y = rw (to_z-of_z w32 x X, to_z-of_z w32 y Y)
 
--- eight numbers of a column, loaded
-pub column : {A : Type 0} (side : A → ℤ) (boxes : List A) (at : ℕ) {numbers : List ℤ} → numbers ≡ map side boxes → at + 8 ≤ length boxes
-    → chunk 0 8 (take (length numbers - at) (drop at numbers)) ≡ map side (chunk at 8 boxes)
-column side boxes at {numbers} e h =
-    let long : 8 ≤ length numbers - at = omega (arith, ap length e, length-map boxes side) in
-    take-take 8 (length numbers - at) (drop at numbers) long ∙ ap (λ l. take 8 (drop at l)) e ∙ ap (take 8) (drop-map side at boxes) ∙ take-map side 8 (drop at boxes)
-
 module _ {A : Type 0} where
   abbrev pub Fit : (A → ℤ) → A → Type 0
   Fit side b = SFits w32 (side b)
