@@ -5,8 +5,7 @@ use Rattle.std.proofs.lemmas.Nat.{pow_pos}
 use Rattle.std.proofs.Math.Arith.{digits_mod}
 use Rattle.std.proofs.Math.Seq.{take-add}
 use Rattle.std.proofs.lemmas.Nat.{div-add-mod'}
-use Rattle.std.proofs.lemmas.List.{length-take-le, take-take, drop-take, drop-drop, length-drop, append_cancel_left, take_all}
-use Rattle.std.specs.List.{take-map}
+use Rattle.std.proofs.lemmas.List.{length-take-le, drop-take, drop-drop, length-drop, append_cancel_left, take_all}
 use Rattle.std.proofs.lemmas.List.{drop-map}
 use lib.Pow.{shr-shr}
 use lib.Lanes.{mask_l}

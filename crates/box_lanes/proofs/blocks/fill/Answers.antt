@@ -1,8 +1,6 @@
-use Rattle.std.proofs.Common.{◌≡◌, ◌+◌, ◌*◌, ◌≤◌, ◌++◌, ◌∷◌, [], List, length, map, drop, sym, subst, ◌∙◌, arith, append-nil}
-use Rattle.std.proofs.lemmas.List.{length-map}
+use Rattle.std.proofs.Common.{◌*◌, ◌≤◌, ◌++◌, [], List, length, drop, sym, subst, ◌∙◌, arith, append-nil}
 use Rattle.bim_model.specs.declared.geometry.Extent.{Extent}
 use Rattle.box_lanes.specs.declared.blocks.Block.{Block}
-use Rattle.box_lanes.specs.Places.{box_at}
 use Rattle.box_lanes.specs.Blocks.{AreBlocks, IsBlock, padded}
 use Rattle.box_lanes.proofs.Eights.{at_place, eight_are, none_left, one_more}
 use Rattle.box_lanes.proofs.blocks.fill.Goals as goal

@@ -1,12 +1,11 @@
-use Rattle.std.proofs.Common.{rules, ◌≡◌, ◌<◌, ◌≤◌, ◌+◌, ◌%◌, ◌*◌, ◌/◌, ◌^◌, List, length, map, take, drop, ◌∙◌, sym, ap, subst, arith}
-use Rattle.std.specs.List.{All}
+use Rattle.std.proofs.Common.{rules, ◌≡◌, ◌<◌, ◌%◌, ◌*◌, ◌/◌, ◌^◌, length, map, take, drop, ◌∙◌, sym, ap, subst, arith}
 use Rattle.std.proofs.lemmas.List.Elements.{All-weaker}
 use Rattle.std.proofs.lemmas.List.{length-drop}
 use lib.Lanes.{mask_l}
 use Rattle.bim_model.specs.declared.geometry.Extent.{Extent}
 use Rattle.box_lanes.specs.declared.blocks.Block.{Block}
 use Rattle.box_lanes.specs.Lanes.{meets, Fits32}
-use Rattle.box_lanes.specs.Blocks.{boxes_in, padded, IsBlock, AreBlocks}
+use Rattle.box_lanes.specs.Blocks.{boxes_in, padded, IsBlock}
 use Rattle.box_lanes.proofs.Eights.{block_at, block_in, length_padded, padded_bits}
 use Rattle.box_lanes.proofs.Vectors.{Fit, spans, and_also, masked}
 use Rattle.box_lanes.proofs.table.BoxTable.lanes.Goals as goal
