@@ -1,5 +1,5 @@
 -- The element of a number.
-use Rattle.std.proofs.Common.{◌≡◌, ℕ, ◌<◌, eqb, List, length, get_or, refl, sym, ap, subst, arith, ◌∙◌}
+use Rattle.std.proofs.Common.{◌≡◌, ℕ, ◌<◌, eqb, List, length, get_or, refl, sym, ap, subst, ◌∙◌}
 use Rattle.std.specs.Str.{bytes_eq}
 use Rattle.std.proofs.lemmas.Bool.Decides.{Decides-eqb, Decides-like, same_from_decides}
 use Rattle.std.proofs.lemmas.Slice.Eq.{bytes_eq-Decides}
@@ -9,13 +9,12 @@ use Rattle.bim_model.proofs.Rising.{places_are_names}
 use Rattle.std.specs.List.{AllZip}
 use Rattle.std.proofs.lemmas.List.{get_or_default}
 use Rattle.bim_model.specs.declared.element.Element.{Element}
-use Rattle.bim_model.specs.declared.geometry.Extent.{Extent}
 use Rattle.bim_model.specs.declared.named_model.NamedModel.{NamedModel}
 use Rattle.bucket_grid.specs.declared.subjects.Member.{Member}
 use Rattle.bim_model.specs.Keys.{Subject, subjects_of}
-use Rattle.bucket_grid.specs.Subjects.{subject_at, nobody, IsBoxOf}
+use Rattle.bucket_grid.specs.Subjects.{subject_at, nobody}
 use Rattle.bucket_grid.specs.Places.{IsPlace}
-use Rattle.bucket_grid.proofs.Zips.{zip_at, zip_length}
+use Rattle.bucket_grid.proofs.Zips.{zip_at}
 
 abbrev none : Member
 none = record { model = 0; element = 0 }

@@ -1,19 +1,17 @@
 -- A search by halves among buckets that rise.
-use Rattle.std.proofs.Common.{◌≡◌, ℕ, ◌+◌, ◌<◌, ◌≤◌, ◌⊎◌, inl, inr, ℤ, List, length, get_or, refl, sym, ap, subst, arith, ◌∙◌}
+use Rattle.std.proofs.Common.{◌≡◌, ℕ, ◌+◌, ◌<◌, ◌≤◌, ◌⊎◌, inl, inr, ℤ, List, length, get_or, refl, sym, ap, arith, ◌∙◌}
 use Rattle.std.specs.Ordering.{int_cmp, ordering_then, ordering_reverse}
 use Rattle.std.specs.Cmp.{IsTotalOrder}
 use Rattle.std.proofs.lemmas.Cmp.{int_cmp_total, on_total, then_total}
 use Rattle.std.specs.declared.cmp.Ordering.{Ordering}
 use Rattle.std.specs.declared.cmp.Ordering.TheVariants.{Less, Equal, Greater}
 use Rattle.std.proofs.lemmas.Int.{ints}
-use Rattle.std.proofs.lemmas.Bool.{cases_eq, cases_lt}
+use Rattle.std.proofs.lemmas.Bool.{cases_eq}
 use Rattle.std.proofs.lemmas.List.{get_or_default}
 use Rattle.bucket_grid.specs.declared.cell.Cell.{Cell}
 use Rattle.bucket_grid.specs.declared.table.Bucket.{Bucket}
-use Rattle.bim_model.specs.declared.geometry.Extent.{Extent}
-use Rattle.bucket_grid.specs.Cells.{cell_cmp, members, IsBucket}
-use Rattle.bucket_grid.specs.Table.{IsTable}
-use Rattle.bucket_grid.specs.Search.{Rise, IsAt, IsNowhere, Between}
+use Rattle.bucket_grid.specs.Cells.{cell_cmp}
+use Rattle.bucket_grid.specs.Search.{Rise, Between}
 
 cells_total : IsTotalOrder cell_cmp
 cells_total = then_total (on_total (λ (c : Cell). c.x) int_cmp_total) (then_total (on_total (λ (c : Cell). c.y) int_cmp_total) (on_total (λ (c : Cell). c.z) int_cmp_total))
