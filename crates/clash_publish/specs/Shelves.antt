@@ -1,5 +1,5 @@
 -- Published sets by project and version.
-use Rattle.std.specs.Prelude.{ℕ, zero, suc, ◌+◌, ◌==◌, ◌&&◌, nat_lt, cond, Bool, List, [], ◌∷◌, slice_index_or, Option, Some, None}
+use Rattle.std.specs.Prelude.{ℕ, zero, suc, ◌+◌, ◌==◌, ◌&&◌, nat_lt, Bool, List, find, slice_index_or, Option, option_map}
 use Rattle.bim_model.specs.Snapshots.{Version}
 use Rattle.clash_publish.specs.declared.entry.Entry.{Entry}
 use Rattle.clash_publish.specs.declared.horizon.TheConstants.{LIVE_VERSIONS}
@@ -10,9 +10,8 @@ is_of project version entry = entry.project == project && entry.version == versi
 
 -- the set of a version of a project, if it stands there
 abbrev pub set_of : List Entry → ℕ → ℕ → Option Version
-set_of [] project version = None
-set_of (entry ∷ entries) project version =
-    cond (is_of project version entry) (Some entry.set) (set_of entries project version)
+set_of entries project version =
+    option_map (λ (entry : Entry). entry.set) (find (is_of project version) entries)
 
 -- the newest version of a project from 1 on, 0 of one that isn't there
 abbrev pub newest_of : List ℕ → ℕ → ℕ

@@ -1,6 +1,6 @@
 //! Published sets that are kept.
 ghost use Rattle.std.specs.Prelude.{◌≡◌, ◌==◌, ◌&&◌, ℕ, cond, Some, None, option_map, OnOk, OnErr};
-ghost use Rattle.clash_publish.specs.Shelves.{set_of, is_live};
+ghost use Rattle.clash_publish.specs.Shelves.{is_of, set_of, is_live};
 
 use crate::entry::Entry;
 use crate::horizon::Horizon;
@@ -24,6 +24,13 @@ impl Model for Shelf {
     ghost view = { λ s. s.entries.items };
 }
 
+// Whether the entry is of that version of that project.
+fn is_of(entry: &Entry, project: u32, version: u64) -> bool
+    ensures { result ≡ is_of project version entry.now }
+{
+    entry.project == project && entry.version == version
+}
+
 impl Shelf {
     /// A shelf without sets. Takes no memory.
     pub fn new(alloc: Global) -> Shelf
@@ -32,17 +39,6 @@ impl Shelf {
         Shelf {
             entries: Vec::new(alloc),
         }
-    }
-
-    // Where the set of a version stands, or the number of entries where it doesn't.
-    fn place_of(&self, project: u32, version: u64) -> usize {
-        for place in 0..self.entries.len() {
-            let entry = &self.entries[place];
-            if entry.project == project && entry.version == version {
-                return place;
-            }
-        }
-        self.entries.len()
     }
 
     /// Puts a set under its project and version, also in place of one that stands there. An error where memory is
@@ -57,10 +53,11 @@ impl Shelf {
             ≡ cond (project == p && version == v) (Some set) (set_of self.old p v)) }
         ensures err { OnErr result (self.new ≡ self.old) }
     {
-        let place = self.place_of(project, version);
-        if place < self.entries.len() {
-            self.entries[place].set = set;
-            return Ok(());
+        for place in 0..self.entries.len() {
+            if is_of(&self.entries[place], project, version) {
+                self.entries[place].set = set;
+                return Ok(());
+            }
         }
         self.entries.push(Entry {
             project,
@@ -74,12 +71,12 @@ impl Shelf {
     pub fn get(&self, project: u32, version: u64) -> Option<&Shared<Published>>
         ensures { option_map (λ set. set.now) result ≡ set_of self.now project version }
     {
-        let place = self.place_of(project, version);
-        if place < self.entries.len() {
-            Some(&self.entries[place].set)
-        } else {
-            None
+        for entry in &self.entries {
+            if is_of(entry, project, version) {
+                return Some(&entry.set);
+            }
         }
+        None
     }
 
     /// Drops exactly the versions that aren't among the newest sixteen of their project. Takes no memory.
@@ -87,12 +84,7 @@ impl Shelf {
         ensures { (p v : ℕ) → set_of self.new p v
             ≡ cond (is_live horizon.now.newest p v) (set_of self.old p v) None }
     {
-        for gone in 0..self.entries.len() {
-            let place = self.entries.len() - 1 - gone;
-            let entry = &self.entries[place];
-            if !horizon.is_live(entry.project, entry.version) {
-                self.entries.swap_remove(place);
-            }
-        }
+        self.entries
+            .retain(|entry| horizon.is_live(entry.project, entry.version));
     }
 }
