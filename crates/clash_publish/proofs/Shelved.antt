@@ -55,7 +55,7 @@ module _ {X : Type 0} (t : X → Bool) where
   find_end (x ∷ xs) y b e h = end_step x y b (t x) (find t xs) (find t (xs ++ y ∷ [])) refl h (λ g. find_end xs y b e g)
 
   module _ (live : X → Bool) (b : Bool) (agree : (x : X) → t x ≡ true → live x ≡ b) where
-    neither : (c : Bool) → None {A = X} ≡ cond c None None
+    neither : (c : Bool) → find t [] ≡ cond c (find t []) None
     neither true = refl
     neither false = refl
 

@@ -1,7 +1,7 @@
 use Rattle.std.proofs.Common.{◌≡◌, List, length, sym, ap, ◌∙◌}
 use Rattle.bim_model.specs.Snapshots.{Version}
 use Rattle.bim_model.specs.declared.rules.Rule.{Rule}
-use Rattle.bim_model.specs.Rules.{distance_of}
+use Rattle.bim_model.specs.declared.rules.RuleKind.TheVariants.{Clash, Ignore}
 use Rattle.bucket_grid.specs.Grids.{GridValue}
 use Rattle.clash_publish.specs.Listed.{distance_at}
 use Rattle.clash_publish.proofs.Ruled.{distance_past, distance_here}
@@ -15,10 +15,9 @@ returns-then-rule-rules c =
 pub returns-in-Clash : goal.returns-in-Clash
 returns-in-Clash c =
     let rules = c.list-rules.ensures.same ∙ c.rules.ensures.same ∙ ap (λ (g : GridValue). g.version.rules) c.get.ensures ∙ ap (λ (v : Version). v.rules) c.self.view_is in
-    let h = c.in-Clash.is in
-    ?
+    sym (distance_here c.list-rules.result.now c.args.rule _ (Clash c.in-Clash.distance) c.if-rule-rules.false c.in-Clash.is) ∙ ap (λ (l : List Rule). distance_at l c.args.rule) rules
 
 pub returns-in-Ignore : goal.returns-in-Ignore
 returns-in-Ignore c =
-    let h = c.in-Ignore.is in
-    ?
+    let rules = c.list-rules.ensures.same ∙ c.rules.ensures.same ∙ ap (λ (g : GridValue). g.version.rules) c.get.ensures ∙ ap (λ (v : Version). v.rules) c.self.view_is in
+    sym (distance_here c.list-rules.result.now c.args.rule _ Ignore c.if-rule-rules.false c.in-Ignore.is) ∙ ap (λ (l : List Rule). distance_at l c.args.rule) rules
