@@ -2,9 +2,7 @@
 ghost use Rattle.std.specs.Prelude.{◌≡◌, ◌<◌, IfOk};
 ghost use Rattle.clash_publish.specs.Merged.{AreSetsOf};
 
-use crate::{
-    Horizon, Published, Shelf, clashes_are_listed, clashes_are_listed_by_keys,
-};
+use crate::{Horizon, Published, Shelf, clashes_are_listed, clashes_are_listed_by_keys};
 use bim_model::{
     ClassTest, Element, Guid, Items, Model, ModelTest, NamedModel, PER_MM, Point, Rule, RuleKind,
     Rules, Shared, Snapshot, Steps, StoreyTest, Text, Triangle,
@@ -142,6 +140,7 @@ static BESIDE: [[i32; 3]; 2] = [[3950, 3950, 1500], [3950, 3950, 1510]];
 
 /// Three at one place, and one that comes near to the third alone; the cells that own them don't rise as they do.
 static LOW: [[i32; 3]; 3] = [[5000, 0, 0], [1500, 0, 0], [5000, 0, 40]];
+
 static HIGH: [[i32; 3]; 2] = [[1500, 0, 20], [5000, 0, 20]];
 
 #[test]
@@ -213,6 +212,13 @@ fn keeps_live_versions(rt: HostRuntime) -> Result<(), Fail> {
     shelf.keep(&horizon);
     assert_eq!(rt; (has(&shelf, 1, 1), has(&shelf, 1, 2)), (None, Some(1)));
     assert_eq!(rt; (has(&shelf, 2, 1), has(&shelf, 9, 0)), (Some(1), Some(1)));
-    assert_eq!(rt; (horizon.newest_of(0), horizon.newest_of(8), horizon.newest_of(9)), (0, 3, 0));
+    assert_eq!(rt;
+        (
+            horizon.newest_of(0),
+            horizon.newest_of(8),
+            horizon.newest_of(9)
+        ),
+        (0, 3, 0)
+    );
     Ok(())
 }
