@@ -1,6 +1,6 @@
 -- The list of all clashes by keys.
-use Rattle.std.proofs.Common.{◌≡◌, ℕ, ◌<◌, inl, inr, List, [], ◌∷◌, length, get_or, map, true, IsTrue, refl, sym, ap, ap₂, subst, arith, ◌∙◌}
-use Rattle.std.specs.List.{All, AllPairs, Contains}
+use Rattle.std.proofs.Common.{◌≡◌, ℕ, ◌<◌, inl, inr, List, length, get_or, map, IsTrue, refl, sym, ap, ap₂, subst, arith, ◌∙◌}
+use Rattle.std.specs.List.{AllPairs, Contains}
 use Rattle.std.specs.declared.cmp.Ordering.{Ordering}
 use Rattle.std.specs.declared.cmp.Ordering.TheVariants.{Less, Equal, Greater}
 use Rattle.std.specs.Cmp.{IsTotalOrder}
@@ -20,7 +20,7 @@ use Rattle.bucket_check.specs.declared.pair.SetPair.{SetPair}
 use Rattle.bucket_check.specs.Clashes.{clashes, IsBefore}
 use Rattle.bucket_check.proofs.Lists.{all_have}
 use Rattle.clash_publish.specs.Listed.{element_of, ClashBy, IsClash, by_keys, IsKeyClash, IsKeyBefore}
-use Rattle.clash_publish.specs.Laws.{AreKeyClashes, ClashesAreListedByKeys}
+use Rattle.clash_publish.specs.Laws.{AreKeyClashes}
 use Rattle.clash_publish.proofs.Reasons.{listed}
 
 key_order : IsTotalOrder key_cmp
