@@ -1,8 +1,9 @@
 pub mod Cells
 pub mod Keys
 pub mod Listed
-pub mod Same
+pub mod Alike
 pub mod Undone
 pub mod Filled
+pub mod Fresh
 pub mod Before
 pub mod Carry
