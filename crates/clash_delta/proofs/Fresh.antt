@@ -1,5 +1,5 @@
 -- A progress of which no bucket is done.
-use Rattle.std.proofs.Common.{◌≡◌, ℕ, ◌<◌, List, [], ◌∷◌, length, get_or, map, suc, Option, Some, None, IfSome, IsSome, refl, sym, ap, subst, arith, ◌∙◌}
+use Rattle.std.proofs.Common.{◌≡◌, ℕ, ◌<◌, List, [], ◌∷◌, length, get_or, map, suc, Option, Some, None, IfSome, IsSome, true≢false, refl, sym, ap, subst, arith, ◌∙◌}
 use Rattle.std.specs.List.{All, AllPairs}
 use Rattle.std.specs.declared.cmp.Ordering.TheVariants.{Less}
 use Rattle.std.proofs.lemmas.List.{length-map, get_or-map, get_or_default}
@@ -11,7 +11,7 @@ use Rattle.bucket_check.specs.Sets.{SetValue}
 use Rattle.clash_delta.specs.declared.slot.Slot.{Slot}
 use Rattle.clash_delta.specs.Slots.{cells_of, bucket_cells, undone_cells, IsDone, IsSetOf, IsOf}
 use Rattle.clash_delta.specs.Places.{Rise}
-use Rattle.clash_delta.proofs.Undone.{nothing}
+use Rattle.clash_delta.proofs.Undone.{nothing, fact}
 use Rattle.clash_delta.proofs.Filled.{rise_by}
 
 -- a bucket that isn't done
@@ -32,11 +32,13 @@ empty_at : (bs : List Bucket) (i : ℕ) (d : Slot) → i < length (map empty bs)
 empty_at bs i d h = ap (λ (s : Slot). s.set) (get_or-map empty bs i no_bucket d (omega (arith, h, length-map bs empty)))
 
 none_not_some : (o : Option SetValue) → o ≡ None → IsSome o → ⊥
-none_not_some None e some = absurd some
+none_not_some None e some = true≢false (sym some)
 none_not_some (Some x) e some = cc
 
 pub empty_none : (bs : List Bucket) (cell : Cell) → IsDone (map empty bs) cell → ⊥
-empty_none bs cell done = none_not_some done.1.set (ap (λ (s : Slot). s.set) (sym done.3) ∙ empty_at bs done.0 done.1 done.2) done.4.1
+empty_none bs cell done =
+    let f = fact (λ (s : Slot). (s.cell ≡ cell) × IsSome s.set) (map empty bs) done in
+    none_not_some done.1.set (ap (λ (s : Slot). s.set) (sym done.3) ∙ empty_at bs done.0 done.1 done.2) f.1
 
 pub empty_of : (grid : GridValue) → IsOf grid (map empty grid.buckets)
 empty_of grid = record {
@@ -56,4 +58,4 @@ none_all P slots never i d h = by (get_or slots i d).set refl
     by None e = tt
     by (Some x) e =
         let s : Slot = get_or slots i d in
-        absurd (never s.cell (i, s, h, get_or_default slots i s d h, (refl, subst (λ (o : Option SetValue). IsSome o) (sym e) tt)))
+        absurd (never s.cell (i, s, h, get_or_default slots i s d h, (refl, subst (λ (o : Option SetValue). IsSome o) (sym e) refl)))

@@ -5,5 +5,7 @@ pub mod Alike
 pub mod Undone
 pub mod Filled
 pub mod Fresh
+pub mod Gathered
+pub mod Searched
 pub mod Before
-pub mod Carry
+pub mod Buckets

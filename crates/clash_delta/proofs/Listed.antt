@@ -12,6 +12,9 @@ use Rattle.box_lanes.proofs.Places.{places-cons, places-append}
 pub pairs_nil : {X : Type 0} (R : X → X → Type 0) → AllPairs R []
 pairs_nil R i j d below within = absurd (omega arith)
 
+nothing_left : (n : ℕ) → n - n ≡ 0
+nothing_left n = omega arith
+
 cond_all : (P : ℕ → Type 0) (b : Bool) (x : ℕ) (xs : List ℕ) → P x → All P xs → All P (cond b (x ∷ xs) xs)
 cond_all P true x xs h k = All-cons P x xs h k
 cond_all P false x xs h k = k
@@ -38,14 +41,14 @@ module _ {A : Type 0} (p : A → Bool) where
       (cond_pairs (p x) n (places_from (n + 1) p xs) (all_from (λ k. n < k) (n + 1) xs (λ k a b. omega arith)) (rise_from (n + 1) xs))
 
   -- the places are below the count
-  pub within : (xs : List A) → All (λ k. k < length xs) (places_from 0 p xs)
-  within xs = all_from (λ k. k < length xs) 0 xs (λ k a b. omega arith)
+  pub inside : (xs : List A) → All (λ k. k < length xs) (places_from 0 p xs)
+  inside xs = all_from (λ k. k < length xs) 0 xs (λ k a b. omega arith)
 
   mapped_from : {B : Type 0} (f : A → B) (pre xs : List A) (n : ℕ) (d : A) → length pre ≡ n → map (λ k. f (get_or (pre ++ xs) k d)) (places_from n p xs) ≡ map f (filter p xs)
   mapped_from f pre [] n d e = refl
   mapped_from f pre (x ∷ xs) n d e =
       let here : get_or (pre ++ x ∷ xs) n d ≡ x =
-      get_or-append_right pre (x ∷ xs) n n d e (omega arith) ∙ ap (λ i. get_or (x ∷ xs) i d) {x = n - n} {y = 0} (omega arith) in
+      get_or-append_right pre (x ∷ xs) n n d e (omega arith) ∙ ap (λ i. get_or (x ∷ xs) i d) (nothing_left n) in
       let whole : (pre ++ x ∷ []) ++ xs ≡ pre ++ x ∷ xs = append_assoc pre (x ∷ []) xs in
       let more : length (pre ++ x ∷ []) ≡ n + 1 = omega (arith, e, length-append pre (x ∷ [])) in
       let rest : map (λ k. f (get_or (pre ++ x ∷ xs) k d)) (places_from (n + 1) p xs) ≡ map f (filter p xs) =
@@ -125,10 +128,10 @@ module _ {A : Type 0} (p : A → Bool) where
       let m : ℕ = length (reverse s.behind) in
       let there : get_or l m 0 ≡ i =
       ap (λ u. get_or u m 0) parts ∙ get_or-append_right (reverse s.behind) (i ∷ reverse s.front) m m 0 refl (omega arith)
-      ∙ ap (λ n. get_or (i ∷ reverse s.front) n 0) {x = m - m} {y = 0} (omega arith) in
+      ∙ ap (λ n. get_or (i ∷ reverse s.front) n 0) (nothing_left m) in
       let same : k ≡ m = once xs l k m i e hk (omega (arith, long)) at there (cases_order k m) in
       ap₂ remove parts same ∙ remove-append_right (reverse s.behind) (i ∷ reverse s.front) m m refl (omega arith)
-      ∙ ap (λ n. reverse s.behind ++ remove (i ∷ reverse s.front) n) {x = m - m} {y = 0} (omega arith)
+      ∙ ap (λ n. reverse s.behind ++ remove (i ∷ reverse s.front) n) (nothing_left m)
       ∙ sym (reverse-append s.front s.behind) ∙ sym (ap reverse s.rest)
 
   -- ---- the places from one on, falling
@@ -161,3 +164,16 @@ module _ {A : Type 0} (p : A → Bool) where
 
   pub falling_all : (xs : List A) (n : ℕ) (l : List ℕ) → n ≡ 0 → l ≡ falling_from n xs → l ≡ falling xs
   falling_all xs n l e a = a ∙ ap (λ i. falling_from i xs) e
+
+  -- a place that passes stands among them
+  pub stands : (xs : List A) (l : List ℕ) (i : ℕ) (x y : A) → l ≡ falling xs → i < length xs → p (get_or xs i x) ≡ true → p y ≡ false → (k : ℕ) × (k < length l) × (get_or l k 0 ≡ i)
+  stands xs l i x y e h t f =
+      let s = split xs i x y h t f in
+      let parts : l ≡ reverse s.behind ++ i ∷ reverse s.front = e ∙ ap reverse s.whole ∙ turned s.front s.behind i in
+      let m : ℕ = length (reverse s.behind) in
+      let long : length l ≡ m + suc (length (reverse s.front)) = ap length parts ∙ length-append (reverse s.behind) (i ∷ reverse s.front) in (
+        m,
+        omega (arith, long),
+        ap (λ u. get_or u m 0) parts ∙ get_or-append_right (reverse s.behind) (i ∷ reverse s.front) m m 0 refl (omega arith)
+        ∙ ap (λ n. get_or (i ∷ reverse s.front) n 0) (nothing_left m),
+      )

@@ -1,6 +1,6 @@
 -- The buckets that aren't done, by their places.
-use Rattle.std.proofs.Common.{◌≡◌, ℕ, ◌+◌, ◌-◌, ◌<◌, ◌≤◌, ◌⊎◌, inl, inr, pos, Bool, true, false, List, length, get_or, map, filter, reverse, Option, Some, None, IsSome, is_none, true≢false, refl, sym, ap, subst, arith, ◌∙◌}
-use Rattle.std.specs.List.{All, AllPairs, slice_get}
+use Rattle.std.proofs.Common.{◌≡◌, ℕ, ◌+◌, ◌-◌, ◌<◌, ◌≤◌, ◌⊎◌, inl, inr, pos, Bool, true, false, List, [], ◌∷◌, length, get_or, map, filter, reverse, Option, Some, None, IsSome, is_none, true≢false, refl, sym, ap, subst, arith, ◌∙◌}
+use Rattle.std.specs.List.{All, Any, AllPairs, slice_get}
 use Rattle.std.specs.declared.cmp.Ordering.TheVariants.{Less}
 use Rattle.std.proofs.lemmas.Bool.{cases_order}
 use Rattle.std.proofs.lemmas.List.{length-map, get_or-map, length-reverse, get_or-reverse, get_or_default}
@@ -14,7 +14,7 @@ use Rattle.clash_delta.specs.declared.slot.Slot.{Slot}
 use Rattle.clash_delta.specs.Slots.{cells_of, undone_slots, undone_cells, IsBucketOf, IsDone}
 use Rattle.clash_delta.specs.Places.{Rise, IsPlaceOf, undone_places}
 use Rattle.clash_delta.proofs.Cells.{not_less}
-use Rattle.clash_delta.proofs.Listed.{within, mapped}
+use Rattle.clash_delta.proofs.Listed.{inside, mapped}
 
 abbrev pub undone : Slot → Bool
 undone s = is_none s.set
@@ -54,16 +54,16 @@ undone_at slots l place at e h f =
     let index : length places - 1 - (length l - 1 - place) ≡ place = omega (arith, h, count) in
     let is : at ≡ get_or places place 0 =
     f ∙ ap (λ m. get_or m (length l - 1 - place) 0) e ∙ get_or-reverse places (length l - 1 - place) 0 (omega (arith, h, count)) ∙ ap (λ i. get_or places i 0) index in
-    let inside : get_or places place 0 < length slots = within undone slots place 0 here in
+    let in_it : get_or places place 0 < length slots = inside undone slots place 0 here in
     let cells : map (λ k. (get_or slots k nothing).cell) places ≡ undone_cells slots = mapped undone (λ (s : Slot). s.cell) slots nothing in
     let many : place < length (undone_cells slots) = omega (arith, here, ap length cells, length-map places (λ k. (get_or slots k nothing).cell)) in
     record {
-      within = omega (arith, is, inside);
+      within = omega (arith, is, in_it);
       cell =
           λ d. slice_get-get_or (undone_cells slots) place nothing.cell many
           ∙ ap Some
           (ap (λ m. get_or m place nothing.cell) (sym cells) ∙ get_or-map (λ k. (get_or slots k nothing).cell) places place 0 nothing.cell here
-          ∙ ap (λ (s : Slot). s.cell) (get_or_default slots (get_or places place 0) nothing d inside) ∙ ap (λ k. (get_or slots k d).cell) (sym is));
+          ∙ ap (λ (s : Slot). s.cell) (get_or_default slots (get_or places place 0) nothing d in_it) ∙ ap (λ k. (get_or slots k d).cell) (sym is));
       none = λ d. subst (λ k. undone (get_or slots k d) ≡ true) (sym is) (passes slots place d here);
     }
 
@@ -86,20 +86,27 @@ bucket_at slots cell place at = (place, get_or slots place nothing, at.within, g
 
 -- it is done where it has a set
 pub done_at : (slots : List Slot) (cell : Cell) (place : ℕ) (s : Slot) → IsPlaceOf slots cell place → s ≡ get_or slots place s → IsSome s.set → IsDone slots cell
-done_at slots cell place s at e some = (place, s, at.within, sym e, ap (λ (t : Slot). t.cell) e ∙ at.is s, some)
+done_at slots cell place s at e some = (place, s, at.within, sym e, (ap (λ (t : Slot). t.cell) e ∙ at.is s, some))
 
 some_not_none : (o : Option SetValue) → is_none o ≡ true → IsSome o → ⊥
-some_not_none None e some = absurd some
+some_not_none None e some = true≢false (sym some)
 some_not_none (Some x) e some = true≢false (sym e)
+
+-- what holds of the bucket that is done
+pub fact : {X : Type 0} (P : X → Type 0) (xs : List X) (a : Any P xs) → P a.1
+fact P xs a = a.4
 
 -- and isn't where it has none
 pub not_done_at : (slots : List Slot) (cell : Cell) (place : ℕ) (s : Slot) → Rise slots → IsPlaceOf slots cell place → s ≡ get_or slots place s → is_none s.set ≡ true → IsDone slots cell → ⊥
 not_done_at slots cell place s rise at e none done =
     let t : Slot = done.1 in
-    let same : done.0 ≡ place = one_place slots cell place done.0 t rise at done.2 done.3 done.4.0 (cases_order done.0 place) in
+    let f = fact (λ (u : Slot). (u.cell ≡ cell) × IsSome u.set) slots done in
+    let same : done.0 ≡ place = one_place slots cell place done.0 t rise at done.2 done.3 f.0 (cases_order done.0 place) in
     let is : t ≡ s = sym done.3 ∙ ap (λ k. get_or slots k t) same ∙ get_or_default slots place t s at.within ∙ sym e in
-    some_not_none s.set none (subst (λ (u : Slot). IsSome u.set) is done.4.1)
+    some_not_none s.set none (subst (λ (u : Slot). IsSome u.set) is f.1)
 
 -- a cell that is done is a bucket's
 pub done_is_bucket : (slots : List Slot) (cell : Cell) → IsDone slots cell → IsBucketOf slots cell
-done_is_bucket slots cell done = (done.0, done.1, done.2, done.3, done.4.0)
+done_is_bucket slots cell done =
+    let f = fact (λ (u : Slot). (u.cell ≡ cell) × IsSome u.set) slots done in
+    (done.0, done.1, done.2, done.3, f.0)

@@ -1,5 +1,5 @@
 -- What is carried to the buckets of a grid.
-use Rattle.std.proofs.Common.{◌≡◌, ◌↔◌, ℕ, ◌+◌, ◌<◌, ◌≤◌, ◌⊎◌, inl, inr, pos, List, [], ◌∷◌, length, get_or, map, Option, Some, None, IfSome, IsSome, MatchOption, is_none, refl, sym, ap, ap₂, subst, arith, ◌∙◌}
+use Rattle.std.proofs.Common.{◌≡◌, ◌↔◌, ℕ, ◌+◌, ◌<◌, ◌≤◌, ◌⊎◌, inl, inr, pos, List, [], ◌∷◌, length, get_or, map, Option, Some, None, IfSome, IsSome, MatchOption, is_none, true, true≢false, refl, sym, ap, ap₂, subst, arith, ◌∙◌}
 use Rattle.std.specs.List.{All, Any, AllPairs, AllZip}
 use Rattle.std.specs.declared.cmp.Ordering.TheVariants.{Less}
 use Rattle.std.proofs.lemmas.Bool.{cases_order}
@@ -19,7 +19,7 @@ use Rattle.clash_delta.specs.Slots.{cells_of, bucket_cells, IsDone, IsSetOf, IsO
 use Rattle.clash_delta.specs.Places.{Rise, IsPlaceOf}
 use Rattle.clash_delta.specs.Carried.{IsCarried, IsMoved, IsCarriedSet, IsCarriedTo, IsUnmovedAt, IsReachedCell}
 use Rattle.clash_delta.proofs.Cells.{not_less}
-use Rattle.clash_delta.proofs.Undone.{nothing, done_at, not_done_at}
+use Rattle.clash_delta.proofs.Undone.{nothing, fact, done_at, not_done_at}
 
 -- what stands past the end of a list of buckets of a grid
 abbrev pub no_bucket : Bucket
@@ -72,7 +72,7 @@ module _ (done : List Slot) (before after : GridValue) (version : ℕ) where
     pub is_carried : (s : Slot) (x : SetValue) → s ≡ get_or done place s → s.set ≡ Some x → IsCarried done before after cell
     is_carried s x e f = record {
       was_bucket = subst (IsBucket before.boxes) (at.is no_bucket) (table.only place no_bucket at.within);
-      was_done = done_at done cell place s place_is e (subst (λ (o : Option SetValue). IsSome o) (sym f) tt);
+      was_done = done_at done cell place s place_is e (subst (λ (o : Option SetValue). IsSome o) (sym f) refl);
       unmoved = unmoved;
     }
 
@@ -126,12 +126,12 @@ module _ (done : List Slot) (before after : GridValue) (version : ℕ) where
   moved_for bs slots h = all_for (IsMoved done after version) (λ c x k. k.moved) bs slots h
 
   carried_by : (c : Cell) (o : Option SetValue) → IsCarriedTo done before after version c o → IsSome o → IsCarried done before after c
-  carried_by c None k some = absurd some
+  carried_by c None k some = absurd (true≢false (sym some))
   carried_by c (Some x) k some = k.carried
 
   some_by : (c : Cell) (o : Option SetValue) → IsCarriedTo done before after version c o → IsCarried done before after c → IsSome o
   some_by c None k carried = absurd (k carried)
-  some_by c (Some x) k carried = tt
+  some_by c (Some x) k carried = refl
 
   -- what is carried is a bucket of the next grid too
   still_bucket : (cell : Cell) → IsCarried done before after cell → IsBucket after.boxes cell
@@ -152,9 +152,10 @@ module _ (done : List Slot) (before after : GridValue) (version : ℕ) where
       to : IsDone slots cell → IsCarried done before after cell
       to d =
           let f = at d.0 (omega (arith, d.2, count)) in
+          let g = fact (λ (s : Slot). (s.cell ≡ cell) × IsSome s.set) slots d in
           let is : get_or slots d.0 nothing ≡ d.1 = get_or_default slots d.0 nothing d.1 d.2 ∙ d.3 in
-          let c : (get_or after.buckets d.0 no_bucket).cell ≡ cell = sym f.cell ∙ ap (λ (s : Slot). s.cell) is ∙ d.4.0 in
-          subst (IsCarried done before after) c (carried_by _ _ f.set (subst (λ (s : Slot). IsSome s.set) (sym is) d.4.1))
+          let c : (get_or after.buckets d.0 no_bucket).cell ≡ cell = sym f.cell ∙ ap (λ (s : Slot). s.cell) is ∙ g.0 in
+          subst (IsCarried done before after) c (carried_by _ _ f.set (subst (λ (s : Slot). IsSome s.set) (sym is) g.1))
 
       from : IsCarried done before after cell → IsDone slots cell
       from carried =
