@@ -1,0 +1,10 @@
+use Rattle.std.proofs.Common.{sym, ◌∙◌, arith}
+use Rattle.bim_model.proofs.Versions.{less}
+use Rattle.clash_delta.proofs.Cells.{less_more}
+use Rattle.clash_delta.proofs.carrying.first_not_before.Goals as goal
+
+pub loop-place-preserved : goal.loop-place-preserved
+loop-place-preserved c = record {
+  within = omega (arith, c.loop-place-test.true);
+  below = less_more c.args.buckets.now c.args.cell c.loop-place.place c.index-buckets-place.result c.loop-place-test.true c.index-buckets-place.is (sym c.cmp.ensures ∙ less c.cmp.result (sym c.is_lt.ensures ∙ c.if-is_lt.true)) c.loop-place.invariant.below;
+}
