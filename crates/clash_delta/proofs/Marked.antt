@@ -67,14 +67,14 @@ pub record IsLeft (slots : List Slot) (place : ℕ) (cell : Cell) : Type 0 where
   pub bucket : IsBucketOf slots cell
   pub undone : IsDone slots cell → ⊥
 
-pub left_inside : (slots : List Slot) (l : List ℕ) (place n at : ℕ) → IsProgress slots l → n ≡ length l → place < n → at ≡ get_or l (n - 1 - place) 0 → at < length slots
+pub left_inside : (slots : List Slot) (l : List ℕ) (place n at : ℕ) → IsProgress slots l → n ≡ length l → place < n → at ≡ get_or l (n - 1 - place) at → at < length slots
 left_inside slots l place n at keeps e h f =
-    let is : at ≡ get_or l (length l - 1 - place) 0 = f ∙ ap (λ m. get_or l (m - 1 - place) 0) e in
+    let is : at ≡ get_or l (length l - 1 - place) 0 = f ∙ ap (λ m. get_or l (m - 1 - place) at) e ∙ get_or_default l (length l - 1 - place) at 0 (omega (arith, h, e)) in
     (undone_at slots l place at keeps.places (omega (arith, h, e)) is).within
 
-pub left_at : (slots : List Slot) (l : List ℕ) (place n at : ℕ) (x : Slot) → IsProgress slots l → n ≡ length l → place < n → at ≡ get_or l (n - 1 - place) 0 → x ≡ get_or slots at x → IsLeft slots place x.cell
+pub left_at : (slots : List Slot) (l : List ℕ) (place n at : ℕ) (x : Slot) → IsProgress slots l → n ≡ length l → place < n → at ≡ get_or l (n - 1 - place) at → x ≡ get_or slots at x → IsLeft slots place x.cell
 left_at slots l place n at x keeps e h f g =
-    let is : at ≡ get_or l (length l - 1 - place) 0 = f ∙ ap (λ m. get_or l (m - 1 - place) 0) e in
+    let is : at ≡ get_or l (length l - 1 - place) 0 = f ∙ ap (λ m. get_or l (m - 1 - place) at) e ∙ get_or_default l (length l - 1 - place) at 0 (omega (arith, h, e)) in
     let u = undone_at slots l place at keeps.places (omega (arith, h, e)) is in
     let there : IsPlaceOf slots x.cell at = record { within = u.within; is = λ d. ap (λ (s : Slot). s.cell) (get_or_default slots at d x u.within ∙ sym g) } in
     record {

@@ -1,4 +1,4 @@
-use Rattle.std.proofs.Common.{◌≡◌, List, get_or, is_none, refl, sym, ap, subst, ◌∙◌}
+use Rattle.std.proofs.Common.{◌≡◌, List, get_or, is_none, not, refl, sym, ap, subst, ◌∙◌}
 use Rattle.bucket_grid.specs.declared.cell.Cell.{Cell}
 use Rattle.bucket_check.specs.declared.work.BucketWork.{BucketWork}
 use Rattle.bucket_check.specs.Sets.{SetValue, own_places}
@@ -21,7 +21,7 @@ returns-in-Some-clause-already c =
     let here = ap (λ (w : BucketWork). w.cell) (c.work.ensures ∙ ap (λ (s : SetValue). s.work) c.get-2.ensures) in
     let at = subst (λ (k : Cell). IsPlaceOf c.args.self.now k c.in-Some.place) here c.in-Some.ensures in
     let is = c.index.ensures ∙ ap (λ (l : List Slot). get_or l c.in-Some.place c.index.result.now) c.self.view_is in
-    let never = not_done_at c.args.self.now c.args.set.work.cell c.in-Some.place c.index.result.now rise at is (sym c.is_none.ensures ∙ c.if-is_none.true) in
+    let never = not_done_at c.args.self.now c.args.set.work.cell c.in-Some.place c.index.result.now rise at is (ap not (c.is_none.ensures ∙ ap not c.if-is_none.true)) in
     (λ e. absurd (differ e), λ done. absurd (never done))
 
 pub returns-in-Some-clause-taken : goal.returns-in-Some-clause-taken
@@ -30,7 +30,7 @@ returns-in-Some-clause-taken c =
     let here = ap (λ (w : BucketWork). w.cell) (c.work.ensures ∙ ap (λ (s : SetValue). s.work) c.get-2.ensures) in
     let at = subst (λ (k : Cell). IsPlaceOf c.args.self.now k c.in-Some.place) here c.in-Some.ensures in
     let is = c.index.ensures ∙ ap (λ (l : List Slot). get_or l c.in-Some.place c.index.result.now) c.self.view_is in
-    let never = not_done_at c.args.self.now c.args.set.work.cell c.in-Some.place c.index.result.now rise at is (sym c.is_none.ensures ∙ c.if-is_none.true) in
+    let never = not_done_at c.args.self.now c.args.set.work.cell c.in-Some.place c.index.result.now rise at is (ap not (c.is_none.ensures ∙ ap not c.if-is_none.true)) in
     (λ e. never, λ h. refl)
 
 pub returns-in-Some-clause-of : goal.returns-in-Some-clause-of
@@ -47,6 +47,6 @@ returns-in_default-clause-slots c =
           (let at = subst (λ (k : Cell). IsPlaceOf c.args.self.now k w.in-Some.place) here w.in-Some.ensures in
           let is = w.index.ensures ∙ ap (λ (l : List Slot). get_or l w.in-Some.place w.index.result.now) c.self.view_is in
           none_filled c.args.self.now c.args.set w.in-Some.place rise at
-          (λ d. ap (λ (s : Slot). is_none s.set) (get_or_default c.args.self.now w.in-Some.place d w.index.result.now at.within ∙ sym is) ∙ sym w.is_none.ensures ∙ w.if-is_none.false))
+          (λ d. ap (λ (s : Slot). is_none s.set) (get_or_default c.args.self.now w.in-Some.place d w.index.result.now at.within ∙ sym is) ∙ ap not (w.is_none.ensures ∙ ap not w.if-is_none.false)))
       | in_default-via-in_default w ↦ absurd (w.in_default.ensures (subst (λ (k : Cell). IsBucketOf c.args.self.now k) (sym here) c.requires.bucket))
     ]

@@ -1,4 +1,4 @@
-use Rattle.std.proofs.Common.{◌≡◌, List, length, get_or, map, take, Some, sym, ap, subst, arith, ◌∙◌}
+use Rattle.std.proofs.Common.{◌≡◌, ◌<◌, List, length, get_or, map, take, Some, sym, ap, subst, arith, ◌∙◌}
 use Rattle.bucket_check.specs.Sets.{SetValue}
 use Rattle.std.proofs.lemmas.List.{take_all}
 use Rattle.clash_delta.specs.declared.slot.Slot.{Slot}
@@ -15,7 +15,7 @@ pub loop-slot-preserved : goal.loop-slot-preserved
 loop-slot-preserved c =
     let all = c.as_slice-slot-items.ensures.value ∙ c.self.view_is in
     let is = c.slot-item.is ∙ ap (λ (l : List Slot). get_or l c.loop-slot.slot-index c.slot-item.result) all in
-    let within = omega (arith, c.loop-slot-test.true, ap length all) in
+    let within : c.loop-slot.slot-index < length c.args.self.now = omega (arith, c.loop-slot-test.true, ap length all) in
     sets_more c.loop-slot.sets.items _ c.args.self.now c.loop-slot.slot-index c.slot-item.result within is (some_at c.args.self.now c.loop-slot.slot-index c.slot-item.result c.requires within is) c.loop-slot.invariant c.in_ok-add_set.ensures
 
 pub returns-clause-right : goal.returns-clause-right
