@@ -1,0 +1,15 @@
+//! Which buckets of a version are checked: those that were done in the version before and did not change are done
+//! from the start.
+#![tactic(auto)]
+
+mod carrying;
+mod numbers;
+mod progress;
+mod rules;
+mod same;
+mod slot;
+#[cfg(test)]
+mod tests;
+
+pub use carrying::carry;
+pub use progress::{Progress, PutAnswer};
