@@ -29,7 +29,7 @@ loop-bucket-preserved g c =
     let same : c.in_ok-kept.kept ≡ c.in_ok-set.set = c.in_ok-kept.ensures in
     let work = ap (λ (s : SetValue). s.work) same ∙ c.in_ok-set.ensures.work in
     more c.args.grid.now c.buckets-buckets.result.now c.loop-bucket.sets.items c.push.new.self.items c.loop-bucket.bucket-index c.bucket-item.result c.in_ok-kept.kept c.loop-bucket-test.true c.bucket-item.is c.loop-bucket.invariant
-    (record { grid_is = ap (λ (w : BucketWork). w.grid) work ∙ c.in_ok-shared.ensures; cell_is = ap (λ (w : BucketWork). w.cell) work ∙ ap (λ (b : Bucket). b.cell) (sym c.bucket-item.is) })
+    (record { grid_is = ap (λ (w : BucketWork). w.grid) work ∙ c.in_ok-shared.ensures; cell_is = ap (λ (w : BucketWork). w.cell) work })
     c.in_ok-push.ensures.items
 
 pub returns : goal.returns
