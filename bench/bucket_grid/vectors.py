@@ -12,15 +12,11 @@ import json, os, shutil, subprocess, sys, tempfile
 
 HERE = os.path.dirname(os.path.abspath(__file__))
 TOP = os.path.dirname(os.path.dirname(HERE))
-CRATES = {
-    "exact_arith": "",
-    "bim_model": "exact_arith",
-    "tri_exact": "bim_model exact_arith",
-    "clearance": "bim_model tri_exact exact_arith",
-    "box_lanes": "bim_model",
-    "bucket_grid": "box_lanes clearance bim_model",
-    "vectors": "bucket_grid bim_model anyhow",
-}
+sys.path.insert(0, os.path.join(TOP, "bench"))
+from stands_on import stands_on  # noqa: E402
+
+BELOW = ["exact_arith", "bim_model", "tri_exact", "clearance", "box_lanes", "bucket_grid"]
+CRATES = stands_on(BELOW) | {"vectors": "bucket_grid bim_model anyhow"}
 
 
 def build(work):

@@ -19,17 +19,11 @@ import subprocess
 import sys
 import tempfile
 
-CRATES = {
-    "exact_arith": "",
-    "bim_model": "exact_arith",
-    "tri_exact": "bim_model exact_arith",
-    "clearance": "bim_model tri_exact exact_arith",
-    "box_lanes": "bim_model",
-    "clash_rules": "bim_model serde_json",
-    "bucket_grid": "box_lanes clearance bim_model",
-    "bucket_check": "bucket_grid box_lanes clearance bim_model",
-    "pace": "bucket_check bucket_grid clash_rules bim_model serde_json anyhow",
-}
+sys.path.insert(0, str(pathlib.Path(__file__).resolve().parent.parent))
+from stands_on import stands_on  # noqa: E402
+
+BELOW = ["exact_arith", "bim_model", "tri_exact", "clearance", "box_lanes", "clash_rules", "bucket_grid", "bucket_check"]
+CRATES = stands_on(BELOW) | {"pace": "bucket_check bucket_grid clash_rules bim_model serde_json anyhow"}
 POINTS = re.compile(r"#(\d+)=IFCCARTESIANPOINTLIST3D\(\((.*)\)\);")
 FACES = re.compile(r"#\d+=IFCTRIANGULATEDFACESET\(#(\d+),[^,]*,[^,]*,\((.*?)\),[^,)]*\);")
 PLAIN = re.compile(r"clashes (\d+).* clash_s ([\d.]+) \[grid ([\d.]+) filter ([\d.]+) near ([\d.]+)\]")
