@@ -4,4 +4,4 @@ pub mod Routers
 pub mod Parts
 pub mod Rows
 pub mod Floats
-pub mod Lists
+pub mod Numbers

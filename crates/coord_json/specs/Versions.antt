@@ -4,7 +4,7 @@ use Rattle.serde_json.specs.Data.{Data, number, string, array, object, Items, no
 use Rattle.serde_json.specs.Find.{of_integer}
 use Rattle.bim_model.specs.Boxes.{IsExtentOf}
 use Rattle.bim_model.specs.Snapshots.{Version}
-use Rattle.bcf_http.specs.Rules.{count_tree, storey_tree, rule_items}
+use Rattle.coord_json.specs.Rules.{count_tree, storey_tree, rule_items}
 use Rattle.bim_model.specs.declared.geometry.Extent.{Extent}
 use Rattle.bim_model.specs.declared.element.Element.{Element}
 use Rattle.bim_model.specs.declared.named_model.NamedModel.{NamedModel}

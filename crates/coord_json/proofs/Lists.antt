@@ -1,4 +1,4 @@
--- One more tree of an element, a model or a rule.
+-- One more tree of an element, a model, a rule or a clash.
 use Rattle.std.proofs.Common.{◌≡◌, ◌+◌, ◌<◌, ℕ, List, [], ◌∷◌, ◌++◌, length, take, get_or, sym, ◌∙◌, ap}
 use Rattle.std.proofs.lemmas.List.{take_more}
 use Rattle.serde_json.specs.Data.{item, no_items}
@@ -7,8 +7,11 @@ use Rattle.serde_json.specs.declared.value.Value.{Value}
 use Rattle.bim_model.specs.declared.element.Element.{Element}
 use Rattle.bim_model.specs.declared.named_model.NamedModel.{NamedModel}
 use Rattle.bim_model.specs.declared.rules.Rule.{Rule}
-use Rattle.bcf_http.specs.Rules.{rule_tree, rule_items}
-use Rattle.bcf_http.specs.Versions.{IsElementTree, AreElementTrees, IsModelTree, AreModelTrees}
+use Rattle.bim_model.specs.Snapshots.{Version}
+use Rattle.bucket_check.specs.declared.pair.SetPair.{SetPair}
+use Rattle.coord_json.specs.Rules.{rule_tree, rule_items}
+use Rattle.coord_json.specs.Clashes.{clash_data, pair_items}
+use Rattle.coord_json.specs.Versions.{IsElementTree, AreElementTrees, IsModelTree, AreModelTrees}
 
 elements_push : (es : List Element) (vs : List Value) (e : Element) (v : Value)
     → AreElementTrees es (items_view vs) → IsElementTree e (view v) → AreElementTrees (es ++ e ∷ []) (items_view (vs ++ v ∷ []))
@@ -54,3 +57,20 @@ pub rules_more : (rs : List Rule) (i : ℕ) (old new : List Value) → i < lengt
 rules_more rs i old new lt r at v is grown are =
     let more : take (i + 1) rs ≡ take i rs ++ r ∷ [] = take_more rs i r lt ∙ ap (λ x. take i rs ++ x ∷ []) (sym at) in
     rw (more, grown) (rules_push (take i rs) old r v are is)
+
+pairs_push : (version : Version) (ps : List SetPair) (vs : List Value) (p : SetPair) (v : Value)
+    → items_view vs ≡ pair_items version ps → view v ≡ clash_data version p → items_view (vs ++ v ∷ []) ≡ pair_items version (ps ++ p ∷ [])
+pairs_push version [] [] p v are is = ap (λ d. item d no_items) is
+pairs_push version [] (w ∷ vs) p v are is = cc
+pairs_push version (q ∷ ps) [] p v are is = cc
+pairs_push version (q ∷ ps) (w ∷ vs) p v are is =
+    let first : view w ≡ clash_data version q = cc in
+    let rest : items_view vs ≡ pair_items version ps = cc in
+    ap (λ d. item d (items_view (vs ++ v ∷ []))) first ∙ ap (λ ds. item (clash_data version q) ds) (pairs_push version ps vs p v rest is)
+
+pub pairs_more : (version : Version) (ps : List SetPair) (i : ℕ) (old new : List Value) → i < length ps → (p : SetPair) → p ≡ get_or ps i p
+    → (v : Value) → view v ≡ clash_data version p → new ≡ old ++ v ∷ []
+    → items_view old ≡ pair_items version (take i ps) → items_view new ≡ pair_items version (take (i + 1) ps)
+pairs_more version ps i old new lt p at v is grown are =
+    let more : take (i + 1) ps ≡ take i ps ++ p ∷ [] = take_more ps i p lt ∙ ap (λ x. take i ps ++ x ∷ []) (sym at) in
+    rw (more, grown) (pairs_push version (take i ps) old p v are is)

@@ -1,7 +1,7 @@
 //! Clash rules as JSON values.
 ghost use Rattle.std.specs.Prelude.{◌≡◌, IfOk};
 ghost use Rattle.serde_json.specs.View.{view, items_view};
-ghost use Rattle.bcf_http.specs.Rules.{class_text, storeys_text, models_text, storey_tree, clash_tree, ignore_tree, kind_tree, rule_tree, rule_items};
+ghost use Rattle.coord_json.specs.Rules.{class_text, storeys_text, models_text, storey_tree, clash_tree, ignore_tree, kind_tree, rule_tree, rule_items};
 
 use bim_model::{ClassTest, ModelTest, Rule, RuleKind, StoreyTest, Text};
 use serde_json::{Value, json};

@@ -1,56 +1,13 @@
--- The faults of an upload as JSON data.
-use Rattle.std.specs.Prelude.{ℕ, ◌++◌, List, codes}
-use Rattle.serde_json.specs.Data.{Data, number, string, object, unsigned, member, no_members}
+-- The faults of an upload and of clash rules as JSON data.
+use Rattle.std.specs.Prelude.{ℕ, List, codes}
+use Rattle.serde_json.specs.Data.{Data}
 use Rattle.bim_model.specs.declared.upload.Many.{Many}
 use Rattle.bim_model.specs.declared.upload.Many.TheVariants as many
 use Rattle.bim_model.specs.declared.upload.UploadFault.{UploadFault}
 use Rattle.bim_model.specs.declared.upload.UploadFault.TheVariants as fault
-
--- a code and a name behind it
-abbrev pub message : List ℕ → List ℕ → List ℕ
-message code name = code ++ codes " " ++ name
-
--- an error without fields
-unfoldable pub error_tree : List ℕ → List ℕ → Data
-error_tree code name =
-    object (member (codes "code") (string code)
-    (member (codes "message") (string (message code name)) no_members))
-
--- an error at a place of the bytes
-unfoldable pub error_at : List ℕ → List ℕ → ℕ → Data
-error_at code name at =
-    object (member (codes "at") (number (unsigned at))
-    (member (codes "code") (string code)
-    (member (codes "message") (string (message code name)) no_members)))
-
--- an error of an instance
-unfoldable pub error_of : List ℕ → List ℕ → ℕ → Data
-error_of code name id =
-    object (member (codes "code") (string code)
-    (member (codes "id") (number (unsigned id))
-    (member (codes "message") (string (message code name)) no_members)))
-
--- an error of an instance that refers to another
-unfoldable pub error_to : List ℕ → List ℕ → ℕ → ℕ → Data
-error_to code name id to =
-    object (member (codes "code") (string code)
-    (member (codes "id") (number (unsigned id))
-    (member (codes "message") (string (message code name))
-    (member (codes "to") (number (unsigned to)) no_members))))
-
--- an error of too many
-unfoldable pub error_many : List ℕ → List ℕ → List ℕ → Data
-error_many code name what =
-    object (member (codes "code") (string code)
-    (member (codes "message") (string (message code name))
-    (member (codes "what") (string what) no_members)))
-
--- an error of something by its name
-unfoldable pub error_named : List ℕ → List ℕ → List ℕ → Data
-error_named code name what =
-    object (member (codes "code") (string code)
-    (member (codes "message") (string (message code name))
-    (member (codes "name") (string what) no_members)))
+use Rattle.clash_rules.specs.declared.fault.RuleFault.{RuleFault}
+use Rattle.clash_rules.specs.declared.fault.RuleFault.TheVariants.{TooManyRules, BadRule, Distance}
+use Rattle.coord_json.specs.Errors.{error_tree, error_at, error_of, error_to, error_many, error_index, error_count}
 
 -- what is too many
 abbrev pub many_word : Many → List ℕ
@@ -81,3 +38,9 @@ upload_fault_tree (fault.VoidedFace id) = error_of (codes "U16") (codes "VoidedF
 upload_fault_tree (fault.DoubleGuid id) = error_of (codes "U17") (codes "DoubleGuid") id
 upload_fault_tree (fault.TreeFault id) = error_of (codes "U18") (codes "TreeFault") id
 upload_fault_tree (fault.TooMany what) = error_many (codes "U19") (codes "TooMany") (many_word what)
+
+-- a fault of clash rules, with its field
+abbrev pub rule_fault_tree : RuleFault → Data
+rule_fault_tree (TooManyRules count) = error_count (codes "C2") (codes "TooManyRules") count
+rule_fault_tree (BadRule index) = error_index (codes "C1") (codes "BadRule") index
+rule_fault_tree (Distance index) = error_index (codes "C3") (codes "Distance") index
