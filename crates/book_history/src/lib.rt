@@ -1,0 +1,22 @@
+//! What is asked of the book and what it answers: requests, replies, faults, changes and entries, and what
+//! follows of a history of entries.
+#![tactic(auto)]
+
+mod changes;
+mod faults;
+mod limits;
+mod replies;
+mod requests;
+mod work;
+
+pub use book_turn::object::Stamp;
+pub use clash_publish::{Horizon, LIVE_VERSIONS};
+pub use changes::{Change, Entry};
+pub use faults::{BookFault, StoreWhat};
+pub use limits::{
+    Limits, MOST_COMMENTS, MOST_ENTRIES, MOST_PROJECTS, MOST_TEXT, MOST_TOPICS,
+    MOST_VERSION_ELEMENTS, MOST_VERSION_MEMBERSHIPS, MOST_STORED_TRIANGLES, MOST_VIEWPOINTS, Settings,
+};
+pub use replies::{BookReply, ReplyBody};
+pub use requests::{BookRequest, Wanted};
+pub use work::WorkOrder;

@@ -1,0 +1,18 @@
+//! Which buckets of a version are checked: those that were done in the version before and did not change are done
+//! from the start.
+//!
+//! Not proved yet, and may change: the clauses' names, and the fields of `IsMoved`. Calls, their arguments and what
+//! they say stay.
+#![tactic(auto)]
+
+mod carrying;
+mod numbers;
+mod progress;
+mod rules;
+mod same;
+mod slot;
+#[cfg(test)]
+mod tests;
+
+pub use carrying::carry;
+pub use progress::{Progress, PutAnswer};

@@ -1,0 +1,92 @@
+//! The numbers that the elements of a version had in the version before.
+ghost use Rattle.std.specs.Prelude.{◌≡◌, ◌↔◌, ◌<◌, ◌≤◌, length, IsTrue, IfOk, MatchOption};
+ghost use Rattle.bim_model.specs.Keys.{subjects_of, key_of, key_cmp};
+ghost use Rattle.bucket_grid.specs.Subjects.{subject_at};
+ghost use Rattle.bucket_check.specs.Sets.{IsSame};
+ghost use Rattle.clash_delta.specs.Numbers.{number_subjects, AllBelow, IsNumberBefore, AreNumbersBefore};
+
+use crate::same::is_like;
+use bucket_grid::Grid;
+use std::alloc::{AllocError, Global};
+use std::cmp::Ordering;
+
+// The name of the model of an element.
+fn name_of(grid: &Grid, number: usize) -> &str
+    requires { number < length grid.now.places }
+    ensures { result.now ≡ (subject_at (subjects_of grid.now.version.models) number).name }
+{
+    let place = grid.places()[number];
+    grid.models()[place.model].name.as_str()
+}
+
+// The order of the keys of an element before and one after.
+fn key_order(before: &Grid, old: usize, after: &Grid, new: usize) -> Ordering
+    requires old { old < length before.now.places }
+    requires new { new < length after.now.places }
+    ensures { result ≡ key_cmp (key_of (subject_at (subjects_of before.now.version.models) old))
+        (key_of (subject_at (subjects_of after.now.version.models) new)) }
+{
+    match name_of(before, old).cmp(name_of(after, new)) {
+        Ordering::Equal => {
+            let first = before.element(old);
+            let second = after.element(new);
+            first.guid.chars.cmp(&second.guid.chars)
+        }
+        order => order,
+    }
+}
+
+// Whether an element before and one after are the same in key, class, storey and surface.
+fn is_same(before: &Grid, old: usize, after: &Grid, new: usize) -> bool
+    requires old { old < length before.now.places }
+    requires new { new < length after.now.places }
+    ensures { IsTrue result ↔ IsSame (subject_at (subjects_of before.now.version.models) old)
+        (subject_at (subjects_of after.now.version.models) new) }
+{
+    key_order(before, old, after, new).is_eq() && is_like(before.element(old), after.element(new))
+}
+
+// From `old` on, the first element before whose key isn't below that of an element after.
+fn first_not_below(before: &Grid, old: usize, after: &Grid, new: usize) -> usize
+    requires old { old ≤ length before.now.places }
+    requires new { new < length after.now.places }
+    ensures within { result ≤ length before.now.places }
+    ensures below { AllBelow (subjects_of before.now.version.models) old (subject_at (subjects_of after.now.version.models) new)
+        → AllBelow (subjects_of before.now.version.models) result (subject_at (subjects_of after.now.version.models) new) }
+    ensures first { result < length before.now.places
+        → IsBelow (subject_at (subjects_of before.now.version.models) result) (subject_at (subjects_of after.now.version.models) new) → ⊥ }
+{
+    let count = before.places().len();
+    let mut number = old;
+    while number < count && key_order(before, number, after, new).is_lt() {
+        number += 1;
+    }
+    number
+}
+
+// The number before of an element, where all below `old` are of lower keys and that of `old` isn't.
+fn number_before(before: &Grid, old: usize, after: &Grid, new: usize) -> Option<u32>
+    requires old { old ≤ length before.now.places }
+    requires new { new < length after.now.places }
+{
+    if old < before.places().len() && is_same(before, old, after, new) {
+        Some(old as u32)
+    } else {
+        None
+    }
+}
+
+/// For each element of a version its number in the version before, or none where it is new or changed.
+pub fn numbers_before(alloc: Global, before: &Grid, after: &Grid) -> Result<Vec<Option<u32>>, AllocError>
+    ensures { IfOk result (λ numbers. AreNumbersBefore (subjects_of before.now.version.models)
+        (subjects_of after.now.version.models) numbers.items) }
+{
+    let count = after.places().len();
+    let mut numbers = Vec::with_capacity(alloc, count)?;
+    let mut old = 0;
+    for new in 0..count {
+        old = first_not_below(before, old, after, new);
+        numbers.push(number_before(before, old, after, new))?;
+    }
+    Ok(numbers)
+}
