@@ -15,9 +15,9 @@ use crate::resource::Resource;
 use crate::routes::Routes;
 use crate::target::split_target;
 use bcf_json::{BodyError, BodyFault, topic_in};
-use bim_model::{Author, Bytes, Mode, Moment, Rules, Shared, Text, TopicBody, id_of};
-use clash_rules::{RuleError, RuleFault, from_json};
+use bim_model::{Author, Bytes, Mode, Moment, Rules, Text, TopicBody, id_of};
 use book_history::{BookRequest, Wanted};
+use clash_rules::{RuleError, RuleFault, from_json};
 use http_frame::HttpRequest;
 use serde_json::Value;
 use std::alloc::Global;
@@ -286,21 +286,18 @@ fn model_call(
 }
 
 // The clash rules that an object asks for.
-fn rules_of(alloc: Global, tree: &Value) -> Result<Shared<Rules>, Refusal>
+fn rules_of(alloc: Global, tree: &Value) -> Result<Rules, Refusal>
     ensures { IsMeantAs result (with_rule_fault (rules_of (view tree.now))) }
 {
     match from_json(alloc, tree) {
-        Ok(rules) => match Shared::new(alloc, rules) {
-            Ok(rules) => Ok(rules),
-            Err(_) => Err(Refusal::Memory),
-        },
+        Ok(rules) => Ok(rules),
         Err(RuleError::Fault(fault)) => Err(Refusal::Fault(RequestFault::Rules(fault))),
         Err(RuleError::Memory) => Err(Refusal::Memory),
     }
 }
 
 // The clash rules that a body asks for.
-fn rules_asked(alloc: Global, body: &[u8]) -> Result<Shared<Rules>, Refusal>
+fn rules_asked(alloc: Global, body: &[u8]) -> Result<Rules, Refusal>
     ensures { IsMeantAs result (rules_asked (object_of body.now)) }
 {
     match object_of(alloc, body) {
