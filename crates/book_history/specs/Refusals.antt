@@ -20,7 +20,7 @@ use Rattle.book_history.specs.Buckets.{memberships_of}
 use Rattle.book_history.specs.Versions.{VersionState, is_done, live_in}
 use Rattle.book_history.specs.Projects.{ProjectState, newest, newest_content, next_content, with_change}
 use Rattle.book_history.specs.History.{state_of, left_in, project_numbers}
-use Rattle.book_history.specs.Weights.{told, text_of, triangles_of, text_in, triangles_in, elements_of}
+use Rattle.book_history.specs.Weights.{told, text_of, triangles_of, text_in, triangles_in, elements_in}
 
 -- the first that holds
 abbrev pub first_of : List (Option BookFault) → Option BookFault
@@ -67,7 +67,7 @@ no_model project name =
 abbrev pub elements_full : Limits → Option Version → Option BookFault
 elements_full limits None = None
 elements_full limits (Some content) =
-    if nat_lt limits.elements (elements_of content) then Some (fault.ElementsFull (told (elements_of content)) limits.elements) else None
+    if nat_lt limits.elements (elements_in content.models) then Some (fault.ElementsFull (told (elements_in content.models)) limits.elements) else None
 
 -- .. or too many pairs of a cell and a member of it
 abbrev pub too_spread : Limits → Option Version → Option BookFault
@@ -107,6 +107,14 @@ journal_full settings history project change =
     let count = journal_after settings.projects history project change in
     if nat_lt settings.limits.journal count then Some (fault.JournalFull (told count) settings.limits.journal) else None
 
+-- .. or more than the journal and the store hold
+abbrev pub store_full : Settings → List Entry → ℕ → Change → List (Option BookFault)
+store_full settings history project change =
+    triangles_full settings.limits history change
+    ∷ text_full settings.limits history change
+    ∷ journal_full settings history project change
+    ∷ []
+
 -- why a change of a project isn't accepted, in this order. A removal and new rules make no version larger and
 -- add no triangles, so that they meet the last two alone.
 abbrev pub full : Settings → List Entry → ℕ → Change → List (Option BookFault)
@@ -114,7 +122,4 @@ full settings history project change =
     let content = next_content (newest_content (state_of project history)) change in
     elements_full settings.limits content
     ∷ too_spread settings.limits content
-    ∷ triangles_full settings.limits history change
-    ∷ text_full settings.limits history change
-    ∷ journal_full settings history project change
-    ∷ []
+    ∷ store_full settings history project change

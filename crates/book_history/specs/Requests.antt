@@ -23,7 +23,7 @@ use Rattle.book_history.specs.Orders.{OrderValue}
 use Rattle.book_history.specs.Versions.{VersionState, version_at, live_in, first_live}
 use Rattle.book_history.specs.Projects.{ProjectState, new_topic, newest, newest_content, with_change}
 use Rattle.book_history.specs.History.{state_of, project_numbers, horizon_of}
-use Rattle.book_history.specs.Weights.{told, elements_of, version_triangles}
+use Rattle.book_history.specs.Weights.{told, elements_in, triangles_among}
 use Rattle.book_history.specs.Refusals.{first_of, project_of, wanted_in, not_yet, dropped, pending, done_before, no_model, full}
 
 -- what becomes of a request
@@ -135,9 +135,9 @@ abbrev pub reply_to : ProjectState → Change → ProjectState → ReplyBody
 reply_to before (change.PostTopic body author weight) after = reply.TopicIs (new_topic before.made body author)
 reply_to before (change.Upload name model) after = version_made (length model) (triangle_count model) after
 reply_to before (change.Remove name) after =
-    version_made (told (elements_of (newest_content after))) (told (version_triangles (newest_content after))) after
+    version_made (told (elements_in (newest_content after).models)) (told (triangles_among (newest_content after).models)) after
 reply_to before (change.SetRules rules weight) after =
-    version_made (told (elements_of (newest_content after))) (told (version_triangles (newest_content after))) after
+    version_made (told (elements_in (newest_content after).models)) (told (triangles_among (newest_content after).models)) after
 reply_to before (change.BucketDone number cell) after = reply.Finished (length (version_at after.versions number).undone)
 
 -- the reply's body

@@ -1,10 +1,9 @@
 -- How much accepted changes hold together.
-use Rattle.std.specs.Prelude.{ℕ, ◌+◌, ◌-◌, ◌*◌, ◌^◌, min, List, length, sum_by, Option, Some, None}
+use Rattle.std.specs.Prelude.{ℕ, ◌+◌, ◌-◌, ◌^◌, min, List, length, sum_by}
 use Rattle.std.specs.Option.{option_map_or}
 use Rattle.bim_model.specs.Models.{triangle_count}
-use Rattle.bim_model.specs.Keys.{Subject, subjects_of}
-use Rattle.bim_model.specs.Snapshots.{Version}
 use Rattle.bim_model.specs.declared.element.Element.{Element}
+use Rattle.bim_model.specs.declared.named_model.NamedModel.{NamedModel}
 use Rattle.book_history.specs.declared.changes.Change.{Change}
 use Rattle.book_history.specs.declared.changes.Change.TheVariants as change
 use Rattle.book_history.specs.declared.changes.Entry.{Entry}
@@ -44,10 +43,10 @@ text_in history = sum_by (λ (e : Entry). text_of e.change) history
 abbrev pub triangles_in : List Entry → ℕ
 triangles_in history = sum_by (λ (e : Entry). triangles_of e.change) history
 
--- how many elements a version has
-abbrev pub elements_of : Version → ℕ
-elements_of version = length (subjects_of version.models)
+-- how many elements some models have together
+abbrev pub elements_in : List NamedModel → ℕ
+elements_in models = sum_by (λ (m : NamedModel). length m.model) models
 
--- how many triangles they have together
-abbrev pub version_triangles : Version → ℕ
-version_triangles version = sum_by (λ (s : Subject). length s.element.triangles) (subjects_of version.models)
+-- .. and how many triangles
+abbrev pub triangles_among : List NamedModel → ℕ
+triangles_among models = sum_by (λ (m : NamedModel). triangle_count m.model) models

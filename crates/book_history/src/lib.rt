@@ -7,6 +7,7 @@ mod faults;
 mod limits;
 mod replies;
 mod requests;
+mod weights;
 mod work;
 
 pub use book_turn::object::Stamp;
@@ -19,4 +20,5 @@ pub use limits::{
 };
 pub use replies::{BookReply, ReplyBody};
 pub use requests::{BookRequest, Wanted};
+pub use weights::{elements_in, model_text, triangles_among};
 pub use work::WorkOrder;

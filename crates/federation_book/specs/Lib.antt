@@ -1,3 +1,1 @@
-pub mod History
-pub mod Runs
 pub mod Kept

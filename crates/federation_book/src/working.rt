@@ -1,0 +1,76 @@
+//! Buckets that are given out to be checked, and brought back.
+
+use crate::answers::{dropped, place_of};
+use crate::project::{Project, left_in};
+use crate::state::State;
+use bim_model::Shared;
+use book_history::{BookFault, Change, Entry, ReplyBody, Stamp, WorkOrder};
+use bucket_check::{BucketSet, BucketWork};
+use std::alloc::AllocError;
+
+// The order for the bucket at a place among those of a project that are to be checked, by falling version and
+// rising cell.
+fn order_in(project: &Project, number: u32, place: u64) -> Result<WorkOrder, AllocError> {
+    let mut place = place;
+    for step in 0..project.live.len() {
+        let version = &project.live[project.live.len() - 1 - step];
+        match version.progress.undone(place) {
+            Some(cell) => {
+                return Ok(WorkOrder::of(BucketWork {
+                    project: number,
+                    version: project.newest - step as u64,
+                    cell,
+                    grid: version.grid.share()?,
+                }));
+            }
+            None => place -= version.left(),
+        }
+    }
+    unreachable!()
+}
+
+/// Gives a bucket out, the one that the seat is given.
+pub fn take_work(state: &State, seat: u32) -> Result<ReplyBody, AllocError> {
+    let total = state.left_all();
+    if total == 0 {
+        return Ok(ReplyBody::Refused(BookFault::NoWork));
+    }
+    let mut place = seat as u64 % total;
+    for index in 0..state.projects.len() {
+        let project = &state.projects[index];
+        let left = left_in(&project.live);
+        if place < left {
+            let order = order_in(project, index as u32 + 1, place)?;
+            return Ok(ReplyBody::Work(order));
+        }
+        place -= left;
+    }
+    unreachable!()
+}
+
+/// Takes the clashes of a bucket.
+pub fn finish(
+    state: &mut State,
+    stamp: Stamp,
+    set: Shared<BucketSet>,
+) -> Result<ReplyBody, AllocError> {
+    let work = set.get().work();
+    let (number, version, cell) = (work.project, work.version, work.cell);
+    let project = state.project(number);
+    if let Some(fault) = dropped(project, version) {
+        return Ok(ReplyBody::Refused(fault));
+    }
+    let place = place_of(project, version);
+    if project.live[place].progress.is_done(cell) {
+        return Ok(ReplyBody::Refused(BookFault::AlreadyDone));
+    }
+    state.entries.reserve(1)?;
+    let project = &mut state.projects[number as usize - 1];
+    let left = project.live[place].put(set);
+    state.entries.push_reserved(Entry {
+        stamp,
+        project: number,
+        change: Change::BucketDone { version, cell },
+    });
+    Ok(ReplyBody::Finished { left })
+}
