@@ -39,25 +39,14 @@ fn are_unmoved(old: &[u32], new: &[u32], numbers: &[Option<u32>]) -> bool {
     true
 }
 
-// The set of a bucket in the version before, where it is carried.
-fn old_set(
-    done: &Progress,
-    before: &Grid,
-    place: usize,
-    bucket: &Bucket,
-    numbers: &[Option<u32>],
-) -> Option<&Shared<BucketSet>> {
+// Whether the bucket at a place before is that of the cell, and its members are these, none of them changed.
+fn is_unmoved(before: &Grid, place: usize, bucket: &Bucket, numbers: &[Option<u32>]) -> bool {
     if place >= before.buckets().len() {
-        return None;
+        return false;
     }
     let old = &before.buckets()[place];
-    if old.cell == bucket.cell
+    old.cell == bucket.cell
         && are_unmoved(old.members.as_slice(), bucket.members.as_slice(), numbers)
-    {
-        done.slots()[place].set.as_ref()
-    } else {
-        None
-    }
 }
 
 // A set for the next version, with the pairs that it has.
@@ -76,6 +65,38 @@ fn moved(
         grid,
     })?;
     Shared::new(alloc, moved)
+}
+
+// The set of the bucket at a place before, for the next version, where it has one.
+fn moved_if_done(
+    alloc: Global,
+    done: &Progress,
+    place: usize,
+    after: &Shared<Grid>,
+    version: u64,
+) -> Result<Option<Shared<BucketSet>>, AllocError> {
+    match &done.slots()[place].set {
+        Some(set) => Ok(Some(moved(alloc, set.get(), after, version)?)),
+        None => Ok(None),
+    }
+}
+
+// The set that a bucket has from the version before, if it is carried.
+fn carried_set(
+    alloc: Global,
+    done: &Progress,
+    before: &Grid,
+    place: usize,
+    after: &Shared<Grid>,
+    version: u64,
+    bucket: &Bucket,
+    numbers: &[Option<u32>],
+) -> Result<Option<Shared<BucketSet>>, AllocError> {
+    if is_unmoved(before, place, bucket, numbers) {
+        moved_if_done(alloc, done, place, after, version)
+    } else {
+        Ok(None)
+    }
 }
 
 /// The progress of a version's grid, from that of the version before. A bucket is done exactly where it was done
@@ -104,10 +125,7 @@ pub fn carry(
     let mut place = 0;
     for bucket in grid.buckets() {
         place = first_not_before(before.buckets(), place, bucket.cell);
-        let set = match old_set(done, before, place, bucket, &numbers) {
-            Some(set) => Some(moved(alloc, set.get(), after, version)?),
-            None => None,
-        };
+        let set = carried_set(alloc, done, before, place, after, version, bucket, &numbers)?;
         slots.push(Slot {
             cell: bucket.cell,
             set,

@@ -77,7 +77,11 @@ fn number_before(before: &Grid, old: usize, after: &Grid, new: usize) -> Option<
 }
 
 /// For each element of a version its number in the version before, or none where it is new or changed.
-pub fn numbers_before(alloc: Global, before: &Grid, after: &Grid) -> Result<Vec<Option<u32>>, AllocError>
+pub fn numbers_before(
+    alloc: Global,
+    before: &Grid,
+    after: &Grid,
+) -> Result<Vec<Option<u32>>, AllocError>
     ensures { IfOk result (λ numbers. AreNumbersBefore (subjects_of before.now.version.models)
         (subjects_of after.now.version.models) numbers.items) }
 {
