@@ -1,7 +1,7 @@
 -- What stands in the list of all clashes of a version, by numbers and by keys.
 --
 -- An element's number is its place in the list of all elements of the version by rising key.
-use Rattle.std.specs.Prelude.{◌≡◌, ℕ, ◌<◌, zero, suc, List, [], ◌∷◌, length, IsTrue, Contains}
+use Rattle.std.specs.Prelude.{◌≡◌, ℕ, ◌<◌, zero, suc, List, [], ◌∷◌, length, IsTrue, Contains, Some}
 use Rattle.std.specs.Ordering.{is_lt}
 use Rattle.bim_model.specs.declared.keys.Pair.{Pair}
 use Rattle.bim_model.specs.declared.rules.Rule.{Rule}
