@@ -1,8 +1,9 @@
 -- How a progress is kept: its buckets rise by cell, and beside them stand the places of those without a set.
-use Rattle.std.specs.Prelude.{◌≡◌, ℕ, ◌<◌, is_none, List, reverse, AllPairs, Any}
+use Rattle.std.specs.Prelude.{◌≡◌, ℕ, ◌<◌, is_none, List, length, reverse, slice_index_or, AllPairs}
 use Rattle.std.specs.declared.cmp.Ordering.TheVariants.{Less}
 use Rattle.box_lanes.specs.Places.{places_from}
 use Rattle.bucket_grid.specs.Cells.{cell_cmp}
+use Rattle.bucket_grid.specs.declared.cell.Cell.{Cell}
 use Rattle.clash_delta.specs.declared.slot.Slot.{Slot}
 
 -- the buckets rise strictly by cell
@@ -17,3 +18,8 @@ undone_places slots = reverse (places_from 0 (λ (s : Slot). is_none s.set) slot
 pub record IsProgress (slots : List Slot) (undone : List ℕ) : Type 0 where
   pub rising : Rise slots
   pub places : undone ≡ undone_places slots
+
+-- the bucket of the cell stands at this place
+pub record IsPlaceOf (slots : List Slot) (cell : Cell) (place : ℕ) : Type 0 where
+  pub within : place < length slots
+  pub is : (d : Slot) → (slice_index_or slots place d).cell ≡ cell

@@ -1,11 +1,12 @@
 //! How far the check of a grid's buckets has come.
-ghost use Rattle.std.specs.Prelude.{◌≡◌, ◌↔◌, ◌+◌, ◌<◌, ℕ, length, map, [], IfOk, IfSome, IsTrue, slice_get, Some};
+ghost use Rattle.std.specs.Prelude.{◌≡◌, ◌↔◌, ◌+◌, ◌<◌, ℕ, length, map, [], IfOk, IfSome, IsTrue, MatchOption, slice_get, slice_index_or, Some, None};
 ghost use Rattle.std.specs.List.{AllZip};
 ghost use Rattle.bucket_grid.specs.Grids.{GridValue};
 ghost use Rattle.bucket_grid.specs.declared.cell.Cell.{Cell};
 ghost use Rattle.bucket_grid.specs.declared.table.Bucket.{Bucket};
 ghost use Rattle.bucket_check.specs.Sets.{SetValue};
 ghost use Rattle.clash_delta.specs.Slots.{undone_cells, filled, IsBucketOf, IsDone, IsSetOf, IsOf};
+ghost use Rattle.clash_delta.specs.Places.{Rise, IsPlaceOf, undone_places};
 ghost use Rattle.clash_delta.specs.declared.slot.Slot.{Slot};
 ghost use Rattle.clash_delta.specs.declared.progress.PutAnswer.TheVariants.{Taken, AlreadyDone};
 
@@ -134,6 +135,13 @@ impl Progress {
         self.undone.len() as u64
     }
 
+    /// Whether the cell is that of a bucket. Takes no memory.
+    pub fn is_bucket(&self, cell: Cell) -> bool
+        ensures { IsTrue result ↔ IsBucketOf self.now cell }
+    {
+        self.place_of(cell).is_some()
+    }
+
     /// Whether the cell is that of a bucket that is done. Takes no memory.
     pub fn is_done(&self, cell: Cell) -> bool
         ensures { IsTrue result ↔ IsDone self.now cell }
@@ -147,7 +155,9 @@ impl Progress {
     /// The cell at a place, from 0, among those of the buckets that aren't done, by rising cell. Takes no memory
     /// and the same short time at each place.
     pub fn undone(&self, place: u64) -> Option<Cell>
-        ensures { result ≡ slice_get (undone_cells self.now) place }
+        ensures cell { result ≡ slice_get (undone_cells self.now) place }
+        ensures bucket { IfSome result (IsBucketOf self.now) }
+        ensures undone { IfSome result (λ cell. IsDone self.now cell → ⊥) }
     {
         let count = self.undone.len();
         if place as usize >= count {
