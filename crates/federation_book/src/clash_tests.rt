@@ -1,12 +1,12 @@
 //! Versions and their clashes, turn by turn.
 
 use crate::book::Book;
-use crate::desk::{are_clashes, ask, is_changed, is_refused, work};
+use crate::desk::{are_clashes, ask, bring, is_changed, is_finished, is_refused, take, work};
 use crate::samples::{
-    four_pipes, one_pipe, to_read, to_remove, to_set_rules, to_upload, two_pipes,
+    four_pipes, one_pipe, to_post, to_read, to_remove, to_set_rules, to_upload, two_pipes,
 };
-use bim_model::Steps;
-use book_history::{BookFault, BookRequest, Limits, Wanted};
+use bim_model::{Steps, id_of};
+use book_history::{BookFault, BookRequest, Limits, StoreWhat, Wanted};
 use bucket_check::SetPair;
 use bucket_grid::Cell;
 use std::alloc::Global;
@@ -83,7 +83,9 @@ fn carried<L: Ledger>(rt: &impl Abort, alloc: Global, steps: &mut Steps<L>) -> R
 fn checks_what_changed(rt: HostRuntime) -> Result<(), Fail> {
     let mut steps = Steps::<Brand>::new(Blank::new(1));
     versions(&rt, rt.alloc(), &mut steps)?;
-    carried(&rt, rt.alloc(), &mut steps)
+    carried(&rt, rt.alloc(), &mut steps)?;
+    across(&rt, rt.alloc(), &mut steps)?;
+    late(&rt, rt.alloc(), &mut steps)
 }
 
 #[test]
@@ -102,12 +104,79 @@ fn keeps_sixteen_versions(rt: HostRuntime) -> Result<(), Fail> {
     is_refused(&rt, &body, BookFault::NoVersion { newest: 17 })
 }
 
+// Two pipes across the corner of four cells are one pair.
+fn across<L: Ledger>(rt: &impl Abort, alloc: Global, steps: &mut Steps<L>) -> Result<(), Fail> {
+    let mut book = Book::new(alloc, 1, Limits::stated())?;
+    let _rules = ask(&mut book, 1, to_set_rules(alloc, 50)?)?;
+    let body = ask(&mut book, 2, to_upload(alloc, "m", two_pipes(alloc)?)?)?;
+    is_changed(rt, &body, (2, 2, 2, 4))?;
+    let cells = [
+        Cell { x: 0, y: 0, z: 0 },
+        Cell { x: 0, y: 1, z: 0 },
+        Cell { x: 1, y: 0, z: 0 },
+        Cell { x: 1, y: 1, z: 0 },
+    ];
+    let mut turn = 3;
+    let mut left = 4;
+    for cell in cells {
+        left -= 1;
+        work(rt, alloc, &mut book, turn, steps, 2, cell, left)?;
+        turn += 2;
+    }
+    let body = ask(&mut book, 11, to_read(Wanted::Newest))?;
+    are_clashes(rt, &body, 2, &[PAIR])
+}
+
+// A bucket that is brought twice, one of a version that was dropped meanwhile, and the seats.
+fn late<L: Ledger>(rt: &impl Abort, alloc: Global, steps: &mut Steps<L>) -> Result<(), Fail> {
+    let mut book = Book::new(alloc, 1, Limits::stated())?;
+    let _model = ask(&mut book, 1, to_upload(alloc, "m", four_pipes(alloc, 1700)?)?)?;
+    let far = take(rt, &mut book, 2, 1, 1, FAR)?;
+    let near = take(rt, &mut book, 3, 2, 1, NEAR)?;
+    let body = bring(alloc, &mut book, 4, far, steps)?;
+    is_finished(rt, &body, 1)?;
+    let again = take(rt, &mut book, 5, 1, 1, NEAR)?;
+    let body = bring(alloc, &mut book, 6, again, steps)?;
+    is_finished(rt, &body, 0)?;
+    let body = bring(alloc, &mut book, 7, near, steps)?;
+    is_refused(rt, &body, BookFault::AlreadyDone)
+}
+
+// The second change is refused for this.
+fn second(
+    rt: &impl Abort,
+    alloc: Global,
+    limits: Limits,
+    first: BookRequest,
+    request: BookRequest,
+    fault: BookFault,
+) -> Result<(), Fail> {
+    let mut book = Book::new(alloc, 1, limits)?;
+    let _first = ask(&mut book, 1, first)?;
+    let body = ask(&mut book, 2, request)?;
+    is_refused(rt, &body, fault)?;
+    assert_eq!(rt; book.journal().len(), 1);
+    Ok(())
+}
+
 #[test]
 fn refuses_what_is_too_much(rt: HostRuntime) -> Result<(), Fail> {
     let alloc = rt.alloc();
     let stated = Limits::stated();
-    let mut book = Book::new(alloc, 1, Limits { triangles: 1, ..stated })?;
-    let body = ask(&mut book, 1, to_upload(alloc, "m", one_pipe(alloc)?)?)?;
-    is_changed(&rt, &body, (1, 1, 1, 0))?;
+    let one = |name: &str| -> Result<BookRequest, Fail> { Ok(to_upload(alloc, name, one_pipe(alloc)?)?) };
+    second(&rt, alloc, Limits { triangles: 1, ..stated }, one("m")?, one("m")?,
+        BookFault::StoreFull { what: StoreWhat::Triangles, count: 2, limit: 1 })?;
+    second(&rt, alloc, Limits { text: 167, ..stated }, one("m")?, one("m")?,
+        BookFault::StoreFull { what: StoreWhat::Text, count: 168, limit: 167 })?;
+    second(&rt, alloc, Limits { text: 61, ..stated }, to_set_rules(alloc, 50)?, to_post(alloc, id_of(1, 0), "Pipe")?,
+        BookFault::StoreFull { what: StoreWhat::Text, count: 62, limit: 61 })?;
+    second(&rt, alloc, Limits { journal: 1, ..stated }, to_set_rules(alloc, 50)?, to_set_rules(alloc, 50)?,
+        BookFault::JournalFull { count: 2, limit: 1 })?;
+    second(&rt, alloc, Limits { journal: 3, ..stated }, to_set_rules(alloc, 50)?, to_upload(alloc, "m", four_pipes(alloc, 1700)?)?,
+        BookFault::JournalFull { count: 4, limit: 3 })?;
+    second(&rt, alloc, Limits { elements: 1, ..stated }, to_set_rules(alloc, 50)?, to_upload(alloc, "m", four_pipes(alloc, 1700)?)?,
+        BookFault::ElementsFull { count: 4, limit: 1 })?;
+    second(&rt, alloc, Limits { memberships: 3, ..stated }, to_set_rules(alloc, 50)?, to_upload(alloc, "m", four_pipes(alloc, 1700)?)?,
+        BookFault::TooSpread { count: 4, limit: 3 })?;
     Ok(())
 }
