@@ -15,12 +15,12 @@ abbrev pub cell_on : ℤ → ℕ → ℕ → ℕ → Cell
 cell_on low i j k = record { x = low +ℤ pos i; y = low +ℤ pos j; z = low +ℤ pos k }
 
 -- the cells of so many numbers from one on, on each axis, by rising x, y and z
-abbrev pub cube : ℤ → ℕ → List Cell
+unfoldable pub cube : ℤ → ℕ → List Cell
 cube low count =
     flat_map (λ i. flat_map (λ j. flat_map (λ k. cell_on low i j k ∷ []) (upto count)) (upto count)) (upto count)
 
 -- all cells that may hold a box of the grid
-unfoldable pub cells_of_grid : List Cell
+abbrev pub cells_of_grid : List Cell
 cells_of_grid = cube (first_cell (pos 0 -ℤ GRID_LIMIT)) (span (pos 0 -ℤ GRID_LIMIT) GRID_LIMIT)
 
 -- the cells that hold two of the boxes or more, in their order
