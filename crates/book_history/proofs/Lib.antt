@@ -6,3 +6,4 @@ pub mod Same
 pub mod States
 pub mod Growing
 pub mod Legality
+pub mod Histories

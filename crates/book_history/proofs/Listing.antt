@@ -174,6 +174,6 @@ pub table_cells : (boxes : List Extent) (buckets : List Bucket) → All IsGridBo
 table_cells boxes buckets near t =
     buckets_one boxes (cells_in buckets) near (record {
       rising = mapped_rise buckets t.rising;
-      each = λ c h. All-contains (IsBucket boxes) (cells_in buckets) c (All-map (λ (b : Bucket). b.cell) (IsBucket boxes) buckets t.only) h;
+      each = λ c h. All-contains (IsBucket boxes) (cells_in buckets) c (All-map (IsBucket boxes) (λ (b : Bucket). b.cell) buckets t.only) h;
       all = λ c h. any_mapped buckets c (t.all c h);
     })

@@ -35,23 +35,20 @@ pub record Within (s : ProjectState) (versions made : ℕ) : Type 0 where
 push_one : (vs : List VersionState) (v : VersionState) → length (vs ++ v ∷ []) ≡ length vs + 1
 push_one vs v = length-append vs (v ∷ [])
 
+pushed_within : (s : ProjectState) (v : VersionState) (n m : ℕ) → Within s n m → Within (record { topics = s.topics; made = s.made; versions = s.versions ++ v ∷ [] }) (n + 1) (m + 1)
+pushed_within s v n m h =
+    let a = push_one s.versions v in
+    record {
+      some = omega (arith, a);
+      versions_in = let l = h.versions_in in omega (arith, a, l);
+      made_in = let k = h.made_in in omega (arith, k);
+    }
+
 change_within : (s : ProjectState) (c : Change) (n m : ℕ) → Within s n m → Within (with_change s c) (n + 1) (m + 1)
 change_within s (PostTopic body author weight) n m h = record { some = h.some; versions_in = let v = h.versions_in in omega arith; made_in = let k = h.made_in in omega arith }
-change_within s (Upload name model) n m h = record {
-  some = let a = push_one s.versions _ in omega arith;
-  versions_in = let a = push_one s.versions _ in let v = h.versions_in in omega arith;
-  made_in = let k = h.made_in in omega arith;
-}
-change_within s (Remove name) n m h = record {
-  some = let a = push_one s.versions _ in omega arith;
-  versions_in = let a = push_one s.versions _ in let v = h.versions_in in omega arith;
-  made_in = let k = h.made_in in omega arith;
-}
-change_within s (SetRules rules weight) n m h = record {
-  some = let a = push_one s.versions _ in omega arith;
-  versions_in = let a = push_one s.versions _ in let v = h.versions_in in omega arith;
-  made_in = let k = h.made_in in omega arith;
-}
+change_within s (Upload name model) n m h = pushed_within s _ n m h
+change_within s (Remove name) n m h = pushed_within s _ n m h
+change_within s (SetRules rules weight) n m h = pushed_within s _ n m h
 change_within s (BucketDone number cell) n m h =
     let same = length-set s.versions number (with_done cell (version_at s.versions number)) in
     record {
