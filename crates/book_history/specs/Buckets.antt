@@ -1,7 +1,7 @@
 -- The buckets of a version.
-use Rattle.std.specs.Prelude.{ℕ, ℤ, pos, ◌-ℤ◌, ◌+ℤ◌, Bool, true, ◌&&◌, ◌||◌, nat_le, List, map, filter, length}
+use Rattle.std.specs.Prelude.{ℕ, ℤ, pos, ◌-ℤ◌, ◌+ℤ◌, Bool, nat_le, List, [], ◌∷◌, filter, length}
 use Rattle.std.specs.List.{flat_map, list_any}
-use Rattle.bim_model.specs.declared.geometry.TheConstants.{FARTHEST}
+use Rattle.bim_model.specs.declared.geometry.TheConstants.{GRID_LIMIT}
 use Rattle.bim_model.specs.declared.geometry.Extent.{Extent}
 use Rattle.bim_model.specs.Snapshots.{Version}
 use Rattle.bucket_grid.specs.declared.cell.Cell.{Cell}
@@ -10,22 +10,22 @@ use Rattle.bucket_grid.specs.Table.{upto}
 use Rattle.bucket_check.specs.Clashes.{is_cell}
 use Rattle.book_history.specs.Boxes.{boxes_of}
 
--- so many numbers from one on, rising
-abbrev pub numbers_from : ℤ → ℕ → List ℤ
-numbers_from low count = map (λ k. low +ℤ pos k) (upto count)
+-- the cell that lies so many places on from one number on each axis
+abbrev pub cell_on : ℤ → ℕ → ℕ → ℕ → Cell
+cell_on low i j k = record { x = low +ℤ pos i; y = low +ℤ pos j; z = low +ℤ pos k }
 
--- the cells whose numbers are among these on each axis, by rising x, y and z
-abbrev pub cells_by : List ℤ → List Cell
-cells_by numbers =
-    flat_map (λ x. flat_map (λ y. map (λ z. (let c : Cell = record { x = x; y = y; z = z } in c)) numbers) numbers) numbers
+-- the cells of so many numbers from one on, on each axis, by rising x, y and z
+unfoldable pub cube : ℤ → ℕ → List Cell
+cube low count =
+    flat_map (λ i. flat_map (λ j. flat_map (λ k. cell_on low i j k ∷ []) (upto count)) (upto count)) (upto count)
 
--- the cells that may hold a box within 800 metres of zero, in their order
-unfoldable pub cells_in_reach : List Cell
-cells_in_reach = cells_by (numbers_from (first_cell (pos 0 -ℤ FARTHEST)) (span (pos 0 -ℤ FARTHEST) FARTHEST))
+-- all cells that may hold a box of the grid
+abbrev pub cells_of_grid : List Cell
+cells_of_grid = cube (first_cell (pos 0 -ℤ GRID_LIMIT)) (span (pos 0 -ℤ GRID_LIMIT) GRID_LIMIT)
 
 -- the cells that hold two of the boxes or more, in their order
 abbrev pub buckets_among : List Extent → List Cell
-buckets_among boxes = filter (λ (c : Cell). nat_le 2 (length (members boxes c))) cells_in_reach
+buckets_among boxes = filter (λ (c : Cell). nat_le 2 (length (members boxes c))) cells_of_grid
 
 -- the buckets of a version: the cells with two members or more, by rising cell
 abbrev pub buckets_of : Version → List Cell

@@ -35,14 +35,14 @@ pub data Outcome : Type 0 where
   -- it changes the project of this number
   Accepted : ℕ → Change → Outcome
 
+-- a refusal, where there is one
+abbrev pub refused_or : Option BookFault → Outcome → Outcome
+refused_or None outcome = outcome
+refused_or (Some f) outcome = Refusal f
+
 -- the first refusal that holds, else what the request asks for
 abbrev pub unless : List (Option BookFault) → Outcome → Outcome
-unless refusals outcome = outcome_or (first_of refusals) outcome
-where {
-  outcome_or : Option BookFault → Outcome → Outcome
-  outcome_or None outcome = outcome
-  outcome_or (Some f) outcome = Refusal f
-}
+unless refusals outcome = refused_or (first_of refusals) outcome
 
 -- what a project answers, where there is one
 abbrev pub in_project : Option ℕ → (ℕ → Outcome) → Outcome

@@ -23,9 +23,9 @@ use Rattle.book_history.specs.Boxes.{boxes_of}
 -- two lists of one length whose items are the same place by place
 abbrev pub same_by : {A : Type 0} → (A → A → Bool) → List A → List A → Bool
 same_by same [] [] = true
-same_by same [] (b ∷ bs) = false
-same_by same (a ∷ as) [] = false
-same_by same (a ∷ as) (b ∷ bs) = same a b && same_by same as bs
+same_by same [] (y ∷ ys) = false
+same_by same (x ∷ xs) [] = false
+same_by same (x ∷ xs) (y ∷ ys) = same x y && same_by same xs ys
 
 -- two texts that are the same, or none on both sides
 abbrev pub same_text : Option (List ℕ) → Option (List ℕ) → Bool

@@ -15,7 +15,7 @@ told number = min number (2 ^ 64 - 1)
 -- the bytes of the texts of an element: 64, and those of its name, its class and its storey's name
 abbrev pub element_text : Element → ℕ
 element_text element =
-    64 + length element.name + length element.class + option_map_or length 0 element.storey
+    64 + length element.name + length element.class + option_map_or length element.storey 0
 
 abbrev pub model_text : List Element → ℕ
 model_text elements = sum_by element_text elements

@@ -1,8 +1,14 @@
 //! The buckets that are done since they were done in the version before.
-ghost use Rattle.std.specs.Prelude.{◌≡◌, ◌↔◌, ◌<◌, ◌≤◌, ℕ, length, IsTrue, IfOk, IfSome, All};
+ghost use Rattle.std.specs.Prelude.{◌≡◌, ◌↔◌, ◌<◌, ◌≤◌, ℕ, length, slice_index_or, IsTrue, IfOk, IfSome, MatchOption, All, IsNone};
+ghost use Rattle.std.specs.declared.cmp.Ordering.TheVariants.{Less};
 ghost use Rattle.bucket_grid.specs.declared.cell.Cell.{Cell};
-ghost use Rattle.clash_delta.specs.Slots.{IsDone, IsOf};
-ghost use Rattle.clash_delta.specs.Carried.{IsCarried, IsMoved};
+ghost use Rattle.bucket_grid.specs.declared.table.Bucket.{Bucket};
+ghost use Rattle.bucket_grid.specs.Cells.{cell_cmp, members};
+ghost use Rattle.bucket_check.specs.declared.work.BucketWork.{BucketWork};
+ghost use Rattle.bucket_check.specs.Sets.{IsUnmoved};
+ghost use Rattle.clash_delta.specs.Numbers.{subjects, AreNumbersBefore, AreFrom};
+ghost use Rattle.clash_delta.specs.Slots.{IsDone, IsOf, IsSetOf};
+ghost use Rattle.clash_delta.specs.Carried.{IsCarried, IsMoved, IsCarriedTo, IsUnmovedAt, IsReachedCell};
 ghost use Rattle.clash_delta.specs.declared.slot.Slot.{Slot};
 
 use crate::numbers::numbers_before;
@@ -13,11 +19,12 @@ use bim_model::Shared;
 use bucket_check::{BucketSet, BucketWork};
 use bucket_grid::{Bucket, Cell, Grid};
 use std::alloc::{AllocError, Global};
-use std::cmp::Ordering;
 
 // From `place` on, the first bucket whose cell isn't before this one.
 fn first_not_before(buckets: &[Bucket], place: usize, cell: Cell) -> usize
-    requires { place ≤ length buckets.now }
+    requires within { place ≤ length buckets.now }
+    requires below { (k : ℕ) (d : Bucket) → k < place → cell_cmp (slice_index_or buckets.now k d).cell cell ≡ Less }
+    ensures { IsReachedCell buckets.now cell result }
 {
     let mut place = place;
     while place < buckets.len() && buckets[place].cell.cmp(&cell).is_lt() {
@@ -26,8 +33,11 @@ fn first_not_before(buckets: &[Bucket], place: usize, cell: Cell) -> usize
     place
 }
 
-// Whether these members are those ones, none of them changed.
-fn are_unmoved(old: &[u32], new: &[u32], numbers: &[Option<u32>]) -> bool {
+// Whether the new numbers had the old ones.
+fn are_from(old: &[u32], new: &[u32], numbers: &[Option<u32>]) -> bool
+    requires { All (λ n. n < length numbers.now) new.now }
+    ensures { IsTrue result ↔ AreFrom numbers.now old.now new.now }
+{
     if old.len() != new.len() {
         return false;
     }
@@ -39,14 +49,30 @@ fn are_unmoved(old: &[u32], new: &[u32], numbers: &[Option<u32>]) -> bool {
     true
 }
 
-// Whether the bucket at a place before is that of the cell, and its members are these, none of them changed.
-fn is_unmoved(before: &Grid, place: usize, bucket: &Bucket, numbers: &[Option<u32>]) -> bool {
-    if place >= before.buckets().len() {
+// Whether the bucket at a place before is that of a bucket's cell, with the same members, none of them changed.
+fn is_unmoved(
+    before: &Grid,
+    place: usize,
+    after: &Grid,
+    bucket: &Bucket,
+    numbers: &[Option<u32>],
+) -> bool
+    requires numbers { AreNumbersBefore (subjects before.now) (subjects after.now) numbers.now }
+    requires members { bucket.now.members ≡ members after.now.boxes bucket.now.cell }
+    ensures { IsTrue result ↔ IsUnmovedAt before.now after.now place bucket.now.cell }
+{
+    let _models = before.models();
+    let _boxes = before.boxes();
+    let _others = after.boxes();
+    let buckets = before.buckets();
+    if place >= buckets.len() {
         return false;
     }
-    let old = &before.buckets()[place];
-    old.cell == bucket.cell
-        && are_unmoved(old.members.as_slice(), bucket.members.as_slice(), numbers)
+    let old = &buckets[place];
+    if old.cell != bucket.cell {
+        return false;
+    }
+    are_from(old.members.as_slice(), bucket.members.as_slice(), numbers)
 }
 
 // A set for the next version, with the pairs that it has.
@@ -55,7 +81,17 @@ fn moved(
     set: &BucketSet,
     after: &Shared<Grid>,
     version: u64,
-) -> Result<Shared<BucketSet>, AllocError> {
+) -> Result<Shared<BucketSet>, AllocError>
+    requires { IsUnmoved set.now.work.grid after.now set.now.work.cell }
+    ensures work { IfOk result (λ made. made.work ≡ record {
+      project = set.now.work.project;
+      version = version;
+      cell = set.now.work.cell;
+      grid = after.now;
+    }) }
+    ensures pairs { IfOk result (λ made. made.pairs ≡ set.now.pairs) }
+    ensures right { IfOk result (IsSetOf after.now set.now.work.cell) }
+{
     let work = set.work();
     let grid = after.share()?;
     let moved = set.moved(BucketWork {
@@ -71,10 +107,18 @@ fn moved(
 fn moved_if_done(
     alloc: Global,
     done: &Progress,
+    before: &Grid,
     place: usize,
     after: &Shared<Grid>,
     version: u64,
-) -> Result<Option<Shared<BucketSet>>, AllocError> {
+    cell: Cell,
+) -> Result<Option<Shared<BucketSet>>, AllocError>
+    requires of { IsOf before.now done.now }
+    requires at { IsUnmovedAt before.now after.now place cell }
+    requires unmoved { IsUnmoved before.now after.now cell }
+    ensures { IfOk result (IsCarriedTo done.now before.now after.now version cell) }
+{
+    let _buckets = before.buckets();
     match &done.slots()[place].set {
         Some(set) => Ok(Some(moved(alloc, set.get(), after, version)?)),
         None => Ok(None),
@@ -91,9 +135,17 @@ fn carried_set(
     version: u64,
     bucket: &Bucket,
     numbers: &[Option<u32>],
-) -> Result<Option<Shared<BucketSet>>, AllocError> {
-    if is_unmoved(before, place, bucket, numbers) {
-        moved_if_done(alloc, done, place, after, version)
+) -> Result<Option<Shared<BucketSet>>, AllocError>
+    requires of { IsOf before.now done.now }
+    requires rules { before.now.version.rules ≡ after.now.version.rules }
+    requires numbers { AreNumbersBefore (subjects before.now) (subjects after.now) numbers.now }
+    requires members { bucket.now.members ≡ members after.now.boxes bucket.now.cell }
+    requires reached { IsReachedCell before.now.buckets bucket.now.cell place }
+    ensures { IfOk result (IsCarriedTo done.now before.now after.now version bucket.now.cell) }
+{
+    let _buckets = before.buckets();
+    if is_unmoved(before, place, after.get(), bucket, numbers) {
+        moved_if_done(alloc, done, before, place, after, version, bucket.cell)
     } else {
         Ok(None)
     }
@@ -101,7 +153,7 @@ fn carried_set(
 
 /// The progress of a version's grid, from that of the version before. A bucket is done exactly where it was done
 /// before, its members have the same keys, classes, storeys and triangles, and the rules are the same. Its set is
-/// that from before, for this version and grid; the list of its pairs is shared.
+/// that from before, for this version and grid; the list of its pairs is shared. An error where memory is wanting.
 pub fn carry(
     alloc: Global,
     done: &Progress,
@@ -109,7 +161,7 @@ pub fn carry(
     after: &Shared<Grid>,
     version: u64,
 ) -> Result<Progress, AllocError>
-    requires of { IsOf before.now done.now }
+    requires { IsOf before.now done.now }
     ensures of { IfOk result (IsOf after.now) }
     ensures done { IfOk result (λ made. (cell : Cell)
         → IsDone made cell ↔ IsCarried done.now before.now after.now cell) }

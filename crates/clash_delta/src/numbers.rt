@@ -1,9 +1,8 @@
 //! The numbers that the elements of a version had in the version before.
-ghost use Rattle.std.specs.Prelude.{◌≡◌, ◌↔◌, ◌<◌, ◌≤◌, length, IsTrue, IfOk, MatchOption};
-ghost use Rattle.bim_model.specs.Keys.{subjects_of, key_of, key_cmp};
-ghost use Rattle.bucket_grid.specs.Subjects.{subject_at};
+ghost use Rattle.std.specs.Prelude.{◌≡◌, ◌↔◌, ◌<◌, ◌≤◌, length, IsTrue, IfOk};
+ghost use Rattle.bim_model.specs.Keys.{key_of, key_cmp};
 ghost use Rattle.bucket_check.specs.Sets.{IsSame};
-ghost use Rattle.clash_delta.specs.Numbers.{number_subjects, AllBelow, IsNumberBefore, AreNumbersBefore};
+ghost use Rattle.clash_delta.specs.Numbers.{subjects, subject_of, AllBelow, IsReached, IsNumberBefore, AreNumbersBefore};
 
 use crate::same::is_like;
 use bucket_grid::Grid;
@@ -13,7 +12,7 @@ use std::cmp::Ordering;
 // The name of the model of an element.
 fn name_of(grid: &Grid, number: usize) -> &str
     requires { number < length grid.now.places }
-    ensures { result.now ≡ (subject_at (subjects_of grid.now.version.models) number).name }
+    ensures { result.now ≡ (subject_of grid.now number).name }
 {
     let place = grid.places()[number];
     grid.models()[place.model].name.as_str()
@@ -23,8 +22,7 @@ fn name_of(grid: &Grid, number: usize) -> &str
 fn key_order(before: &Grid, old: usize, after: &Grid, new: usize) -> Ordering
     requires old { old < length before.now.places }
     requires new { new < length after.now.places }
-    ensures { result ≡ key_cmp (key_of (subject_at (subjects_of before.now.version.models) old))
-        (key_of (subject_at (subjects_of after.now.version.models) new)) }
+    ensures { result ≡ key_cmp (key_of (subject_of before.now old)) (key_of (subject_of after.now new)) }
 {
     match name_of(before, old).cmp(name_of(after, new)) {
         Ordering::Equal => {
@@ -40,8 +38,7 @@ fn key_order(before: &Grid, old: usize, after: &Grid, new: usize) -> Ordering
 fn is_same(before: &Grid, old: usize, after: &Grid, new: usize) -> bool
     requires old { old < length before.now.places }
     requires new { new < length after.now.places }
-    ensures { IsTrue result ↔ IsSame (subject_at (subjects_of before.now.version.models) old)
-        (subject_at (subjects_of after.now.version.models) new) }
+    ensures { IsTrue result ↔ IsSame (subject_of before.now old) (subject_of after.now new) }
 {
     key_order(before, old, after, new).is_eq() && is_like(before.element(old), after.element(new))
 }
@@ -50,11 +47,8 @@ fn is_same(before: &Grid, old: usize, after: &Grid, new: usize) -> bool
 fn first_not_below(before: &Grid, old: usize, after: &Grid, new: usize) -> usize
     requires old { old ≤ length before.now.places }
     requires new { new < length after.now.places }
-    ensures within { result ≤ length before.now.places }
-    ensures below { AllBelow (subjects_of before.now.version.models) old (subject_at (subjects_of after.now.version.models) new)
-        → AllBelow (subjects_of before.now.version.models) result (subject_at (subjects_of after.now.version.models) new) }
-    ensures first { result < length before.now.places
-        → IsBelow (subject_at (subjects_of before.now.version.models) result) (subject_at (subjects_of after.now.version.models) new) → ⊥ }
+    requires below { AllBelow (subjects before.now) old (subject_of after.now new) }
+    ensures { IsReached (subjects before.now) (subject_of after.now new) result }
 {
     let count = before.places().len();
     let mut number = old;
@@ -64,11 +58,14 @@ fn first_not_below(before: &Grid, old: usize, after: &Grid, new: usize) -> usize
     number
 }
 
-// The number before of an element, where all below `old` are of lower keys and that of `old` isn't.
+// The number before of an element that is reached.
 fn number_before(before: &Grid, old: usize, after: &Grid, new: usize) -> Option<u32>
-    requires old { old ≤ length before.now.places }
+    requires old { IsReached (subjects before.now) (subject_of after.now new) old }
     requires new { new < length after.now.places }
+    ensures { IsNumberBefore (subjects before.now) (subject_of after.now new) result }
 {
+    let _models = before.models();
+    let _boxes = before.boxes();
     if old < before.places().len() && is_same(before, old, after, new) {
         Some(old as u32)
     } else {
@@ -82,9 +79,9 @@ pub fn numbers_before(
     before: &Grid,
     after: &Grid,
 ) -> Result<Vec<Option<u32>>, AllocError>
-    ensures { IfOk result (λ numbers. AreNumbersBefore (subjects_of before.now.version.models)
-        (subjects_of after.now.version.models) numbers.items) }
+    ensures { IfOk result (λ numbers. AreNumbersBefore (subjects before.now) (subjects after.now) numbers.items) }
 {
+    let _models = after.models();
     let count = after.places().len();
     let mut numbers = Vec::with_capacity(alloc, count)?;
     let mut old = 0;

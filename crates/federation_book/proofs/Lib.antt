@@ -1,3 +1,2 @@
+pub mod Live
 pub mod Keeping
-pub mod Histories
-pub mod Newest

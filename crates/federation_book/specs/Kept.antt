@@ -1,21 +1,17 @@
 -- What the book keeps beside its journal, so that it need not go over it.
 use Rattle.std.specs.Prelude.{◌≡◌, ◌≤◌, ℕ, ◌+◌, List, [], ◌∷◌, length, Option, Some, None}
-use Rattle.bim_model.specs.Snapshots.{Version}
 use Rattle.book_history.specs.declared.limits.TheConstants.{MOST_PROJECTS}
 use Rattle.book_history.specs.declared.limits.Limits.{Limits}
 use Rattle.book_history.specs.declared.limits.Settings.{Settings}
 use Rattle.book_history.specs.declared.changes.Entry.{Entry}
 use Rattle.book_history.specs.declared.faults.BookFault.{BookFault}
 use Rattle.book_history.specs.Settings.{IsWithinStated}
-use Rattle.book_history.specs.Versions.{VersionState, live_in, made_after}
+use Rattle.book_history.specs.Versions.{live_in}
 use Rattle.book_history.specs.Projects.{ProjectState}
 use Rattle.book_history.specs.History.{state_of, left_all, IsHistory}
 use Rattle.book_history.specs.Weights.{triangles_in, text_in}
-use Rattle.book_history.specs.Refusals.{first_of, elements_full, too_spread}
 use Rattle.federation_book.specs.declared.project.Project.{Project}
 use Rattle.federation_book.specs.declared.state.State.{State}
-use Rattle.federation_book.specs.declared.making.NextVersion.{NextVersion}
-use Rattle.federation_book.specs.declared.making.NextVersion.TheVariants.{Made, Refused}
 
 -- a project keeps its topics and its last versions, and counts what else was
 pub record KeepsProject (p : Project) (s : ProjectState) : Type 0 where
@@ -42,14 +38,6 @@ pub record IsKept (s : State) : Type 0 where
   pub text : s.text ≡ text_in s.entries.items
   pub within : IsWithinStated s.limits
   pub room : length s.entries.items + left_all (length s.projects.items) s.entries.items ≤ s.limits.journal
-
--- the version that holds this, made after another one, or why it isn't made
-abbrev pub IsNext : Limits → VersionState → Version → NextVersion → Type 0
-IsNext limits before content (Made version) =
-    (first_of (elements_full limits (Some content) ∷ too_spread limits (Some content) ∷ []) ≡ None)
-    × (version ≡ made_after before content)
-IsNext limits before content (Refused f) =
-    first_of (elements_full limits (Some content) ∷ too_spread limits (Some content) ∷ []) ≡ Some f
 
 -- the entry, where nothing refuses it
 abbrev pub unless_refused : Option BookFault → Entry → List Entry

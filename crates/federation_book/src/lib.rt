@@ -18,6 +18,12 @@ pub use book_history::{
 };
 
 #[cfg(test)]
+mod clash_tests;
+#[cfg(test)]
+mod desk;
+#[cfg(test)]
+mod samples;
+#[cfg(test)]
 mod tests;
 #[cfg(test)]
 mod turn_tests;

@@ -1,11 +1,19 @@
 //! Changes that make versions.
-ghost use Rattle.std.specs.Prelude.{◌≡◌, ◌≤◌, ◌++◌, ◌∷◌, [], Some, length, IfOk, OnOk, OnErr};
+ghost use Rattle.std.specs.Prelude.{◌≡◌, ◌≤◌, ◌++◌, Some, length, IfOk, IfSome, OnOk, OnErr};
+ghost use Rattle.std.specs.List.{list_any};
+ghost use Rattle.std.specs.Str.{bytes_eq};
+ghost use Rattle.bim_model.specs.Keys.{subjects_of};
+ghost use Rattle.bim_model.specs.declared.named_model.NamedModel.{NamedModel};
+ghost use Rattle.bucket_grid.specs.declared.grid.TheConstants.{MOST_ELEMENTS, MOST_MEMBERSHIPS};
+ghost use Rattle.book_turn.specs.Entries.{listed};
+ghost use Rattle.book_history.specs.Settings.{IsWithinStated};
 ghost use Rattle.book_history.specs.Projects.{newest_content, next_content};
 ghost use Rattle.book_history.specs.History.{state_of, IsBefore};
-ghost use Rattle.book_history.specs.Weights.{told, text_of, triangles_of};
+ghost use Rattle.book_history.specs.Weights.{told, text_of, triangles_of, elements_in, triangles_among};
 ghost use Rattle.book_history.specs.Refusals.{first_of, full};
-ghost use Rattle.book_history.specs.Requests.{entry_of, version_made};
-ghost use Rattle.federation_book.specs.Kept.{IsKept, IsNext, settings_of, unless_refused};
+ghost use Rattle.book_history.specs.Requests.{in_project, changed, removed, body_of, entry_by, entry_of, version_made};
+ghost use Rattle.federation_book.specs.Kept.{IsKept, settings_of, unless_refused};
+ghost use Rattle.federation_book.specs.Making.{IsNext, IsGridWithin};
 
 use crate::state::State;
 use crate::version::KeptVersion;
@@ -29,7 +37,11 @@ fn grid_of(
     alloc: Global,
     limits: &Limits,
     snapshot: &Shared<Snapshot>,
-) -> Result<Result<Grid, BookFault>, AllocError> {
+) -> Result<Result<Grid, BookFault>, AllocError>
+    requires within { limits.now.memberships ≤ MOST_MEMBERSHIPS }
+    requires few { length (subjects_of snapshot.now.models) ≤ MOST_ELEMENTS }
+    ensures { IfOk result (IsGridWithin limits.now snapshot.now) }
+{
     let limit = limits.memberships;
     match Grid::of(alloc, snapshot.share()?) {
         Ok(grid) => {
@@ -54,6 +66,7 @@ fn next_version(
     number: u64,
     snapshot: Shared<Snapshot>,
 ) -> Result<NextVersion, AllocError>
+    requires { IsWithinStated limits.now }
     ensures { IfOk result (IsNext limits.now before.now snapshot) }
 {
     let count = elements_in(snapshot.get().models());
@@ -148,7 +161,14 @@ fn version_made(state: &State, number: u32, elements: u64, triangles: u64) -> Re
 }
 
 // .. by what it holds.
-fn whole_version_made(state: &State, number: u32) -> ReplyBody {
+fn whole_version_made(state: &State, number: u32) -> ReplyBody
+    requires kept { IsKept state.now }
+    requires low { 1 ≤ number }
+    requires high { number ≤ length state.now.projects.items }
+    ensures { let project = state_of number state.now.entries.items in
+        let models = (newest_content project).models in
+        result ≡ version_made (told (elements_in models)) (told (triangles_among models)) project }
+{
     let project = state.project(number);
     let models = project.live[project.live.len() - 1].snapshot.get().models();
     let elements = elements_in(models);
@@ -163,7 +183,18 @@ pub fn upload(
     stamp: Stamp,
     name: Text,
     model: Shared<Model>,
-) -> Result<ReplyBody, AllocError> {
+) -> Result<ReplyBody, AllocError>
+    requires kept { IsKept state.old }
+    requires after { IsBefore stamp.turn state.old.entries.items }
+    requires number { IfSome number (λ n. (1 ≤ n) × (n ≤ length state.old.projects.items)) }
+    ensures reply { let outcome = in_project number (changed (settings_of state.old) state.old.entries.items (Change.Upload name model)) in
+        IfOk result (λ body. body ≡ body_of state.old.entries.items outcome) }
+    ensures added { let outcome = in_project number (changed (settings_of state.old) state.old.entries.items (Change.Upload name model)) in
+        OnOk result (state.new.entries.items ≡ state.old.entries.items ++ listed (entry_by stamp outcome)) }
+    ensures settings { settings_of state.new ≡ settings_of state.old }
+    ensures kept { IsKept state.new }
+    ensures err { OnErr result (state.new.entries.items ≡ state.old.entries.items) }
+{
     let Some(number) = number else {
         return Ok(ReplyBody::Refused(BookFault::NoProject));
     };
@@ -187,7 +218,9 @@ pub fn upload(
 }
 
 // Whether one of the models has the name.
-fn has_model(models: &[NamedModel], name: &str) -> bool {
+fn has_model(models: &[NamedModel], name: &str) -> bool
+    ensures { result ≡ list_any (λ (m : NamedModel). bytes_eq m.name name.now) models.now }
+{
     for model in models {
         if model.name.as_str() == name {
             return true;
@@ -202,7 +235,18 @@ pub fn remove(
     number: Option<u32>,
     stamp: Stamp,
     name: Text,
-) -> Result<ReplyBody, AllocError> {
+) -> Result<ReplyBody, AllocError>
+    requires kept { IsKept state.old }
+    requires after { IsBefore stamp.turn state.old.entries.items }
+    requires number { IfSome number (λ n. (1 ≤ n) × (n ≤ length state.old.projects.items)) }
+    ensures reply { let outcome = in_project number (removed (settings_of state.old) state.old.entries.items name) in
+        IfOk result (λ body. body ≡ body_of state.old.entries.items outcome) }
+    ensures added { let outcome = in_project number (removed (settings_of state.old) state.old.entries.items name) in
+        OnOk result (state.new.entries.items ≡ state.old.entries.items ++ listed (entry_by stamp outcome)) }
+    ensures settings { settings_of state.new ≡ settings_of state.old }
+    ensures kept { IsKept state.new }
+    ensures err { OnErr result (state.new.entries.items ≡ state.old.entries.items) }
+{
     let Some(number) = number else {
         return Ok(ReplyBody::Refused(BookFault::NoProject));
     };
@@ -227,7 +271,18 @@ pub fn set_rules(
     stamp: Stamp,
     rules: Rules,
     weight: u64,
-) -> Result<ReplyBody, AllocError> {
+) -> Result<ReplyBody, AllocError>
+    requires kept { IsKept state.old }
+    requires after { IsBefore stamp.turn state.old.entries.items }
+    requires number { IfSome number (λ n. (1 ≤ n) × (n ≤ length state.old.projects.items)) }
+    ensures reply { let outcome = in_project number (changed (settings_of state.old) state.old.entries.items (Change.SetRules rules weight)) in
+        IfOk result (λ body. body ≡ body_of state.old.entries.items outcome) }
+    ensures added { let outcome = in_project number (changed (settings_of state.old) state.old.entries.items (Change.SetRules rules weight)) in
+        OnOk result (state.new.entries.items ≡ state.old.entries.items ++ listed (entry_by stamp outcome)) }
+    ensures settings { settings_of state.new ≡ settings_of state.old }
+    ensures kept { IsKept state.new }
+    ensures err { OnErr result (state.new.entries.items ≡ state.old.entries.items) }
+{
     let Some(number) = number else {
         return Ok(ReplyBody::Refused(BookFault::NoProject));
     };

@@ -8,8 +8,7 @@ use std::alloc::AllocError;
 impl SeqObject for Book {
     ghost use Rattle.book_history.specs.Requests as requests;
     ghost use Rattle.book_history.specs.Legal as legal;
-    ghost use Rattle.federation_book.proofs.Legality.{legal_later};
-    ghost use Rattle.federation_book.proofs.Stamps.{stamped};
+    ghost use Rattle.book_history.proofs.Legality.{legal_later, stamped};
 
     type Request = BookRequest;
 

@@ -6,11 +6,13 @@ use Rattle.std.proofs.lemmas.Bool.{eq-eqb}
 use Rattle.std.proofs.lemmas.List.Sums.{sum_by-cons}
 use Rattle.book_turn.specs.declared.object.Stamp.{Stamp}
 use Rattle.book_turn.specs.Entries.{listed, AllBefore}
-use Rattle.federation_book.specs.declared.types.Entry.{Entry}
-use Rattle.federation_book.specs.declared.types.BookRequest.{BookRequest}
-use Rattle.federation_book.specs.declared.types.Change.{Change}
-use Rattle.federation_book.specs.History.{at_turn, of_turn, added_by, entry_made, change_asked, project_named, project_of, IsBefore}
-use Rattle.federation_book.specs.Runs.{Step, Follows, Runs, IsOneThread}
+use Rattle.book_history.specs.declared.changes.Entry.{Entry}
+use Rattle.book_history.specs.declared.changes.Change.{Change}
+use Rattle.book_history.specs.declared.limits.Settings.{Settings}
+use Rattle.book_history.specs.declared.requests.BookRequest.{BookRequest}
+use Rattle.book_history.specs.History.{at_turn, of_turn, IsBefore}
+use Rattle.book_history.specs.Requests.{Outcome, Refusal, Answer, Accepted, added_by, entry_by, outcome_of}
+use Rattle.book_history.specs.Runs.{Step, Follows, Runs, IsOneThread}
 
 abbrev pub AreOf : ℕ → List Entry → Type 0
 AreOf turn [] = Unit {0}
@@ -20,14 +22,14 @@ abbrev pub AreAbove : ℕ → List Entry → Type 0
 AreAbove turn [] = Unit {0}
 AreAbove turn (e ∷ es) = (turn < e.stamp.turn) × AreAbove turn es
 
-made_of : (stamp : Stamp) (project : Option ℕ) (change : Option Change) → AreOf stamp.turn (listed (entry_made stamp project change))
-made_of stamp None c = tt
-made_of stamp (Some p) None = tt
-made_of stamp (Some p) (Some c) = (refl, tt)
+made_of : (stamp : Stamp) (o : Outcome) → AreOf stamp.turn (listed (entry_by stamp o))
+made_of stamp (Refusal f) = tt
+made_of stamp (Answer body) = tt
+made_of stamp (Accepted number change) = (refl, tt)
 
 -- an added entry is of its request's turn
-pub added_of : (projects : ℕ) (h : List Entry) (stamp : Stamp) (request : BookRequest) → AreOf stamp.turn (added_by projects h stamp request)
-added_of projects h stamp request = made_of stamp (project_of projects (project_named request)) (change_asked request)
+pub added_of : (settings : Settings) (h : List Entry) (stamp : Stamp) (request : BookRequest) → AreOf stamp.turn (added_by settings h stamp request)
+added_of settings h stamp request = made_of stamp (outcome_of settings h request)
 
 pub above_of : (turn top : ℕ) (es : List Entry) → top < turn → AreOf turn es → AreAbove top es
 above_of turn top [] lt are = tt
@@ -110,15 +112,15 @@ of_turn-new t h more before own =
     ∙ of_own t more own
 
 -- a run goes on by one more step
-pub Runs_push : (projects : ℕ) (done : List Step) (h : List Entry) (steps : List Step) (mid : List Entry) (s : Step) → Runs projects done h steps mid
-    → Follows (done ++ steps) s → Runs projects done h (steps ++ s ∷ []) (mid ++ added_by projects mid s.stamp s.request)
-Runs_push projects done h [] mid s runs follows = (
+pub Runs_push : (settings : Settings) (done : List Step) (h : List Entry) (steps : List Step) (mid : List Entry) (s : Step) → Runs settings done h steps mid
+    → Follows (done ++ steps) s → Runs settings done h (steps ++ s ∷ []) (mid ++ added_by settings mid s.stamp s.request)
+Runs_push settings done h [] mid s runs follows = (
   rw (append-nil done) at follows,
-  ap (λ es. es ++ added_by projects es s.stamp s.request) runs,
+  ap (λ es. es ++ added_by settings es s.stamp s.request) runs,
 )
-Runs_push projects done h (x ∷ xs) mid s runs follows = (
+Runs_push settings done h (x ∷ xs) mid s runs follows = (
   runs.0,
-  Runs_push projects (done ++ x ∷ []) (h ++ added_by projects h x.stamp x.request) xs mid s runs.1
+  Runs_push settings (done ++ x ∷ []) (h ++ added_by settings h x.stamp x.request) xs mid s runs.1
       (let e : done ++ x ∷ xs ≡ (done ++ x ∷ []) ++ xs = sym (append_assoc done (x ∷ []) xs) in rw e at follows),
 )
 
