@@ -6,4 +6,6 @@ pub mod Same
 pub mod States
 pub mod Growing
 pub mod Legality
+pub mod Live
+pub mod Given
 pub mod Histories
