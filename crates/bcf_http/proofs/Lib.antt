@@ -5,3 +5,4 @@ pub mod Parts
 pub mod Rows
 pub mod Floats
 pub mod Numbers
+pub mod Plain

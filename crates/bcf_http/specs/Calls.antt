@@ -1,5 +1,5 @@
 -- What a request asks for, of the request alone.
-use Rattle.std.specs.Prelude.{◌≡◌, ℕ, ◌/◌, ◌^◌, ◌==◌, List, length, Bool, false, not, if◌then◌else◌, Option, Some, None, Result, Ok, Err, option_and_then, codes, bytes_eq, ⊤}
+use Rattle.std.specs.Prelude.{◌≡◌, ◌≢◌, ℕ, ◌/◌, ◌^◌, ◌==◌, List, length, Bool, false, not, if◌then◌else◌, Option, Some, None, Result, Ok, Err, option_and_then, codes, bytes_eq, ⊤}
 use Rattle.std.specs.Str.{is_utf8}
 use Rattle.serde_json.specs.Data.{Data}
 use Rattle.serde_json.specs.Read.{read}
@@ -12,8 +12,10 @@ use Rattle.bim_model.specs.declared.upload.Mode.{Mode}
 use Rattle.bim_model.specs.declared.rules.Rule.{Rule}
 use Rattle.clash_rules.specs.declared.fault.RuleFault.{RuleFault}
 use Rattle.clash_rules.specs.Json.{rules_of}
+use Rattle.bucket_check.specs.Sets.{SetValue}
 use Rattle.http_frame.specs.declared.types.HttpRequest.{HttpRequest}
-use Rattle.book_history.specs.declared.requests.BookRequest.TheVariants.{ListTopics, PostTopic, Remove, SetRules, ReadVersion, ReadClashes}
+use Rattle.book_history.specs.declared.requests.BookRequest.{BookRequest}
+use Rattle.book_history.specs.declared.requests.BookRequest.TheVariants.{ListTopics, PostTopic, Remove, SetRules, ReadVersion, ReadClashes, Finish}
 use Rattle.book_history.specs.declared.requests.Wanted.{Wanted}
 use Rattle.bcf_json.specs.declared.body.BodyFault.{BodyFault}
 use Rattle.bcf_json.specs.Bodies.{is_object, topic_body}
@@ -173,3 +175,12 @@ abbrev pub IsMeantAs : {A : Type 0} → Result A Refusal → Result A RequestFau
 IsMeantAs (Ok body) meant = meant ≡ Ok body
 IsMeantAs (Err (Fault fault)) meant = meant ≡ Err fault
 IsMeantAs (Err Memory) meant = ⊤
+
+-- a call of the book that may be made at every history: it brings no set of a bucket
+abbrev pub BringsNone : BookRequest → Type 0
+BringsNone call = (set : SetValue) → call ≢ Finish set
+
+-- the same of what a request asks for
+abbrev pub AsksNone : HttpCall → Type 0
+AsksNone (Ask call) = BringsNone call
+AsksNone (Build project name mode body) = Unit {0}

@@ -1,11 +1,11 @@
 //! From requests to calls of the book.
-ghost use Rattle.std.specs.Prelude.{◌≡◌, option_and_then};
+ghost use Rattle.std.specs.Prelude.{◌≡◌, option_and_then, IfOk};
 ghost use Rattle.serde_json.specs.View.{view};
 ghost use Rattle.serde_json.specs.Read.{read};
 ghost use Rattle.bim_model.specs.Moments.{IsMoment};
 ghost use Rattle.bcf_http.specs.Queries.{grid_asked, page_asked};
 ghost use Rattle.bcf_http.specs.Targets.{query_of};
-ghost use Rattle.bcf_http.specs.Calls.{object_of, if_object, with_fault, topic_asked, post_call, topics_call, put_call, model_call, with_rule_fault, rules_asked, rules_call, clashes_call, asked_by, number_of, creates, IsAskedAs, IsTreeOf, IsMeantAs, kind_of, no_kind};
+ghost use Rattle.bcf_http.specs.Calls.{object_of, if_object, with_fault, topic_asked, post_call, topics_call, put_call, model_call, with_rule_fault, rules_asked, rules_call, clashes_call, asked_by, number_of, creates, IsAskedAs, IsTreeOf, IsMeantAs, AsksNone, kind_of, no_kind};
 ghost use Rattle.bcf_json.specs.Bodies.{topic_body};
 ghost use Rattle.clash_rules.specs.Json.{rules_of};
 
@@ -343,7 +343,8 @@ fn clashes_call(
 }
 
 /// What a request asks for at a moment, in seconds since 1970; or the first fault that the request alone
-/// decides: its target names nothing, this hasn't the method, the body is encoded, the query, the body.
+/// decides: its target names nothing, this hasn't the method, the body is encoded, the query, the body. A call that is
+/// asked for brings no set of a bucket.
 #[tactic(auto, unfolding(crate::specs::Calls::asked_by))]
 pub fn to_call(
     alloc: Global,
@@ -352,7 +353,8 @@ pub fn to_call(
     moment: u64,
 ) -> Result<HttpCall, Refusal>
     requires { IsMoment moment }
-    ensures { IsAskedAs result (asked_by moment request) }
+    ensures asked { IsAskedAs result (asked_by moment request) }
+    ensures none { IfOk result AsksNone }
 {
     let Some(resource) = routes.resource_of(request.target.as_slice()) else {
         return Err(Refusal::Fault(RequestFault::NoRoute));

@@ -2,7 +2,7 @@
 ghost use Rattle.std.specs.Prelude.{◌≡◌, ◌≤◌, ◌+◌, false, None, IsSome};
 ghost use Rattle.bim_io.specs.Seen.{outside};
 ghost use Rattle.book_history.specs.History.{IsBefore};
-ghost use Rattle.bim_session.specs.Talking.{BringsNone};
+ghost use Rattle.bcf_http.specs.Calls.{BringsNone};
 ghost use Rattle.bim_session.specs.Replay.{Replays, stated_settings, status_of};
 ghost use Rattle.bim_server.specs.Loop.{Reading, Writing, Called, StepsOn};
 ghost use Rattle.bim_server.specs.Working.{WorksBehind, StepsAndWorks};

@@ -301,10 +301,6 @@ IsOwnLeaving leaving = (n : ℕ) → (leaving ≢ Some (end.ReadFault n)) × (le
 abbrev pub IsOwnWant : Want → Type 0
 IsOwnWant want = (n : ℕ) → (want ≢ Leave (end.ReadFault n)) × (want ≢ Leave (end.WriteFault n))
 
--- a call that may be made at every history: it brings no set
-abbrev pub BringsNone : BookRequest → Type 0
-BringsNone call = (set : SetValue) → call ≢ request.Finish set
-
 -- where a talk wants a call, it is one that may be made at every history
 abbrev pub IsCallable : Want → Type 0
 IsCallable want = (set : SetValue) → want ≢ Call (request.Finish set)

@@ -3,7 +3,8 @@ ghost use Rattle.std.specs.Prelude.{◌≡◌, Ok, IfOk, IfErr};
 ghost use Rattle.bim_model.specs.Moments.{IsMoment};
 ghost use Rattle.model_build.specs.Profile.{IsCause};
 ghost use Rattle.bim_session.specs.Session.{Means, MeansCall};
-ghost use Rattle.bim_session.specs.Talking.{IsUnasked, BringsNone};
+ghost use Rattle.bim_session.specs.Talking.{IsUnasked};
+ghost use Rattle.bcf_http.specs.Calls.{BringsNone};
 
 use bcf_http::{Answer, HttpCall, Refusal, Routes, to_call};
 use bim_model::{BuildError, Bytes, Mode, Shared, Text};
