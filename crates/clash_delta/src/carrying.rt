@@ -1,5 +1,5 @@
 //! The buckets that are done since they were done in the version before.
-ghost use Rattle.std.specs.Prelude.{◌≡◌, ◌↔◌, ◌<◌, ◌≤◌, ℕ, length, slice_index_or, IsTrue, IfOk, IfSome, MatchOption, All, IsNone};
+ghost use Rattle.std.specs.Prelude.{◌≡◌, ◌↔◌, ◌<◌, ◌≤◌, ℕ, length, slice_index_or, IsTrue, IfOk, IfSome, Some, All};
 ghost use Rattle.std.specs.declared.cmp.Ordering.TheVariants.{Less};
 ghost use Rattle.bucket_grid.specs.declared.cell.Cell.{Cell};
 ghost use Rattle.bucket_grid.specs.declared.table.Bucket.{Bucket};
@@ -33,6 +33,22 @@ fn first_not_before(buckets: &[Bucket], place: usize, cell: Cell) -> usize
     place
 }
 
+fn same_cell(a: Cell, b: Cell) -> bool
+    ensures { IsTrue result ↔ (a ≡ b) }
+{
+    a.x == b.x && a.y == b.y && a.z == b.z
+}
+
+// Whether a number before is this one.
+fn is_number(number: Option<u32>, old: u32) -> bool
+    ensures { IsTrue result ↔ (number ≡ Some old) }
+{
+    match number {
+        Some(number) => number == old,
+        None => false,
+    }
+}
+
 // Whether the new numbers had the old ones.
 fn are_from(old: &[u32], new: &[u32], numbers: &[Option<u32>]) -> bool
     requires { All (λ n. n < length numbers.now) new.now }
@@ -42,7 +58,7 @@ fn are_from(old: &[u32], new: &[u32], numbers: &[Option<u32>]) -> bool
         return false;
     }
     for place in 0..new.len() {
-        if numbers[new[place] as usize] != Some(old[place]) {
+        if !is_number(numbers[new[place] as usize], old[place]) {
             return false;
         }
     }
@@ -69,7 +85,7 @@ fn is_unmoved(
         return false;
     }
     let old = &buckets[place];
-    if old.cell != bucket.cell {
+    if !same_cell(old.cell, bucket.cell) {
         return false;
     }
     are_from(old.members.as_slice(), bucket.members.as_slice(), numbers)

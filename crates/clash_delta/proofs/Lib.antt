@@ -1,0 +1,11 @@
+pub mod Cells
+pub mod Keys
+pub mod Listed
+pub mod Alike
+pub mod Undone
+pub mod Filled
+pub mod Fresh
+pub mod Gathered
+pub mod Searched
+pub mod Before
+pub mod Buckets
