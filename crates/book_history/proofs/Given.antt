@@ -18,7 +18,7 @@ use Rattle.book_history.specs.Orders.{OrderValue, order_of}
 use Rattle.book_history.specs.Versions.{VersionState, nothing, version_at, live_in, first_live}
 use Rattle.book_history.specs.Projects.{ProjectState}
 use Rattle.book_history.specs.History.{state_of, content_of, project_numbers}
-use Rattle.book_history.specs.Requests.{orders_in, orders_from, orders_of, all_orders, order_for, outcome_of, body_of}
+use Rattle.book_history.specs.Requests.{order_at, orders_in, orders_from, orders_of, all_orders, order_for, outcome_of, body_of}
 use Rattle.book_history.specs.Legal.{IsGiven}
 use Rattle.book_history.proofs.Live.{live_at, live_length}
 
@@ -31,7 +31,7 @@ pub record IsOf (project number : ℕ) (vs : List VersionState) (o : OrderValue)
 
 own_orders : (p n : ℕ) (v : VersionState) (vs : List VersionState) → All (IsOf p n (v ∷ vs)) (orders_in p n v)
 own_orders p n v vs =
-    All-map (IsOf p n (v ∷ vs)) (λ (cell : Cell). (let o : OrderValue = record { project = p; version = n; cell = cell; content = v.content } in o)) v.undone
+    All-map (IsOf p n (v ∷ vs)) (order_at p n v.content) v.undone
     (λ i d lt. record {
       project_is = refl;
       from = omega arith;

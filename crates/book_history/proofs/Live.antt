@@ -20,7 +20,7 @@ live_push vs v =
     let k = gone vs in
     let all = vs ++ v ∷ [] in
     let few : k ≤ length vs = omega arith in
-    let pushed : drop k vs ++ v ∷ [] ≡ drop k all = sym (drop-append-le vs (v ∷ []) k few) in
+    let pushed : drop k vs ++ v ∷ [] ≡ drop k all = sym (drop-append-le k vs (v ∷ []) few) in
     let n : length (drop k all) ≡ length all - k = length-drop k all in
     let m = length-append vs (v ∷ []) in
     ap live_in pushed

@@ -19,7 +19,7 @@ use Rattle.book_history.specs.declared.faults.StoreWhat.TheVariants.{Triangles, 
 use Rattle.book_history.specs.Buckets.{memberships_of}
 use Rattle.book_history.specs.Versions.{VersionState, is_done, live_in}
 use Rattle.book_history.specs.Projects.{ProjectState, newest, newest_content, next_content, with_change}
-use Rattle.book_history.specs.History.{state_of, left_in, project_numbers}
+use Rattle.book_history.specs.History.{state_of, live_of, left_in, project_numbers}
 use Rattle.book_history.specs.Weights.{told, text_of, triangles_of, text_in, triangles_in, elements_in}
 
 -- the first that holds
@@ -75,44 +75,40 @@ too_spread limits None = None
 too_spread limits (Some content) =
     if nat_lt limits.memberships (memberships_of content) then Some (fault.TooSpread (memberships_of content) limits.memberships) else None
 
--- all accepted changes would have too many triangles with this one
-abbrev pub triangles_full : Limits → List Entry → Change → Option BookFault
-triangles_full limits history change =
-    let count = triangles_in history + triangles_of change in
+-- all accepted changes would have too many triangles with so many more
+abbrev pub triangles_if : Limits → List Entry → ℕ → Option BookFault
+triangles_if limits history more =
+    let count = triangles_in history + more in
     if nat_lt limits.triangles count then Some (fault.StoreFull Triangles (told count) limits.triangles) else None
 
 -- .. or too many bytes of texts
-abbrev pub text_full : Limits → List Entry → Change → Option BookFault
-text_full limits history change =
-    let count = text_in history + text_of change in
+abbrev pub text_if : Limits → List Entry → ℕ → Option BookFault
+text_if limits history more =
+    let count = text_in history + more in
     if nat_lt limits.text count then Some (fault.StoreFull Text (told count) limits.text) else None
 
--- a project after a change of one of them
-abbrev pub changed_state : List Entry → ℕ → Change → ℕ → ProjectState
-changed_state history project change n =
-    if n == project then with_change (state_of n history) change else state_of n history
+-- how many buckets of a project's live versions are to be checked, if of one project so many are
+abbrev pub left_if : List Entry → ℕ → ℕ → ℕ → ℕ
+left_if history project left n = if n == project then left else left_in (live_of n history)
 
 -- how many buckets of live versions of all projects are to be checked after a change of one of them
 abbrev pub left_after : ℕ → List Entry → ℕ → Change → ℕ
 left_after projects history project change =
-    sum_by (λ n. left_in (live_in (changed_state history project change n).versions)) (project_numbers projects)
+    let left = left_in (live_in (with_change (state_of project history) change).versions) in
+    sum_by (left_if history project left) (project_numbers projects)
 
--- the entries that the journal would have with this change, once those are checked
-abbrev pub journal_after : ℕ → List Entry → ℕ → Change → ℕ
-journal_after projects history project change = length history + left_after projects history project change + 1
-
--- they are too many
-abbrev pub journal_full : Settings → List Entry → ℕ → Change → Option BookFault
-journal_full settings history project change =
-    let count = journal_after settings.projects history project change in
+-- the journal would have too many entries with one more, once so many buckets are checked
+abbrev pub journal_if : Settings → List Entry → ℕ → Option BookFault
+journal_if settings history left =
+    let count = length history + left + 1 in
     if nat_lt settings.limits.journal count then Some (fault.JournalFull (told count) settings.limits.journal) else None
 
--- .. or more than the journal and the store hold
+-- all accepted changes would hold too much with this one, or the journal would
 abbrev pub store_full : Settings → List Entry → ℕ → Change → List (Option BookFault)
 store_full settings history project change =
-    triangles_full settings.limits history change
-    ∷ text_full settings.limits history change
-    ∷ journal_full settings history project change
+    triangles_if settings.limits history (triangles_of change)
+    ∷ text_if settings.limits history (text_of change)
+    ∷ journal_if settings history (left_after settings.projects history project change)
     ∷ []
 
 -- why a change of a project isn't accepted, in this order. A removal and new rules make no version larger and

@@ -76,10 +76,14 @@ clashes_read history wanted first count number =
     unless (not_yet project v ∷ dropped project v ∷ pending v version ∷ [])
     (Answer (reply.Clashes v version.content first count))
 
+-- the order for a cell of a version
+abbrev pub order_at : ℕ → ℕ → Version → Cell → OrderValue
+order_at project number content cell =
+    record { project = project; version = number; cell = cell; content = content }
+
 -- the buckets to be checked of a version of a number
 abbrev pub orders_in : ℕ → ℕ → VersionState → List OrderValue
-orders_in project number version =
-    map (λ (cell : Cell). (let o : OrderValue = record { project = project; version = number; cell = cell; content = version.content } in o)) version.undone
+orders_in project number version = map (order_at project number version.content) version.undone
 
 -- .. of versions of which the first has the number, the last first
 abbrev pub orders_from : ℕ → ℕ → List VersionState → List OrderValue

@@ -95,7 +95,7 @@ pub fn read_version(
     Ok(ReplyBody::Version {
         version,
         newest: project.newest,
-        snapshot: kept.snapshot.share()?,
+        snapshot: kept.snapshot().share()?,
     })
 }
 

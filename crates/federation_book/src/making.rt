@@ -22,7 +22,6 @@ use book_history::{
     BookFault, Change, Entry, Limits, ReplyBody, Stamp, elements_in, model_text, triangles_among,
 };
 use bucket_grid::{Grid, GridError};
-use clash_delta::carry;
 use std::alloc::{AllocError, Global};
 
 /// The next version of a project, or why it isn't made.
@@ -79,16 +78,7 @@ fn next_version(
     }
     match grid_of(alloc, limits, &snapshot)? {
         Err(fault) => Ok(NextVersion::Refused(fault)),
-        Ok(grid) => {
-            let grid = Shared::new(alloc, grid)?;
-            let progress = carry(alloc, &before.progress, before.grid.get(), &grid, number)?;
-            Ok(NextVersion::Made(KeptVersion {
-                snapshot,
-                grid,
-                progress,
-                published: None,
-            }))
-        }
+        Ok(grid) => Ok(NextVersion::Made(before.next(alloc, number, snapshot, grid)?)),
     }
 }
 
@@ -118,7 +108,7 @@ fn make_version(
 {
     let alloc = *state.entries.allocator();
     let project = state.project(number);
-    let before = &project.live[project.live.len() - 1];
+    let before = project.newest_version();
     let next = next_version(alloc, &state.limits, before, project.newest + 1, snapshot)?;
     let version = match next {
         NextVersion::Refused(fault) => return Ok(Some(fault)),
@@ -151,7 +141,7 @@ fn version_made(state: &State, number: u32, elements: u64, triangles: u64) -> Re
     ensures { result ≡ version_made elements triangles (state_of number state.now.entries.items) }
 {
     let project = state.project(number);
-    let version = &project.live[project.live.len() - 1];
+    let version = project.newest_version();
     ReplyBody::Changed {
         version: project.newest,
         elements,
@@ -170,7 +160,7 @@ fn whole_version_made(state: &State, number: u32) -> ReplyBody
         result ≡ version_made (told (elements_in models)) (told (triangles_among models)) project }
 {
     let project = state.project(number);
-    let models = project.live[project.live.len() - 1].snapshot.get().models();
+    let models = project.newest_version().snapshot().get().models();
     let elements = elements_in(models);
     let triangles = triangles_among(models);
     version_made(state, number, elements, triangles)
@@ -200,12 +190,12 @@ pub fn upload(
     };
     let alloc = *state.entries.allocator();
     let project = state.project(number);
-    let before = &project.live[project.live.len() - 1];
+    let before = project.newest_version();
     let named = NamedModel {
         name: name.copy(alloc)?,
         model: model.share()?,
     };
-    let next = before.snapshot.get().with_model(alloc, named)?;
+    let next = before.snapshot().get().with_model(alloc, named)?;
     let snapshot = Shared::new(alloc, next)?;
     let elements = model.get().elements().len() as u64;
     let triangles = model.get().triangle_count();
@@ -252,11 +242,11 @@ pub fn remove(
     };
     let alloc = *state.entries.allocator();
     let project = state.project(number);
-    let before = &project.live[project.live.len() - 1];
-    if !has_model(before.snapshot.get().models(), name.as_str()) {
+    let before = project.newest_version();
+    if !has_model(before.snapshot().get().models(), name.as_str()) {
         return Ok(ReplyBody::Refused(BookFault::NoModel));
     }
-    let next = before.snapshot.get().without_model(alloc, name.as_str())?;
+    let next = before.snapshot().get().without_model(alloc, name.as_str())?;
     let snapshot = Shared::new(alloc, next)?;
     match make_version(state, number, stamp, Change::Remove { name }, snapshot, 0, 0)? {
         Some(fault) => Ok(ReplyBody::Refused(fault)),
@@ -289,8 +279,8 @@ pub fn set_rules(
     let alloc = *state.entries.allocator();
     let rules = Shared::new(alloc, rules)?;
     let project = state.project(number);
-    let before = &project.live[project.live.len() - 1];
-    let next = before.snapshot.get().with_rules(alloc, rules.share()?)?;
+    let before = project.newest_version();
+    let next = before.snapshot().get().with_rules(alloc, rules.share()?)?;
     let snapshot = Shared::new(alloc, next)?;
     let change = Change::SetRules { rules, weight };
     match make_version(state, number, stamp, change, snapshot, 0, weight)? {

@@ -1,7 +1,7 @@
 //! What the book keeps of each project.
 ghost use Rattle.std.specs.Prelude.{◌≡◌, ◌≤◌, ◌<◌, ◌+◌, ◌-◌, ◌^◌, ◌++◌, ◌∷◌, [], ℕ, length, drop, slice_index_or, vec_len, vec_capacity, IfOk};
 ghost use Rattle.clash_publish.specs.declared.horizon.TheConstants.{LIVE_VERSIONS};
-ghost use Rattle.book_history.specs.Versions.{nothing, newest_in, live_in, version_at};
+ghost use Rattle.book_history.specs.Versions.{VersionState, live_in};
 ghost use Rattle.book_history.specs.Projects.{untouched, new_topic};
 ghost use Rattle.book_history.specs.History.{left_in};
 ghost use Rattle.book_history.specs.Weights.{told};
@@ -66,6 +66,15 @@ impl Project {
             body: body.copy(alloc)?,
             created: author.copy(alloc)?,
         })
+    }
+
+    /// Its newest version, lent.
+    pub fn newest_version(&self) -> &KeptVersion
+        requires { 0 < length self.now.live.items }
+        ensures { (d : VersionState) → result.now
+            ≡ slice_index_or self.now.live.items (length self.now.live.items - 1) d }
+    {
+        &self.live[self.live.len() - 1]
     }
 
     /// How many buckets of live versions are to be checked, if another version were made of which so many are.

@@ -1,12 +1,18 @@
 //! A version as the book keeps it.
-ghost use Rattle.std.specs.Prelude.{◌≡◌, IfOk, length};
+ghost use Rattle.std.specs.Prelude.{◌≡◌, ◌≤◌, IfOk, length, map, slice_get, option_map, []};
+ghost use Rattle.bim_model.specs.Keys.{subjects_of};
 ghost use Rattle.bucket_grid.specs.Cells.{IsBucket};
-ghost use Rattle.book_history.specs.Versions.{nothing, with_done};
+ghost use Rattle.bucket_grid.specs.declared.cell.Cell.{Cell};
+ghost use Rattle.book_history.specs.Orders.{OrderValue};
+ghost use Rattle.book_history.specs.Versions.{nothing, is_done, with_done, made_after};
+ghost use Rattle.book_history.specs.Requests.{order_at};
+ghost use Rattle.book_history.proofs.Alone.{HasParts};
 
 use bim_model::{Rules, Shared, Snapshot};
-use bucket_check::BucketSet;
-use bucket_grid::{Grid, GridError};
-use clash_delta::Progress;
+use book_history::WorkOrder;
+use bucket_check::{BucketSet, BucketWork};
+use bucket_grid::{Cell, Grid, GridError};
+use clash_delta::{Progress, carry};
 use clash_publish::Published;
 use std::alloc::{AllocError, Global};
 use std::marker::Model;
@@ -15,10 +21,10 @@ use std::marker::Model;
 /// them. Contracts see what it holds, and the buckets that are still to be checked.
 #[derive(Drop)]
 pub struct KeptVersion {
-    pub snapshot: Shared<Snapshot>,
-    pub grid: Shared<Grid>,
-    pub progress: Progress,
-    pub published: Option<Shared<Published>>,
+    snapshot: Shared<Snapshot>,
+    grid: Shared<Grid>,
+    progress: Progress,
+    published: Option<Shared<Published>>,
 }
 
 impl Model for KeptVersion {
@@ -35,13 +41,27 @@ impl Model for KeptVersion {
         × IfSome v.published (λ (p : Version). p ≡ v.snapshot) };
 }
 
+// What is known of every grid.
+fn know(grid: &Grid)
+    ensures { HasParts grid.now }
+{
+    let _models = grid.models();
+    let _places = grid.places();
+    let _boxes = grid.boxes();
+    let _buckets = grid.buckets();
+}
+
 // The grid of no models.
 fn empty_grid(alloc: Global, snapshot: Shared<Snapshot>) -> Result<Grid, AllocError>
     requires { snapshot ≡ nothing.content }
-    ensures { IfOk result (λ grid. grid.version ≡ snapshot) }
+    ensures version { IfOk result (λ grid. grid.version ≡ snapshot) }
+    ensures buckets { IfOk result (λ grid. grid.buckets ≡ []) }
 {
     match Grid::of(alloc, snapshot) {
-        Ok(grid) => Ok(grid),
+        Ok(grid) => {
+            know(&grid);
+            Ok(grid)
+        }
         Err(GridError::TooSpread { .. }) => unreachable!(),
         Err(GridError::Memory) => Err(AllocError),
     }
@@ -64,6 +84,37 @@ impl KeptVersion {
         })
     }
 
+    /// The version made after this one, of that number, with this grid. Buckets that are checked here and don't
+    /// change are checked there.
+    pub fn next(
+        &self,
+        alloc: Global,
+        number: u64,
+        snapshot: Shared<Snapshot>,
+        grid: Grid,
+    ) -> Result<KeptVersion, AllocError>
+        requires { grid.version ≡ snapshot }
+        ensures { IfOk result (λ made. made ≡ made_after self.now snapshot) }
+    {
+        let grid = Shared::new(alloc, grid)?;
+        know(self.grid.get());
+        know(grid.get());
+        let progress = carry(alloc, &self.progress, self.grid.get(), &grid, number)?;
+        Ok(KeptVersion {
+            snapshot,
+            grid,
+            progress,
+            published: None,
+        })
+    }
+
+    /// What it holds, lent.
+    pub fn snapshot(&self) -> &Shared<Snapshot>
+        ensures { result.now ≡ self.now.content }
+    {
+        &self.snapshot
+    }
+
     /// How many buckets are to be checked.
     pub fn left(&self) -> u64
         ensures { result ≡ length self.now.undone }
@@ -71,13 +122,46 @@ impl KeptVersion {
         self.progress.left()
     }
 
-    /// Takes the set of a bucket that is to be checked, and tells how many are then.
+    /// Whether the cell is that of a bucket that is checked.
+    pub fn is_done(&self, cell: Cell) -> bool
+        ensures { result ≡ is_done self.now cell }
+    {
+        know(self.grid.get());
+        self.progress.is_done(cell)
+    }
+
+    /// The order for the bucket at a place, from 0, among those that are to be checked, by rising cell. None past
+    /// the last.
+    pub fn order(
+        &self,
+        project: u32,
+        version: u64,
+        place: u64,
+    ) -> Result<Option<WorkOrder>, AllocError>
+        ensures { IfOk result (λ order. order
+            ≡ option_map (order_at project version self.now.content) (slice_get self.now.undone place)) }
+    {
+        know(self.grid.get());
+        match self.progress.undone(place) {
+            Some(cell) => Ok(Some(WorkOrder::of(BucketWork {
+                project,
+                version,
+                cell,
+                grid: self.grid.share()?,
+            }))),
+            None => Ok(None),
+        }
+    }
+
+    /// Takes the set of a bucket, and tells how many are to be checked then.
     pub fn put(&mut self, set: Shared<BucketSet>) -> u64
         requires content { set.work.grid.version ≡ self.old.content }
         requires bucket { IsBucket set.work.grid.boxes set.work.cell }
         ensures done { self.new ≡ with_done set.work.cell self.old }
         ensures left { result ≡ length self.new.undone }
     {
+        know(self.grid.get());
+        know(set.get().work().grid.get());
         let _answer = self.progress.put(set);
         self.progress.left()
     }

@@ -12,7 +12,7 @@ use crate::project::{Project, left_in};
 use crate::state::State;
 use bim_model::Shared;
 use book_history::{BookFault, Change, Entry, ReplyBody, Stamp, WorkOrder};
-use bucket_check::{BucketSet, BucketWork};
+use bucket_check::BucketSet;
 use std::alloc::AllocError;
 
 // The order for the bucket at a place among those of a project that are to be checked, by falling version and
@@ -26,15 +26,8 @@ fn order_in(project: &Project, number: u32, place: u64) -> Result<WorkOrder, All
     let mut place = place;
     for step in 0..project.live.len() {
         let version = &project.live[project.live.len() - 1 - step];
-        match version.progress.undone(place) {
-            Some(cell) => {
-                return Ok(WorkOrder::of(BucketWork {
-                    project: number,
-                    version: project.newest - step as u64,
-                    cell,
-                    grid: version.grid.share()?,
-                }));
-            }
+        match version.order(number, project.newest - step as u64, place)? {
+            Some(order) => return Ok(order),
             None => place -= version.left(),
         }
     }
@@ -88,7 +81,7 @@ pub fn finish(
         return Ok(ReplyBody::Refused(fault));
     }
     let place = place_of(project, version);
-    if project.live[place].progress.is_done(cell) {
+    if project.live[place].is_done(cell) {
         return Ok(ReplyBody::Refused(BookFault::AlreadyDone));
     }
     state.entries.reserve(1)?;
