@@ -277,7 +277,7 @@ wrote_fault buckets w a b old mid server so moments bytes here x gave quiet over
       stands = x.1.1;
       served = ap (λ (z : TalkState). z.served) x.4 ∙ so.served;
       idle = ap (λ (z : TalkState). z.waits) x.4 ∙ so.idle;
-          most = so.most;
+      most = so.most;
       ended_is = λ e. rw over (so.ended_is (sym (ap (λ (z : TalkState). z.ended) x.4) ∙ e));
       leaving = subst (λ (o : Option SessionEnd). LeavesBy stop o) (sym (ap (λ (z : TalkState). z.leaving) x.4)) ends;
     }
@@ -318,16 +318,25 @@ goes_write buckets w a b old mid new server bytes Again so wants writing source 
         ⊎ (AnswersOne so.rest so.told moments old bytes mid ⊎ AnswersFault so.rest so.told moments old bytes mid) → Goes buckets old.served w b Again mid server
     of_kind moments told here (inl x) =
         let number : mid.served ≡ old.served = ap (λ (z : TalkState). z.served) x.4 in
-        inl (omega (arith, number), wrote_continue buckets w a b old mid server so moments bytes here x
-        (exchange a b [] moments bytes (same_source a.source b.source source) told writing.0) (source_quiet a.source b.source source, writing.1) over)
+        inl (
+          omega (arith, number),
+          wrote_continue buckets w a b old mid server so moments bytes here x
+              (exchange a b [] moments bytes (same_source a.source b.source source) told writing.0) (source_quiet a.source b.source source, writing.1) over,
+        )
     of_kind moments told here (inr (inl x)) =
         let number : mid.served ≡ old.served + 1 = ap (λ (z : TalkState). z.served) x.2 in
-        inr (omega (arith, number), owed buckets w a b old mid server server so moments bytes (replied_alone buckets w a old mid server so moments bytes here x)
-        (exchange a b [] moments bytes (same_source a.source b.source source) told writing.0) (source_quiet a.source b.source source, writing.1) over)
+        inr (
+          omega (arith, number),
+          owed buckets w a b old mid server server so moments bytes (replied_alone buckets w a old mid server so moments bytes here x)
+              (exchange a b [] moments bytes (same_source a.source b.source source) told writing.0) (source_quiet a.source b.source source, writing.1) over,
+        )
     of_kind moments told here (inr (inr x)) =
         let number : mid.served ≡ old.served = ap (λ (z : TalkState). z.served) x.4 in
-        inl (omega (arith, number), wrote_fault buckets w a b old mid server so moments bytes here x
-        (exchange a b [] moments bytes (same_source a.source b.source source) told writing.0) (source_quiet a.source b.source source, writing.1) over)
+        inl (
+          omega (arith, number),
+          wrote_fault buckets w a b old mid server so moments bytes here x
+              (exchange a b [] moments bytes (same_source a.source b.source source) told writing.0) (source_quiet a.source b.source source, writing.1) over,
+        )
 goes_write buckets w a b old mid new server bytes (End e) so wants writing source same empty =
     let t = wants so.rest so.told so.stands in
     subst (λ (z : SessionEnd). Replays server.settings buckets w b z) (sym writing.0)
@@ -586,8 +595,11 @@ goes_call : (buckets : Option ℕ) (w a b : Outside) (old mid new : TalkState) (
 goes_call buckets w a b old mid new server server' call Again so wants called source earlier empty =
     let asks = asks_of buckets w a b old mid server so call called.0 wants called.1 in
     let number : new.served ≡ old.served + 1 = ap (λ (z : TalkState). z.served) called.6 ∙ ap (λ n. n + 1) (mid_served buckets w a b old mid server so call called.0 asks) in
-    inr (omega (arith, number), wrote_called buckets w a b old mid new server server' so call called.0 called.2 called.3 asks called.4 earlier
-    called.5 called.6 called.7 called.8 source)
+    inr (
+      omega (arith, number),
+      wrote_called buckets w a b old mid new server server' so call called.0 called.2 called.3 asks called.4 earlier
+          called.5 called.6 called.7 called.8 source,
+    )
 goes_call buckets w a b old mid new server server' call (End e) so wants called source earlier empty = of_kind called.4
   where
     asks : Asks buckets w a b old mid server so call called.0

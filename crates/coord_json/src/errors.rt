@@ -45,7 +45,13 @@ pub fn error_of(alloc: Global, code: &str, name: &str, id: u64) -> Result<Value,
 
 /// An error of an instance that refers to another.
 #[tactic(auto, unfolding(crate::specs::Errors::error_to))]
-pub fn error_to(alloc: Global, code: &str, name: &str, id: u64, to: u64) -> Result<Value, AllocError>
+pub fn error_to(
+    alloc: Global,
+    code: &str,
+    name: &str,
+    id: u64,
+    to: u64,
+) -> Result<Value, AllocError>
     ensures { IfOk result (λ v. view v ≡ error_to code.now name.now id to) }
 {
     let text = message(alloc, code, name)?;
@@ -127,12 +133,7 @@ pub fn error_store(
 
 /// An error of a version that is above the newest.
 #[tactic(auto, unfolding(crate::specs::Errors::error_newest))]
-pub fn error_newest(
-    alloc: Global,
-    code: &str,
-    name: &str,
-    newest: u64,
-) -> Result<Value, AllocError>
+pub fn error_newest(alloc: Global, code: &str, name: &str, newest: u64) -> Result<Value, AllocError>
     ensures { IfOk result (λ v. view v ≡ error_newest code.now name.now newest) }
 {
     let text = message(alloc, code, name)?;

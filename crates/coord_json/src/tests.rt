@@ -70,7 +70,12 @@ fn writes_faults_of_bodies(rt: HostRuntime) -> Result<(), Fail> {
             r#"{"code":"U6","id":7,"message":"U6 Dangling","to":9}"#,
         ),
         (
-            upload_fault_out(alloc, UploadFault::TooMany { what: Many::Corners })?,
+            upload_fault_out(
+                alloc,
+                UploadFault::TooMany {
+                    what: Many::Corners,
+                },
+            )?,
             r#"{"code":"U19","message":"U19 TooMany","what":"corners"}"#,
         ),
     ];
