@@ -1,5 +1,5 @@
 -- A session over a one-thread book, as a run with one actor.
-use Rattle.std.specs.Prelude.{◌≡◌, ◌⊎◌, ◌≤◌, ◌++◌, ℕ, List, [], length, Bool, false, Option}
+use Rattle.std.specs.Prelude.{◌≡◌, ◌⊎◌, ◌≤◌, ◌++◌, ℕ, List, [], length, Bool, false, Option, None, All}
 use Rattle.bim_io.specs.Causes.{ComesOfFault, WithinMost}
 use Rattle.bim_io.specs.Seen.{Outside, EndsEmpty, Exchanges}
 use Rattle.http_frame.specs.Events.{Event, IsRest, IsTold}
@@ -7,6 +7,11 @@ use Rattle.book_history.specs.declared.limits.Limits.{Limits}
 use Rattle.book_history.specs.declared.limits.Settings.{Settings}
 use Rattle.book_history.specs.declared.limits.TheConstants.{MOST_VERSION_ELEMENTS, MOST_VERSION_MEMBERSHIPS, MOST_STORED_TRIANGLES, MOST_TEXT, MOST_ENTRIES, MOST_TOPICS, MOST_COMMENTS, MOST_VIEWPOINTS}
 use Rattle.book_history.specs.declared.changes.Entry.{Entry}
+use Rattle.book_history.specs.declared.faults.BookFault.TheVariants.{Pending}
+use Rattle.book_history.specs.declared.replies.ReplyBody.{ReplyBody}
+use Rattle.book_history.specs.declared.replies.ReplyBody.TheVariants.{Refused}
+use Rattle.book_history.specs.History.{at_turn}
+use Rattle.book_history.specs.Requests.{reply_of}
 use Rattle.book_history.specs.Runs.{Step, IsRun, IsOneThread}
 use Rattle.bim_session.specs.declared.talk.TheConstants.{MOST_READ}
 use Rattle.bim_session.specs.declared.end.SessionEnd.{SessionEnd}
@@ -118,3 +123,19 @@ status_of (WriteFault n) = 5
 status_of (Frame n fault) = 7
 status_of (Spent n) = 7
 status_of (Memory n) = 6
+
+-- ---- whole clashes
+
+-- the reply tells that buckets of a version are still to be checked
+abbrev pub IsPending : ReplyBody → Type 0
+IsPending body = (version : ℕ) × (left : ℕ) × (body ≡ Refused (Pending version left))
+
+-- the reply to a step at the entries below its turn
+abbrev pub reply_at : Settings → List Entry → Step → ReplyBody
+reply_at settings history step = (reply_of settings (at_turn step.stamp.turn history) step.stamp step.request).body
+
+-- where all buckets are worked behind each answer, no step of the session is answered so
+abbrev pub NoneIsPending : Type 0
+NoneIsPending =
+    (settings : Settings) (before after : Outside) (end : SessionEnd) (replays : Replays settings None before after end)
+    → All (λ (step : Step). IsPending (reply_at settings replays.history step) → ⊥) replays.steps
