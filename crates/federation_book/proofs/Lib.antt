@@ -5,3 +5,5 @@ pub mod Counting
 pub mod Grids
 pub mod Accepting
 pub mod Taking
+pub mod Sizes
+pub mod Reading
