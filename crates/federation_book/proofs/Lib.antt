@@ -7,3 +7,4 @@ pub mod Accepting
 pub mod Taking
 pub mod Sizes
 pub mod Reading
+pub mod Advancing
