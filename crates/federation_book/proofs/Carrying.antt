@@ -2,7 +2,7 @@
 use Rattle.std.proofs.Common.{◌≡◌, ◌↔◌, ◌<◌, ◌≤◌, ◌⊎◌, inl, inr, ℕ, zero, suc, Bool, true, false, not, ◌&&◌, ◌||◌, cond, is_none, IsSome, List, [], ◌∷◌, length, get_or, map, filter, Option, Some, None, refl, sym, ap, ap₂, subst, ◌∙◌, arith, true≢false}
 use Rattle.std.specs.List.{All, Any, AllPairs, Contains, list_any}
 use Rattle.std.proofs.lemmas.Bool.{and_parts, and_from}
-use Rattle.std.proofs.lemmas.List.{get_or_default}
+use Rattle.std.proofs.lemmas.List.{get_or_default, get_or-map, length-map}
 use Rattle.std.proofs.lemmas.List.Elements.{All-head, All-tail, All-contains}
 use Rattle.bim_model.specs.Snapshots.{Version}
 use Rattle.bucket_grid.specs.declared.cell.Cell.{Cell}
@@ -27,26 +27,28 @@ use Rattle.book_history.proofs.Same.{unmoved_tells}
 use Rattle.federation_book.proofs.Slots.{IsOpen, open_among, among_open, done_open, done_or_open}
 
 -- ---- cells of a list
+or_true : (b rest : Bool) → rest ≡ true → (b || rest) ≡ true
+or_true true rest e = refl
+or_true false rest e = e
+
+among_at : (x : Cell) (xs : List Cell) (c : Cell) (k : ℕ) → k < length (x ∷ xs) → get_or (x ∷ xs) k c ≡ c → (Contains xs c → is_among xs c ≡ true) → is_among (x ∷ xs) c ≡ true
+among_at x xs c zero lt e rest = ap (λ t. t || is_among xs c) (subst (λ d. is_cell x d ≡ true) e (same_cell x))
+among_at x xs c (suc k) lt e rest = or_true (is_cell x c) (is_among xs c) (rest (k, omega (arith, lt), e))
+
 pub contains_among : (cells : List Cell) (c : Cell) → Contains cells c → is_among cells c ≡ true
 contains_among [] c h = absurd (omega (arith, h.1))
-contains_among (x ∷ xs) c h = by h.0 h.1 h.2
-  where
-    or_true : (b rest : Bool) → rest ≡ true → (b || rest) ≡ true
-    or_true true rest e = refl
-    or_true false rest e = e
-    by : (k : ℕ) → k < length (x ∷ xs) → get_or (x ∷ xs) k c ≡ c → is_among (x ∷ xs) c ≡ true
-    by zero lt e = ap (λ t. t || is_among xs c) (subst (λ d. is_cell x d ≡ true) e (same_cell x))
-    by (suc k) lt e = or_true (is_cell x c) (is_among xs c) (contains_among xs c (k, omega (arith, lt), e))
+contains_among (x ∷ xs) c h = among_at x xs c h.0 h.1 h.2 (λ r. contains_among xs c r)
+
+contains_later : (x : Cell) (xs : List Cell) (c : Cell) → Contains xs c → Contains (x ∷ xs) c
+contains_later x xs c h = (suc h.0, omega (arith, h.1), h.2)
+
+contains_by : (x : Cell) (xs : List Cell) (c : Cell) (b : Bool) → is_cell x c ≡ b → (b || is_among xs c) ≡ true → (is_among xs c ≡ true → Contains xs c) → Contains (x ∷ xs) c
+contains_by x xs c true i h rest = (0, omega arith, one_cell x c i)
+contains_by x xs c false i h rest = contains_later x xs c (rest h)
 
 pub among_contains : (cells : List Cell) (c : Cell) → is_among cells c ≡ true → Contains cells c
 among_contains [] c e = absurd (true≢false (sym e))
-among_contains (x ∷ xs) c e = by (is_cell x c) refl e
-  where
-    later : Contains xs c → Contains (x ∷ xs) c
-    later h = (suc h.0, omega (arith, h.1), h.2)
-    by : (b : Bool) → is_cell x c ≡ b → (b || is_among xs c) ≡ true → Contains (x ∷ xs) c
-    by true i h = (0, omega arith, one_cell x c i)
-    by false i h = later (among_contains xs c h)
+among_contains (x ∷ xs) c e = contains_by x xs c (is_cell x c) refl e (λ h. among_contains xs c h)
 
 -- ---- a grid and its version
 pub grid_boxes : (g : GridValue) → HasParts g → g.boxes ≡ boxes_of g.version
@@ -62,15 +64,16 @@ pub among_bucket : (g : GridValue) → HasParts g → (c : Cell) → is_among (b
 among_bucket g h c e = (buckets_listed g.boxes h.near).each c (subst (λ xs. Contains (buckets_among xs) c) (sym (grid_boxes g h)) (among_contains (buckets_of g.version) c e))
 
 -- a bucket of the grid is one of the progress
+cell_later : (s : Slot) (ss : List Slot) (c : Cell) → IsBucketOf ss c → IsBucketOf (s ∷ ss) c
+cell_later s ss c a = (suc a.0, a.1, omega (arith, a.2), a.3, a.4)
+
+cell_by : (s : Slot) (ss : List Slot) (c : Cell) (k : ℕ) → k < length (cells_of (s ∷ ss)) → get_or (cells_of (s ∷ ss)) k c ≡ c → (Contains (cells_of ss) c → IsBucketOf ss c) → IsBucketOf (s ∷ ss) c
+cell_by s ss c zero lt e rest = (0, s, omega arith, refl, e)
+cell_by s ss c (suc k) lt e rest = cell_later s ss c (rest (k, omega (arith, lt), e))
+
 any_cell : (slots : List Slot) (c : Cell) → Contains (cells_of slots) c → IsBucketOf slots c
 any_cell [] c h = absurd (omega (arith, h.1))
-any_cell (s ∷ ss) c h = by h.0 h.1 h.2
-  where
-    later : IsBucketOf ss c → IsBucketOf (s ∷ ss) c
-    later a = (suc a.0, a.1, omega (arith, a.2), a.3, a.4)
-    by : (k : ℕ) → k < length (cells_of (s ∷ ss)) → get_or (cells_of (s ∷ ss)) k c ≡ c → IsBucketOf (s ∷ ss) c
-    by zero lt e = (0, s, omega arith, refl, e)
-    by (suc k) lt e = later (any_cell ss c (k, omega (arith, lt), e))
+any_cell (s ∷ ss) c h = cell_by s ss c h.0 h.1 h.2 (λ r. any_cell ss c r)
 
 module _ (g : GridValue) (h : HasParts g) (slots : List Slot) (is : IsOf g slots) where
   cells_are : cells_of slots ≡ buckets_of g.version
@@ -81,6 +84,12 @@ module _ (g : GridValue) (h : HasParts g) (slots : List Slot) (is : IsOf g slots
 
   pub bucket_of : (c : Cell) → IsBucket g.boxes c → IsBucketOf slots c
   bucket_of c b = any_cell slots c (subst (λ l. Contains l c) (sym (is.buckets ∙ table_cells g.boxes g.buckets h.near h.table)) ((buckets_listed g.boxes h.near).all c b))
+
+  pub bucket_from : (c : Cell) → IsBucketOf slots c → IsBucket g.boxes c
+  bucket_from c b =
+      let n = length-map slots (λ (s : Slot). s.cell) in
+      let in_cells : Contains (cells_of slots) c = (b.0, omega (arith, b.2, n), get_or-map (λ (s : Slot). s.cell) slots b.0 b.1 c b.2 ∙ ap (λ (s : Slot). s.cell) b.3 ∙ b.4) in
+      (buckets_listed g.boxes h.near).each c (subst (λ l. Contains l c) (is.buckets ∙ table_cells g.boxes g.buckets h.near h.table) in_cells)
 
   -- a bucket that is done, by the progress and by what is left
   pub done_then : (c : Cell) → is_done (record { content = g.version; undone = undone_cells slots }) c ≡ true → IsBucket g.boxes c × IsDone slots c
@@ -129,11 +138,11 @@ module _ (before after : GridValue) (h : HasParts before) (k : HasParts after) (
       and_from (is_done was c) (is_unmoved before.version after.version c) (then_done before h done of c i.was_bucket i.was_done) ((unmoved_tells before after c (grid_boxes before h) (grid_boxes after k)).1 i.unmoved)
 
   own_slot : (i : ℕ) (d : Slot) → i < length made → (o : Option SetValue) → (get_or made i d).set ≡ o → (b : Bool) → is_carried was after.version (get_or made i d).cell ≡ b → is_none o ≡ not b
-  own_slot i d lt None e true c = absurd (done_open made (rises after k made is) (get_or made i d).cell (tested (get_or made i d).cell c) (i, get_or made i d, lt, get_or_default made i (get_or made i d) d lt, refl, ap is_none e))
+  own_slot i d lt None e true c = absurd (done_open made (rises after k made is) (get_or made i d).cell (tested (get_or made i d).cell c) (i, get_or made i d, lt, get_or_default made i (get_or made i d) d lt, (refl, ap is_none e)))
   own_slot i d lt None e false c = refl
   own_slot i d lt (Some x) e true c = refl
   own_slot i d lt (Some x) e false c =
-      absurd (true≢false (sym (passes (get_or made i d).cell (i, get_or made i d, lt, get_or_default made i (get_or made i d) d lt, refl, subst IsSome (sym e) tt)) ∙ c))
+      absurd (true≢false (sym (passes (get_or made i d).cell (i, get_or made i d, lt, get_or_default made i (get_or made i d) d lt, (refl, subst IsSome (sym e) refl))) ∙ c))
 
   -- what is left of the progress that was made is what is left of the version
   pub carried_left : undone_cells made ≡ (made_after was after.version).undone

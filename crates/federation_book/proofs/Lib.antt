@@ -5,3 +5,6 @@ pub mod Counting
 pub mod Grids
 pub mod Accepting
 pub mod Taking
+pub mod Sizes
+pub mod Reading
+pub mod Advancing

@@ -100,7 +100,7 @@ module _ (slots : List Slot) (rise : AllPairs Below (cells_of slots)) where
       sym a.3 ∙ ap (λ k. get_or slots k a.1) at ∙ get_or_default slots b.0 a.1 b.1 b.2 ∙ b.3
 
   some_none : (o : Option SetValue) → IsSome o → is_none o ≡ true → ⊥
-  some_none None s n = absurd s
+  some_none None s n = cc
   some_none (Some x) s n = true≢false (sym n)
 
   -- no bucket is done and open
@@ -110,8 +110,8 @@ module _ (slots : List Slot) (rise : AllPairs Below (cells_of slots)) where
       some_none d.1.set d.4.1 (ap (λ (s : Slot). is_none s.set) same ∙ o.4.1)
 
   by_set : (c : Cell) (k : ℕ) (s : Slot) (o : Option SetValue) → s.set ≡ o → k < length slots → get_or slots k s ≡ s → s.cell ≡ c → IsDone slots c ⊎ IsOpen slots c
-  by_set c k s None e lt f is = inr (k, s, lt, f, is, ap is_none e)
-  by_set c k s (Some x) e lt f is = inl (k, s, lt, f, is, subst IsSome (sym e) tt)
+  by_set c k s None e lt f is = inr (k, s, lt, f, (is, ap is_none e))
+  by_set c k s (Some x) e lt f is = inl (k, s, lt, f, (is, subst IsSome (sym e) refl))
 
   -- each is one of them
   pub done_or_open : (c : Cell) → IsBucketOf slots c → IsDone slots c ⊎ IsOpen slots c

@@ -1,13 +1,16 @@
 //! Versions and their clashes, turn by turn.
+ghost use Rattle.std.specs.Prelude.{IfOk, OnOk};
+ghost use Rattle.book_history.specs.History.{IsBefore};
+ghost use Rattle.book_history.specs.Legal.{IsGiven};
 
 use crate::book::Book;
 use crate::desk::{are_clashes, ask, bring, is_changed, is_finished, is_refused, take, work};
 use crate::samples::{
-    four_pipes, one_pipe, to_post, to_read, to_remove, to_set_rules, to_upload, two_pipes,
+    four_pipes, one_pipe, to_post, to_read, to_remove, thousand_beams, to_set_rules, to_upload, two_pipes,
 };
 use bim_model::{Steps, id_of};
 use book_history::{BookFault, BookRequest, Limits, StoreWhat, Wanted};
-use bucket_check::SetPair;
+use bucket_check::{BucketWork, Room, SetPair, check};
 use bucket_grid::Cell;
 use std::alloc::Global;
 use std::marker::Brand;
@@ -178,5 +181,37 @@ fn refuses_what_is_too_much(rt: HostRuntime) -> Result<(), Fail> {
         BookFault::ElementsFull { count: 4, limit: 1 })?;
     second(&rt, alloc, Limits { memberships: 3, ..stated }, to_set_rules(alloc, 50)?, to_upload(alloc, "m", four_pipes(alloc, 1700)?)?,
         BookFault::TooSpread { count: 4, limit: 3 })?;
+    Ok(())
+}
+
+// Ten thousand times work is given out, and none of it is done.
+fn gives_often(rt: &impl Abort, book: &mut Book) -> Result<BucketWork, Fail>
+    requires { IsBefore 3 book.old.journal }
+    ensures before { OnOk result (IsBefore 10003 book.new.journal) }
+    ensures given { IfOk result (IsGiven book.new.settings book.new.journal) }
+{
+    let cell = Cell {
+        x: -1,
+        y: -1,
+        z: -1,
+    };
+    for turn in 3..10_002 {
+        let _work = take(rt, book, turn, 0, 2, cell)?;
+    }
+    take(rt, book, 10_002, 0, 2, cell)
+}
+
+#[test]
+fn gives_work_out_without_testing(rt: HostRuntime) -> Result<(), Fail> {
+    let alloc = rt.alloc();
+    let mut steps = Steps::<Brand>::new(Blank::new(1));
+    let mut book = Book::new(alloc, 1, Limits::stated())?;
+    let _rules = ask(&mut book, 1, to_set_rules(alloc, 0)?)?;
+    let body = ask(&mut book, 2, to_upload(alloc, "m", thousand_beams(alloc)?)?)?;
+    is_changed(&rt, &body, (2, 1000, 1000, 8))?;
+    let work = gives_often(&rt, &mut book)?;
+    assert_eq!(rt; work.grid.get().members(work.cell).len(), 1000);
+    let set = check(alloc, work, &mut Room::new(alloc), &mut steps)?;
+    assert_eq!(rt; set.pairs().len(), 0);
     Ok(())
 }

@@ -65,6 +65,38 @@ pub fn two_pipes(alloc: Global) -> Result<Shared<Model>, Fail> {
     model_of(alloc, elements)
 }
 
+// A beam of one large triangle, so high up in grid numbers.
+fn beam(alloc: Global, number: i32) -> Result<Element, Fail> {
+    let mut chars = [48_u8; 22];
+    let mut rest = number;
+    for place in 0..4_usize {
+        chars[21 - place] = 48 + (rest.rem_euclid(10)) as u8;
+        rest = rest / 10;
+    }
+    let mut triangles = Items::new(alloc);
+    triangles.push(Triangle {
+        a: Point { x: 0, y: 0, z: number },
+        b: Point { x: 1000, y: 0, z: number.checked_add(1000).ok_or("a height")? },
+        c: Point { x: 0, y: 1000, z: number },
+    })?;
+    Ok(Element {
+        guid: Guid::read(&chars).ok_or("an identifier")?,
+        class: Text::of(alloc, "IFCBEAM")?,
+        name: Text::of(alloc, "")?,
+        storey: None,
+        triangles,
+    })
+}
+
+/// A thousand beams whose boxes all meet and whose surfaces don't.
+pub fn thousand_beams(alloc: Global) -> Result<Shared<Model>, Fail> {
+    let mut elements = Vec::new(alloc);
+    for number in 0..1000 {
+        elements.push(beam(alloc, number)?)?;
+    }
+    model_of(alloc, elements)
+}
+
 /// A model is put in its place.
 pub fn to_upload(alloc: Global, name: &str, model: Shared<Model>) -> Result<BookRequest, AllocError> {
     Ok(BookRequest::Upload {
