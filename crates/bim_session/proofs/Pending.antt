@@ -141,25 +141,31 @@ none_undone settings h n v none low high made live =
     let same : length (get_or (live_in vs) (v - gone vs) nothing).undone ≡ length (get_or vs v nothing).undone = ap (λ (s : VersionState). length s.undone) at in
     omega (arith, none, own, all, same)
 
+by_tests : (h : List Entry) (p : ProjectState) (v first count : ℕ) (version : VersionState) (a b c : Bool) → nat_lt (newest p) v ≡ a → nat_le (v + 16) (newest p) ≡ b
+    → nat_lt 0 (length version.undone) ≡ c → (a ≡ false → b ≡ false → c ≡ false)
+    → IsCalm h (unless (not_yet p v ∷ dropped p v ∷ pending v version ∷ []) (Answer (reply.Clashes v version.content first count)))
+by_tests h p v first count version true b c ea eb ec none = rw ea (λ q. let e = q.2 in cc)
+by_tests h p v first count version false true c ea eb ec none = rw (ea, eb) (λ q. let e = q.2 in cc)
+by_tests h p v first count version false false false ea eb ec none = rw (ea, eb, ec) (λ q. let e = q.2 in cc)
+by_tests h p v first count version false false true ea eb ec none = absurd (let e : true ≡ false = none refl refl in cc)
+
+low_enough : (n v : ℕ) → nat_lt n v ≡ false → v ≤ n
+low_enough n v e = grind (arith, nat_tests, e)
+
+high_enough : (n v : ℕ) → nat_le (v + 16) n ≡ false → n < v + 16
+high_enough n v e = grind (arith, nat_tests, e)
+
+none_above : (n : ℕ) → n ≡ 0 → nat_lt 0 n ≡ false
+none_above n is = rw is refl
+
 calm_clashes : (settings : Settings) (h : List Entry) (wanted : Wanted) (first count n : ℕ) → left_all settings.projects h ≡ 0 → 1 ≤ n → n ≤ settings.projects
     → IsCalm h (clashes_read h wanted first count n)
 calm_clashes settings h wanted first count n none low high =
-    by (nat_lt (newest p) v) (nat_le (v + 16) (newest p)) (nat_lt 0 (length version.undone)) refl refl refl
-  where
-    p : ProjectState
-    p = state_of n h
-    v : ℕ
-    v = wanted_in (state_of n h) wanted
-    version : VersionState
-    version = version_at (state_of n h).versions (wanted_in (state_of n h) wanted)
-    by : (a b c : Bool) → nat_lt (newest p) v ≡ a → nat_le (v + 16) (newest p) ≡ b → nat_lt 0 (length version.undone) ≡ c → IsCalm h (clashes_read h wanted first count n)
-    unfolding p v version
-    by true b c ea eb ec = rw ea (λ q. let e = q.2 in cc)
-    by false true c ea eb ec = rw (ea, eb) (λ q. let e = q.2 in cc)
-    by false false false ea eb ec = rw (ea, eb, ec) (λ q. let e = q.2 in cc)
-    by false false true ea eb ec =
-        let zero_left = none_undone settings h n (wanted_in (state_of n h) wanted) none low high (grind (arith, nat_tests, ea)) (grind (arith, nat_tests, eb)) in
-        absurd (grind (arith, nat_tests, ec, zero_left))
+    let p : ProjectState = state_of n h in
+    let v : ℕ = wanted_in p wanted in
+    by_tests h p v first count (version_at p.versions v) (nat_lt (newest p) v) (nat_le (v + 16) (newest p)) (nat_lt 0 (length (version_at p.versions v).undone)) refl refl refl
+    (λ made live. none_above (length (version_at p.versions v).undone)
+    (none_undone settings h n v none low high (low_enough (newest p) v made) (high_enough (newest p) v live)))
 
 -- ---- calls
 
