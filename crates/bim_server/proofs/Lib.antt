@@ -13,3 +13,4 @@ pub mod Taking
 pub mod Grammar
 pub mod Statuses
 pub mod Calling
+pub mod Giving

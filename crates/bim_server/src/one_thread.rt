@@ -132,7 +132,7 @@ impl OneThread {
         ensures err { OnErr result (WorksLess most self.old self.new) }
         ensures settings { self.new.settings ≡ self.old.settings }
     {
-        'buckets: for _ in 0..most {
+        for _done in 0..most {
             if self.left_all() == 0 {
                 return Ok(());
             }
