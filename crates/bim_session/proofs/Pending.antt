@@ -110,6 +110,7 @@ one_of_numbers f (suc projects) n low high = by (n == suc projects) refl
   where
     grown : sum_by f (project_numbers (suc projects)) ≡ sum_by f (project_numbers projects) + f (projects + 1)
     grown = ap (sum_by f) (numbers_more projects) ∙ sum_by_push f (project_numbers projects) (projects + 1)
+
     by : (b : Bool) → (n == suc projects) ≡ b → f n ≤ sum_by f (project_numbers (suc projects))
     by true e =
         let same : n ≡ projects + 1 = grind (arith, nat_tests, e) in
@@ -385,6 +386,7 @@ nothing_left projects = of_numbers (project_numbers projects)
   where
     one : (n : ℕ) → left_in (live_of n []) ≡ 0
     one n = ap (λ (s : ProjectState). left_in (live_in s.versions)) (nothing_yet n)
+
     of_numbers : (ns : List ℕ) → sum_by (λ n. left_in (live_of n [])) ns ≡ 0
     of_numbers [] = refl
     of_numbers (n ∷ ns) =
