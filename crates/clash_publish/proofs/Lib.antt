@@ -4,3 +4,4 @@ pub mod Dealing
 pub mod Gathered
 pub mod Nested
 pub mod Shelved
+pub mod Ruled

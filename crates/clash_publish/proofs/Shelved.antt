@@ -1,5 +1,5 @@
 -- A shelf as a finite map.
-use Rattle.std.proofs.Common.{◌≡◌, ℕ, zero, suc, ◌+◌, ◌<◌, Bool, true, false, cond, eqb, ◌&&◌, List, [], ◌∷◌, ◌++◌, length, get_or, set, filter, Option, Some, None, true≢false, refl, sym, ap, subst, arith, ◌∙◌}
+use Rattle.std.proofs.Common.{◌≡◌, ℕ, zero, suc, ◌<◌, Bool, true, false, cond, eqb, ◌&&◌, List, [], ◌∷◌, ◌++◌, length, get_or, set, filter, Option, Some, None, refl, sym, ap, subst, arith, ◌∙◌}
 use Rattle.std.specs.List.{find}
 use Rattle.std.specs.Option.{option_map}
 use Rattle.std.proofs.lemmas.Bool.{and_parts, eqb-true}
@@ -13,51 +13,51 @@ module _ {X : Type 0} (t : X → Bool) where
 
   -- the first that passes
   pub find_here : (xs : List X) (i : ℕ) (x : X) → i < length xs → x ≡ get_or xs i x → t x ≡ true → ((k : ℕ) (d : X) → k < i → t (get_or xs k d) ≡ false) → find t xs ≡ Some x
-  find_here [] i x h is yes before = absurd (omega arith)
-  find_here (y ∷ ys) zero x h is yes before = ap (λ z. cond (t z) (Some z) (find t ys)) (sym is) ∙ chosen x true (find t ys) yes
-  find_here (y ∷ ys) (suc i) x h is yes before = chosen y false (find t ys) (before zero y (omega arith)) ∙ find_here ys i x (omega arith) is yes (λ k d lt. before (suc k) d (omega arith))
+  find_here [] i x h is passes before = absurd (omega arith)
+  find_here (y ∷ ys) zero x h is passes before = ap (λ z. cond (t z) (Some z) (find t ys)) (sym is) ∙ chosen x true (find t ys) passes
+  find_here (y ∷ ys) (suc i) x h is passes before = chosen y false (find t ys) (before zero y (omega arith)) ∙ find_here ys i x (omega arith) is passes (λ k d lt. before (suc k) d (omega arith))
 
-  -- .. where nothing does
+  -- .. where neither does
   pub find_none : (xs : List X) → ((k : ℕ) (d : X) → k < length xs → t (get_or xs k d) ≡ false) → find t xs ≡ None
-  find_none [] no = refl
-  find_none (y ∷ ys) no = chosen y false (find t ys) (no zero y (omega arith)) ∙ find_none ys (λ k d lt. no (suc k) d (omega arith))
+  find_none [] fails = refl
+  find_none (y ∷ ys) fails = chosen y false (find t ys) (fails zero y (omega arith)) ∙ find_none ys (λ k d lt. fails (suc k) d (omega arith))
 
   -- an element that passes is put in place of the first that does
   pub find_set : (xs : List X) (i : ℕ) (y : X) → i < length xs → t y ≡ true → ((k : ℕ) (d : X) → k < i → t (get_or xs k d) ≡ false) → find t (set xs i y) ≡ Some y
-  find_set [] i y h yes before = absurd (omega arith)
-  find_set (x ∷ xs) zero y h yes before = chosen y true (find t xs) yes
-  find_set (x ∷ xs) (suc i) y h yes before = chosen x false (find t (set xs i y)) (before zero x (omega arith)) ∙ find_set xs i y (omega arith) yes (λ k d lt. before (suc k) d (omega arith))
+  find_set [] i y h passes before = absurd (omega arith)
+  find_set (x ∷ xs) zero y h passes before = chosen y true (find t xs) passes
+  find_set (x ∷ xs) (suc i) y h passes before = chosen x false (find t (set xs i y)) (before zero x (omega arith)) ∙ find_set xs i y (omega arith) passes (λ k d lt. before (suc k) d (omega arith))
 
   -- one that doesn't in place of one that doesn't
   pub find_past : (xs : List X) (i : ℕ) (x y : X) → i < length xs → x ≡ get_or xs i x → t x ≡ false → t y ≡ false → find t (set xs i y) ≡ find t xs
-  find_past [] i x y h is no none = absurd (omega arith)
-  find_past (z ∷ zs) zero x y h is no none = chosen y false (find t zs) none ∙ sym (ap (λ u. cond (t u) (Some u) (find t zs)) (sym is) ∙ chosen x false (find t zs) no)
-  find_past (z ∷ zs) (suc i) x y h is no none = ap (λ o. cond (t z) (Some z) o) (find_past zs i x y (omega arith) is no none)
+  find_past [] i x y h is fails none = absurd (omega arith)
+  find_past (z ∷ zs) zero x y h is fails none = chosen y false (find t zs) none ∙ sym (ap (λ u. cond (t u) (Some u) (find t zs)) (sym is) ∙ chosen x false (find t zs) fails)
+  find_past (z ∷ zs) (suc i) x y h is fails none = ap (λ o. cond (t z) (Some z) o) (find_past zs i x y (omega arith) is fails none)
 
   -- at the end
   behind : (y : X) (b : Bool) (o : Option X) → t y ≡ b → o ≡ None → cond (t y) (Some y) None ≡ cond b (Some y) o
   behind y true o e f = chosen y true None e
   behind y false o e f = chosen y false None e ∙ sym f
 
+  taken : (x y : X) (b : Bool) → (b ≡ true → Some x ≡ None) → Some x ≡ cond b (Some y) (Some x)
+  taken x y true g = let wrong : Some x ≡ None = g refl in cc
+  taken x y false g = refl
+
+  end_step : (x y : X) (b c : Bool) (o p : Option X) → t x ≡ c → (b ≡ true → cond (t x) (Some x) o ≡ None) → ((b ≡ true → o ≡ None) → p ≡ cond b (Some y) o)
+      → cond (t x) (Some x) p ≡ cond b (Some y) (cond (t x) (Some x) o)
+  end_step x y b true o p q h ih =
+      chosen x true p q ∙ taken x y b (λ passes. sym (chosen x true o q) ∙ h passes) ∙ ap (cond b (Some y)) (sym (chosen x true o q))
+  end_step x y b false o p q h ih =
+      chosen x false p q ∙ ih (λ passes. sym (chosen x false o q) ∙ h passes) ∙ ap (cond b (Some y)) (sym (chosen x false o q))
+
   pub find_end : (xs : List X) (y : X) (b : Bool) → t y ≡ b → (b ≡ true → find t xs ≡ None) → find t (xs ++ y ∷ []) ≡ cond b (Some y) (find t xs)
   find_end [] y b e h = behind y b None e refl
-  find_end (x ∷ xs) y b e h = step (t x) refl
-    where
-      taken : (b : Bool) → (b ≡ true → Some x ≡ None) → Some x ≡ cond b (Some y) (Some x)
-      taken true g = let wrong : Some x ≡ None = g refl in cc
-      taken false g = refl
-      step : (c : Bool) → t x ≡ c → cond (t x) (Some x) (find t (xs ++ y ∷ [])) ≡ cond b (Some y) (cond (t x) (Some x) (find t xs))
-      step true q =
-          chosen x true (find t (xs ++ y ∷ [])) q ∙ taken b (λ yes. sym (chosen x true (find t xs) q) ∙ h yes)
-          ∙ ap (cond b (Some y)) (sym (chosen x true (find t xs) q))
-      step false q =
-          chosen x false (find t (xs ++ y ∷ [])) q ∙ find_end xs y b e (λ yes. sym (chosen x false (find t xs) q) ∙ h yes)
-          ∙ ap (cond b (Some y)) (sym (chosen x false (find t xs) q))
+  find_end (x ∷ xs) y b e h = end_step x y b (t x) (find t xs) (find t (xs ++ y ∷ [])) refl h (λ g. find_end xs y b e g)
 
   module _ (live : X → Bool) (b : Bool) (agree : (x : X) → t x ≡ true → live x ≡ b) where
-    nothing : (c : Bool) → None {A = X} ≡ cond c None None
-    nothing true = refl
-    nothing false = refl
+    neither : (c : Bool) → find t [] ≡ cond c (find t []) None
+    neither true = refl
+    neither false = refl
 
     step : (l s : Bool) (x : X) (xs ys : List X) → live x ≡ l → t x ≡ s → find t ys ≡ cond b (find t xs) None → find t (cond (live x) (x ∷ ys) ys) ≡ cond b (cond (t x) (Some x) (find t xs)) None
     step true true x xs ys p q ih =
@@ -73,9 +73,8 @@ module _ {X : Type 0} (t : X → Bool) where
 
     -- a filter that keeps what passes, or drops it
     pub find_filter : (xs : List X) → find t (filter live xs) ≡ cond b (find t xs) None
-    find_filter [] = nothing b
+    find_filter [] = neither b
     find_filter (x ∷ xs) = step (live x) (t x) x xs (filter live xs) refl refl (find_filter xs)
-
 
 set_chosen : (b : Bool) (y : Entry) (o : Option Entry) → option_map (λ (e : Entry). e.set) (cond b (Some y) o) ≡ cond b (Some y.set) (option_map (λ (e : Entry). e.set) o)
 set_chosen true y o = refl
@@ -106,6 +105,7 @@ put_over entries new i project version set_now old made h is hit before e f p v 
   where
     same : is_of p v made ≡ (eqb project p && eqb version v)
     same = ap (is_of p v) e ∙ same_key old project version hit p v
+
     by : (b : Bool) → (eqb project p && eqb version v) ≡ b → set_of new p v ≡ cond (eqb project p && eqb version v) (Some set_now) (set_of entries p v)
     by true q =
         let keys = asked project version p v q in

@@ -105,6 +105,7 @@ impl Published {
         ensures modelled { IsModelled result.now }
     {
         let grid = self.grid.get();
+        let _places = grid.places();
         grid.element(number as usize)
     }
 
