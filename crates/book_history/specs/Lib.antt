@@ -10,4 +10,5 @@ pub mod Weights
 pub mod Refusals
 pub mod Requests
 pub mod Legal
+pub mod Laws
 pub mod Runs

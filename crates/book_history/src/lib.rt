@@ -4,6 +4,7 @@
 
 mod changes;
 mod faults;
+mod laws;
 mod limits;
 mod replies;
 mod requests;
@@ -14,6 +15,7 @@ pub use book_turn::object::Stamp;
 pub use clash_publish::{Horizon, LIVE_VERSIONS};
 pub use changes::{Change, Entry};
 pub use faults::{BookFault, StoreWhat};
+pub use laws::{grids_are_one, requests_stay_legal, work_stays_given};
 pub use limits::{
     Limits, MOST_COMMENTS, MOST_ENTRIES, MOST_PROJECTS, MOST_TEXT, MOST_TOPICS,
     MOST_VERSION_ELEMENTS, MOST_VERSION_MEMBERSHIPS, MOST_STORED_TRIANGLES, MOST_VIEWPOINTS, Settings,

@@ -1,9 +1,9 @@
 -- What is carried to the buckets of a grid.
-use Rattle.std.proofs.Common.{◌≡◌, ◌↔◌, ℕ, ◌+◌, ◌<◌, ◌≤◌, ◌⊎◌, inl, inr, pos, List, [], ◌∷◌, length, get_or, map, Option, Some, None, IfSome, IsSome, MatchOption, is_none, true, true≢false, refl, sym, ap, ap₂, subst, arith, ◌∙◌}
+use Rattle.std.proofs.Common.{◌≡◌, ◌↔◌, ℕ, ◌+◌, ◌<◌, ◌≤◌, ◌⊎◌, inl, inr, pos, List, [], ◌∷◌, ◌++◌, length, get_or, take, map, Option, Some, None, IfSome, IsSome, MatchOption, is_none, true, true≢false, refl, sym, ap, ap₂, subst, arith, ◌∙◌}
 use Rattle.std.specs.List.{All, Any, AllPairs, AllZip}
 use Rattle.std.specs.declared.cmp.Ordering.TheVariants.{Less}
 use Rattle.std.proofs.lemmas.Bool.{cases_order}
-use Rattle.std.proofs.lemmas.List.{length-map, get_or-map, get_or_default}
+use Rattle.std.proofs.lemmas.List.{take_more, length-map, get_or-map, get_or_default}
 use Rattle.std.proofs.lemmas.List.Elements.{All-nil, All-cons}
 use Rattle.bucket_grid.specs.declared.cell.Cell.{Cell}
 use Rattle.bucket_grid.specs.declared.table.Bucket.{Bucket}
@@ -11,14 +11,15 @@ use Rattle.bucket_grid.specs.Cells.{cell_cmp, members, IsBucket}
 use Rattle.bucket_grid.specs.Grids.{GridValue}
 use Rattle.bucket_grid.specs.Table.{IsTable}
 use Rattle.bucket_grid.specs.Subjects.{subject_at}
-use Rattle.bucket_grid.proofs.Zips.{zip_at, zip_length}
+use Rattle.bucket_grid.proofs.Zips.{zip_at, zip_length, zip_push}
 use Rattle.bucket_check.specs.Sets.{SetValue, IsSame, subjects_at, IsUnmoved}
 use Rattle.clash_delta.specs.declared.slot.Slot.{Slot}
 use Rattle.clash_delta.specs.Numbers.{subjects}
 use Rattle.clash_delta.specs.Slots.{cells_of, bucket_cells, IsDone, IsSetOf, IsOf}
 use Rattle.clash_delta.specs.Places.{Rise, IsPlaceOf}
 use Rattle.clash_delta.specs.Carried.{IsCarried, IsMoved, IsCarriedSet, IsCarriedTo, IsUnmovedAt, IsReachedCell}
-use Rattle.clash_delta.proofs.Cells.{not_less}
+use Rattle.clash_delta.proofs.Cells.{not_less, lesser}
+use Rattle.clash_delta.proofs.Filled.{rise_by}
 use Rattle.clash_delta.proofs.Undone.{nothing, fact, done_at, not_done_at}
 
 -- what stands past the end of a list of buckets of a grid
@@ -101,6 +102,13 @@ module _ (done : List Slot) (before after : GridValue) (version : ℕ) where
     pub cell : s.cell ≡ b.cell
     pub set : IsCarriedTo done before after version b.cell s.set
 
+  -- one more bucket
+  pub for_more : (bs : List Bucket) (i : ℕ) (b : Bucket) (slots new : List Slot) (s : Slot) → i < length bs → b ≡ get_or bs i b → AllZip IsFor (take i bs) slots → s.cell ≡ b.cell → IsCarriedTo done before after version b.cell s.set → new ≡ slots ++ s ∷ [] → AllZip IsFor (take (i + 1) bs) new
+  for_more bs i b slots new s h e zip c is made =
+      subst (λ (l : List Slot). AllZip IsFor (take (i + 1) bs) l) (sym made)
+      (subst (λ (l : List Bucket). AllZip IsFor l (slots ++ s ∷ [])) (sym (take_more bs i b h ∙ ap (λ (x : Bucket). take i bs ++ x ∷ []) (sym e)))
+      (zip_push IsFor (take i bs) slots b s zip (record { cell = c; set = is })))
+
   pub cells_for : (bs : List Bucket) (slots : List Slot) → AllZip IsFor bs slots → cells_of slots ≡ map (λ (b : Bucket). b.cell) bs
   cells_for [] [] h = refl
   cells_for [] (s ∷ ss) h = absurd h
@@ -165,3 +173,18 @@ module _ (done : List Slot) (before after : GridValue) (version : ℕ) where
           let l : a.0 < length slots = omega (arith, a.2, count) in
           let s : Slot = get_or slots a.0 nothing in
           (a.0, s, l, get_or_default slots a.0 s nothing l, (f.cell ∙ c, some_by _ _ f.set (subst (IsCarried done before after) (sym c) carried)))
+
+  -- the buckets of the progress rise, and it is of the next grid
+  pub rise_for : (slots : List Slot) → AllZip IsFor after.buckets slots → IsTable after.boxes after.buckets → Rise slots
+  rise_for slots h table = rise_by (λ (b : Bucket). b.cell) (λ (s : Slot). s.cell) after.buckets slots no_bucket (sym (cells_for after.buckets slots h)) table.rising
+
+  pub of_for : (slots : List Slot) → AllZip IsFor after.buckets slots → IsOf after slots
+  of_for slots h = record { buckets = cells_for after.buckets slots h; right = right_for after.buckets slots h }
+
+-- what is below a bucket's cell is below the next ones
+pub below_next : (before after : List Bucket) (i j k place : ℕ) (b d e : Bucket) → IsReachedCell before b.cell place → b ≡ get_or after i b → AllPairs (λ (x y : Bucket). cell_cmp x.cell y.cell ≡ Less) after → i < j → j < length after → k < place
+    → cell_cmp (get_or before k d).cell (get_or after j e).cell ≡ Less
+below_next before after i j k place b d e reached is rising lt within h =
+    let same : b ≡ get_or after i e = is ∙ get_or_default after i b e (omega (arith, lt, within)) in
+    let up : cell_cmp b.cell (get_or after j e).cell ≡ Less = ap (λ (x : Bucket). cell_cmp x.cell (get_or after j e).cell) same ∙ rising i j e lt within in
+    lesser (get_or before k d).cell b.cell (get_or after j e).cell (reached.below k d h) up

@@ -1,6 +1,7 @@
 -- The sets of buckets that are all done.
-use Rattle.std.proofs.Common.{◌≡◌, ℕ, zero, ◌+◌, ◌<◌, ◌≤◌, Bool, true, false, cond, List, [], ◌∷◌, ◌++◌, length, get_or, take, drop, map, filter, Option, Some, None, IfSome, is_none, true≢false, refl, sym, ap, ap₂, subst, arith, ◌∙◌}
+use Rattle.std.proofs.Common.{◌≡◌, ℕ, zero, ◌+◌, ◌<◌, ◌≤◌, Bool, true, false, cond, List, [], ◌∷◌, ◌++◌, length, get_or, take, drop, map, filter, Option, Some, None, IfSome, is_none, is_some, not, true≢false, refl, sym, ap, ap₂, subst, arith, ◌∙◌}
 use Rattle.std.specs.List.{All, AllZip}
+use Rattle.std.specs.Option.{unwrap_or}
 use Rattle.std.proofs.lemmas.List.{take_more, take_all, map-append, length-map}
 use Rattle.std.proofs.lemmas.List.Elements.{All-head, All-tail, All-nil, All-cons}
 use Rattle.bucket_grid.specs.declared.cell.Cell.{Cell}
@@ -29,17 +30,26 @@ pub all_some : (slots : List Slot) → length (undone_cells slots) ≡ 0 → All
 all_some slots e = some_each slots (sym (length-map (undone_slots slots) (λ (s : Slot). s.cell)) ∙ e)
 
 -- one more set
-pub sets_more : (sets new : List SetValue) (slots : List Slot) (i : ℕ) (s : Slot) (x : SetValue) → i < length slots → s ≡ get_or slots i s → s.set ≡ Some x → map (λ (y : SetValue). Some y) sets ≡ map set_of (take i slots) → new ≡ sets ++ x ∷ []
+pub sets_more : (sets new : List SetValue) (slots : List Slot) (i : ℕ) (s : Slot) → i < length slots → s ≡ get_or slots i s → is_some s.set ≡ true → map (λ (y : SetValue). Some y) sets ≡ map set_of (take i slots) → ((d : SetValue) → new ≡ sets ++ unwrap_or s.set d ∷ [])
     → map (λ (y : SetValue). Some y) new ≡ map set_of (take (i + 1) slots)
-sets_more sets new slots i s x h e f before made =
-    ap (map (λ (y : SetValue). Some y)) made ∙ map-append (λ (y : SetValue). Some y) sets (x ∷ [])
-    ∙ ap₂ (λ l o. l ++ o ∷ []) before (sym f ∙ ap set_of e) ∙ sym (map-append set_of (take i slots) (get_or slots i s ∷ [])) ∙ ap (map set_of) (sym (take_more slots i s h))
+sets_more sets new slots i s h e some before made = by s.set refl
+  where
+    by : (o : Option SetValue) → s.set ≡ o → map (λ (y : SetValue). Some y) new ≡ map set_of (take (i + 1) slots)
+    by None f = absurd (true≢false (sym some ∙ ap is_some f))
+    by (Some x) f =
+        ap (map (λ (y : SetValue). Some y)) (made x ∙ ap (λ o. sets ++ unwrap_or o x ∷ []) f) ∙ map-append (λ (y : SetValue). Some y) sets (x ∷ [])
+        ∙ ap₂ (λ l o. l ++ o ∷ []) before (sym f ∙ ap set_of e) ∙ sym (map-append set_of (take i slots) (get_or slots i s ∷ [])) ∙ ap (map set_of) (sym (take_more slots i s h))
 
--- a bucket without a set is none of them
-pub sets_none : (slots : List Slot) (i : ℕ) (s : Slot) → length (undone_cells slots) ≡ 0 → i < length slots → s ≡ get_or slots i s → s.set ≡ None → ⊥
-sets_none slots i s e h f none =
-    let some : is_none s.set ≡ false = subst (λ (t : Slot). is_none t.set ≡ false) (sym f) (all_some slots e i s h) in
-    true≢false (sym (ap is_none none) ∙ some)
+-- each has a set
+pub some_at : (slots : List Slot) (i : ℕ) (s : Slot) → length (undone_cells slots) ≡ 0 → i < length slots → s ≡ get_or slots i s → is_some s.set ≡ true
+some_at slots i s e h f = by (is_some s.set) refl
+  where
+    none : is_none s.set ≡ false
+    none = subst (λ (t : Slot). is_none t.set ≡ false) (sym f) (all_some slots e i s h)
+
+    by : (b : Bool) → is_some s.set ≡ b → is_some s.set ≡ true
+    by true g = g
+    by false g = absurd (true≢false (sym (ap not g) ∙ none))
 
 abbrev first_set : (l : List (Option SetValue)) → Option SetValue
 first_set [] = None

@@ -1,19 +1,21 @@
 -- The elements of a version in the order of their keys.
-use Rattle.std.proofs.Common.{◌≡◌, ℕ, ◌<◌, ◌⊎◌, inl, inr, List, length, get_or, true, true≢false, refl, sym, ap, subst, arith, ◌∙◌}
+use Rattle.std.proofs.Common.{◌≡◌, ◌↔◌, ℕ, ◌<◌, ◌⊎◌, inl, inr, List, length, get_or, Bool, true, false, IsTrue, true≢false, refl, sym, ap, subst, arith, ◌∙◌}
 use Rattle.std.specs.Cmp.{IsTotalOrder}
 use Rattle.std.specs.List.{AllPairs}
-use Rattle.std.specs.Ordering.{is_lt, ordering_then, nat_cmp}
+use Rattle.std.specs.Ordering.{is_lt, is_eq, ordering_then, nat_cmp}
 use Rattle.std.specs.Cmp.Lexicographic.{slice_cmp}
 use Rattle.std.specs.declared.cmp.Ordering.{Ordering}
 use Rattle.std.specs.declared.cmp.Ordering.TheVariants.{Less, Equal, Greater}
 use Rattle.std.proofs.lemmas.Cmp.{nat_list_cmp_total, on_total, then_total, tied_itself}
 use Rattle.std.proofs.lemmas.Map.Lookups.{exact_bytes}
 use Rattle.std.proofs.lemmas.Bool.{cases_order}
+use Rattle.bim_model.specs.declared.element.Element.{Element}
 use Rattle.bim_model.specs.declared.keys.ElementKey.{ElementKey}
 use Rattle.bim_model.specs.Keys.{Subject, key_of, key_cmp, IsBelow}
 use Rattle.bim_model.proofs.Versions.{less}
 use Rattle.bucket_grid.specs.Subjects.{subject_at, nobody}
 use Rattle.bucket_check.specs.Sets.{IsSame}
+use Rattle.clash_delta.specs.Same.{IsLike}
 use Rattle.clash_delta.specs.Numbers.{HadNumber, AllBelow, IsReached}
 
 keys_total : IsTotalOrder key_cmp
@@ -66,3 +68,34 @@ module _ (before : List Subject) (rising : AllPairs IsBelow before) where
           where
             higher : (k l : ElementKey) → k ≡ l → is_lt (key_cmp (key_of (subject_at before old)) k) ≡ true → is_lt (key_cmp (key_of (subject_at before old)) l) ≡ true
             higher k l e h = subst (λ m. is_lt (key_cmp (key_of (subject_at before old)) m) ≡ true) e h
+
+-- ---- what is told of two elements by their keys and by what else decides
+is_equal : (o : Ordering) → is_eq o ≡ true → o ≡ Equal
+is_equal Less e = absurd (true≢false (sym e))
+is_equal Equal e = refl
+is_equal Greater e = absurd (true≢false (sym e))
+
+-- of one key
+pub same_key : (s t : Subject) (x y : Element) (o : Ordering) (b r : Bool) → x ≡ s.element → y ≡ t.element → o ≡ key_cmp (key_of s) (key_of t) → b ≡ is_eq o → b ≡ true → (IsTrue r ↔ IsLike x y) → IsTrue r ↔ IsSame s t
+same_key s t x y o b r e f g h i like =
+    let key : key_of s ≡ key_of t = equal_keys (key_of s) (key_of t) (sym g ∙ is_equal o (sym h ∙ i)) in (
+      λ yes.
+          let l : IsLike s.element t.element = subst (λ u. IsLike u t.element) e (subst (λ u. IsLike x u) f (like.0 yes)) in
+          record { key = key; class = l.class; storey = l.storey; triangles = l.triangles },
+      λ same.
+          let l : IsLike s.element t.element = record { class = same.class; storey = same.storey; triangles = same.triangles } in
+          like.1 (subst (λ u. IsLike u y) (sym e) (subst (λ u. IsLike s.element u) (sym f) l)),
+    )
+
+-- of two keys
+pub other_key : (s t : Subject) (o : Ordering) (r : Bool) → o ≡ key_cmp (key_of s) (key_of t) → r ≡ is_eq o → r ≡ false → IsTrue r ↔ IsSame s t
+other_key s t o r g h e = (
+  λ yes. absurd (true≢false (sym yes ∙ e)),
+  λ same.
+      let equal : o ≡ Equal = g ∙ ap (λ k. key_cmp k (key_of t)) same.key ∙ equal_itself (key_of t) in
+      h ∙ ap is_eq equal,
+)
+
+-- the element that is reached isn't below
+pub not_below : (s t : Subject) (o : Ordering) (b : Bool) → o ≡ key_cmp (key_of s) (key_of t) → b ≡ is_lt o → b ≡ false → IsBelow s t → ⊥
+not_below s t o b g h e below = true≢false (sym below ∙ ap is_lt (sym g) ∙ sym h ∙ e)

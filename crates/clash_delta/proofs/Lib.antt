@@ -8,4 +8,5 @@ pub mod Fresh
 pub mod Gathered
 pub mod Searched
 pub mod Before
+pub mod Marked
 pub mod Buckets

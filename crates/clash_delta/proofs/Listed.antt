@@ -175,5 +175,5 @@ module _ {A : Type 0} (p : A → Bool) where
         m,
         omega (arith, long),
         ap (λ u. get_or u m 0) parts ∙ get_or-append_right (reverse s.behind) (i ∷ reverse s.front) m m 0 refl (omega arith)
-        ∙ ap (λ n. get_or (i ∷ reverse s.front) n 0) (nothing_left m),
+            ∙ ap (λ n. get_or (i ∷ reverse s.front) n 0) (nothing_left m),
       )

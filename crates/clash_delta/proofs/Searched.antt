@@ -36,7 +36,7 @@ orders a b c h = by (cell_cmp a c) (cell_cmp b c) refl refl
       where
         unlike : Less ≡ Greater → ⊥
         unlike p = cc
-    by Greater Equal e f = absurd (unlike (sym (ap (λ k. cell_cmp a k) (sym (equal_cells b c f)) ) ∙ e) )
+    by Greater Equal e f = absurd (unlike (sym (ap (λ k. cell_cmp a k) (sym (equal_cells b c f))) ∙ e))
       where
         unlike : cell_cmp a b ≡ Greater → ⊥
         unlike p = clash (sym h ∙ p)

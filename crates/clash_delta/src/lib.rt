@@ -1,8 +1,5 @@
 //! Which buckets of a version are checked: those that were done in the version before and did not change are done
 //! from the start.
-//!
-//! Not proved yet, and may change: the clauses' names, and the fields of `IsMoved`. Calls, their arguments and what
-//! they say stay.
 #![tactic(auto)]
 
 mod carrying;

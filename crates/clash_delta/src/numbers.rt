@@ -1,21 +1,30 @@
 //! The numbers that the elements of a version had in the version before.
-ghost use Rattle.std.specs.Prelude.{◌≡◌, ◌↔◌, ◌<◌, ◌≤◌, length, IsTrue, IfOk};
+ghost use Rattle.std.specs.Prelude.{◌≡◌, ◌↔◌, ◌<◌, ◌≤◌, length, slice_index_or, IsTrue, IfOk};
+ghost use Rattle.bim_model.specs.declared.named_model.NamedModel.{NamedModel};
 ghost use Rattle.bim_model.specs.Keys.{key_of, key_cmp};
 ghost use Rattle.bucket_check.specs.Sets.{IsSame};
 ghost use Rattle.clash_delta.specs.Numbers.{subjects, subject_of, AllBelow, IsReached, IsNumberBefore, AreNumbersBefore};
 
 use crate::same::is_like;
-use bucket_grid::Grid;
+use bim_model::NamedModel;
+use bucket_grid::{Grid, Member};
 use std::alloc::{AllocError, Global};
 use std::cmp::Ordering;
+
+// The name of the model at a place.
+fn name_at(models: &[NamedModel], place: Member) -> &str
+    requires { place.model < length models.now }
+    ensures { (d : NamedModel) → result.now ≡ (slice_index_or models.now place.model d).name }
+{
+    models[place.model].name.as_str()
+}
 
 // The name of the model of an element.
 fn name_of(grid: &Grid, number: usize) -> &str
     requires { number < length grid.now.places }
     ensures { result.now ≡ (subject_of grid.now number).name }
 {
-    let place = grid.places()[number];
-    grid.models()[place.model].name.as_str()
+    name_at(grid.models(), grid.places()[number])
 }
 
 // The order of the keys of an element before and one after.
@@ -48,7 +57,8 @@ fn first_not_below(before: &Grid, old: usize, after: &Grid, new: usize) -> usize
     requires old { old ≤ length before.now.places }
     requires new { new < length after.now.places }
     requires below { AllBelow (subjects before.now) old (subject_of after.now new) }
-    ensures { IsReached (subjects before.now) (subject_of after.now new) result }
+    ensures within { result ≤ length before.now.places }
+    ensures reached { IsReached (subjects before.now) (subject_of after.now new) result }
 {
     let count = before.places().len();
     let mut number = old;

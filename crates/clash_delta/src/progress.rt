@@ -1,5 +1,6 @@
 //! How far the check of a grid's buckets has come.
-ghost use Rattle.std.specs.Prelude.{◌≡◌, ◌↔◌, ◌+◌, ◌<◌, ℕ, length, map, [], IfOk, IfSome, IsTrue, MatchOption, slice_get, slice_index_or, Some, None};
+ghost use Rattle.std.specs.Prelude.{◌≡◌, ◌↔◌, ◌+◌, ◌<◌, ◌++◌, ◌∷◌, [], ℕ, length, map, IfOk, OnOk, IfSome, IsSome, IsTrue, MatchOption, slice_get, slice_index_or, Some, None};
+ghost use Rattle.std.specs.Option.{unwrap_or};
 ghost use Rattle.std.specs.List.{AllZip};
 ghost use Rattle.bucket_grid.specs.Grids.{GridValue};
 ghost use Rattle.bucket_grid.specs.declared.cell.Cell.{Cell};
@@ -177,11 +178,23 @@ impl Progress {
     {
         let mut sets = Vec::with_capacity(alloc, self.slots.len())?;
         for slot in self.slots.as_slice() {
-            if let Some(set) = &slot.set {
-                sets.push(set.share()?)?;
-            }
+            add_set(slot, &mut sets)?;
         }
         Ok(sets)
+    }
+}
+
+// Adds the set of a bucket.
+fn add_set(slot: &Slot, sets: &mut Vec<Shared<BucketSet>>) -> Result<(), AllocError>
+    requires { IsSome slot.now.set }
+    ensures { OnOk result ((d : SetValue) → sets.new.items ≡ sets.old.items ++ unwrap_or slot.now.set d ∷ []) }
+{
+    match &slot.set {
+        Some(set) => {
+            sets.push(set.share()?)?;
+            Ok(())
+        }
+        None => Ok(()),
     }
 }
 

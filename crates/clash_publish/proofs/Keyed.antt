@@ -1,6 +1,6 @@
 -- The list of all clashes by keys.
-use Rattle.std.proofs.Common.{◌≡◌, ℕ, ◌<◌, inl, inr, List, [], ◌∷◌, length, get_or, map, true, IsTrue, refl, sym, ap, ap₂, subst, arith, ◌∙◌}
-use Rattle.std.specs.List.{All, AllPairs, Contains}
+use Rattle.std.proofs.Common.{◌≡◌, ℕ, ◌<◌, inl, inr, List, length, get_or, map, IsTrue, refl, sym, ap, ap₂, subst, arith, ◌∙◌}
+use Rattle.std.specs.List.{AllPairs, Contains}
 use Rattle.std.specs.declared.cmp.Ordering.{Ordering}
 use Rattle.std.specs.declared.cmp.Ordering.TheVariants.{Less, Equal, Greater}
 use Rattle.std.specs.Cmp.{IsTotalOrder}
@@ -20,7 +20,7 @@ use Rattle.bucket_check.specs.declared.pair.SetPair.{SetPair}
 use Rattle.bucket_check.specs.Clashes.{clashes, IsBefore}
 use Rattle.bucket_check.proofs.Lists.{all_have}
 use Rattle.clash_publish.specs.Listed.{element_of, ClashBy, IsClash, by_keys, IsKeyClash, IsKeyBefore}
-use Rattle.clash_publish.specs.Laws.{AreKeyClashes, ClashesAreListedByKeys}
+use Rattle.clash_publish.specs.Laws.{AreKeyClashes}
 use Rattle.clash_publish.proofs.Reasons.{listed}
 
 key_order : IsTotalOrder key_cmp
@@ -100,14 +100,14 @@ module _ (version : Version) (snapshot : IsSnapshot version.models) where
   in_order : (s t : Subject) (c : Contains (subjects_of version.models) s) (d : Contains (subjects_of version.models) t) → IsBelow s t → c.0 < d.0
   in_order s t c d h = elim (cases_order c.0 d.0) [
     | inl e ↦ absurd (let same : s ≡ t = sym (number_is s c) ∙ ap (element_of version) e ∙ number_is t d in
-      let back : IsTrue (is_key_below (key_of t) (key_of s)) = subst (λ x. IsTrue (is_key_below (key_of t) (key_of x))) (sym same) (subst (λ x. IsTrue (is_key_below (key_of x) (key_of t))) same h) in
-      not_back (key_of s) (key_of t) h back)
+        let back : IsTrue (is_key_below (key_of t) (key_of s)) = subst (λ x. IsTrue (is_key_below (key_of t) (key_of x))) (sym same) (subst (λ x. IsTrue (is_key_below (key_of x) (key_of t))) same h) in
+        not_back (key_of s) (key_of t) h back)
     | inr r ↦ elim r [
       | inl below ↦ below
       | inr above ↦ absurd (
-        let back : IsTrue (is_key_below (key_of (element_of version d.0)) (key_of (element_of version c.0))) = lower d.0 c.0 above c.1 in
-        not_back (key_of s) (key_of t) h
-        (subst (λ x. IsTrue (is_key_below (key_of t) (key_of x))) (number_is s c) (subst (λ x. IsTrue (is_key_below (key_of x) (key_of (element_of version c.0)))) (number_is t d) back)))
+          let back : IsTrue (is_key_below (key_of (element_of version d.0)) (key_of (element_of version c.0))) = lower d.0 c.0 above c.1 in
+          not_back (key_of s) (key_of t) h
+          (subst (λ x. IsTrue (is_key_below (key_of t) (key_of x))) (number_is s c) (subst (λ x. IsTrue (is_key_below (key_of x) (key_of (element_of version c.0)))) (number_is t d) back)))
     ]
   ]
 
@@ -132,7 +132,7 @@ module _ (version : Version) (snapshot : IsSnapshot version.models) where
       let all = all_have IsBefore (IsClash version) (clashes version) l in
       record {
         rising = map_pairs (by_keys version) IsKeyBefore none (clashes version)
-        (λ i j d below within. before (get_or (clashes version) i d) (get_or (clashes version) j d) (all i d (omega arith)) (all j d within) (l.rising i j d below within));
+            (λ i j d below within. before (get_or (clashes version) i d) (get_or (clashes version) j d) (all i d (omega arith)) (all j d within) (l.rising i j d below within));
         each = λ p c.
             All-contains (IsKeyClash version) (map (by_keys version) (clashes version)) p
             (All-map (IsKeyClash version) (by_keys version) (clashes version) (All-weaker (IsClash version) (λ q. IsKeyClash version (by_keys version q)) keyed (clashes version) all)) c;

@@ -1,6 +1,5 @@
 -- The list of all clashes has exactly the pairs that the definition names.
-use Rattle.std.proofs.Common.{◌≡◌, ℕ, zero, suc, ◌+◌, ◌<◌, Bool, true, false, cond, List, [], ◌∷◌, length, Option, Some, None, refl, sym, ap, subst, arith, ◌∙◌}
-use Rattle.std.specs.List.{Contains}
+use Rattle.std.proofs.Common.{◌≡◌, ℕ, suc, ◌+◌, Bool, true, false, cond, List, [], ◌∷◌, Option, Some, None, refl, sym, ap, arith, ◌∙◌}
 use Rattle.std.specs.Str.{bytes_eq}
 use Rattle.bim_model.specs.declared.element.Element.{Element}
 use Rattle.bim_model.specs.declared.rules.Rule.{Rule}
@@ -18,7 +17,7 @@ use Rattle.bucket_check.proofs.Lists.{Lists, lists_same, lists_one}
 use Rattle.bucket_check.proofs.Pairs.{once}
 use Rattle.bucket_check.proofs.Owned.{IsClash as IsFound, why, clashes_list}
 use Rattle.clash_publish.specs.Listed.{element_of, distance_at, ClashBy, IsClash}
-use Rattle.clash_publish.specs.Laws.{AreClashes, ClashesAreListed}
+use Rattle.clash_publish.specs.Laws.{ClashesAreListed}
 
 abbrev number_in : Option Found → ℕ
 number_in None = 0

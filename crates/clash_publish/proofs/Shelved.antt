@@ -1,5 +1,5 @@
 -- A shelf as a finite map.
-use Rattle.std.proofs.Common.{◌≡◌, ℕ, zero, suc, ◌+◌, ◌<◌, Bool, true, false, cond, eqb, ◌&&◌, List, [], ◌∷◌, ◌++◌, length, get_or, set, filter, Option, Some, None, true≢false, refl, sym, ap, subst, arith, ◌∙◌}
+use Rattle.std.proofs.Common.{◌≡◌, ℕ, zero, suc, ◌<◌, Bool, true, false, cond, eqb, ◌&&◌, List, [], ◌∷◌, ◌++◌, length, get_or, set, filter, Option, Some, None, refl, sym, ap, subst, arith, ◌∙◌}
 use Rattle.std.specs.List.{find}
 use Rattle.std.specs.Option.{option_map}
 use Rattle.std.proofs.lemmas.Bool.{and_parts, eqb-true}
@@ -76,7 +76,6 @@ module _ {X : Type 0} (t : X → Bool) where
     find_filter [] = neither b
     find_filter (x ∷ xs) = step (live x) (t x) x xs (filter live xs) refl refl (find_filter xs)
 
-
 set_chosen : (b : Bool) (y : Entry) (o : Option Entry) → option_map (λ (e : Entry). e.set) (cond b (Some y) o) ≡ cond b (Some y.set) (option_map (λ (e : Entry). e.set) o)
 set_chosen true y o = refl
 set_chosen false y o = refl
@@ -106,6 +105,7 @@ put_over entries new i project version set_now old made h is hit before e f p v 
   where
     same : is_of p v made ≡ (eqb project p && eqb version v)
     same = ap (is_of p v) e ∙ same_key old project version hit p v
+
     by : (b : Bool) → (eqb project p && eqb version v) ≡ b → set_of new p v ≡ cond (eqb project p && eqb version v) (Some set_now) (set_of entries p v)
     by true q =
         let keys = asked project version p v q in

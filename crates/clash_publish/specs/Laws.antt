@@ -1,5 +1,5 @@
 -- The list of all clashes of a version is determined.
-use Rattle.std.specs.Prelude.{◌≡◌, ◌↔◌, List, map, AllPairs, Contains}
+use Rattle.std.specs.Prelude.{◌≡◌, List, map, AllPairs, Contains}
 use Rattle.bim_model.specs.declared.keys.Pair.{Pair}
 use Rattle.bim_model.specs.Snapshots.{Version, IsSnapshot}
 use Rattle.bucket_check.specs.declared.pair.SetPair.{SetPair}

@@ -2,9 +2,7 @@
 ghost use Rattle.std.specs.Prelude.{◌≡◌, ◌<◌, IfOk};
 ghost use Rattle.clash_publish.specs.Merged.{AreSetsOf};
 
-use crate::{
-    Horizon, Published, Shelf, clashes_are_listed, clashes_are_listed_by_keys,
-};
+use crate::{Horizon, Published, Shelf, clashes_are_listed, clashes_are_listed_by_keys};
 use bim_model::{
     ClassTest, Element, Guid, Items, Model, ModelTest, NamedModel, PER_MM, Point, Rule, RuleKind,
     Rules, Shared, Snapshot, Steps, StoreyTest, Text, Triangle,
@@ -142,26 +140,31 @@ static BESIDE: [[i32; 3]; 2] = [[3950, 3950, 1500], [3950, 3950, 1510]];
 
 /// Three at one place, and one that comes near to the third alone; the cells that own them don't rise as they do.
 static LOW: [[i32; 3]; 3] = [[5000, 0, 0], [1500, 0, 0], [5000, 0, 40]];
+
 static HIGH: [[i32; 3]; 2] = [[1500, 0, 20], [5000, 0, 20]];
+
+/// The clashes of these models are exactly these pairs.
+fn has_clashes(
+    rt: &impl Abort,
+    alloc: Global,
+    models: Corners,
+    clashes: &[SetPair],
+) -> Result<(), Fail> {
+    let set = published(rt, alloc, models)?;
+    assert_eq!(rt; set.pairs(), clashes);
+    assert_eq!(rt; set.total(), clashes.len() as u64);
+    assert_eq!(rt; set.pair(0), clashes.first().copied());
+    Ok(())
+}
 
 #[test]
 fn lists_clashes(rt: HostRuntime) -> Result<(), Fail> {
     let alloc = rt.alloc();
-    let rows: [(Corners, &[SetPair]); 4] = [
-        (&[], &[]),
-        (&[("m", &APART)], &[pair(0, 1)]),
-        (&[("m", &BESIDE)], &[pair(0, 1)]),
-        (
-            &[("a", &LOW), ("b", &HIGH)],
-            &[pair(0, 2), pair(0, 4), pair(1, 3), pair(2, 4)],
-        ),
-    ];
-    for (models, clashes) in rows {
-        let set = published(&rt, alloc, models)?;
-        assert_eq!(rt; set.pairs(), clashes);
-        assert_eq!(rt; set.total(), clashes.len() as u64);
-        assert_eq!(rt; set.pair(0), clashes.first().copied());
-    }
+    let four = [pair(0, 2), pair(0, 4), pair(1, 3), pair(2, 4)];
+    has_clashes(&rt, alloc, &[], &[])?;
+    has_clashes(&rt, alloc, &[("m", &APART)], &[pair(0, 1)])?;
+    has_clashes(&rt, alloc, &[("m", &BESIDE)], &[pair(0, 1)])?;
+    has_clashes(&rt, alloc, &[("a", &LOW), ("b", &HIGH)], &four)?;
     clashes_are_listed();
     clashes_are_listed_by_keys();
     Ok(())
@@ -171,8 +174,10 @@ fn lists_clashes(rt: HostRuntime) -> Result<(), Fail> {
 fn tells_pages_and_keys(rt: HostRuntime) -> Result<(), Fail> {
     let alloc = rt.alloc();
     let set = published(&rt, alloc, &[("a", &LOW), ("b", &HIGH)])?;
-    assert_eq!(rt; set.page(1, 2), [pair(0, 4), pair(1, 3)].as_slice());
-    assert_eq!(rt; set.page(3, u64::MAX), [pair(2, 4)].as_slice());
+    let middle = [pair(0, 4), pair(1, 3)];
+    let last = [pair(2, 4)];
+    assert_eq!(rt; set.page(1, 2), middle.as_slice());
+    assert_eq!(rt; set.page(3, u64::MAX), last.as_slice());
     assert!(rt; set.page(4, 1).is_empty());
     assert!(rt; set.page(u64::MAX, u64::MAX).is_empty());
     assert_eq!(rt; set.pair(4), None);
@@ -213,6 +218,13 @@ fn keeps_live_versions(rt: HostRuntime) -> Result<(), Fail> {
     shelf.keep(&horizon);
     assert_eq!(rt; (has(&shelf, 1, 1), has(&shelf, 1, 2)), (None, Some(1)));
     assert_eq!(rt; (has(&shelf, 2, 1), has(&shelf, 9, 0)), (Some(1), Some(1)));
-    assert_eq!(rt; (horizon.newest_of(0), horizon.newest_of(8), horizon.newest_of(9)), (0, 3, 0));
+    assert_eq!(rt;
+        (
+            horizon.newest_of(0),
+            horizon.newest_of(8),
+            horizon.newest_of(9)
+        ),
+        (0, 3, 0)
+    );
     Ok(())
 }

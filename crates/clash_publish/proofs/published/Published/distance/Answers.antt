@@ -1,4 +1,4 @@
-use Rattle.std.proofs.Common.{◌≡◌, List, length, sym, ap, ◌∙◌}
+use Rattle.std.proofs.Common.{List, sym, ap, ◌∙◌}
 use Rattle.bim_model.specs.Snapshots.{Version}
 use Rattle.bim_model.specs.declared.rules.Rule.{Rule}
 use Rattle.bim_model.specs.declared.rules.RuleKind.TheVariants.{Clash, Ignore}

@@ -1,4 +1,4 @@
-use Rattle.std.proofs.Common.{◌≡◌, List, length, ap, sym, arith, ◌∙◌}
+use Rattle.std.proofs.Common.{List, ap, sym, arith, ◌∙◌}
 use Rattle.std.specs.Option.{option_map}
 use Rattle.clash_publish.specs.declared.entry.Entry.{Entry}
 use Rattle.clash_publish.specs.Shelves.{is_of, set_of}

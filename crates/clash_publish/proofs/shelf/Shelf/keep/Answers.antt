@@ -1,4 +1,4 @@
-use Rattle.std.proofs.Common.{◌≡◌, List, filter, ap, rules, ◌∙◌}
+use Rattle.std.proofs.Common.{filter, ap, rules, ◌∙◌}
 use Rattle.std.proofs.lemmas.Fn.{filter_same}
 use Rattle.clash_publish.specs.declared.entry.Entry.{Entry}
 use Rattle.clash_publish.specs.Shelves.{is_live}
