@@ -4,4 +4,4 @@ use Rattle.book_history.specs.Weights.{told}
 use Rattle.federation_book.proofs.state.State.left_all.Given as goal
 
 abbrev pub invariant-loop-index : goal.invariant-loop-index
-invariant-loop-index l = l.left ≡ told (sum_by (λ n. left_in (live_of n l.fn.self.now.entries.items)) (project_numbers l.index))
+invariant-loop-index l = l.left ≡ told (sum_by (λ n. left_in (live_of n l.fn.self.entries.items)) (project_numbers l.index))

@@ -6,4 +6,4 @@ use Rattle.federation_book.proofs.state.State.left_with.Given as goal
 
 abbrev pub invariant-loop-index : goal.invariant-loop-index
 invariant-loop-index l =
-    (x : ℕ) → l.fn.left ≡ told x → l.sum ≡ told (sum_by (left_if l.fn.self.now.entries.items l.fn.number x) (project_numbers l.index))
+    (x : ℕ) → l.fn.left ≡ told x → l.sum ≡ told (sum_by (left_if l.fn.self.entries.items l.fn.number x) (project_numbers l.index))
