@@ -1,4 +1,4 @@
-use Rattle.std.proofs.Common.{◌≡◌, length}
+use Rattle.std.proofs.Common.{◌≡◌, length, None}
 use Rattle.form_urlencoded.specs.Parse.{raw_pairs_left}
 use Rattle.bcf_http.specs.Queries.{given_by}
 use Rattle.bcf_http.proofs.query.given_by.Given as goal
