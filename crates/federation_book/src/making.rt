@@ -71,10 +71,7 @@ fn next_version(
     let count = elements_in(snapshot.get().models());
     let limit = limits.elements;
     if count > limit {
-        return Ok(NextVersion::Refused(BookFault::ElementsFull {
-            count,
-            limit,
-        }));
+        return Ok(NextVersion::Refused(BookFault::ElementsFull { count, limit }));
     }
     match grid_of(alloc, limits, &snapshot)? {
         Err(fault) => Ok(NextVersion::Refused(fault)),
@@ -248,7 +245,15 @@ pub fn remove(
     }
     let next = before.snapshot().get().without_model(alloc, name.as_str())?;
     let snapshot = Shared::new(alloc, next)?;
-    match make_version(state, number, stamp, Change::Remove { name }, snapshot, 0, 0)? {
+    match make_version(
+        state,
+        number,
+        stamp,
+        Change::Remove { name },
+        snapshot,
+        0,
+        0,
+    )? {
         Some(fault) => Ok(ReplyBody::Refused(fault)),
         None => Ok(whole_version_made(state, number)),
     }

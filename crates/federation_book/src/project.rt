@@ -36,6 +36,16 @@ pub fn left_in(versions: &[KeptVersion]) -> u64
     left
 }
 
+// Lets the first of seventeen versions go.
+fn keep_sixteen(versions: &mut Vec<KeptVersion>)
+    requires { length versions.old.items ≤ 17 }
+    ensures { versions.new.items ≡ live_in versions.old.items }
+{
+    if versions.len() > LIVE_VERSIONS as usize {
+        versions.remove(0);
+    }
+}
+
 impl Project {
     /// A project of which nothing was changed yet.
     pub fn new(alloc: Global) -> Result<Project, AllocError>
@@ -101,9 +111,7 @@ impl Project {
         ensures made { self.new.made ≡ self.old.made }
     {
         self.live.push_reserved(version);
-        if self.live.len() > LIVE_VERSIONS as usize {
-            self.live.remove(0);
-        }
+        keep_sixteen(&mut self.live);
         self.newest += 1;
     }
 }

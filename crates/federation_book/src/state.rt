@@ -147,13 +147,7 @@ impl State {
 
     /// Why a change isn't accepted by which so many triangles and bytes of texts come, and so many buckets of its
     /// project's live versions are to be checked after it.
-    pub fn store_full(
-        &self,
-        number: u32,
-        triangles: u64,
-        text: u64,
-        left: u64,
-    ) -> Option<BookFault>
+    pub fn store_full(&self, number: u32, triangles: u64, text: u64, left: u64) -> Option<BookFault>
         requires { IsKept self.now }
         ensures { (change : Change) → triangles ≡ triangles_of change → text ≡ told (text_of change)
             → left ≡ told (left_in (live_in (with_change (state_of number self.now.entries.items) change).versions))
