@@ -90,7 +90,8 @@ impl Project {
     /// How many buckets of live versions are to be checked, if another version were made of which so many are.
     pub fn left_with(&self, left: u64) -> u64
         requires { 0 < length self.now.live.items }
-        ensures { result ≡ told (left_in (drop (length self.now.live.items + 1 - LIVE_VERSIONS) self.now.live.items) + left) }
+        ensures { let live = self.now.live.items in
+            result ≡ told (left_in (drop (length live + 1 - LIVE_VERSIONS) live) + left) }
     {
         let live = self.live.as_slice();
         if live.len() < LIVE_VERSIONS as usize {
