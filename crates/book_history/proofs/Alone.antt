@@ -60,6 +60,7 @@ one_place es e i j rise a b h k = by (cases_eq i j)
     other : (i ≡ j → ⊥) → (i < j) ⊎ (j < i) → ⊥
     other ne (inl lt) = apart es e i j rise lt b h k
     other ne (inr lt) = apart es e j i rise lt a k h
+
     by : (i ≡ j) ⊎ (i ≡ j → ⊥) → i ≡ j
     by (inl e) = e
     by (inr ne) = absurd (other ne (split (cases_lt i j)))
@@ -101,6 +102,7 @@ same_buckets boxes (b ∷ bs) (c ∷ cs) h k e =
   where
     head_same : b.cell ∷ map (λ (x : Bucket). x.cell) bs ≡ c.cell ∷ map (λ (x : Bucket). x.cell) cs → b.cell ≡ c.cell
     head_same p = ap (λ (l : List Cell). get_or l 0 b.cell) p
+
     tail_same : b.cell ∷ map (λ (x : Bucket). x.cell) bs ≡ c.cell ∷ map (λ (x : Bucket). x.cell) cs → map (λ (x : Bucket). x.cell) bs ≡ map (λ (x : Bucket). x.cell) cs
     tail_same p = ap (drop 1) p
 

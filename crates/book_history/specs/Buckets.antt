@@ -17,7 +17,8 @@ cell_on low i j k = record { x = low +ℤ pos i; y = low +ℤ pos j; z = low +�
 -- the cells of so many numbers from one on, on each axis, by rising x, y and z
 unfoldable pub cube : ℤ → ℕ → List Cell
 cube low count =
-    flat_map (λ i. flat_map (λ j. flat_map (λ k. cell_on low i j k ∷ []) (upto count)) (upto count)) (upto count)
+    flat_map (λ i. flat_map (λ j. flat_map (λ k. cell_on low i j k ∷ []) (upto count)) (upto count))
+    (upto count)
 
 -- all cells that may hold a box of the grid
 abbrev pub cells_of_grid : List Cell

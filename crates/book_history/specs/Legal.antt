@@ -16,7 +16,8 @@ pub record IsGiven (settings : Settings) (history : List Entry) (work : BucketWo
   pub content : work.grid.version ≡ content_of work.project work.version history
   pub bucket : IsBucket work.grid.boxes work.cell
 
--- a bucket's clashes may be brought where its work is one of the history; every other request may be made at any time
+-- a bucket's clashes may be brought where its work is one of the history; every other request may be made
+-- at any time
 abbrev pub IsLegal : Settings → List Entry → BookRequest → Type 0
 IsLegal settings history (Finish set) = IsGiven settings history set.work
 IsLegal settings history _ = Unit {0}

@@ -35,7 +35,8 @@ newest_content project = (version_at project.versions (newest project)).content
 abbrev pub named_model : List ℕ → List Element → NamedModel
 named_model name model = record { name = name; model = model }
 
--- what the next version holds, where a change makes one: a model takes its place by name, or goes, or rules take theirs
+-- what the next version holds, where a change makes one: a model takes its place by name, or goes, or rules
+-- take theirs
 abbrev pub next_content : Version → Change → Option Version
 next_content content (change.PostTopic body author weight) = None
 next_content content (change.Upload name model) =
@@ -75,7 +76,10 @@ with_next project (Some content) = with_version project content
 -- the project after a change
 abbrev pub with_change : ProjectState → Change → ProjectState
 with_change project (change.PostTopic body author weight) = with_topic project body author
-with_change project (change.Upload name model) = with_next project (next_content (newest_content project) (change.Upload name model))
-with_change project (change.Remove name) = with_next project (next_content (newest_content project) (change.Remove name))
-with_change project (change.SetRules rules weight) = with_next project (next_content (newest_content project) (change.SetRules rules weight))
+with_change project (change.Upload name model) =
+    with_next project (next_content (newest_content project) (change.Upload name model))
+with_change project (change.Remove name) =
+    with_next project (next_content (newest_content project) (change.Remove name))
+with_change project (change.SetRules rules weight) =
+    with_next project (next_content (newest_content project) (change.SetRules rules weight))
 with_change project (change.BucketDone number cell) = with_bucket project number cell

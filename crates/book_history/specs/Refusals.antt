@@ -47,7 +47,8 @@ not_yet project number =
 -- .. or isn't one of the last sixteen
 abbrev pub dropped : ProjectState → ℕ → Option BookFault
 dropped project number =
-    if nat_le (number + LIVE_VERSIONS) (newest project) then Some (fault.VersionDropped number (newest project)) else None
+    if nat_le (number + LIVE_VERSIONS) (newest project)
+    then Some (fault.VersionDropped number (newest project)) else None
 
 -- buckets of it are still to be checked
 abbrev pub pending : ℕ → VersionState → Option BookFault
@@ -61,25 +62,29 @@ done_before version cell = if is_done version cell then Some fault.AlreadyDone e
 -- the newest version has no model of the name
 abbrev pub no_model : ProjectState → List ℕ → Option BookFault
 no_model project name =
-    if list_any (λ (m : NamedModel). bytes_eq m.name name) (newest_content project).models then None else Some fault.NoModel
+    if list_any (λ (m : NamedModel). bytes_eq m.name name) (newest_content project).models
+    then None else Some fault.NoModel
 
 -- the version that a change makes has too many elements
 abbrev pub elements_full : Limits → Option Version → Option BookFault
 elements_full limits None = None
 elements_full limits (Some content) =
-    if nat_lt limits.elements (elements_in content.models) then Some (fault.ElementsFull (told (elements_in content.models)) limits.elements) else None
+    if nat_lt limits.elements (elements_in content.models)
+    then Some (fault.ElementsFull (told (elements_in content.models)) limits.elements) else None
 
 -- .. or too many pairs of a cell and a member of it
 abbrev pub too_spread : Limits → Option Version → Option BookFault
 too_spread limits None = None
 too_spread limits (Some content) =
-    if nat_lt limits.memberships (memberships_of content) then Some (fault.TooSpread (memberships_of content) limits.memberships) else None
+    if nat_lt limits.memberships (memberships_of content)
+    then Some (fault.TooSpread (memberships_of content) limits.memberships) else None
 
 -- all accepted changes would have too many triangles with so many more
 abbrev pub triangles_if : Limits → List Entry → ℕ → Option BookFault
 triangles_if limits history more =
     let count = triangles_in history + more in
-    if nat_lt limits.triangles count then Some (fault.StoreFull Triangles (told count) limits.triangles) else None
+    if nat_lt limits.triangles count
+    then Some (fault.StoreFull Triangles (told count) limits.triangles) else None
 
 -- .. or too many bytes of texts
 abbrev pub text_if : Limits → List Entry → ℕ → Option BookFault
@@ -101,7 +106,8 @@ left_after projects history project change =
 abbrev pub journal_if : Settings → List Entry → ℕ → Option BookFault
 journal_if settings history left =
     let count = length history + left + 1 in
-    if nat_lt settings.limits.journal count then Some (fault.JournalFull (told count) settings.limits.journal) else None
+    if nat_lt settings.limits.journal count
+    then Some (fault.JournalFull (told count) settings.limits.journal) else None
 
 -- all accepted changes would hold too much with this one, or the journal would
 abbrev pub store_full : Settings → List Entry → ℕ → Change → List (Option BookFault)

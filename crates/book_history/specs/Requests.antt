@@ -107,7 +107,9 @@ order_for (o ∷ os) seat = Answer (reply.Work (slice_index_or (o ∷ os) (seat 
 abbrev pub finished : List Entry → SetValue → Outcome
 finished history set =
     let project = state_of set.work.project history in
-    unless (dropped project set.work.version ∷ done_before (version_at project.versions set.work.version) set.work.cell ∷ [])
+    unless
+    (dropped project set.work.version
+    ∷ done_before (version_at project.versions set.work.version) set.work.cell ∷ [])
     (Accepted set.work.project (change.BucketDone set.work.version set.work.cell))
 
 -- what becomes of a request at a history
@@ -115,7 +117,8 @@ abbrev pub outcome_of : Settings → List Entry → BookRequest → Outcome
 outcome_of settings history (request.ListTopics id) =
     in_project (project_of settings.projects id) (λ n. Answer (reply.TopicList (state_of n history).topics))
 outcome_of settings history (request.PostTopic id body author weight) =
-    in_project (project_of settings.projects id) (changed settings history (change.PostTopic body author weight))
+    in_project (project_of settings.projects id)
+    (changed settings history (change.PostTopic body author weight))
 outcome_of settings history (request.Upload id name model) =
     in_project (project_of settings.projects id) (changed settings history (change.Upload name model))
 outcome_of settings history (request.Remove id name) =
@@ -136,13 +139,17 @@ version_made elements triangles after =
 
 -- the reply to a change that was accepted, by the project before and after it
 abbrev pub reply_to : ProjectState → Change → ProjectState → ReplyBody
-reply_to before (change.PostTopic body author weight) after = reply.TopicIs (new_topic before.made body author)
+reply_to before (change.PostTopic body author weight) after =
+    reply.TopicIs (new_topic before.made body author)
 reply_to before (change.Upload name model) after = version_made (length model) (triangle_count model) after
 reply_to before (change.Remove name) after =
-    version_made (told (elements_in (newest_content after).models)) (told (triangles_among (newest_content after).models)) after
+    let models = (newest_content after).models in
+    version_made (told (elements_in models)) (told (triangles_among models)) after
 reply_to before (change.SetRules rules weight) after =
-    version_made (told (elements_in (newest_content after).models)) (told (triangles_among (newest_content after).models)) after
-reply_to before (change.BucketDone number cell) after = reply.Finished (length (version_at after.versions number).undone)
+    let models = (newest_content after).models in
+    version_made (told (elements_in models)) (told (triangles_among models)) after
+reply_to before (change.BucketDone number cell) after =
+    reply.Finished (length (version_at after.versions number).undone)
 
 -- the reply's body
 abbrev pub body_of : List Entry → Outcome → ReplyBody

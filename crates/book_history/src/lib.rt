@@ -12,13 +12,13 @@ mod weights;
 mod work;
 
 pub use book_turn::object::Stamp;
-pub use clash_publish::{Horizon, LIVE_VERSIONS};
 pub use changes::{Change, Entry};
+pub use clash_publish::{Horizon, LIVE_VERSIONS};
 pub use faults::{BookFault, StoreWhat};
 pub use laws::{grids_are_one, requests_stay_legal, work_stays_given};
 pub use limits::{
-    Limits, MOST_COMMENTS, MOST_ENTRIES, MOST_PROJECTS, MOST_TEXT, MOST_TOPICS,
-    MOST_VERSION_ELEMENTS, MOST_VERSION_MEMBERSHIPS, MOST_STORED_TRIANGLES, MOST_VIEWPOINTS, Settings,
+    Limits, MOST_COMMENTS, MOST_ENTRIES, MOST_PROJECTS, MOST_STORED_TRIANGLES, MOST_TEXT,
+    MOST_TOPICS, MOST_VERSION_ELEMENTS, MOST_VERSION_MEMBERSHIPS, MOST_VIEWPOINTS, Settings,
 };
 pub use replies::{BookReply, ReplyBody};
 pub use requests::{BookRequest, Wanted};

@@ -8,3 +8,4 @@ pub mod Taking
 pub mod Sizes
 pub mod Reading
 pub mod Advancing
+pub mod Starting

@@ -61,15 +61,20 @@ not_refused p s number k e = (made (nat_lt (newest s) number) refl, live (leb (n
   where
     is : newest s ≡ p.newest
     is = newest_is p s k
+
     low : (a b : ℕ) → nat_lt a b ≡ false → b ≤ a
     low a b t = grind (arith, nat_tests)
+
     under : (a b : ℕ) → leb a b ≡ false → b < a
     under a b t = grind (arith, nat_tests)
+
     some_none : (f : BookFault) → Some f ≡ None → ⊥
     some_none f p = cc
+
     made : (b : Bool) → nat_lt (newest s) number ≡ b → number ≤ p.newest
     made true t = absurd (some_none _ (sym (ap (λ (c : Bool). first_of ((if c then Some (fault.NoVersion (newest s)) else None) ∷ dropped s number ∷ [])) t) ∙ e))
     made false t = subst (λ n. number ≤ n) is (low (newest s) number t)
+
     live : (b : Bool) → leb (number + 16) (newest s) ≡ b → p.newest < number + 16
     live false t = subst (λ n. n < number + 16) is (under (number + 16) (newest s) t)
     live true t = both (nat_lt (newest s) number) refl

@@ -16,7 +16,8 @@ IsGridWithin limits content (Err f) = too_spread limits (Some content) ≡ Some 
 
 -- why the version isn't made
 abbrev pub too_large : Limits → Version → Option BookFault
-too_large limits content = first_of (elements_full limits (Some content) ∷ too_spread limits (Some content) ∷ [])
+too_large limits content =
+    first_of (elements_full limits (Some content) ∷ too_spread limits (Some content) ∷ [])
 
 -- the version that holds this, made after another one, or why it isn't made
 abbrev pub IsNext : Limits → VersionState → Version → NextVersion → Type 0

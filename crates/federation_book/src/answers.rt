@@ -109,7 +109,8 @@ pub fn read_clashes(
 ) -> Result<ReplyBody, AllocError>
     requires kept { IsKept state.old }
     requires number { IfSome number (λ n. (1 ≤ n) × (n ≤ length state.old.projects.items)) }
-    ensures reply { let outcome = in_project number (clashes_read state.old.entries.items wanted first count) in
+    ensures reply { let outcome = in_project number
+        (clashes_read state.old.entries.items wanted first count) in
         IfOk result (λ body. body ≡ body_of state.old.entries.items outcome) }
     ensures entries { state.new.entries.items ≡ state.old.entries.items }
     ensures settings { settings_of state.new ≡ settings_of state.old }

@@ -108,11 +108,7 @@ impl Book {
 }
 
 // Answers a request by all that is kept.
-fn act_on(
-    state: &mut State,
-    stamp: Stamp,
-    request: BookRequest,
-) -> Result<ReplyBody, AllocError>
+fn act_on(state: &mut State, stamp: Stamp, request: BookRequest) -> Result<ReplyBody, AllocError>
     requires kept { IsKept state.old }
     requires after { IsBefore stamp.turn state.old.entries.items }
     requires legal { IsLegal (settings_of state.old) state.old.entries.items request }
@@ -132,7 +128,14 @@ fn act_on(
             body,
             author,
             weight,
-        } => post_topic(state, project_of(count, project), stamp, body, author, weight),
+        } => post_topic(
+            state,
+            project_of(count, project),
+            stamp,
+            body,
+            author,
+            weight,
+        ),
         BookRequest::Upload {
             project,
             name,

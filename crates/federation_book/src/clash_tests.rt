@@ -6,7 +6,8 @@ ghost use Rattle.book_history.specs.Legal.{IsGiven};
 use crate::book::Book;
 use crate::desk::{are_clashes, ask, bring, is_changed, is_finished, is_refused, take, work};
 use crate::samples::{
-    four_pipes, one_pipe, to_post, to_read, to_remove, thousand_beams, to_set_rules, to_upload, two_pipes,
+    four_pipes, one_pipe, thousand_beams, to_post, to_read, to_remove, to_set_rules, to_upload,
+    two_pipes,
 };
 use bim_model::{Steps, id_of};
 use book_history::{BookFault, BookRequest, Limits, StoreWhat, Wanted};
@@ -34,16 +35,31 @@ fn versions<L: Ledger>(rt: &impl Abort, alloc: Global, steps: &mut Steps<L>) -> 
     let mut book = Book::new(alloc, 1, Limits::stated())?;
     let body = ask(&mut book, 1, to_set_rules(alloc, 50)?)?;
     is_changed(rt, &body, (1, 0, 0, 0))?;
-    let body = ask(&mut book, 2, to_upload(alloc, "m", four_pipes(alloc, 1700)?)?)?;
+    let body = ask(
+        &mut book,
+        2,
+        to_upload(alloc, "m", four_pipes(alloc, 1700)?)?,
+    )?;
     is_changed(rt, &body, (2, 4, 4, 2))?;
     assert_eq!(rt; book.left_all(), 2);
     work(rt, alloc, &mut book, 3, steps, 2, NEAR, 1)?;
     let body = ask(&mut book, 5, to_read(Wanted::Number(2)))?;
-    is_refused(rt, &body, BookFault::Pending { version: 2, left: 1 })?;
+    is_refused(
+        rt,
+        &body,
+        BookFault::Pending {
+            version: 2,
+            left: 1,
+        },
+    )?;
     work(rt, alloc, &mut book, 6, steps, 2, FAR, 0)?;
     let body = ask(&mut book, 8, to_read(Wanted::Number(2)))?;
     are_clashes(rt, &body, 2, &[PAIR])?;
-    let body = ask(&mut book, 9, to_upload(alloc, "m", four_pipes(alloc, 1640)?)?)?;
+    let body = ask(
+        &mut book,
+        9,
+        to_upload(alloc, "m", four_pipes(alloc, 1640)?)?,
+    )?;
     is_changed(rt, &body, (3, 4, 4, 1))?;
     work(rt, alloc, &mut book, 10, steps, 3, FAR, 0)?;
     let body = ask(&mut book, 12, to_read(Wanted::Number(3)))?;
@@ -62,7 +78,11 @@ fn versions<L: Ledger>(rt: &impl Abort, alloc: Global, steps: &mut Steps<L>) -> 
 fn carried<L: Ledger>(rt: &impl Abort, alloc: Global, steps: &mut Steps<L>) -> Result<(), Fail> {
     let mut book = Book::new(alloc, 1, Limits::stated())?;
     let _rules = ask(&mut book, 1, to_set_rules(alloc, 50)?)?;
-    let _model = ask(&mut book, 2, to_upload(alloc, "m", four_pipes(alloc, 1700)?)?)?;
+    let _model = ask(
+        &mut book,
+        2,
+        to_upload(alloc, "m", four_pipes(alloc, 1700)?)?,
+    )?;
     work(rt, alloc, &mut book, 3, steps, 2, NEAR, 1)?;
     work(rt, alloc, &mut book, 5, steps, 2, FAR, 0)?;
     let body = ask(&mut book, 7, to_upload(alloc, "a", one_pipe(alloc)?)?)?;
@@ -100,7 +120,14 @@ fn keeps_sixteen_versions(rt: HostRuntime) -> Result<(), Fail> {
         is_changed(&rt, &body, (turn, 0, 0, 0))?;
     }
     let body = ask(&mut book, 18, to_read(Wanted::Number(1)))?;
-    is_refused(&rt, &body, BookFault::VersionDropped { version: 1, newest: 17 })?;
+    is_refused(
+        &rt,
+        &body,
+        BookFault::VersionDropped {
+            version: 1,
+            newest: 17,
+        },
+    )?;
     let body = ask(&mut book, 19, to_read(Wanted::Number(2)))?;
     are_clashes(&rt, &body, 2, &[])?;
     let body = ask(&mut book, 20, to_read(Wanted::Number(18)))?;
@@ -133,7 +160,11 @@ fn across<L: Ledger>(rt: &impl Abort, alloc: Global, steps: &mut Steps<L>) -> Re
 // A bucket that is brought twice, one of a version that was dropped meanwhile, and the seats.
 fn late<L: Ledger>(rt: &impl Abort, alloc: Global, steps: &mut Steps<L>) -> Result<(), Fail> {
     let mut book = Book::new(alloc, 1, Limits::stated())?;
-    let _model = ask(&mut book, 1, to_upload(alloc, "m", four_pipes(alloc, 1700)?)?)?;
+    let _model = ask(
+        &mut book,
+        1,
+        to_upload(alloc, "m", four_pipes(alloc, 1700)?)?,
+    )?;
     let far = take(rt, &mut book, 2, 1, 1, FAR)?;
     let near = take(rt, &mut book, 3, 2, 1, NEAR)?;
     let body = bring(alloc, &mut book, 4, far, steps)?;
@@ -166,21 +197,95 @@ fn second(
 fn refuses_what_is_too_much(rt: HostRuntime) -> Result<(), Fail> {
     let alloc = rt.alloc();
     let stated = Limits::stated();
-    let one = |name: &str| -> Result<BookRequest, Fail> { Ok(to_upload(alloc, name, one_pipe(alloc)?)?) };
-    second(&rt, alloc, Limits { triangles: 1, ..stated }, one("m")?, one("m")?,
-        BookFault::StoreFull { what: StoreWhat::Triangles, count: 2, limit: 1 })?;
-    second(&rt, alloc, Limits { text: 167, ..stated }, one("m")?, one("m")?,
-        BookFault::StoreFull { what: StoreWhat::Text, count: 168, limit: 167 })?;
-    second(&rt, alloc, Limits { text: 61, ..stated }, to_set_rules(alloc, 50)?, to_post(alloc, id_of(1, 0), "Pipe")?,
-        BookFault::StoreFull { what: StoreWhat::Text, count: 62, limit: 61 })?;
-    second(&rt, alloc, Limits { journal: 1, ..stated }, to_set_rules(alloc, 50)?, to_set_rules(alloc, 50)?,
-        BookFault::JournalFull { count: 2, limit: 1 })?;
-    second(&rt, alloc, Limits { journal: 3, ..stated }, to_set_rules(alloc, 50)?, to_upload(alloc, "m", four_pipes(alloc, 1700)?)?,
-        BookFault::JournalFull { count: 4, limit: 3 })?;
-    second(&rt, alloc, Limits { elements: 1, ..stated }, to_set_rules(alloc, 50)?, to_upload(alloc, "m", four_pipes(alloc, 1700)?)?,
-        BookFault::ElementsFull { count: 4, limit: 1 })?;
-    second(&rt, alloc, Limits { memberships: 3, ..stated }, to_set_rules(alloc, 50)?, to_upload(alloc, "m", four_pipes(alloc, 1700)?)?,
-        BookFault::TooSpread { count: 4, limit: 3 })?;
+    let one = |name: &str| -> Result<BookRequest, Fail> {
+        Ok(to_upload(alloc, name, one_pipe(alloc)?)?)
+    };
+    second(
+        &rt,
+        alloc,
+        Limits {
+            triangles: 1,
+            ..stated
+        },
+        one("m")?,
+        one("m")?,
+        BookFault::StoreFull {
+            what: StoreWhat::Triangles,
+            count: 2,
+            limit: 1,
+        },
+    )?;
+    second(
+        &rt,
+        alloc,
+        Limits {
+            text: 167,
+            ..stated
+        },
+        one("m")?,
+        one("m")?,
+        BookFault::StoreFull {
+            what: StoreWhat::Text,
+            count: 168,
+            limit: 167,
+        },
+    )?;
+    second(
+        &rt,
+        alloc,
+        Limits { text: 61, ..stated },
+        to_set_rules(alloc, 50)?,
+        to_post(alloc, id_of(1, 0), "Pipe")?,
+        BookFault::StoreFull {
+            what: StoreWhat::Text,
+            count: 62,
+            limit: 61,
+        },
+    )?;
+    second(
+        &rt,
+        alloc,
+        Limits {
+            journal: 1,
+            ..stated
+        },
+        to_set_rules(alloc, 50)?,
+        to_set_rules(alloc, 50)?,
+        BookFault::JournalFull { count: 2, limit: 1 },
+    )?;
+    second(
+        &rt,
+        alloc,
+        Limits {
+            journal: 3,
+            ..stated
+        },
+        to_set_rules(alloc, 50)?,
+        to_upload(alloc, "m", four_pipes(alloc, 1700)?)?,
+        BookFault::JournalFull { count: 4, limit: 3 },
+    )?;
+    second(
+        &rt,
+        alloc,
+        Limits {
+            elements: 1,
+            ..stated
+        },
+        to_set_rules(alloc, 50)?,
+        to_upload(alloc, "m", four_pipes(alloc, 1700)?)?,
+        BookFault::ElementsFull { count: 4, limit: 1 },
+    )?;
+    second(
+        &rt,
+        alloc,
+        Limits {
+            memberships: 3,
+            ..stated
+        },
+        to_set_rules(alloc, 50)?,
+        to_upload(alloc, "m", four_pipes(alloc, 1700)?)?,
+        BookFault::TooSpread { count: 4, limit: 3 },
+    )?;
     Ok(())
 }
 

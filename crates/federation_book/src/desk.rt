@@ -4,8 +4,8 @@ ghost use Rattle.book_history.specs.History.{IsBefore};
 ghost use Rattle.book_history.specs.Legal.{IsLegal, IsGiven};
 
 use crate::book::Book;
-use book_history::{BookFault, BookRequest, ReplyBody, Stamp};
 use bim_model::{Shared, Steps};
+use book_history::{BookFault, BookRequest, ReplyBody, Stamp};
 use bucket_check::{BucketWork, Room, SetPair, check};
 use bucket_grid::Cell;
 use std::alloc::{AllocError, Global};

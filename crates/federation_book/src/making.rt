@@ -71,10 +71,7 @@ fn next_version(
     let count = elements_in(snapshot.get().models());
     let limit = limits.elements;
     if count > limit {
-        return Ok(NextVersion::Refused(BookFault::ElementsFull {
-            count,
-            limit,
-        }));
+        return Ok(NextVersion::Refused(BookFault::ElementsFull { count, limit }));
     }
     match grid_of(alloc, limits, &snapshot)? {
         Err(fault) => Ok(NextVersion::Refused(fault)),
@@ -82,7 +79,8 @@ fn next_version(
     }
 }
 
-// Makes the version of a change, unless something is full. By the change so many triangles and bytes of texts come.
+// Makes the version of a change, unless something is full. By the change so many triangles and bytes of texts
+// come.
 fn make_version(
     state: &mut State,
     number: u32,
@@ -96,10 +94,12 @@ fn make_version(
     requires after { IsBefore stamp.turn state.old.entries.items }
     requires low { 1 ≤ number }
     requires high { number ≤ length state.old.projects.items }
-    requires next { next_content (newest_content (state_of number state.old.entries.items)) change ≡ Some snapshot }
+    requires next { next_content (newest_content (state_of number state.old.entries.items)) change
+        ≡ Some snapshot }
     requires triangles { triangles ≡ triangles_of change }
     requires text { text ≡ told (text_of change) }
-    ensures fault { IfOk result (λ f. f ≡ first_of (full (settings_of state.old) state.old.entries.items number change)) }
+    ensures fault { IfOk result (λ f. f
+        ≡ first_of (full (settings_of state.old) state.old.entries.items number change)) }
     ensures added { IfOk result (λ f. state.new.entries.items
         ≡ state.old.entries.items ++ unless_refused f (entry_of stamp number change)) }
     ensures settings { settings_of state.new ≡ settings_of state.old }
@@ -177,9 +177,11 @@ pub fn upload(
     requires kept { IsKept state.old }
     requires after { IsBefore stamp.turn state.old.entries.items }
     requires number { IfSome number (λ n. (1 ≤ n) × (n ≤ length state.old.projects.items)) }
-    ensures reply { let outcome = in_project number (changed (settings_of state.old) state.old.entries.items (Change.Upload name model)) in
+    ensures reply { let outcome = in_project number
+        (changed (settings_of state.old) state.old.entries.items (Change.Upload name model)) in
         IfOk result (λ body. body ≡ body_of state.old.entries.items outcome) }
-    ensures added { let outcome = in_project number (changed (settings_of state.old) state.old.entries.items (Change.Upload name model)) in
+    ensures added { let outcome = in_project number
+        (changed (settings_of state.old) state.old.entries.items (Change.Upload name model)) in
         OnOk result (state.new.entries.items ≡ state.old.entries.items ++ listed (entry_by stamp outcome)) }
     ensures settings { settings_of state.new ≡ settings_of state.old }
     ensures kept { IsKept state.new }
@@ -229,9 +231,11 @@ pub fn remove(
     requires kept { IsKept state.old }
     requires after { IsBefore stamp.turn state.old.entries.items }
     requires number { IfSome number (λ n. (1 ≤ n) × (n ≤ length state.old.projects.items)) }
-    ensures reply { let outcome = in_project number (removed (settings_of state.old) state.old.entries.items name) in
+    ensures reply { let outcome = in_project number
+        (removed (settings_of state.old) state.old.entries.items name) in
         IfOk result (λ body. body ≡ body_of state.old.entries.items outcome) }
-    ensures added { let outcome = in_project number (removed (settings_of state.old) state.old.entries.items name) in
+    ensures added { let outcome = in_project number
+        (removed (settings_of state.old) state.old.entries.items name) in
         OnOk result (state.new.entries.items ≡ state.old.entries.items ++ listed (entry_by stamp outcome)) }
     ensures settings { settings_of state.new ≡ settings_of state.old }
     ensures kept { IsKept state.new }
@@ -248,7 +252,15 @@ pub fn remove(
     }
     let next = before.snapshot().get().without_model(alloc, name.as_str())?;
     let snapshot = Shared::new(alloc, next)?;
-    match make_version(state, number, stamp, Change::Remove { name }, snapshot, 0, 0)? {
+    match make_version(
+        state,
+        number,
+        stamp,
+        Change::Remove { name },
+        snapshot,
+        0,
+        0,
+    )? {
         Some(fault) => Ok(ReplyBody::Refused(fault)),
         None => Ok(whole_version_made(state, number)),
     }
@@ -265,9 +277,11 @@ pub fn set_rules(
     requires kept { IsKept state.old }
     requires after { IsBefore stamp.turn state.old.entries.items }
     requires number { IfSome number (λ n. (1 ≤ n) × (n ≤ length state.old.projects.items)) }
-    ensures reply { let outcome = in_project number (changed (settings_of state.old) state.old.entries.items (Change.SetRules rules weight)) in
+    ensures reply { let outcome = in_project number
+        (changed (settings_of state.old) state.old.entries.items (Change.SetRules rules weight)) in
         IfOk result (λ body. body ≡ body_of state.old.entries.items outcome) }
-    ensures added { let outcome = in_project number (changed (settings_of state.old) state.old.entries.items (Change.SetRules rules weight)) in
+    ensures added { let outcome = in_project number
+        (changed (settings_of state.old) state.old.entries.items (Change.SetRules rules weight)) in
         OnOk result (state.new.entries.items ≡ state.old.entries.items ++ listed (entry_by stamp outcome)) }
     ensures settings { settings_of state.new ≡ settings_of state.old }
     ensures kept { IsKept state.new }

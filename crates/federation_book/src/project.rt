@@ -36,6 +36,16 @@ pub fn left_in(versions: &[KeptVersion]) -> u64
     left
 }
 
+// Lets the first of seventeen versions go.
+fn keep_sixteen(versions: &mut Vec<KeptVersion>)
+    requires { length versions.old.items ≤ 17 }
+    ensures { versions.new.items ≡ live_in versions.old.items }
+{
+    if versions.len() > LIVE_VERSIONS as usize {
+        versions.remove(0);
+    }
+}
+
 impl Project {
     /// A project of which nothing was changed yet.
     pub fn new(alloc: Global) -> Result<Project, AllocError>
@@ -80,7 +90,8 @@ impl Project {
     /// How many buckets of live versions are to be checked, if another version were made of which so many are.
     pub fn left_with(&self, left: u64) -> u64
         requires { 0 < length self.now.live.items }
-        ensures { result ≡ told (left_in (drop (length self.now.live.items + 1 - LIVE_VERSIONS) self.now.live.items) + left) }
+        ensures { let live = self.now.live.items in
+            result ≡ told (left_in (drop (length live + 1 - LIVE_VERSIONS) live) + left) }
     {
         let live = self.live.as_slice();
         if live.len() < LIVE_VERSIONS as usize {
@@ -101,9 +112,7 @@ impl Project {
         ensures made { self.new.made ≡ self.old.made }
     {
         self.live.push_reserved(version);
-        if self.live.len() > LIVE_VERSIONS as usize {
-            self.live.remove(0);
-        }
+        keep_sixteen(&mut self.live);
         self.newest += 1;
     }
 }

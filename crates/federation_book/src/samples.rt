@@ -75,9 +75,21 @@ fn beam(alloc: Global, number: i32) -> Result<Element, Fail> {
     }
     let mut triangles = Items::new(alloc);
     triangles.push(Triangle {
-        a: Point { x: 0, y: 0, z: number },
-        b: Point { x: 1000, y: 0, z: number.checked_add(1000).ok_or("a height")? },
-        c: Point { x: 0, y: 1000, z: number },
+        a: Point {
+            x: 0,
+            y: 0,
+            z: number,
+        },
+        b: Point {
+            x: 1000,
+            y: 0,
+            z: number.checked_add(1000).ok_or("a height")?,
+        },
+        c: Point {
+            x: 0,
+            y: 1000,
+            z: number,
+        },
     })?;
     Ok(Element {
         guid: Guid::read(&chars).ok_or("an identifier")?,
@@ -98,7 +110,11 @@ pub fn thousand_beams(alloc: Global) -> Result<Shared<Model>, Fail> {
 }
 
 /// A model is put in its place.
-pub fn to_upload(alloc: Global, name: &str, model: Shared<Model>) -> Result<BookRequest, AllocError> {
+pub fn to_upload(
+    alloc: Global,
+    name: &str,
+    model: Shared<Model>,
+) -> Result<BookRequest, AllocError> {
     Ok(BookRequest::Upload {
         project: id_of(1, 0),
         name: Text::of(alloc, name)?,

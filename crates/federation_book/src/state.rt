@@ -51,7 +51,8 @@ impl State {
     fn left_with(&self, number: u32, left: u64) -> u64
         requires { IsKept self.now }
         ensures { (x : ℕ) → left ≡ told x
-            → result ≡ told (sum_by (left_if self.now.entries.items number x) (project_numbers (length self.now.projects.items))) }
+            → result ≡ told (sum_by (left_if self.now.entries.items number x)
+            (project_numbers (length self.now.projects.items))) }
     {
         let mut sum = 0_u64;
         for index in 0..self.projects.len() {
@@ -102,7 +103,8 @@ impl State {
     fn journal_full(&self, number: u32, left: u64) -> Option<BookFault>
         requires { IsKept self.now }
         ensures { (x : ℕ) → left ≡ told x → result ≡ journal_if (settings_of self.now) self.now.entries.items
-            (sum_by (left_if self.now.entries.items number x) (project_numbers (length self.now.projects.items))) }
+            (sum_by (left_if self.now.entries.items number x)
+            (project_numbers (length self.now.projects.items))) }
     {
         let count = (self.entries.len() as u64)
             .saturating_add(self.left_with(number, left))
@@ -147,16 +149,11 @@ impl State {
 
     /// Why a change isn't accepted by which so many triangles and bytes of texts come, and so many buckets of its
     /// project's live versions are to be checked after it.
-    pub fn store_full(
-        &self,
-        number: u32,
-        triangles: u64,
-        text: u64,
-        left: u64,
-    ) -> Option<BookFault>
+    pub fn store_full(&self, number: u32, triangles: u64, text: u64, left: u64) -> Option<BookFault>
         requires { IsKept self.now }
         ensures { (change : Change) → triangles ≡ triangles_of change → text ≡ told (text_of change)
-            → left ≡ told (left_in (live_in (with_change (state_of number self.now.entries.items) change).versions))
+            → left ≡ told (left_in (live_in
+            (with_change (state_of number self.now.entries.items) change).versions))
             → result ≡ first_of (store_full (settings_of self.now) self.now.entries.items number change) }
     {
         if let Some(fault) = self.triangles_full(triangles) {

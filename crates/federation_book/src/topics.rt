@@ -23,9 +23,11 @@ pub fn post_topic(
     requires kept { IsKept state.old }
     requires after { IsBefore stamp.turn state.old.entries.items }
     requires number { IfSome number (λ n. (1 ≤ n) × (n ≤ length state.old.projects.items)) }
-    ensures reply { let outcome = in_project number (changed (settings_of state.old) state.old.entries.items (Change.PostTopic body author weight)) in
+    ensures reply { let outcome = in_project number
+        (changed (settings_of state.old) state.old.entries.items (Change.PostTopic body author weight)) in
         IfOk result (λ body. body ≡ body_of state.old.entries.items outcome) }
-    ensures added { let outcome = in_project number (changed (settings_of state.old) state.old.entries.items (Change.PostTopic body author weight)) in
+    ensures added { let outcome = in_project number
+        (changed (settings_of state.old) state.old.entries.items (Change.PostTopic body author weight)) in
         OnOk result (state.new.entries.items ≡ state.old.entries.items ++ listed (entry_by stamp outcome)) }
     ensures settings { settings_of state.new ≡ settings_of state.old }
     ensures kept { IsKept state.new }
@@ -63,7 +65,8 @@ pub fn post_topic(
 pub fn list_topics(state: &State, number: Option<u32>) -> Result<ReplyBody, AllocError>
     requires kept { IsKept state.now }
     requires number { IfSome number (λ n. (1 ≤ n) × (n ≤ length state.now.projects.items)) }
-    ensures { let outcome = in_project number (λ n. Answer (ReplyBody.TopicList (topics_of n state.now.entries.items))) in
+    ensures { let outcome = in_project number
+        (λ n. Answer (ReplyBody.TopicList (topics_of n state.now.entries.items))) in
         IfOk result (λ body. body ≡ body_of state.now.entries.items outcome) }
 {
     let Some(number) = number else {

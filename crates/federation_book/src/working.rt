@@ -37,7 +37,8 @@ fn order_in(project: &Project, number: u32, place: u64) -> Result<WorkOrder, All
 /// Gives a bucket out, the one that the seat is given.
 pub fn take_work(state: &State, seat: u32) -> Result<ReplyBody, AllocError>
     requires { IsKept state.now }
-    ensures { let outcome = order_for (all_orders (length state.now.projects.items) state.now.entries.items) seat in
+    ensures { let outcome = order_for
+        (all_orders (length state.now.projects.items) state.now.entries.items) seat in
         IfOk result (λ body. body ≡ body_of state.now.entries.items outcome) }
 {
     let total = state.left_all();
