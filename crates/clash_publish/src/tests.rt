@@ -28,7 +28,9 @@ fn corner(x: i32, y: i32, z: i32) -> Option<Point> {
 
 /// A level triangle whose two short sides are a decimetre long.
 fn triangle(low: [i32; 3]) -> Option<Triangle> {
-    let [x, y, z] = low;
+    let x = low[0];
+    let y = low[1];
+    let z = low[2];
     Some(Triangle {
         a: corner(x, y, z)?,
         b: corner(x.checked_add(100)?, y, z)?,
@@ -99,15 +101,18 @@ fn sets<L: Ledger>(
     let mut steps = Steps::<L>::new(blank);
     let mut room = Room::new(alloc);
     let mut sets = Vec::new(alloc);
-    for bucket in grid.get().buckets() {
+    let buckets = grid.get().buckets();
+    for bucket in buckets {
+        let shared = grid.share()?;
         let work = BucketWork {
             project: 1,
             version: 1,
             cell: bucket.cell,
-            grid: grid.share()?,
+            grid: shared,
         };
         let set = check(alloc, work, &mut room, &mut steps)?;
-        sets.push(Shared::new(alloc, set)?)?;
+        let kept = Shared::new(alloc, set)?;
+        sets.push(kept)?;
     }
     Ok(sets)
 }
@@ -118,9 +123,10 @@ fn published(rt: &impl Abort, alloc: Global, models: Corners) -> Result<Publishe
     let Ok(grid) = Grid::of(alloc, version) else {
         return Err(Fail::from("no grid"));
     };
-    let grid = Shared::new(alloc, grid)?;
-    let sets = sets::<Brand>(Blank::new(1), alloc, &grid)?;
-    Ok(Published::of(alloc, grid, &sets)?)
+    let shared = Shared::new(alloc, grid)?;
+    let sets = sets::<Brand>(Blank::new(1), alloc, &shared)?;
+    let set = Published::of(alloc, shared, &sets)?;
+    Ok(set)
 }
 
 fn pair(a: u32, b: u32) -> SetPair {
@@ -181,7 +187,9 @@ fn tells_pages_and_keys(rt: HostRuntime) -> Result<(), Fail> {
     assert!(rt; set.page(4, 1).is_empty());
     assert!(rt; set.page(u64::MAX, u64::MAX).is_empty());
     assert_eq!(rt; set.pair(4), None);
-    let third = set.pair(2).ok_or("a third clash")?;
+    let Some(third) = set.pair(2) else {
+        return Err(Fail::from("no third clash"));
+    };
     assert_eq!(rt; set.model_name(third.a), "a");
     assert_eq!(rt; set.model_name(third.b), "b");
     assert_eq!(rt; set.element(third.a).guid.chars, *b"0000000000000000000001");

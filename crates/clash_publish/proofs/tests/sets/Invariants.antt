@@ -6,4 +6,4 @@ use Rattle.clash_publish.specs.Merged.{IsSetOf}
 use Rattle.clash_publish.proofs.tests.sets.Given as goal
 
 abbrev pub invariant-loop-bucket : goal.invariant-loop-bucket
-invariant-loop-bucket l = AllZip (λ (b : Bucket) (s : SetValue). IsSetOf l.grid b.cell s) (take l.bucket-index l.bucket-items) l.sets.items
+invariant-loop-bucket g l = AllZip (λ (b : Bucket) (s : SetValue). IsSetOf l.grid b.cell s) (take l.bucket-index l.buckets) l.sets.items
