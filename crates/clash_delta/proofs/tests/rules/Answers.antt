@@ -11,4 +11,4 @@ one list old rule e f is =
     record { few = omega (arith, ap length all); each = All-same IsRule list (rule ∷ []) all (All-cons IsRule rule [] is (All-nil IsRule)) }
 
 pub from_vec-requires : goal.from_vec-requires
-from_vec-requires c = one _ c.new-list.result.items _ c.in_ok-push.ensures.items c.new-list.ensures.items (record { a = tt; b = tt; level = tt; near = omega arith })
+from_vec-requires c = one _ c.new-list.result.items _ c.in_ok-push.ensures.items c.new-list.ensures.items (record { a = tt; b = tt; level = tt; near = omega (arith, c.requires) })
