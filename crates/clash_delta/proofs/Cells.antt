@@ -36,4 +36,3 @@ less_more buckets cell i b h e lower before k d lt = by (cases_eq k i)
     by : (k ≡ i) ⊎ (k ≡ i → ⊥) → cell_cmp (get_or buckets k d).cell cell ≡ Less
     by (inl same) = ap (λ j. cell_cmp (get_or buckets j d).cell cell) same ∙ ap (λ (x : Bucket). cell_cmp x.cell cell) (get_or_default buckets i d b h ∙ sym e) ∙ lower
     by (inr ne) = before k d (omega (arith, lt, ne))
-
