@@ -1,6 +1,7 @@
 #!/usr/bin/env python3
-"""Times the framing of bodies: bench/bodies.py PROGRAM. One upload whose body is blanks (no Part 21 file, so it is refused
-at its front), by length and in chunks of 8 KiB, of 8 to 32 MiB; and the same of 1 MiB in pieces of one byte. Prints the
+"""Times the framing of bodies: bench/bodies.py PROGRAM. One upload whose body is question marks: no token of
+Part 21 begins so, so it is refused at its first byte, and nothing goes over the rest but the framing. By length and in
+chunks of 8 KiB, of 8 to 32 MiB, read in pieces of 16 KiB; and the same of up to 1 MiB in pieces of one byte. Prints the
 least of seven runs, and the speed by what the larger body takes more."""
 import subprocess
 import sys
@@ -12,11 +13,11 @@ MIB = 1 << 20
 
 
 def by_length(size):
-    return f"PUT {TARGET} HTTP/1.1\r\nHost: h\r\nContent-Length: {size}\r\n\r\n".encode() + b" " * size
+    return f"PUT {TARGET} HTTP/1.1\r\nHost: h\r\nContent-Length: {size}\r\n\r\n".encode() + b"?" * size
 
 
 def in_chunks(size, most=8192):
-    chunk = f"{most:x}\r\n".encode() + b" " * most + b"\r\n"
+    chunk = f"{most:x}\r\n".encode() + b"?" * most + b"\r\n"
     head = f"PUT {TARGET} HTTP/1.1\r\nHost: h\r\nTransfer-Encoding: chunked\r\n\r\n".encode()
     return head + chunk * (size // most) + b"0\r\n\r\n"
 

@@ -133,6 +133,18 @@ post.write('{{"title":');
 post.end('"Pipe"}}');
 """
 
+def by_chromium(place):
+    return command("chromium", "--headless", "--no-sandbox", "--disable-gpu", "--no-first-run",
+                   "--user-data-dir=" + os.path.join(place, "chromium"), "--dump-dom", TOPICS)
+
+
+def by_firefox(place):
+    profile = os.path.join(place, "firefox")
+    os.makedirs(profile, exist_ok=True)
+    return command("firefox-esr", "--headless", "--no-remote", "--profile", profile,
+                   "--screenshot", os.path.join(place, "seen.png"), TOPICS)
+
+
 def main():
     folder = sys.argv[1]
     os.makedirs(folder, exist_ok=True)
@@ -157,6 +169,8 @@ def main():
             "requests": by_requests,
             "urllib": by_urllib,
             "node": command("node", "-e", NODE),
+            "chromium": by_chromium(place),
+            "firefox": by_firefox(place),
         }
         for name, call in clients.items():
             record(folder, name, call)

@@ -1,6 +1,6 @@
 -- The events that a session reads.
-use Rattle.std.proofs.Common.{◌≡◌, ℕ, ◌+◌, Bool, true, false, List, [], ◌∷◌, ◌++◌, ◌||◌, refl, sym, ap, ◌∙◌, subst, add_assoc, add-zero, zero-add, arith}
-use Rattle.http_frame.specs.Events.{Event, Ending, IsTold, Spells}
+use Rattle.std.proofs.Common.{◌≡◌, ℕ, ◌+◌, Bool, true, false, List, [], ◌∷◌, ◌++◌, ◌||◌, refl, sym, ap, ◌∙◌, subst, add_assoc, arith}
+use Rattle.http_frame.specs.Events.{Event, Ending, Spells}
 use Rattle.http_frame.specs.Events as frame
 use Rattle.http_frame.proofs.EventLaws.{begins_stays, asks_stays, begins_settles, told_stays}
 use Rattle.bim_session.specs.Session.{Reads, counted, requests, closes, is_closed}

@@ -1,5 +1,5 @@
 -- From what the framer and the parts of a talk answer to what a talk wants.
-use Rattle.std.proofs.Common.{◌≡◌, ◌⊎◌, ℕ, ◌+◌, ◌≤◌, length, arith, Bool, true, false, List, [], ◌∷◌, ◌++◌, Option, Some, None, Result, Ok, Err, IfOk, OnOk, OnErr, inl, inr, refl, sym, ap, ◌∙◌, subst}
+use Rattle.std.proofs.Common.{◌≡◌, ◌⊎◌, ℕ, ◌+◌, ◌≤◌, length, arith, Bool, true, false, List, [], ◌∷◌, Option, Some, None, Result, Ok, Err, IfOk, OnOk, OnErr, inl, inr, refl, sym, ap, ◌∙◌, subst}
 use Rattle.std.specs.declared.alloc.AllocError.{AllocError}
 use Rattle.http_frame.specs.declared.types.HttpRequest.{HttpRequest}
 use Rattle.http_frame.specs.declared.types.FrameFault.{FrameFault}
@@ -15,7 +15,7 @@ use Rattle.bim_session.specs.declared.end.SessionEnd.{SessionEnd}
 use Rattle.bim_session.specs.declared.want.Want.{Want}
 use Rattle.bim_session.specs.declared.want.Want.TheVariants.{More, Write, Call, Leave}
 use Rattle.bim_session.specs.Session.{closes_after, continue_bytes, IsFaultResponse}
-use Rattle.bim_session.specs.Talking.{TalkState, IsOwnLeaving, IsOwnWant, GrowsBy, Feeds, is_end, Wants, StopsNext, LacksNext, Talks, TakesRequest, Writes, WantsFor, AtRest, StopsShort, waiting_for, with_answer, with_call, with_fault, with_framer, with_memory, asks_change, IsCallable}
+use Rattle.bim_session.specs.Talking.{TalkState, IsOwnLeaving, IsOwnWant, GrowsBy, Feeds, is_end, Wants, StopsNext, TakesRequest, Writes, WantsFor, AtRest, waiting_for, with_answer, with_call, with_fault, with_framer, asks_change, IsCallable}
 
 pub none_of : (o : Option SessionEnd) → ((e : SessionEnd) → o ≡ Some e → ⊥) → o ≡ None
 none_of None not_some = refl
@@ -192,16 +192,3 @@ pub stops_taken_on : (result : Result Want AllocError) (old new : TalkState) (f 
     → OnErr result (new ≡ with_framer f old) → OnErr result (StopsNext a b old new)
 stops_taken_on (Ok want) old new f m r a b steps gives is = tt
 stops_taken_on (Err e) old new f m r a b steps gives is = stops_taken old new f m r a b steps gives (ap (λ (s : TalkState). s.framer) is)
-
--- want of memory ended the talk
-pub lacks_next : (old mid new : TalkState) (a b : ClockSeen) → old.leaving ≡ None → mid ≡ with_framer mid.framer old → StopsNext a b old mid
-    → new ≡ with_memory mid → LacksNext a b old new
-lacks_next old mid new a b here same stops is = λ rest told stands.
-    let s = stops rest told stands in
-    let framer : new.framer ≡ mid.framer = ap (λ (t : TalkState). t.framer) is in
-    let state : new ≡ with_memory (with_framer new.framer old) =
-    is ∙ ap with_memory same ∙ ap (λ (g : Framer). with_memory (with_framer g old)) (sym framer) in
-    (s.0, s.1, (here, short rest told s.0 mid new framer s.2, state))
-  where
-    short : (rest : List ℕ) (told : Bool) (moments : List ℕ) (mid new : TalkState) → new.framer ≡ mid.framer → StopsShort rest told moments mid → StopsShort rest told moments new
-    short rest told moments mid new framer stops = subst (λ (g : Framer). (moments ≡ []) ⊎ TakesRequest rest told moments g) (sym framer) stops

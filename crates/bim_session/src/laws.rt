@@ -1,5 +1,5 @@
 //! What follows of the definitions alone.
-ghost use Rattle.std.specs.Prelude.{◌≡◌, ℕ, List, ◌++◌, Bool};
+ghost use Rattle.std.specs.Prelude.{ℕ, List, ◌++◌, Bool};
 ghost use Rattle.http_frame.specs.Events.{Event, Ending, Spells};
 ghost use Rattle.bim_session.specs.Session.{Reads};
 ghost use Rattle.bim_session.specs.Replay.{NoneIsPending};

@@ -5,8 +5,7 @@ use Rattle.std.proofs.lemmas.Nat.{pow_pos}
 use Rattle.std.proofs.Math.Arith.{digits_mod}
 use Rattle.std.proofs.Math.Seq.{take-add}
 use Rattle.std.proofs.lemmas.Nat.{div-add-mod'}
-use Rattle.std.proofs.lemmas.List.{length-take-le, take-take, drop-take, drop-drop, length-drop, append_cancel_left, take_all}
-use Rattle.std.specs.List.{take-map}
+use Rattle.std.proofs.lemmas.List.{length-take-le, drop-take, drop-drop, length-drop, append_cancel_left, take_all}
 use Rattle.std.proofs.lemmas.List.{drop-map}
 use lib.Pow.{shr-shr}
 use lib.Lanes.{mask_l}
@@ -59,13 +58,6 @@ pub bits_of : {A : Type 0} (p : A → Bool) (xs : List A) (at from end whole : �
 bits_of p xs at from end whole h k e =
     ap (λ n. n / 2 ^ (from - at)) e ∙ mask_drop (map p (take (end - at) (drop at xs))) (from - at)
     ∙ ap mask_l (drop-map p (from - at) (take (end - at) (drop at xs))) ∙ ap (λ l. mask_l (map p l)) (part_of xs at from end h k)
-
--- the bits of the first n of a list, of those of a block of eight that reaches over its end
-pub block_bits : {A : Type 0} (p : A → Bool) (xs : List A) (at n count : ℕ) → n ≤ 8 → at + n ≤ count → mask_l (map p (take 8 (drop at xs))) % 2 ^ n ≡ mask_l (map p (take n (drop at (take count xs))))
-block_bits p xs at n count h k =
-    let parts : at + (count - at) ≡ count = omega arith in
-    mask_take (map p (take 8 (drop at xs))) n ∙ ap mask_l (take-map p n (take 8 (drop at xs)))
-    ∙ ap (λ l. mask_l (map p l)) (take-take n 8 (drop at xs) h ∙ sym (take-take n (count - at) (drop at xs) (omega arith)) ∙ ap (take n) (sym (drop-take at (count - at) xs) ∙ ap (λ m. drop at (take m xs)) parts))
 
 module _ {A : Type 0} (p : A → Bool) where
   -- one part and the next

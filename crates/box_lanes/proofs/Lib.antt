@@ -1,5 +1,5 @@
 pub mod Axes
-pub mod Sides
+pub mod Eights
 pub mod Places
 pub mod Bits
 pub mod Reach

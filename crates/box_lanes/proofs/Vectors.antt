@@ -1,11 +1,11 @@
 -- A vector of comparisons, lane by lane.
-use Rattle.std.proofs.Common.{◌≡◌, ℕ, ◌+◌, ◌-◌, ◌%◌, ◌^◌, ◌≤◌, ℤ, Bool, true, false, ◌&&◌, cond, List, [], ◌∷◌, map, length, take, drop, replicate, refl, sym, ap, ap₂, ◌∙◌, of_z, arith}
+use Rattle.std.proofs.Common.{◌≡◌, ℕ, ◌-◌, ◌%◌, ◌^◌, ℤ, Bool, true, false, ◌&&◌, cond, List, [], ◌∷◌, map, length, replicate, refl, sym, ap, ap₂, ◌∙◌, of_z, arith}
 use Rattle.std.specs.List.{All}
 use Rattle.std.proofs.lemmas.Int.{to_z-of_z}
-use Rattle.std.proofs.lemmas.List.{length-map, take-map, drop-map, take-take}
+use Rattle.std.proofs.lemmas.List.{length-map}
 use Rattle.std.proofs.lemmas.List.Elements.{All-head, All-tail}
 use Rattle.std.proofs.lemmas.Simd.{mask_l-mod}
-use lib.Lanes.{top, zip2, mask_l, chunk}
+use lib.Lanes.{top, zip2, mask_l}
 use lib.Signed.{le_z}
 use borrow.Rule.Simd.Lanes.{act2}
 use borrow.Table.Row.{s_int}
@@ -34,13 +34,6 @@ top-lane false = refl
 
 at_most-lanes : (x y : ℤ) → SFits w32 x → SFits w32 y → at_most (of_z w32 x) (of_z w32 y) ≡ lane (le_z x y)
 at_most-lanes x y X Y = rw (to_z-of_z w32 x X, to_z-of_z w32 y Y)
-
--- eight numbers of a column, loaded
-pub column : {A : Type 0} (side : A → ℤ) (boxes : List A) (at : ℕ) {numbers : List ℤ} → numbers ≡ map side boxes → at + 8 ≤ length boxes
-    → chunk 0 8 (take (length numbers - at) (drop at numbers)) ≡ map side (chunk at 8 boxes)
-column side boxes at {numbers} e h =
-    let long : 8 ≤ length numbers - at = omega (arith, ap length e, length-map boxes side) in
-    take-take 8 (length numbers - at) (drop at numbers) long ∙ ap (λ l. take 8 (drop at l)) e ∙ ap (take 8) (drop-map side at boxes) ∙ take-map side 8 (drop at boxes)
 
 module _ {A : Type 0} where
   abbrev pub Fit : (A → ℤ) → A → Type 0

@@ -1,3 +1,3 @@
 pub mod Places
-pub mod Columns
+pub mod Blocks
 pub mod Lanes

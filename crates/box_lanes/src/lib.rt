@@ -1,7 +1,7 @@
 //! Boxes along the axes, filtered by their gap to a box, eight at a time.
 #![tactic(auto)]
 
-mod columns;
+mod blocks;
 mod plain;
 mod table;
 #[cfg(test)]

@@ -3,11 +3,10 @@ ghost use Rattle.std.specs.Prelude.{◌≡◌, ◌+◌, ◌-◌, ◌*◌, ◌/�
 ghost use Rattle.std.specs.Simd.Lanes.{mask_l, chunk};
 ghost use Rattle.bim_model.specs.declared.geometry.Extent.{Extent};
 ghost use Rattle.bim_model.specs.Gaps.{is_within};
-ghost use Rattle.box_lanes.specs.Columns.{AreSides, AreFilled};
 ghost use Rattle.box_lanes.specs.Places.{box_at, places_from, part, places_within, later_within};
 ghost use Rattle.box_lanes.specs.Lanes.{meets, Fits32};
 
-use crate::columns::{Columns, LANES};
+use crate::blocks::{Block, LANES, fill, fill_by};
 use bim_model::{Extent, Point};
 use std::alloc::{AllocError, Global};
 use std::marker::Model;
@@ -17,7 +16,7 @@ use std::simd::prelude::*;
 #[derive(Drop)]
 pub struct BoxTable {
     // The boxes, and behind them so many others that all are a multiple of eight.
-    columns: Columns,
+    blocks: Vec<Block>,
     count: usize,
 }
 
@@ -27,7 +26,7 @@ impl Model for BoxTable {
 
     ghost Value = { List Extent };
 
-    ghost use Rattle.box_lanes.specs.Columns.{boxes_in, IsTable};
+    ghost use Rattle.box_lanes.specs.Blocks.{boxes_in, IsTable};
 
     ghost view = { boxes_in };
 
@@ -40,7 +39,7 @@ impl BoxTable {
         ensures { result ≡ [] }
     {
         BoxTable {
-            columns: Columns::new(alloc),
+            blocks: Vec::new(alloc),
             count: 0,
         }
     }
@@ -51,11 +50,10 @@ impl BoxTable {
         requires { length boxes.now < 2 ^ 32 }
         ensures { IfOk result (λ table. table ≡ boxes.now) }
     {
-        let mut columns = Columns::new(alloc);
-        columns.extend(boxes)?;
-        columns.pad()?;
+        let mut blocks = Vec::new(alloc);
+        fill(&mut blocks, boxes)?;
         Ok(BoxTable {
-            columns,
+            blocks,
             count: boxes.len(),
         })
     }
@@ -69,14 +67,14 @@ impl BoxTable {
         ensures err { OnErr result (self.new ≡ []) }
     {
         self.count = 0;
-        self.columns.clear();
-        match fill(&mut self.columns, boxes, places) {
+        self.blocks.clear();
+        match fill_by(&mut self.blocks, boxes, places) {
             Ok(()) => {
                 self.count = places.len();
                 Ok(())
             }
             Err(error) => {
-                self.columns.clear();
+                self.blocks.clear();
                 Err(error)
             }
         }
@@ -190,13 +188,14 @@ impl BoxTable {
         ensures { (n : ℕ) → n ≤ 8 → at + n ≤ length self.now
             → result % 2 ^ n ≡ mask_l (map (meets reach.now) (take n (drop at self.now))) }
     {
-        let columns = &self.columns;
-        let x = i32x8::from_slice(&columns.x.low[at..]).simd_le(i32x8::splat(reach.high.x))
-            & i32x8::from_slice(&columns.x.high[at..]).simd_ge(i32x8::splat(reach.low.x));
-        let y = i32x8::from_slice(&columns.y.low[at..]).simd_le(i32x8::splat(reach.high.y))
-            & i32x8::from_slice(&columns.y.high[at..]).simd_ge(i32x8::splat(reach.low.y));
-        let z = i32x8::from_slice(&columns.z.low[at..]).simd_le(i32x8::splat(reach.high.z))
-            & i32x8::from_slice(&columns.z.high[at..]).simd_ge(i32x8::splat(reach.low.z));
+        let _blocks = self.blocks.as_slice();
+        let block = &self.blocks[at / LANES];
+        let x = i32x8::from_array(block.low_x).simd_le(i32x8::splat(reach.high.x))
+            & i32x8::from_array(block.high_x).simd_ge(i32x8::splat(reach.low.x));
+        let y = i32x8::from_array(block.low_y).simd_le(i32x8::splat(reach.high.y))
+            & i32x8::from_array(block.high_y).simd_ge(i32x8::splat(reach.low.y));
+        let z = i32x8::from_array(block.low_z).simd_le(i32x8::splat(reach.high.z))
+            & i32x8::from_array(block.high_z).simd_ge(i32x8::splat(reach.low.z));
         (x & y & z).to_bitmask()
     }
 }
@@ -211,16 +210,6 @@ fn block_end(from: usize, count: usize) -> usize
 {
     let end = from / LANES * LANES + LANES;
     if end < count { end } else { count }
-}
-
-// The boxes at these places, and behind them so many others that all are a multiple of eight.
-fn fill(columns: &mut Columns, boxes: &[Extent], places: &[u32]) -> Result<(), AllocError>
-    requires { All (λ n. n < length boxes.now) places.now }
-    ensures { OnOk result (AreSides columns.old [] → AreFilled columns.new (map (box_at boxes.now) places.now)) }
-{
-    columns.extend_by(boxes, places)?;
-    columns.pad()?;
-    Ok(())
 }
 
 /// The box grown by `grow` on each side, as far as 32 bits go.

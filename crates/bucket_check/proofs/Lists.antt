@@ -46,9 +46,6 @@ contains_filter t (y ∷ ys) x e c = passed_in t y ys x e (λ d. contains_filter
 pub all_have : {X : Type 0} (R : X → X → Type 0) (P : X → Type 0) (xs : List X) → Lists R P xs → All P xs
 all_have R P xs l i d h = l.each (get_or xs i d) (Contains-get_or xs i d h)
 
-pub lists_same : {X : Type 0} (R : X → X → Type 0) (P Q : X → Type 0) (xs : List X) → ((x : X) → P x → Q x) → ((x : X) → Q x → P x) → Lists R P xs → Lists R Q xs
-lists_same R P Q xs f g l = record { rising = l.rising; each = λ x c. f x (l.each x c); all = λ x q. l.all x (g x q) }
-
 -- those of them that pass a test
 pub lists_filter : {X : Type 0} (R : X → X → Type 0) (P : X → Type 0) (t : X → Bool) (xs : List X) → Lists R P xs → Lists R (λ x. P x × (t x ≡ true)) (filter t xs)
 lists_filter R P t xs l = record {

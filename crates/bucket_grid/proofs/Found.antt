@@ -1,5 +1,5 @@
 -- The element of a number.
-use Rattle.std.proofs.Common.{◌≡◌, ℕ, ◌<◌, eqb, List, length, get_or, refl, sym, ap, subst, arith, ◌∙◌}
+use Rattle.std.proofs.Common.{◌≡◌, ℕ, ◌<◌, eqb, List, length, get_or, refl, sym, ap, subst, ◌∙◌}
 use Rattle.std.specs.Str.{bytes_eq}
 use Rattle.std.proofs.lemmas.Bool.Decides.{Decides-eqb, Decides-like, same_from_decides}
 use Rattle.std.proofs.lemmas.Slice.Eq.{bytes_eq-Decides}
@@ -9,13 +9,12 @@ use Rattle.bim_model.proofs.Rising.{places_are_names}
 use Rattle.std.specs.List.{AllZip}
 use Rattle.std.proofs.lemmas.List.{get_or_default}
 use Rattle.bim_model.specs.declared.element.Element.{Element}
-use Rattle.bim_model.specs.declared.geometry.Extent.{Extent}
 use Rattle.bim_model.specs.declared.named_model.NamedModel.{NamedModel}
 use Rattle.bucket_grid.specs.declared.subjects.Member.{Member}
 use Rattle.bim_model.specs.Keys.{Subject, subjects_of}
-use Rattle.bucket_grid.specs.Subjects.{subject_at, nobody, IsBoxOf}
+use Rattle.bucket_grid.specs.Subjects.{subject_at, nobody}
 use Rattle.bucket_grid.specs.Places.{IsPlace}
-use Rattle.bucket_grid.proofs.Zips.{zip_at, zip_length}
+use Rattle.bucket_grid.proofs.Zips.{zip_at}
 
 abbrev none : Member
 none = record { model = 0; element = 0 }
@@ -37,18 +36,6 @@ pub element_in : (models : List NamedModel) (s : Subject) (p : Member) (m : Name
 element_in models s p m es i e f =
     let all : i.named.model ≡ es = sym (f ∙ ap (λ (n : NamedModel). n.model) (named_is models s p m i e)) in
     subst (λ (l : List Element). p.element < length l) all i.element_in
-
--- a number of a box is a number of an element, and of a place
-pub in_places : (models : List NamedModel) (boxes : List Extent) (places : List Member) (n : ℕ) → AllZip IsBoxOf (subjects_of models) boxes → AllZip (IsPlace models) (subjects_of models) places → n < length boxes → (n < length (subjects_of models)) × (n < length places)
-in_places models boxes places n b p h =
-    let l = zip_length IsBoxOf (subjects_of models) boxes b in
-    let m = zip_length (IsPlace models) (subjects_of models) places p in
-    (omega (arith, l, h), omega (arith, l, m, h))
-
-pub place_of : (models : List NamedModel) (boxes : List Extent) (places : List Member) (n : ℕ) (d p : Member) → AllZip IsBoxOf (subjects_of models) boxes → AllZip (IsPlace models) (subjects_of models) places → n < length boxes → p ≡ get_or places n d → IsPlace models (subject_at (subjects_of models) n) p
-place_of models boxes places n d p b z h e =
-    let i = in_places models boxes places n b z h in
-    place_at models places n p z i.0 (e ∙ get_or_default places n d none i.1)
 
 pub model_within : (models : List NamedModel) (s : Subject) (p : Member) (d : NamedModel) → (i : IsPlace models s p) → p.element < length (get_or models p.model d).model
 model_within models s p d i = element_in models s p (get_or models p.model d) (get_or models p.model d).model i (get_or_default models p.model d (get_or models p.model d) i.model_in) refl

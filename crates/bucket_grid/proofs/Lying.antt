@@ -1,5 +1,5 @@
 -- Boxes that lie in some cells of an axis.
-use Rattle.std.proofs.Common.{◌≡◌, ℕ, ◌+◌, ◌<◌, ◌≤◌, ℤ, pos, ◌+ℤ◌, ◌≤ℤ◌, List, length, get_or, take, sym, subst, arith, ◌∙◌}
+use Rattle.std.proofs.Common.{◌≡◌, ℕ, ◌+◌, ◌<◌, ◌≤◌, ℤ, pos, ◌+ℤ◌, ◌-ℤ◌, ◌≤ℤ◌, List, All, length, get_or, take, sym, subst, arith, ◌∙◌}
 use Rattle.std.proofs.lemmas.Int.{ints}
 use Rattle.std.proofs.lemmas.Bool.{cases_eq}
 use Rattle.std.proofs.lemmas.List.{take_all, get_or_push, get_or_append_left, length_push}
@@ -11,27 +11,39 @@ use Rattle.std.proofs.lemmas.List.Elements.{All-more, All-weaker}
 use Rattle.bim_model.specs.declared.geometry.Extent.{Extent}
 use Rattle.bucket_grid.specs.declared.axis.Axis.{Axis}
 use Rattle.bucket_grid.specs.Cells.{first_cell, last_cell}
+use Rattle.bucket_grid.specs.declared.cell.TheConstants.{GROWTH}
 use Rattle.bucket_grid.specs.Axes.{low_on, high_on, LieIn}
+use Rattle.bucket_grid.proofs.Owners.{cell_of_rises}
 
 through : (a b c : ℤ) → a ≤ℤ b → b ≤ℤ c → a ≤ℤ c
 through a b c x y = omega (arith, ints)
 
-wider : (axis : Axis) (low high l h : ℤ) (xs : List Extent) → l ≤ℤ low → high ≤ℤ h → LieIn axis low high xs → LieIn axis l h xs
-wider axis low high l h xs a b lie = record {
-  above = All-weaker (λ (e : Extent). low ≤ℤ first_cell (low_on axis e)) (λ (e : Extent). l ≤ℤ first_cell (low_on axis e)) (λ e t. through _ _ _ a t) xs lie.above;
-  below = All-weaker (λ (e : Extent). last_cell (high_on axis e) ≤ℤ high) (λ (e : Extent). last_cell (high_on axis e) ≤ℤ h) (λ e t. through _ _ _ t b) xs lie.below;
+-- no box starts below a side, with one box more
+pub above_more : (axis : Axis) (least l f : ℤ) (xs : List Extent) (i : ℕ) (d : Extent) → i < length xs → All (λ (e : Extent). least ≤ℤ low_on axis e) (take i xs) → l ≤ℤ least → f ≡ low_on axis (get_or xs i d) → l ≤ℤ f → All (λ (e : Extent). l ≤ℤ low_on axis e) (take (i + 1) xs)
+above_more axis least l f xs i d lt all a e c =
+    All-more (λ (e : Extent). l ≤ℤ low_on axis e) xs i d lt
+    (All-weaker (λ (e : Extent). least ≤ℤ low_on axis e) (λ (e : Extent). l ≤ℤ low_on axis e) (λ e t. through _ _ _ a t) (take i xs) all) (subst (λ z. l ≤ℤ z) e c)
+
+-- none ends above a side
+pub below_more : (axis : Axis) (greatest h t : ℤ) (xs : List Extent) (i : ℕ) (d : Extent) → i < length xs → All (λ (e : Extent). high_on axis e ≤ℤ greatest) (take i xs) → greatest ≤ℤ h → t ≡ high_on axis (get_or xs i d) → t ≤ℤ h → All (λ (e : Extent). high_on axis e ≤ℤ h) (take (i + 1) xs)
+below_more axis greatest h t xs i d lt all b e c =
+    All-more (λ (e : Extent). high_on axis e ≤ℤ h) xs i d lt
+    (All-weaker (λ (e : Extent). high_on axis e ≤ℤ greatest) (λ (e : Extent). high_on axis e ≤ℤ h) (λ e u. through _ _ _ u b) (take i xs) all) (subst (λ z. z ≤ℤ h) e c)
+
+shifted : (a b : ℤ) → a ≤ℤ b → (a -ℤ GROWTH) ≤ℤ (b -ℤ GROWTH)
+shifted a b h = omega (arith, ints)
+
+grown : (a b : ℤ) → a ≤ℤ b → (a +ℤ GROWTH) ≤ℤ (b +ℤ GROWTH)
+grown a b h = omega (arith, ints)
+
+-- boxes between two sides lie in the cells from that of the one to that of the other
+pub lie_between : (axis : Axis) (least greatest l h : ℤ) (xs : List Extent) (i : ℕ) → length xs ≤ i → All (λ (e : Extent). least ≤ℤ low_on axis e) (take i xs) → All (λ (e : Extent). high_on axis e ≤ℤ greatest) (take i xs) → l ≤ℤ first_cell least → last_cell greatest ≤ℤ h → LieIn axis l h xs
+lie_between axis least greatest l h xs i n above below a b = record {
+  above = All-weaker (λ (e : Extent). least ≤ℤ low_on axis e) (λ (e : Extent). l ≤ℤ first_cell (low_on axis e)) (λ e t. through _ _ _ a (cell_of_rises (least -ℤ GROWTH) (low_on axis e -ℤ GROWTH) (shifted _ _ t))) xs
+      (subst (All (λ (e : Extent). least ≤ℤ low_on axis e)) (take_all i xs n) above);
+  below = All-weaker (λ (e : Extent). high_on axis e ≤ℤ greatest) (λ (e : Extent). last_cell (high_on axis e) ≤ℤ h) (λ e t. through _ _ _ (cell_of_rises (high_on axis e +ℤ GROWTH) (greatest +ℤ GROWTH) (grown _ _ t)) b) xs
+      (subst (All (λ (e : Extent). high_on axis e ≤ℤ greatest)) (take_all i xs n) below);
 }
-
-pub lie_more : (axis : Axis) (low high l h f t : ℤ) (xs : List Extent) (i : ℕ) (d : Extent) → i < length xs → LieIn axis low high (take i xs) → l ≤ℤ low → high ≤ℤ h → f ≡ first_cell (low_on axis (get_or xs i d)) → t ≡ last_cell (high_on axis (get_or xs i d)) → l ≤ℤ f → t ≤ℤ h → LieIn axis l h (take (i + 1) xs)
-lie_more axis low high l h f t xs i d lt lie a b e g c k =
-    let w = wider axis low high l h (take i xs) a b lie in
-    record {
-      above = All-more (λ (e : Extent). l ≤ℤ first_cell (low_on axis e)) xs i d lt w.above (subst (λ z. l ≤ℤ z) e c);
-      below = All-more (λ (e : Extent). last_cell (high_on axis e) ≤ℤ h) xs i d lt w.below (subst (λ z. z ≤ℤ h) g k);
-    }
-
-pub lie_all : (axis : Axis) (low high l h : ℤ) (xs : List Extent) (i : ℕ) → length xs ≤ i → LieIn axis low high (take i xs) → l ≤ℤ low → high ≤ℤ h → LieIn axis l h xs
-lie_all axis low high l h xs i n lie a b = subst (LieIn axis l h) (take_all i xs n) (wider axis low high l h (take i xs) a b lie)
 
 spans_by : (low : ℤ) (first last : ℕ → ℤ) (n : ℕ) (old : List Span) (s : Span) (i : ℕ) → AreSpans low first last n old → low +ℤ pos s.first ≡ first n → low +ℤ pos s.last ≡ last n → i < n + 1 → (i ≡ n) ⊎ (i ≡ n → ⊥) → (low +ℤ pos (span_at (old ++ s ∷ []) i).first ≡ first i) × (low +ℤ pos (span_at (old ++ s ∷ []) i).last ≡ last i)
 spans_by low first last n old s i are f l lt (inl e) =

@@ -1,5 +1,5 @@
 -- Numbers of the boxes that a cell holds.
-use Rattle.std.proofs.Common.{◌≡◌, ℕ, suc, zero, ◌+◌, ◌-◌, ◌<◌, ◌≤◌, ◌⊎◌, inl, inr, Bool, true, false, cond, List, [], ◌∷◌, length, get_or, refl, sym, ap, ◌∙◌, subst, arith, true≢false}
+use Rattle.std.proofs.Common.{◌≡◌, ℕ, suc, zero, ◌+◌, ◌<◌, ◌≤◌, ◌⊎◌, inl, inr, Bool, true, false, cond, List, [], ◌∷◌, length, get_or, refl, sym, ap, ◌∙◌, subst, arith, true≢false}
 use Rattle.std.specs.List.{Contains}
 use Rattle.std.proofs.lemmas.List.Elements.{Contains-append_right}
 use Rattle.std.proofs.lemmas.Bool.{cases_eq}
@@ -25,12 +25,6 @@ listed p n (x ∷ xs) zero d h t =
 listed p n (x ∷ xs) (suc i) d h t =
     let there : n + 1 + i ≡ n + suc i = omega arith in
     subst (λ (l : List ℕ). Contains l (n + suc i)) (sym (places-cons p n x xs)) (tail_listed (p x) n (n + suc i) (places_from (n + 1) p xs) (subst (λ m. Contains (places_from (n + 1) p xs) m) there (listed p (n + 1) xs i d (omega arith) t)))
-
--- what is listed passes
-pub record Listed {A : Type 0} (p : A → Bool) (n : ℕ) (xs : List A) (m : ℕ) : Type 0 where
-  pub from : n ≤ m
-  pub within : m - n < length xs
-  pub passes : (d : A) → p (get_or xs (m - n) d) ≡ true
 
 -- two numbers of a list are two places of it
 pub two_listed : (ns : List ℕ) (i j : ℕ) → i < j → Contains ns i → Contains ns j → 2 ≤ length ns

@@ -40,9 +40,6 @@ untested a b e = grind (arith, ints)
 test : (a b : ℤ) → a ≤ℤ b → int_le a b ≡ true
 test a b h = grind (arith, ints)
 
-through : (a b c : ℤ) → a ≤ℤ b → b ≤ℤ c → a ≤ℤ c
-through a b c x y = omega (arith, ints)
-
 wide : (low high : ℤ) → low ≤ℤ high → (low -ℤ GROWTH) ≤ℤ (high +ℤ GROWTH)
 wide low high h = omega (arith, ints)
 

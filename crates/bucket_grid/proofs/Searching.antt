@@ -1,25 +1,17 @@
 -- A search by halves among buckets that rise.
-use Rattle.std.proofs.Common.{◌≡◌, ℕ, ◌+◌, ◌<◌, ◌≤◌, ◌⊎◌, inl, inr, ℤ, List, length, get_or, refl, sym, ap, subst, arith, ◌∙◌}
+use Rattle.std.proofs.Common.{◌≡◌, ℕ, ◌+◌, ◌<◌, ◌≤◌, ◌⊎◌, inl, inr, ℤ, List, length, get_or, refl, sym, ap, arith, ◌∙◌}
 use Rattle.std.specs.Ordering.{int_cmp, ordering_then, ordering_reverse}
 use Rattle.std.specs.Cmp.{IsTotalOrder}
 use Rattle.std.proofs.lemmas.Cmp.{int_cmp_total, on_total, then_total}
 use Rattle.std.specs.declared.cmp.Ordering.{Ordering}
 use Rattle.std.specs.declared.cmp.Ordering.TheVariants.{Less, Equal, Greater}
 use Rattle.std.proofs.lemmas.Int.{ints}
-use Rattle.std.proofs.lemmas.Bool.{cases_eq, cases_lt}
+use Rattle.std.proofs.lemmas.Bool.{cases_eq}
 use Rattle.std.proofs.lemmas.List.{get_or_default}
 use Rattle.bucket_grid.specs.declared.cell.Cell.{Cell}
 use Rattle.bucket_grid.specs.declared.table.Bucket.{Bucket}
-use Rattle.bim_model.specs.declared.geometry.Extent.{Extent}
-use Rattle.bucket_grid.specs.Cells.{cell_cmp, members, IsBucket}
-use Rattle.bucket_grid.specs.Table.{IsTable}
-use Rattle.bucket_grid.specs.Search.{Rise, IsAt, IsNowhere, Between}
-
-same : (a : ℤ) → int_cmp a a ≡ Equal
-same a = grind (arith, ints)
-
-itself : (c : Cell) → cell_cmp c c ≡ Equal
-itself c = grind (arith, ints)
+use Rattle.bucket_grid.specs.Cells.{cell_cmp}
+use Rattle.bucket_grid.specs.Search.{Rise, Between}
 
 cells_total : IsTotalOrder cell_cmp
 cells_total = then_total (on_total (λ (c : Cell). c.x) int_cmp_total) (then_total (on_total (λ (c : Cell). c.y) int_cmp_total) (on_total (λ (c : Cell). c.z) int_cmp_total))
@@ -70,30 +62,3 @@ module _ (buckets : List Bucket) (c : Cell) (rise : Rise buckets) where
 
   pub go_down : (low high m : ℕ) (b : Bucket) → Between buckets c low high → low ≤ m → m < high → b ≡ get_or buckets m b → cell_cmp b.cell c ≡ Greater → Between buckets c low m
   go_down low high m b t l h e g = record { ends = omega (arith, h, t.ends); order = l; below = t.below; above = λ k d le lt. upper m k b d e le lt g (cases_eq k m) }
-
-  pub here : (m : ℕ) (b : Bucket) → m < length buckets → b ≡ get_or buckets m b → cell_cmp b.cell c ≡ Equal → IsAt buckets c m
-  here m b h e g = record { within = h; is = λ d. equal_cells _ _ (at m m b d Equal h e refl g) }
-
-  nowhere_by : (low high k : ℕ) (b : Bucket) → Between buckets c low high → high ≤ low → k < length buckets → get_or buckets k b ≡ b → b.cell ≡ c → (k < low) ⊎ (low ≤ k) → ⊥
-  nowhere_by low high k b t l h e g (inl lt) =
-      let x : cell_cmp (get_or buckets k b).cell c ≡ Equal = ap (λ (u : Bucket). cell_cmp u.cell c) e ∙ ap (λ u. cell_cmp u c) g ∙ itself c in
-      different (sym (t.below k b lt) ∙ x)
-    where
-      different : Less ≡ Equal → ⊥
-      different p = cc
-  nowhere_by low high k b t l h e g (inr ge) =
-      let x : cell_cmp (get_or buckets k b).cell c ≡ Equal = ap (λ (u : Bucket). cell_cmp u.cell c) e ∙ ap (λ u. cell_cmp u c) g ∙ itself c in
-      different (sym (t.above k b (omega (arith, l, ge)) h) ∙ x)
-    where
-      different : Greater ≡ Equal → ⊥
-      different p = cc
-
-  pub nowhere : (low high : ℕ) → Between buckets c low high → high ≤ low → IsNowhere buckets c
-  nowhere low high t l a = nowhere_by low high a.0 a.1 t l a.2 a.3 a.4 (cases_lt a.0 low)
-
--- the members at the place of a cell
-pub members_at : (boxes : List Extent) (buckets : List Bucket) (c : Cell) (k : ℕ) (b : Bucket) → IsTable boxes buckets → IsAt buckets c k → b ≡ get_or buckets k b → b.members ≡ members boxes c
-members_at boxes buckets c k b t a e = subst (λ (x : Bucket). x.members ≡ members boxes x.cell) (sym e) (t.each k b a.within) ∙ ap (members boxes) (ap (λ (x : Bucket). x.cell) e ∙ a.is b)
-
-pub is_bucket_at : (boxes : List Extent) (buckets : List Bucket) (c : Cell) (k : ℕ) (b : Bucket) → IsTable boxes buckets → IsAt buckets c k → b ≡ get_or buckets k b → IsBucket boxes c
-is_bucket_at boxes buckets c k b t a e = subst (IsBucket boxes) (a.is b) (t.only k b a.within)

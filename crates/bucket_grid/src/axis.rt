@@ -1,5 +1,6 @@
 //! The cells of one axis that hold each box.
 ghost use Rattle.std.specs.Prelude.{◌≡◌, ◌≤◌, ◌≤ℤ◌, pos, ◌-ℤ◌, ◌+ℤ◌, unsigned_abs, IfOk, All};
+ghost use Rattle.bim_model.specs.Points.{grid_limit};
 ghost use Rattle.bucket_grid.specs.Cells.{first_cell, last_cell};
 ghost use Rattle.bucket_grid.specs.Places.{IsGridBox};
 ghost use Rattle.bucket_grid.specs.Axes.{low_on, high_on, LieIn, span_on, AreSpansOn};
@@ -7,7 +8,7 @@ ghost use Rattle.bucket_grid.specs.Dealt.{IsSpan};
 
 use crate::cell::{first_cell, last_cell};
 use crate::lists::Span;
-use bim_model::{Extent, Items};
+use bim_model::{Extent, GRID_LIMIT, Items};
 use std::alloc::{AllocError, Global};
 
 /// One of the three axes.
@@ -45,24 +46,50 @@ pub fn last_on(axis: Axis, extent: &Extent) -> i32
     }
 }
 
-// The lower of two numbers of cells.
+// The low side of the box on the axis.
+fn low_on(axis: Axis, extent: &Extent) -> i32
+    requires { IsGridBox extent.now }
+    ensures is { result ≡ low_on axis extent.now }
+    ensures small { unsigned_abs result ≤ grid_limit }
+{
+    match axis {
+        Axis::X => extent.low.x,
+        Axis::Y => extent.low.y,
+        Axis::Z => extent.low.z,
+    }
+}
+
+// The high side of the box on the axis.
+fn high_on(axis: Axis, extent: &Extent) -> i32
+    requires { IsGridBox extent.now }
+    ensures is { result ≡ high_on axis extent.now }
+    ensures small { unsigned_abs result ≤ grid_limit }
+{
+    match axis {
+        Axis::X => extent.high.x,
+        Axis::Y => extent.high.y,
+        Axis::Z => extent.high.z,
+    }
+}
+
+// The lower of two sides.
 fn lower(a: i32, b: i32) -> i32
-    requires a_in { unsigned_abs a ≤ 2100 }
-    requires b_in { unsigned_abs b ≤ 2100 }
+    requires a_in { unsigned_abs a ≤ grid_limit }
+    requires b_in { unsigned_abs b ≤ grid_limit }
     ensures a { result ≤ℤ a }
     ensures b { result ≤ℤ b }
-    ensures small { unsigned_abs result ≤ 2100 }
+    ensures small { unsigned_abs result ≤ grid_limit }
 {
     if a <= b { a } else { b }
 }
 
-// The higher of two numbers of cells.
+// The higher of two sides.
 fn higher(a: i32, b: i32) -> i32
-    requires a_in { unsigned_abs a ≤ 2100 }
-    requires b_in { unsigned_abs b ≤ 2100 }
+    requires a_in { unsigned_abs a ≤ grid_limit }
+    requires b_in { unsigned_abs b ≤ grid_limit }
     ensures a { a ≤ℤ result }
     ensures b { b ≤ℤ result }
-    ensures small { unsigned_abs result ≤ 2100 }
+    ensures small { unsigned_abs result ≤ grid_limit }
 {
     if a <= b { b } else { a }
 }
@@ -74,19 +101,22 @@ pub struct Range {
     pub count: usize,
 }
 
-/// The cells of the axis in which the boxes lie.
+/// The cells of the axis in which the boxes lie: from that of the lowest side to that of the highest.
+#[inline(always)]
 pub fn range_on(axis: Axis, boxes: &[Extent]) -> Range
     requires { All IsGridBox boxes.now }
     ensures lie { LieIn axis result.low ((result.low +ℤ pos result.count) -ℤ pos 1) boxes.now }
     ensures low { unsigned_abs result.low ≤ 2100 }
     ensures few { result.count ≤ 4201 }
 {
-    let mut low = 2100;
-    let mut high = -2100;
+    let mut least = GRID_LIMIT;
+    let mut greatest = -GRID_LIMIT;
     for extent in boxes {
-        low = lower(low, first_on(axis, extent));
-        high = higher(high, last_on(axis, extent));
+        least = lower(least, low_on(axis, extent));
+        greatest = higher(greatest, high_on(axis, extent));
     }
+    let low = first_cell(least);
+    let high = last_cell(greatest);
     if high < low {
         return Range { low, count: 1 };
     }
@@ -95,6 +125,7 @@ pub fn range_on(axis: Axis, boxes: &[Extent]) -> Range
 }
 
 /// The spans of the boxes on the axis, counted from `low`.
+#[inline(always)]
 pub fn spans_on(
     alloc: Global,
     axis: Axis,

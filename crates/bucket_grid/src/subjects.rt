@@ -29,6 +29,7 @@ fn add_places(
         → AllZip (IsPlace models.now) (s ++ of_model models.now model d) places.new.items) }
 {
     let elements = models[model].model.get().elements();
+    places.reserve(elements.len())?;
     for element in 0..elements.len() {
         places.push(Member { model, element })?;
     }
@@ -43,6 +44,7 @@ fn add_boxes(models: &[NamedModel], model: usize, boxes: &mut Vec<Extent>) -> Re
     ensures near { OnOk result (All IsGridBox boxes.old.items → All IsGridBox boxes.new.items) }
 {
     let extents = models[model].model.get().extents();
+    boxes.reserve(extents.len())?;
     for extent in extents {
         boxes.push(*extent)?;
     }

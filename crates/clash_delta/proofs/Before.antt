@@ -75,14 +75,6 @@ members_inside boxes subjects cell l are e i d h = omega (arith, places_within (
 -- ---- the bucket at a place before
 module _ (before after : GridValue) (numbers : List (Option ℕ)) (rising : AllPairs IsBelow (subjects before)) (are : AreNumbersBefore (subjects before) (subjects after) numbers)
     (first : AreBoxes (subjects before) before.boxes) (second : AreBoxes (subjects after) after.boxes) (place : ℕ) (cell : Cell) where
-  -- there is none
-  pub no_place : length before.buckets ≤ place → IsUnmovedAt before after place cell → ⊥
-  no_place h at = omega (arith, h, at.within)
-
-  -- it is of another cell
-  pub other_cell : (b : Bucket) → place < length before.buckets → b ≡ get_or before.buckets place b → (b.cell ≡ cell → ⊥) → IsUnmovedAt before after place cell → ⊥
-  other_cell b h e never at = never (ap (λ (x : Bucket). x.cell) e ∙ at.is b)
-
   -- it is of the cell, with members that are compared by their numbers
   pub same_members : (b : Bucket) (old new : List ℕ) (r : Bool) → place < length before.buckets → b ≡ get_or before.buckets place b → IsTable before.boxes before.buckets → b.cell ≡ cell → old ≡ b.members → new ≡ members after.boxes cell → (IsTrue r ↔ AreFrom numbers old new)
       → IsTrue r ↔ IsUnmovedAt before after place cell

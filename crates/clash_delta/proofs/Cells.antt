@@ -36,9 +36,3 @@ less_more buckets cell i b h e lower before k d lt = by (cases_eq k i)
     by : (k ≡ i) ⊎ (k ≡ i → ⊥) → cell_cmp (get_or buckets k d).cell cell ≡ Less
     by (inl same) = ap (λ j. cell_cmp (get_or buckets j d).cell cell) same ∙ ap (λ (x : Bucket). cell_cmp x.cell cell) (get_or_default buckets i d b h ∙ sym e) ∙ lower
     by (inr ne) = before k d (omega (arith, lt, ne))
-
--- a bucket whose cell isn't lower
-pub less_not : (buckets : List Bucket) (cell : Cell) (i : ℕ) (b : Bucket) (o : Ordering) (r : Bool) → b ≡ get_or buckets i b → o ≡ cell_cmp b.cell cell → r ≡ is_lt o → r ≡ false → (d : Bucket) → i < length buckets → cell_cmp (get_or buckets i d).cell cell ≡ Less → ⊥
-less_not buckets cell i b o r e f g h d l lower =
-    let same : o ≡ Less = f ∙ ap (λ (x : Bucket). cell_cmp x.cell cell) (e ∙ get_or_default buckets i b d l) ∙ lower in
-    true≢false (sym (ap is_lt same) ∙ sym g ∙ h)

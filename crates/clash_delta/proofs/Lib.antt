@@ -1,7 +1,6 @@
 pub mod Cells
 pub mod Keys
 pub mod Listed
-pub mod Alike
 pub mod Undone
 pub mod Filled
 pub mod Fresh

@@ -134,37 +134,6 @@ module _ {A : Type 0} (p : A → Bool) where
       ∙ ap (λ n. reverse s.behind ++ remove (i ∷ reverse s.front) n) (nothing_left m)
       ∙ sym (reverse-append s.front s.behind) ∙ sym (ap reverse s.rest)
 
-  -- ---- the places from one on, falling
-  abbrev pub falling_from : ℕ → List A → List ℕ
-  falling_from n xs = reverse (places_from n p (drop n xs))
-
-  turned_one : (b : Bool) (n : ℕ) (ns : List ℕ) → reverse (cond b (n ∷ ns) ns) ≡ reverse ns ++ cond b (n ∷ []) []
-  turned_one true n ns = reverse-append (n ∷ []) ns
-  turned_one false n ns = sym (append-nil (reverse ns))
-
-  -- the place before
-  falling_more : (xs : List A) (n : ℕ) (x : A) → n < length xs → falling_from n xs ≡ falling_from (n + 1) xs ++ cond (p (get_or xs n x)) (n ∷ []) []
-  falling_more xs n x h =
-      let next : suc n ≡ n + 1 = omega arith in
-      ap reverse (ap (places_from n p) (drop-cons xs n x h ∙ ap (λ m. get_or xs n x ∷ drop m xs) next) ∙ places-cons p n (get_or xs n x) (drop (n + 1) xs))
-      ∙ turned_one (p (get_or xs n x)) n (places_from (n + 1) p (drop (n + 1) xs))
-
-  -- it passes
-  pub falling_taken : (xs : List A) (n m : ℕ) (x : A) (l k : List ℕ) → n < length xs → m ≡ n + 1 → p (get_or xs n x) ≡ true → l ≡ falling_from m xs → k ≡ l ++ n ∷ [] → k ≡ falling_from n xs
-  falling_taken xs n m x l k h e t a b =
-      b ∙ ap (λ u. u ++ n ∷ []) (a ∙ ap (λ i. falling_from i xs) e) ∙ ap (λ c. falling_from (n + 1) xs ++ cond c (n ∷ []) []) (sym t) ∙ sym (falling_more xs n x h)
-
-  -- it doesn't
-  pub falling_passed : (xs : List A) (n m : ℕ) (x : A) (l : List ℕ) → n < length xs → m ≡ n + 1 → p (get_or xs n x) ≡ false → l ≡ falling_from m xs → l ≡ falling_from n xs
-  falling_passed xs n m x l h e t a =
-      a ∙ ap (λ i. falling_from i xs) e ∙ sym (append-nil (falling_from (n + 1) xs)) ∙ ap (λ c. falling_from (n + 1) xs ++ cond c (n ∷ []) []) (sym t) ∙ sym (falling_more xs n x h)
-
-  pub falling_none : (xs : List A) (l : List ℕ) → l ≡ [] → l ≡ falling_from (length xs) xs
-  falling_none xs l e = e ∙ ap (λ u. reverse (places_from (length xs) p u)) (sym (drop_all (length xs) xs (omega arith)))
-
-  pub falling_all : (xs : List A) (n : ℕ) (l : List ℕ) → n ≡ 0 → l ≡ falling_from n xs → l ≡ falling xs
-  falling_all xs n l e a = a ∙ ap (λ i. falling_from i xs) e
-
   -- a place that passes stands among them
   pub stands : (xs : List A) (l : List ℕ) (i : ℕ) (x y : A) → l ≡ falling xs → i < length xs → p (get_or xs i x) ≡ true → p y ≡ false → (k : ℕ) × (k < length l) × (get_or l k 0 ≡ i)
   stands xs l i x y e h t f =

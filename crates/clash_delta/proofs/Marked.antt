@@ -11,7 +11,7 @@ use Rattle.clash_delta.specs.Slots.{undone_cells, filled, IsBucketOf, IsDone}
 use Rattle.clash_delta.specs.Places.{Rise, IsPlaceOf, IsProgress, undone_places}
 use Rattle.clash_delta.proofs.Listed.{falls, without, stands}
 use Rattle.clash_delta.proofs.Searched.{place_found, place_missing}
-use Rattle.clash_delta.proofs.Undone.{undone, nothing, undone_count, undone_at, done_at, not_done_at, done_is_bucket, bucket_at, one_place, fact}
+use Rattle.clash_delta.proofs.Undone.{undone, nothing, undone_count, undone_at, done_at, not_done_at, bucket_at, one_place, fact}
 use Rattle.clash_delta.proofs.Filled.{all_filled, rise_filled}
 
 module _ (slots : List Slot) (l : List ℕ) (keeps : IsProgress slots l) (s : SetValue) (place : ℕ) (t : Slot) (at : IsPlaceOf slots s.work.cell place) (none : (d : Slot) → (get_or slots place d).set ≡ None) (cell : t.cell ≡ s.work.cell) (given : t.set ≡ Some s) where

@@ -104,9 +104,3 @@ not_done_at slots cell place s rise at e none done =
     let same : done.0 ≡ place = one_place slots cell place done.0 t rise at done.2 done.3 f.0 (cases_order done.0 place) in
     let is : t ≡ s = sym done.3 ∙ ap (λ k. get_or slots k t) same ∙ get_or_default slots place t s at.within ∙ sym e in
     some_not_none s.set none (subst (λ (u : Slot). IsSome u.set) is f.1)
-
--- a cell that is done is a bucket's
-pub done_is_bucket : (slots : List Slot) (cell : Cell) → IsDone slots cell → IsBucketOf slots cell
-done_is_bucket slots cell done =
-    let f = fact (λ (u : Slot). (u.cell ≡ cell) × IsSome u.set) slots done in
-    (done.0, done.1, done.2, done.3, f.0)

@@ -57,12 +57,6 @@ abbrev none : SetPair
 none = record { a = 0; b = 0; rule = 0 }
 
 module _ (version : Version) (snapshot : IsSnapshot version.models) where
-  subjects : List Subject
-  subjects = subjects_of version.models
-
-  key_at : ℕ → ElementKey
-  key_at n = key_of (element_of version n)
-
   lower : (m n : ℕ) → m < n → n < length (subjects_of version.models) → IsTrue (is_key_below (key_of (element_of version m)) (key_of (element_of version n)))
   lower m n below within = subjects_rise version.models snapshot m n nobody below within
 

@@ -13,11 +13,15 @@ use Rattle.clearance.specs.Decided.{is_near}
 use Rattle.clearance.proofs.Decided.{elements_decided}
 use Rattle.bucket_check.specs.declared.pair.SetPair.{SetPair}
 use Rattle.bucket_check.specs.Clashes.{in_grid_numbers, rule_between, clash_by, clash_of, clashes, IsBefore}
-use Rattle.bucket_check.proofs.Lists.{Lists, lists_same, lists_one}
+use Rattle.bucket_check.proofs.Lists.{Lists, lists_one}
 use Rattle.bucket_check.proofs.Pairs.{once}
 use Rattle.bucket_check.proofs.Owned.{IsClash as IsFound, why, clashes_list}
 use Rattle.clash_publish.specs.Listed.{element_of, distance_at, ClashBy, IsClash}
 use Rattle.clash_publish.specs.Laws.{ClashesAreListed}
+
+-- a list of all that has a property is one of all that has another with the same members
+lists_same : {X : Type 0} (R : X → X → Type 0) (P Q : X → Type 0) (xs : List X) → ((x : X) → P x → Q x) → ((x : X) → Q x → P x) → Lists R P xs → Lists R Q xs
+lists_same R P Q xs f g l = record { rising = l.rising; each = λ x c. f x (l.each x c); all = λ x q. l.all x (g x q) }
 
 abbrev number_in : Option Found → ℕ
 number_in None = 0

@@ -33,14 +33,14 @@ fn planes_near(t: Corners, plane_t: Plane, s: Corners, d: u32) -> bool
     if is_beyond(plane_s, over_s, d) {
         return false;
     }
+    if is_apart(t, s, d) {
+        return false;
+    }
     if side_near(t, plane_t, s, over_t, d) {
         return true;
     }
     if side_near(s, plane_s, t, over_s, d) {
         return true;
-    }
-    if is_apart(t, s, d) {
-        return false;
     }
     edges_near(t, s, d)
 }

@@ -15,6 +15,7 @@ pub mod Digits
 pub mod Seeing
 pub mod TrailerLaws
 pub mod Reading
+pub mod MovedDown
 pub mod Advancing
 pub mod Opened
 pub mod Standing

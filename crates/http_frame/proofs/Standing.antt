@@ -156,6 +156,18 @@ whole_step facts filled at items new watch body request e f is = λ bytes told x
     moved body (take filled items) (λ (b : List ℕ). ReadsBody (most_body of.head) (framing of.head) of.behind b (drop at items)) e of.body_is in
     (drop at items, false, (x.0, made request (request_by facts body) bytes (drop at items) is (begun facts of.head bytes of.behind body (drop at items) of.good of.facts_are reads), refl), (refl, sym f ∙ drop_none new))
 
+-- the same where the body was copied, and the rest stays where it is
+pub front_step : (facts : HeadFacts) (filled at : ℕ) (items : List ℕ) (watch : Watch) (body : List ℕ) (request : HttpRequest) → body ≡ take filled (drop 0 items)
+    → request ≡ request_by facts body
+    → Steps (Owing facts (Whole filled)) items at (record { stage = Head watch; at = at; answer = Ok (Request request) }) items
+unfolding Steps
+front_step facts filled at items watch body request e is = λ bytes told x.
+    let of = x.1 in
+    let same : body ≡ take filled items = e ∙ ap (take filled) (sym (drop_none items)) in
+    let reads : ReadsBody (most_body of.head) (framing of.head) of.behind body (drop at items) =
+    moved body (take filled items) (λ (b : List ℕ). ReadsBody (most_body of.head) (framing of.head) of.behind b (drop at items)) same of.body_is in
+    (drop at items, false, (x.0, made request (request_by facts body) bytes (drop at items) is (begun facts of.head bytes of.behind body (drop at items) of.good of.facts_are reads), refl), (refl, refl))
+
 zero_of : (n : ℕ) (xs : List ℕ) → n ≡ 0 → take n xs ≡ []
 zero_of n xs e = ap (λ k. take k xs) e ∙ take_none xs
 

@@ -1,5 +1,5 @@
 -- A head while its bytes come.
-use Rattle.std.proofs.Common.{◌≡◌, ℕ, ◌==◌, ◌||◌, ◌&&◌, Bool, true, false, List, [], ◌∷◌, ◌++◌, take, drop, if◌then◌else◌, Option, Some, None, IsSome, refl, sym, ap, ◌∙◌, arith, subst, inl, inr, ◌⊎◌}
+use Rattle.std.proofs.Common.{◌≡◌, ℕ, suc, ◌<◌, length, get_or, drop-cons, ◌==◌, ◌||◌, ◌&&◌, Bool, true, false, List, [], ◌∷◌, ◌++◌, take, drop, if◌then◌else◌, Option, Some, None, IsSome, refl, sym, ap, ◌∙◌, arith, subst, inl, inr, ◌⊎◌}
 use Rattle.std.proofs.lemmas.List.{take-append-drop}
 use Rattle.std.proofs.lemmas.Bool.{eqb-true}
 use Rattle.httparse.specs.declared.spans.HeaderSpan.{HeaderSpan}
@@ -31,6 +31,33 @@ fields_run p (b ∷ t) = fields_run (step p b) t
 pub walked : (s r : Spot) (n : ℕ) (xs : List ℕ) → s ≡ spot_run Before (take n xs) → r ≡ spot_run s (drop n xs) → r ≡ spot_run Before xs
 walked s r n xs e f =
     f ∙ ap (λ v. spot_run v (drop n xs)) e ∙ sym (spots-append Before (take n xs) (drop n xs)) ∙ ap (spot_run Before) (take-append-drop n xs)
+
+done_stays : (t : List ℕ) → spot_run (Fields Done) t ≡ Fields Done
+done_stays [] = refl
+done_stays (b ∷ t) = done_stays t
+
+dead_stays : (t : List ℕ) → spot_run (Fields Dead) t ≡ Fields Dead
+dead_stays [] = refl
+dead_stays (b ∷ t) = dead_stays t
+
+-- what follows the end of a head, or a byte that ends all hope, leads nowhere else
+pub closed_stays : (s : Spot) (t : List ℕ) → is_open s ≡ false → spot_run s t ≡ s
+closed_stays Before t e = let bad : true ≡ false = e in cc
+closed_stays BeforeCr t e = let bad : true ≡ false = e in cc
+closed_stays Line t e = let bad : true ≡ false = e in cc
+closed_stays (Fields Start) t e = let bad : true ≡ false = e in cc
+closed_stays (Fields Name) t e = let bad : true ≡ false = e in cc
+closed_stays (Fields Value) t e = let bad : true ≡ false = e in cc
+closed_stays (Fields Cr) t e = let bad : true ≡ false = e in cc
+closed_stays (Fields Last) t e = let bad : true ≡ false = e in cc
+closed_stays (Fields Done) t e = done_stays t
+closed_stays (Fields Dead) t e = dead_stays t
+
+pub walked_out : (s here r : Spot) (bytes : List ℕ) (i : ℕ) → i < length bytes → spot_run here (drop i bytes) ≡ spot_run s bytes
+    → r ≡ spot_step here (get_or bytes i 0) → is_open r ≡ false → r ≡ spot_run s bytes
+walked_out s here r bytes i lt so_far next closed =
+    let behind = drop (suc i) bytes in
+    sym (closed_stays r behind closed) ∙ ap (λ v. spot_run v behind) next ∙ sym (ap (spot_run here) (drop-cons bytes i 0 lt)) ∙ so_far
 
 -- the first line is whole and the fields follow, or it is not whole
 abbrev IsBegun : Option (List ℕ) → List ℕ → Spot → Type 0

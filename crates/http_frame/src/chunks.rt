@@ -1,8 +1,9 @@
 //! A chunked body while its bytes come (RFC 9112, 7.1): what the chunks hold is joined in place.
-ghost use Rattle.std.specs.Prelude.{◌≡◌, ◌≤◌, ◌<◌, ◌+◌, ◌++◌, ◌==◌, ℕ, Bool, List, length, take, drop};
+ghost use Rattle.std.specs.Prelude.{◌≡◌, ◌≤◌, ◌<◌, ◌+◌, ◌==◌, length};
 ghost use Rattle.std.specs.Char.{digit_value};
 ghost use Rattle.http_frame.specs.Chunks.{value_step, size_turn, trailers_on, trailer_turn, chunk_step, data_left, is_over, IsOrdered, Advances};
 
+use crate::moves::move_down;
 use crate::size_line::{SizeSpot, size_spot_behind};
 use crate::types::FrameFault;
 use crate::walk::{Place, place_behind};
@@ -211,17 +212,6 @@ fn is_over(end: ChunkEnd) -> bool
         ChunkEnd::Whole => true,
         ChunkEnd::Fault(_) => true,
     }
-}
-
-// Moves so many bytes from a place down to another.
-fn move_down(bytes: &mut [u8], from: usize, count: usize, to: usize)
-    requires order { to ≤ from }
-    requires within { from + count ≤ length bytes.old }
-    ensures front { take (to + count) bytes.new ≡ take to bytes.old ++ take count (drop from bytes.old) }
-    ensures rest { drop (from + count) bytes.new ≡ drop (from + count) bytes.old }
-    ensures len { length bytes.new ≡ length bytes.old }
-{
-    bytes.copy_within(from..from + count, to);
 }
 
 // Takes the bytes of a chunk that have come, as many as it lacks.

@@ -7,6 +7,7 @@ mod framer;
 mod head;
 mod judge;
 mod laws;
+mod moves;
 mod seen;
 mod size_line;
 mod stage;

@@ -1,5 +1,5 @@
 //! The steps of a framer, from what it keeps to what it answers.
-ghost use Rattle.std.specs.Prelude.{◌≡◌, ◌≤◌, ◌<◌, ◌+◌, ℕ, List, length, take, drop, IfOk, OnOk, OnErr, false};
+ghost use Rattle.std.specs.Prelude.{◌≡◌, ◌≤◌, ◌<◌, ◌+◌, length, take, drop, IfOk, OnOk, OnErr, false};
 ghost use Rattle.http_frame.specs.Chunks.{IsOrdered, Advances};
 ghost use Rattle.http_frame.specs.Seen.{IsSeen};
 ghost use Rattle.http_frame.specs.Stages.{IsSafe, Steps, request_by, pending_of};
@@ -12,7 +12,7 @@ use crate::stage::{Awaited, Pending, START, Stage};
 use crate::types::{FrameError, FrameStep, HttpRequest};
 use crate::watch::Watch;
 use bim_model::Items;
-use std::alloc::{AllocError, Global};
+use std::alloc::AllocError;
 use std::mem;
 
 /// What a step leaves, and what it answers.
@@ -90,7 +90,49 @@ fn part(buf: &mut Vec<u8>, count: usize, at: usize) -> Result<Items<u8>, AllocEr
     Ok(Items::from_vec(front))
 }
 
-// A body that stands at the front of the buffer, and what is behind it from the place on.
+fn run(bytes: &[u8], at: usize, count: usize) -> &[u8]
+    requires { at + count ≤ length bytes.now }
+    ensures { result.now ≡ take count (drop at bytes.now) }
+{
+    &bytes[at..at + count]
+}
+
+fn copied(buf: &Vec<u8>, at: usize, count: usize) -> Result<Items<u8>, AllocError>
+    requires { at + count ≤ length buf.now.items }
+    ensures { IfOk result (λ body. body ≡ take count (drop at buf.now.items)) }
+{
+    let body = run(buf, at, count).to_vec(*buf.allocator())?;
+    Ok(Items::from_vec(body))
+}
+
+// A body that stands at the front of the buffer: it is copied, and what is behind it from the place on stays there.
+fn step_front(buf: &mut Vec<u8>, at: usize, facts: HeadFacts, filled: usize) -> Stepped
+    requires at { at ≤ length buf.old.items }
+    requires filled { filled ≤ at }
+    ensures safe { IsSafe result.stage buf.new.items result.at }
+    ensures step { Steps (Stage.Body (record { facts = facts; owes = false; body = Awaited.Whole filled }))
+        buf.old.items at result buf.new.items }
+{
+    match copied(buf, 0, filled) {
+        Ok(body) => Stepped {
+            stage: Stage::Head(START),
+            at,
+            answer: Ok(FrameStep::Request(request_of(facts, body))),
+        },
+        Err(_) => Stepped {
+            stage: Stage::Body(Pending {
+                facts,
+                owes: false,
+                body: Awaited::Whole(filled),
+            }),
+            at,
+            answer: Err(FrameError::Memory),
+        },
+    }
+}
+
+// A body that stands at the front of the buffer, and what is behind it from the place on: the lesser of the two is
+// copied.
 fn step_whole(buf: &mut Vec<u8>, at: usize, facts: HeadFacts, filled: usize) -> Stepped
     requires at { at ≤ length buf.old.items }
     requires filled { filled ≤ at }
@@ -98,6 +140,9 @@ fn step_whole(buf: &mut Vec<u8>, at: usize, facts: HeadFacts, filled: usize) -> 
     ensures step { Steps (Stage.Body (record { facts = facts; owes = false; body = Awaited.Whole filled }))
         buf.old.items at result buf.new.items }
 {
+    if filled < buf.len() - at {
+        return step_front(buf, at, facts, filled);
+    }
     match part(buf, filled, at) {
         Ok(body) => Stepped {
             stage: Stage::Head(START),
@@ -114,21 +159,6 @@ fn step_whole(buf: &mut Vec<u8>, at: usize, facts: HeadFacts, filled: usize) -> 
             answer: Err(FrameError::Memory),
         },
     }
-}
-
-fn run(bytes: &[u8], at: usize, count: usize) -> &[u8]
-    requires { at + count ≤ length bytes.now }
-    ensures { result.now ≡ take count (drop at bytes.now) }
-{
-    &bytes[at..at + count]
-}
-
-fn copied(buf: &Vec<u8>, at: usize, count: usize) -> Result<Items<u8>, AllocError>
-    requires { at + count ≤ length buf.now.items }
-    ensures { IfOk result (λ body. body ≡ take count (drop at buf.now.items)) }
-{
-    let body = run(buf, at, count).to_vec(*buf.allocator())?;
-    Ok(Items::from_vec(body))
 }
 
 // A body of a stated length that stands whole behind other bytes, as of requests that came in one piece.

@@ -172,6 +172,12 @@ fn bodies_in_chunks(rt: HostRuntime) -> Result<(), Fail> {
         "4;x=y\r\nwiki\r\n05\r\npedia\r\n0\r\nT: v\r\n\r\n",
         "POST /a 1.1 anonymous false false wikipedia;between",
     )?;
+    chunks_tell(
+        &rt,
+        alloc,
+        "2c\r\n0123456789abcdefghijklmnopqrstuvwxyzABCDEFGH\r\n1\r\n!\r\n0\r\n\r\nGET /a-target-longer-than-that-body HTTP/1.1\r\nHost: h\r\n\r\n",
+        "POST /a 1.1 anonymous false false 0123456789abcdefghijklmnopqrstuvwxyzABCDEFGH!;GET /a-target-longer-than-that-body 1.1 anonymous false false ;between",
+    )?;
     chunks_tell(&rt, alloc, "1\r\naX", "BadChunk")?;
     chunks_tell(&rt, alloc, "400001\r\n", "BodyTooLong")?;
     chunks_tell(&rt, alloc, "000000001", "BadChunk")?;

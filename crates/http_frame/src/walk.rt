@@ -1,6 +1,7 @@
 //! The field lines of a head, byte by byte, so that none is looked at twice.
-ghost use Rattle.std.specs.Prelude.{◌≡◌, ℕ, List};
-ghost use Rattle.http_frame.specs.Scan.{step, run, spot_step, spot_run};
+ghost use Rattle.std.specs.Prelude.{◌≡◌};
+ghost use Rattle.http_frame.specs.Scan.{step, spot_step, spot_run};
+ghost use Rattle.http_frame.specs.Watched.{is_open};
 
 use httparse::{is_header_name_token, is_header_value_token};
 
@@ -70,17 +71,6 @@ pub fn place_behind(place: Place, b: u8) -> Place
     }
 }
 
-/// Goes on from a place over these bytes.
-pub fn scan(place: Place, bytes: &[u8]) -> Place
-    ensures { result ≡ run place bytes.now }
-{
-    let mut here = place;
-    for b in bytes {
-        here = place_behind(here, *b);
-    }
-    here
-}
-
 /// Where in a request the next byte of its head stands.
 #[derive(Clone, Copy, Debug, PartialEq, Eq)]
 pub enum Spot {
@@ -119,13 +109,31 @@ fn spot_behind(spot: Spot, b: u8) -> Spot
     }
 }
 
-/// Goes on from a spot over these bytes.
+/// Whether neither the end of the head nor a byte that no field line has there was met.
+pub fn is_open(spot: Spot) -> bool
+    ensures { result ≡ is_open spot }
+{
+    match spot {
+        Spot::Before => true,
+        Spot::BeforeCr => true,
+        Spot::Line => true,
+        Spot::Fields(Place::Done) => false,
+        Spot::Fields(Place::Dead) => false,
+        Spot::Fields(_) => true,
+    }
+}
+
+/// Goes on from a spot over these bytes. It looks at none behind the head's end, or behind a byte that ends all hope:
+/// what follows leads nowhere else.
 pub fn walk_on(spot: Spot, bytes: &[u8]) -> Spot
     ensures { result ≡ spot_run spot bytes.now }
 {
     let mut here = spot;
     for b in bytes {
         here = spot_behind(here, *b);
+        if !is_open(here) {
+            return here;
+        }
     }
     here
 }

@@ -1,9 +1,9 @@
 //! The head of a request while its bytes come: each byte is walked over once, and the parser is asked twice.
-ghost use Rattle.std.specs.Prelude.{◌≡◌, ◌≤◌, ℕ, List, length, take, drop};
-ghost use Rattle.http_frame.specs.Watched.{IsWatch, IsLook, is_early, is_open, look_of};
+ghost use Rattle.std.specs.Prelude.{◌≡◌, ◌≤◌, length, take, drop};
+ghost use Rattle.http_frame.specs.Watched.{IsWatch, IsLook, is_early, look_of};
 
 use crate::judge::{Judged, ask_parser};
-use crate::walk::{Place, Spot, walk_on};
+use crate::walk::{Spot, is_open, walk_on};
 use httparse::spans::{HeaderSpan, RequestSpans};
 
 /// How far the head of a request was taken.
@@ -38,19 +38,6 @@ fn is_early(spot: Spot) -> bool
         Spot::BeforeCr => true,
         Spot::Line => true,
         Spot::Fields(_) => false,
-    }
-}
-
-fn is_open(spot: Spot) -> bool
-    ensures { result ≡ is_open spot }
-{
-    match spot {
-        Spot::Before => true,
-        Spot::BeforeCr => true,
-        Spot::Line => true,
-        Spot::Fields(Place::Done) => false,
-        Spot::Fields(Place::Dead) => false,
-        Spot::Fields(_) => true,
     }
 }
 

@@ -1,5 +1,5 @@
 use Rattle.std.proofs.Common.{◌≤◌, ◌++◌, length, sym, ap, ◌∙◌, arith, append_assoc, append-nil}
-use Rattle.box_lanes.proofs.Sides.{count_is}
+use Rattle.box_lanes.proofs.Eights.{count_is}
 use Rattle.box_lanes.specs.Lanes.{meets}
 use Rattle.box_lanes.specs.Places.{part}
 use Rattle.box_lanes.proofs.Bits.{part_none, part_more, part_all}

@@ -1,11 +1,11 @@
-use Rattle.std.proofs.Common.{length, sym, ap, subst, ◌∙◌}
+use Rattle.std.proofs.Common.{length, ap, subst, ◌∙◌}
 use Rattle.std.specs.List.{All}
 use Rattle.box_lanes.specs.Lanes.{Fits32}
-use Rattle.box_lanes.proofs.Sides.{count_is, fit}
+use Rattle.box_lanes.proofs.Eights.{fit}
 use Rattle.box_lanes.proofs.table.BoxTable.len.Goals as goal
 
 pub returns-clause-count : goal.returns-clause-count
-returns-clause-count c = sym (sym (ap length c.self.view_is) ∙ count_is c.self.inside c.self.invariant)
+returns-clause-count c = c.self.invariant.count_is ∙ ap length c.self.view_is
 
 pub returns-clause-few : goal.returns-clause-few
 returns-clause-few c = c.self.invariant.few

@@ -1,13 +1,12 @@
-use Rattle.std.proofs.Common.{refl}
-use Rattle.box_lanes.proofs.Sides.{is_table, table_is}
+use Rattle.std.proofs.Common.{length, refl}
+use Rattle.box_lanes.proofs.Eights.{boxes_are, blocks_are, count_are}
 use Rattle.box_lanes.proofs.table.BoxTable.of.Goals as goal
 
 pub invariant_of-result : goal.invariant_of-result
 invariant_of-result c =
-    let p = c.in_ok-pad.ensures c.args.boxes.now (c.in_ok-extend.ensures c.new-columns.ensures) in
-    is_table _ c.args.boxes.now p.0 p.1 p.2 refl c.requires
+    let boxes = c.args.boxes.now in
+    let are = c.in_ok-fill.ensures c.new-blocks.ensures.items in
+    record { blocks = blocks_are _ (length boxes) boxes are refl; count_is = count_are _ (length boxes) boxes are refl; few = c.requires }
 
 pub returns : goal.returns
-returns c =
-    let p = c.in_ok-pad.ensures c.args.boxes.now (c.in_ok-extend.ensures c.new-columns.ensures) in
-    table_is _ c.args.boxes.now p.0 p.1 refl
+returns c = boxes_are _ (length c.args.boxes.now) c.args.boxes.now (c.in_ok-fill.ensures c.new-blocks.ensures.items) refl

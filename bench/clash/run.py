@@ -1,0 +1,136 @@
+#!/usr/bin/env python3
+"""Times the grid and the check of all buckets beside a baseline, on the same elements, in milliseconds.
+
+    bench/clash/run.py BASELINE FILE.ifc.. [--turns N] [--rounds N] [--distances 0,50]
+
+Each FILE has elements with triangulated surfaces in millimetres (IFCCARTESIANPOINTLIST3D, IFCTRIANGULATEDFACESET). The
+numbers are written into a plain file for pace.txt, the program over the built crates. BASELINE is another program, called
+as `BASELINE FILE.ifc DISTANCE --reps N`; it prints `clashes N`, and its seconds as `clash_s T [grid T filter T near T]`.
+Copies the crates, with what earlier checks kept of them, into a scratch folder, adds the program, builds it proved
+(`rt run`), and runs both by turns. Prints the least of each part over all turns and rounds, the ratio of the wholes
+(here over baseline), and how each whole grows from one file to the next. Ends with 1 where the numbers of clashes differ.
+"""
+import argparse
+import array
+import pathlib
+import re
+import shutil
+import subprocess
+import sys
+import tempfile
+
+CRATES = {
+    "exact_arith": "",
+    "bim_model": "exact_arith",
+    "tri_exact": "bim_model exact_arith",
+    "clearance": "bim_model tri_exact exact_arith",
+    "box_lanes": "bim_model",
+    "clash_rules": "bim_model serde_json",
+    "bucket_grid": "box_lanes clearance bim_model",
+    "bucket_check": "bucket_grid box_lanes clearance bim_model",
+    "pace": "bucket_check bucket_grid clash_rules bim_model serde_json anyhow",
+}
+POINTS = re.compile(r"#(\d+)=IFCCARTESIANPOINTLIST3D\(\((.*)\)\);")
+FACES = re.compile(r"#\d+=IFCTRIANGULATEDFACESET\(#(\d+),[^,]*,[^,]*,\((.*?)\),[^,)]*\);")
+PLAIN = re.compile(r"clashes (\d+).* clash_s ([\d.]+) \[grid ([\d.]+) filter ([\d.]+) near ([\d.]+)\]")
+HERE = re.compile(r"clashes (\d+) buckets \d+ grid (\d+) filter (\d+) check (\d+) whole (\d+)")
+
+
+def build(top, work):
+    """The path of the program."""
+    for name in CRATES:
+        if name != "pace":
+            shutil.copytree(top / "crates" / name, work / "crates" / name, ignore=shutil.ignore_patterns("must-fail"))
+    here = top / "bench" / "clash"
+    crate = work / "crates" / "pace"
+    (crate / "src").mkdir(parents=True)
+    (crate / "proofs" / "main").mkdir(parents=True)
+    shutil.copy(here / "pace.txt", crate / "src" / "main.rt")
+    shutil.copy(here / "pace_invariants.txt", crate / "proofs" / "main" / "Invariants.antt")
+    (work / "crates.txt").write_text("".join(f"{name}: {deps}\n" for name, deps in CRATES.items()))
+    subprocess.run(["git", "init", "-q"], cwd=work, check=True)
+    run = subprocess.run(["rt", "run"], cwd=crate, stdin=subprocess.DEVNULL, capture_output=True, text=True)
+    program = crate / "out" / "pace"
+    if not program.exists():
+        sys.exit(run.stdout[-4000:] + run.stderr[-4000:])
+    return program
+
+
+def numbers_in(text):
+    return [int(float(word)) for word in re.findall(r"-?\d+(?:\.\d*)?", text)]
+
+
+def write_scene(source, target):
+    """The triangles of each element, by their corners."""
+    points, elements = {}, []
+    for line in source.read_text().splitlines():
+        found = POINTS.match(line)
+        if found:
+            numbers = numbers_in(found[2])
+            points[found[1]] = [numbers[at : at + 3] for at in range(0, len(numbers), 3)]
+        found = FACES.match(line)
+        if found:
+            elements.append([points[found[1]][corner - 1] for corner in numbers_in(found[2])])
+    numbers = array.array("i", [len(elements)])
+    for corners in elements:
+        numbers.append(len(corners) // 3)
+        for corner in corners:
+            numbers.extend(corner)
+    if sys.byteorder == "big":
+        numbers.byteswap()
+    target.write_bytes(numbers.tobytes())
+
+
+def ran(words, form):
+    """The number of clashes, and the times."""
+    output = subprocess.run(words, capture_output=True, text=True, check=True).stdout
+    found = form.search(output)
+    return int(found[1]), [float(time) for time in found.groups()[1:]]
+
+
+def measured(program, baseline, file, scene, distance, args):
+    """The least times of the baseline and of the program, in milliseconds: whole, grid, filter, exact."""
+    plain, here = [float("inf")] * 4, [float("inf")] * 4
+    for _ in range(args.turns):
+        there, times = ran([baseline, file, str(distance), "--reps", str(args.rounds), "--lex", "0"], PLAIN)
+        plain = list(map(min, plain, [time * 1e3 for time in times]))
+        found, times = ran([program, scene, str(distance), str(args.rounds)], HERE)
+        here = list(map(min, here, [time / 1e6 for time in (times[3], times[0], times[1], times[2])]))
+        if found != there:
+            sys.exit(f"{file} at {distance}: {found} clashes here, {there} by the baseline")
+    here[3] = max(here[3] - here[2], 0.0)
+    return plain, here, found
+
+
+def parts(times):
+    return "{:8.2f} ({:.2f}, {:.2f}, {:.2f})".format(*times)
+
+
+def main():
+    words = argparse.ArgumentParser()
+    words.add_argument("baseline")
+    words.add_argument("files", nargs="+", type=pathlib.Path)
+    words.add_argument("--program", help="the program of pace.txt, if it is built already")
+    words.add_argument("--turns", type=int, default=8)
+    words.add_argument("--rounds", type=int, default=9)
+    words.add_argument("--distances", default="0,50")
+    args = words.parse_args()
+    top = pathlib.Path(__file__).resolve().parents[2]
+    with tempfile.TemporaryDirectory() as scratch:
+        work = pathlib.Path(scratch)
+        program = args.program or build(top, work)
+        print(f"{'milliseconds: whole (grid, filter, exact)':44} {'baseline':36} {'here':36} ratio  growth")
+        for distance in map(int, args.distances.split(",")):
+            before = None
+            for file in args.files:
+                scene = work / f"{file.name}.scene"
+                if not scene.exists():
+                    write_scene(file, scene)
+                plain, here, found = measured(program, args.baseline, file, scene, distance, args)
+                growth = "" if before is None else f"{plain[0] / before[0]:.2f} {here[0] / before[1]:.2f}"
+                kind = f"{file.name} at {distance}: {found} clashes"
+                print(f"{kind:44} {parts(plain):36} {parts(here):36} {here[0] / plain[0]:5.2f}  {growth}", flush=True)
+                before = plain[0], here[0]
+
+
+main()
