@@ -18,7 +18,7 @@ REQUEST_LINE = re.compile(rb"(" + TCHAR + rb") ([\x21-\x7e\x80-\xff]+) HTTP/1\.(
 FIELD = re.compile(rb"(" + TCHAR + rb"):[ \t]*([\t\x20-\x7e\x80-\xff]*)$")
 MOST_HEAD, MOST_BODY, MOST_UPLOAD, MOST_REQUESTS = 16384, 4194304, 33554432, 10000
 
-PHRASES = {200: "OK", 201: "Created", 400: "Bad Request", 404: "Not Found", 405: "Method Not Allowed",
+PHRASES = {200: "OK", 201: "Created", 202: "Accepted", 410: "Gone", 400: "Bad Request", 404: "Not Found", 405: "Method Not Allowed",
            413: "Payload Too Large", 415: "Unsupported Media Type", 422: "Unprocessable Entity",
            431: "Request Header Fields Too Large", 505: "HTTP Version Not Supported"}
 
@@ -204,12 +204,75 @@ def refused(code, word, status, **fields):
     return status, error(code, word, **fields), None, []
 
 
+class Version:
+    """What a version holds: the names of its models, each of which has the one small element, and its rules."""
+
+    def __init__(self, names, rules, before=None):
+        self.names, self.rules = sorted(names), rules
+        low, high = SMALL_MODEL[0]["box"][:3], SMALL_MODEL[0]["box"][3:]
+        spans = [range((a - 1000) // 4000, (b + 1000) // 4000 + 1) for a, b in zip(low, high)]
+        cells = [(x, y, z) for x in spans[0] for y in spans[1] for z in spans[2]] if len(self.names) > 1 else []
+        same = before is not None and before.names == self.names and before.rules == self.rules
+        self.undone = [cell for cell in cells if not same or cell in before.undone]
+
+    def clashes(self):
+        pairs = []
+        for i, a in enumerate(self.names):
+            for b in self.names[i + 1:]:
+                for number, rule in enumerate(self.rules):
+                    if fits(rule):
+                        if rule["kind"] == "clash":
+                            pairs.append({"a": {"guid": SMALL_MODEL[0]["guid"], "model": a},
+                                          "b": {"guid": SMALL_MODEL[0]["guid"], "model": b},
+                                          "distance": rule["distance"], "rule": number})
+                        break
+        return pairs
+
+
+def fits(rule):
+    """Whether a rule fits the small elements of two models, which are in no storey."""
+    return all(rule[side] in ("*", SMALL_MODEL[0]["class"]) for side in "ab") and rule["storey"] == "any" \
+        and rule["level"] is None and rule["models"] in ("any", "other")
+
+
+def rules_in(tree):
+    """The rules of a body, or the fault of it as (code, name, field)."""
+    items = tree.get("rules")
+    if isinstance(items, list) and len(items) > 200:
+        return None, ("C2", "TooManyRules", {"count": len(items)})
+    if not isinstance(items, list) or any(not isinstance(item, dict) for item in items):
+        return None, ("C1", "BadRule", {"index": 0})
+    rules = []
+    for index, item in enumerate(items):
+        item = {name: value for name, value in item.items() if value is not None}
+        kind, distance = item.get("kind", "clash"), item.get("distance")
+        level = item.get("level")
+        good = all(isinstance(item.get(side), str) and re.fullmatch(r"\*|[A-Z0-9_]{1,64}", item[side]) for side in "ab") \
+            and kind in ("clash", "ignore") and item.get("storey", "any") in ("any", "same", "different") \
+            and item.get("models", "any") in ("any", "same", "other") \
+            and (level is None or isinstance(level, str) and len(level.encode()) <= 256) \
+            and (distance is not None or kind == "ignore")
+        if distance is not None and not isinstance(distance, int) or isinstance(distance, bool):
+            good = False
+        if good and distance is not None and (distance.bit_length() > 63 or distance == 0):
+            raise Beyond("how a number is spelled")
+        if not good:
+            return None, ("C1", "BadRule", {"index": index})
+        if distance is not None and not 0 <= distance <= 1000:
+            return None, ("C3", "Distance", {"index": index})
+        rule = {"a": item["a"], "b": item["b"], "kind": kind, "storey": item.get("storey", "any"), "level": level,
+                "models": item.get("models", "any")}
+        if kind == "clash":
+            rule["distance"] = distance
+        rules.append(rule)
+    return rules, None
+
+
 class Book:
     def __init__(self, projects, moment):
         self.projects, self.moment, self.turn = projects, moment, 0
         self.topics = {n: [] for n in range(1, projects + 1)}
-        self.models = {n: {} for n in range(1, projects + 1)}
-        self.versions = {n: 0 for n in range(1, projects + 1)}
+        self.versions = {n: [Version([], [])] for n in range(1, projects + 1)}
 
     def project(self, identifier):
         for n in self.topics:
@@ -229,11 +292,30 @@ class Book:
         self.turn += 1
         return status, tree, self.turn, []
 
+    def changed(self, status, number, names, rules, uploaded):
+        """The reply to a change that makes a version."""
+        versions = self.versions[number]
+        versions.append(Version(names, rules, versions[-1]))
+        elements = 1 if uploaded else len(versions[-1].names)
+        return self.booked(status, {"elements": elements, "left": len(versions[-1].undone), "triangles": elements,
+                                    "version": len(versions) - 1})
+
+    def work(self, buckets):
+        """Works up to so many buckets of the last sixteen versions, of the first project and its newest version first."""
+        for n in sorted(self.versions):
+            for version in reversed(self.versions[n][-16:]):
+                while version.undone and buckets != 0:
+                    version.undone.pop(0)
+                    self.turn += 2
+                    buckets -= 1
+
 
 PART = r"([^/]+)"
 ROWS = [(re.compile(f"/bcf/3.0/projects/{PART}/topics$"), "topics", ["GET", "POST"]),
-        (re.compile(f"/coord/1/projects/{PART}/models/{PART}$"), "model", ["PUT"]),
-        (re.compile(f"/coord/1/projects/{PART}/versions/{PART}$"), "version", ["GET"])]
+        (re.compile(f"/coord/1/projects/{PART}/models/{PART}$"), "model", ["PUT", "DELETE"]),
+        (re.compile(f"/coord/1/projects/{PART}/rules$"), "rules", ["PUT"]),
+        (re.compile(f"/coord/1/projects/{PART}/versions/{PART}$"), "version", ["GET"]),
+        (re.compile(f"/coord/1/projects/{PART}/versions/{PART}/clashes$"), "clashes", ["GET"])]
 
 
 def identifier_in(text):
@@ -281,31 +363,34 @@ def answer(book, request):
             return no_route
         path = path[slash:]
     for row, kind, methods in ROWS:
-        fits = row.match(path)
-        if fits:
+        found = row.match(path)
+        if found:
             break
     else:
         return no_route
-    identifier = identifier_in(fits.group(1))
+    identifier = identifier_in(found.group(1))
     if identifier is None:
         return no_route
-    if kind == "model" and not re.fullmatch(r"[A-Za-z0-9_.\-]{1,64}", fits.group(2)):
+    if kind == "model" and not re.fullmatch(r"[A-Za-z0-9_.\-]{1,64}", found.group(2)):
         return no_route
-    if kind == "version" and fits.group(2) != "newest":
+    if kind in ("version", "clashes") and not re.fullmatch("newest|[0-9]{1,15}", found.group(2)):
         return no_route
     method = request.method.decode()
     if method not in methods:
         return 405, error("H8", "Method"), None, methods
     if request.encoded:
         return refused("H12", "Encoding", 415)
-    if kind == "model":
-        grids = []
-        for piece in filter(None, query.split("&")):
-            name, _, value = (urllib.parse.unquote_to_bytes(p.replace("+", " ")) for p in piece.partition("="))
-            if name == b"grid":
-                grids.append(value)
-        if len(grids) > 1 or any(g not in (b"exact", b"snap") for g in grids):
-            return refused("H11", "Query", 400, name="grid")
+    known = {"model": [b"grid"], "clashes": [b"first", b"count"]}.get(kind, [])
+    given = {}
+    for piece in filter(None, query.split("&")):
+        name, _, value = (urllib.parse.unquote_to_bytes(p.replace("+", " ")) for p in piece.partition("="))
+        if name not in known:
+            continue
+        good = value in (b"exact", b"snap") if name == b"grid" else re.fullmatch(rb"[0-9]{1,15}", value) \
+            and (name == b"first" or 1 <= int(value) <= 1000)
+        if name in given or not good:
+            return refused("H11", "Query", 400, name=name.decode())
+        given[name] = value
     number = book.project(identifier)
     if kind == "topics" and method == "POST":
         try:
@@ -315,7 +400,15 @@ def answer(book, request):
         title = tree.get("title")
         if not isinstance(title, str) or not 1 <= len(title.encode()) <= 1024:
             return refused("B3", "Title", 422)
-    if kind == "model" and request.body != SMALL_FILE:
+    if kind == "rules":
+        try:
+            tree = object_in(request.body)
+        except (ValueError, RecursionError):
+            return refused("H9", "BadJson", 400)
+        rules, fault = rules_in(tree)
+        if fault:
+            return refused(fault[0], fault[1], 422, **fault[2])
+    if kind == "model" and method == "PUT" and request.body != SMALL_FILE:
         raise Beyond("another file")
     if number is None:
         return book.booked(404, error("K1", "NoProject"))
@@ -325,12 +418,30 @@ def answer(book, request):
         return book.booked(201, book.topic(number, len(made), made[-1]))
     if kind == "topics":
         return book.booked(200, [book.topic(number, i + 1, t) for i, t in enumerate(book.topics[number])])
+    versions = book.versions[number]
+    newest, last = len(versions) - 1, versions[-1]
+    if kind == "rules":
+        return book.changed(200, number, last.names, rules, False)
+    if kind == "model" and method == "PUT":
+        return book.changed(201, number, set(last.names) | {found.group(2)}, last.rules, True)
     if kind == "model":
-        book.models[number][fits.group(2)] = SMALL_MODEL
-        book.versions[number] += 1
-        return book.booked(201, {"elements": 1, "left": 0, "triangles": 1, "version": book.versions[number]})
-    models = [{"elements": book.models[number][name], "name": name} for name in sorted(book.models[number])]
-    return book.booked(200, {"models": models, "newest": book.versions[number], "rules": [], "version": book.versions[number]})
+        if found.group(2) not in last.names:
+            return book.booked(404, error("K2", "NoModel"))
+        return book.changed(200, number, set(last.names) - {found.group(2)}, last.rules, False)
+    asked = newest if found.group(2) == "newest" else int(found.group(2))
+    if asked > newest:
+        return book.booked(404, error("K3", "NoVersion", newest=newest))
+    if asked + 16 <= newest:
+        return book.booked(410, error("K4", "VersionDropped", newest=newest, version=asked))
+    version = versions[asked]
+    if kind == "version":
+        models = [{"elements": SMALL_MODEL, "name": name} for name in version.names]
+        return book.booked(200, {"models": models, "newest": newest, "rules": version.rules, "version": asked})
+    if version.undone:
+        return book.booked(202, {"left": len(version.undone), "version": asked})
+    pairs, first = version.clashes(), int(given.get(b"first", b"0"))
+    page = pairs[first:first + int(given.get(b"count", b"1000"))]
+    return book.booked(200, {"clashes": page, "first": first, "total": len(pairs), "version": asked})
 
 
 def response(status, tree, turn, close, head, methods):
@@ -346,7 +457,7 @@ def response(status, tree, turn, close, head, methods):
     return "".join(line + "\r\n" for line in lines).encode() + b"\r\n" + (b"" if head else body)
 
 
-def replay(data, projects, moment):
+def replay(data, projects, moment, buckets=-1):
     """The bytes written, and the exit status."""
     book, out, at, served = Book(projects, moment), b"", 0, 0
     while True:
@@ -364,6 +475,7 @@ def replay(data, projects, moment):
         close = request.close or served == MOST_REQUESTS
         status, tree, turn, methods = answer(book, request)
         out += response(status, tree, turn, close, request.method == b"HEAD", methods)
+        book.work(buckets)
         if served == MOST_REQUESTS:
             return out, 7
         if close:
@@ -371,20 +483,20 @@ def replay(data, projects, moment):
 
 
 def words(args):
-    options = {"--at": None, "--projects": 1}
+    options = {"--at": None, "--projects": 1, "--buckets": -1}
     args = list(args)
     while args:
         word = args.pop(0)
         name, eq, value = word.partition("=")
         options[name] = int(value if eq else args.pop(0))
-    return options["--projects"], options["--at"]
+    return options["--projects"], options["--at"], options["--buckets"]
 
 
 def compare(folder):
     agree = beyond = differ = 0
     for name in sorted(glob.glob(folder + "/*.json")):
         case = json.load(open(name))
-        if case["args"][:1] != ["replay"] or case["status"] == 2:
+        if case["args"][:1] != ["replay"] or case["status"] == 2 or "--" in case["args"]:
             continue
         data, wanted = (open(name[:-4] + kind, "rb").read() for kind in ("in", "out"))
         try:

@@ -4,4 +4,5 @@ pub mod Routers
 pub mod Parts
 pub mod Rows
 pub mod Floats
-pub mod Lists
+pub mod Numbers
+pub mod Plain

@@ -1,29 +1,41 @@
 -- The tree and the status of each answer.
 use Rattle.std.specs.Prelude.{◌≡◌, ℕ, List, Bool, if◌then◌else◌, Option, Some, None, codes}
 use Rattle.serde_json.specs.Written.{compact_text}
-use Rattle.serde_json.specs.Data.{Data, array, Items}
-use Rattle.federation_book.specs.declared.types.BookFault.TheVariants.{NoProject}
-use Rattle.federation_book.specs.declared.types.ReplyBody.{ReplyBody}
-use Rattle.federation_book.specs.declared.types.ReplyBody.TheVariants as reply
+use Rattle.serde_json.specs.Data.{Data, null, array, Items}
+use Rattle.book_history.specs.declared.faults.BookFault.{BookFault}
+use Rattle.book_history.specs.declared.faults.BookFault.TheVariants as refusal
+use Rattle.book_history.specs.declared.faults.StoreWhat.{StoreWhat}
+use Rattle.book_history.specs.declared.faults.StoreWhat.TheVariants as store
+use Rattle.book_history.specs.declared.replies.ReplyBody.{ReplyBody}
+use Rattle.book_history.specs.declared.replies.ReplyBody.TheVariants as reply
 use Rattle.bcf_json.specs.declared.body.BodyFault.TheVariants.{Title}
 use Rattle.bcf_json.specs.Trees.{IsTopicTree, AreTopicTrees}
 use Rattle.bcf_http.specs.declared.calls.RequestFault.{RequestFault}
-use Rattle.bcf_http.specs.declared.calls.RequestFault.TheVariants.{NoRoute, Method, Encoding, Query, BadJson, Body}
+use Rattle.bcf_http.specs.declared.calls.RequestFault.TheVariants.{NoRoute, Method, Encoding, Query, BadJson, Rules, Body}
 use Rattle.bcf_http.specs.declared.paths.RoutePath.{RoutePath}
 use Rattle.bcf_http.specs.declared.query.QueryName.{QueryName}
-use Rattle.bcf_http.specs.declared.query.QueryName.TheVariants.{Grid}
+use Rattle.bcf_http.specs.declared.query.QueryName.TheVariants.{Grid, First, Count}
 use Rattle.http_frame.specs.declared.types.FrameFault.{FrameFault}
 use Rattle.http_frame.specs.declared.types.FrameFault.TheVariants as frame
 use Rattle.bcf_http.specs.declared.calls.ReplyKind.{ReplyKind}
 use Rattle.bcf_http.specs.declared.answers.Answer.{Answer}
 use Rattle.bcf_http.specs.declared.answers.Answer.TheVariants as answer
-use Rattle.bcf_http.specs.UploadFaults.{error_tree, error_named, upload_fault_tree}
-use Rattle.bcf_http.specs.Versions.{changed_tree, IsVersionTree}
+use Rattle.coord_json.specs.Errors.{error_tree, error_named, error_newest, error_version, error_store, error_full}
+use Rattle.coord_json.specs.Faults.{upload_fault_tree, rule_fault_tree}
+use Rattle.coord_json.specs.Versions.{changed_tree, IsVersionTree}
+use Rattle.coord_json.specs.Clashes.{clashes_tree, pending_tree}
 use Rattle.bcf_http.specs.Responses.{response_bytes}
 
 -- a parameter of a query, as it is spelled
 abbrev pub query_text : QueryName → List ℕ
 query_text Grid = codes "grid"
+query_text First = codes "first"
+query_text Count = codes "count"
+
+-- what a book may be full of
+abbrev pub store_text : StoreWhat → List ℕ
+store_text store.Triangles = codes "triangles"
+store_text store.Text = codes "text"
 
 -- a fault that the request alone decides
 abbrev pub request_fault_tree : RequestFault → Data
@@ -32,6 +44,7 @@ request_fault_tree (Method row) = error_tree (codes "H8") (codes "Method")
 request_fault_tree Encoding = error_tree (codes "H12") (codes "Encoding")
 request_fault_tree (Query name) = error_named (codes "H11") (codes "Query") (query_text name)
 request_fault_tree BadJson = error_tree (codes "H9") (codes "BadJson")
+request_fault_tree (Rules fault) = rule_fault_tree fault
 request_fault_tree (Body Title) = error_tree (codes "B3") (codes "Title")
 
 -- a fault of framing
@@ -43,7 +56,23 @@ frame_fault_tree frame.BodyTooLong = error_tree (codes "H4") (codes "BodyTooLong
 frame_fault_tree frame.BadChunk = error_tree (codes "H5") (codes "BadChunk")
 frame_fault_tree frame.Version = error_tree (codes "H6") (codes "Version")
 
--- the tree of a reply of the book, for a project
+-- a refusal of the book, with its fields; a version whose buckets are not all checked has no code
+abbrev pub book_fault_tree : BookFault → Data
+book_fault_tree refusal.NoProject = error_tree (codes "K1") (codes "NoProject")
+book_fault_tree refusal.NoModel = error_tree (codes "K2") (codes "NoModel")
+book_fault_tree (refusal.NoVersion newest) = error_newest (codes "K3") (codes "NoVersion") newest
+book_fault_tree (refusal.VersionDropped version newest) =
+    error_version (codes "K4") (codes "VersionDropped") newest version
+book_fault_tree (refusal.Pending version left) = pending_tree left version
+book_fault_tree (refusal.StoreFull what count limit) =
+    error_store (codes "K6") (codes "StoreFull") count limit (store_text what)
+book_fault_tree (refusal.ElementsFull count limit) = error_full (codes "K7") (codes "ElementsFull") count limit
+book_fault_tree (refusal.TooSpread count limit) = error_full (codes "K8") (codes "TooSpread") count limit
+book_fault_tree (refusal.JournalFull count limit) = error_full (codes "K9") (codes "JournalFull") count limit
+book_fault_tree refusal.AlreadyDone = error_tree (codes "K10") (codes "AlreadyDone")
+book_fault_tree refusal.NoWork = error_tree (codes "K11") (codes "NoWork")
+
+-- the tree of a reply of the book, for a project; no client is given work
 abbrev pub IsReplyTree : ℕ → ReplyBody → Data → Type 0
 IsReplyTree project (reply.TopicIs topic) tree = IsTopicTree project topic tree
 IsReplyTree project (reply.TopicList topics) tree =
@@ -51,7 +80,10 @@ IsReplyTree project (reply.TopicList topics) tree =
 IsReplyTree project (reply.Changed version elements triangles left) tree =
     tree ≡ changed_tree version elements triangles left
 IsReplyTree project (reply.Version version newest snapshot) tree = IsVersionTree version newest snapshot tree
-IsReplyTree project (reply.Refused NoProject) tree = tree ≡ error_tree (codes "K1") (codes "NoProject")
+IsReplyTree project (reply.Clashes version set first count) tree = tree ≡ clashes_tree version set first count
+IsReplyTree project (reply.Work order) tree = tree ≡ null
+IsReplyTree project (reply.Finished left) tree = tree ≡ null
+IsReplyTree project (reply.Refused fault) tree = tree ≡ book_fault_tree fault
 
 -- the tree of an answer, for a project
 abbrev pub IsAnswerTree : ℕ → Answer → Data → Type 0
@@ -61,13 +93,30 @@ IsAnswerTree project (answer.Built fault) tree = tree ≡ upload_fault_tree faul
 IsAnswerTree project (answer.Frame fault) tree = tree ≡ frame_fault_tree fault
 IsAnswerTree project answer.Memory tree = tree ≡ error_tree (codes "M1") (codes "Memory")
 
+-- the status of a refusal of the book
+abbrev pub refusal_status : BookFault → ℕ
+refusal_status refusal.NoProject = 404
+refusal_status refusal.NoModel = 404
+refusal_status (refusal.NoVersion newest) = 404
+refusal_status (refusal.VersionDropped version newest) = 410
+refusal_status (refusal.Pending version left) = 202
+refusal_status (refusal.StoreFull what count limit) = 507
+refusal_status (refusal.ElementsFull count limit) = 507
+refusal_status (refusal.TooSpread count limit) = 507
+refusal_status (refusal.JournalFull count limit) = 507
+refusal_status refusal.AlreadyDone = 404
+refusal_status refusal.NoWork = 404
+
 -- the status of a reply of the book, where success is answered 201 or not
 abbrev pub reply_status : Bool → ReplyBody → ℕ
 reply_status created (reply.TopicIs topic) = if created then 201 else 200
 reply_status created (reply.TopicList topics) = 200
 reply_status created (reply.Changed version elements triangles left) = if created then 201 else 200
 reply_status created (reply.Version version newest snapshot) = 200
-reply_status created (reply.Refused NoProject) = 404
+reply_status created (reply.Clashes version set first count) = 200
+reply_status created (reply.Work order) = 200
+reply_status created (reply.Finished left) = 200
+reply_status created (reply.Refused fault) = refusal_status fault
 
 -- the status of a fault that the request alone decides
 abbrev pub fault_status : RequestFault → ℕ
@@ -76,6 +125,7 @@ fault_status (Method row) = 405
 fault_status Encoding = 415
 fault_status (Query name) = 400
 fault_status BadJson = 400
+fault_status (Rules fault) = 422
 fault_status (Body Title) = 422
 
 -- the status of a fault of framing

@@ -1,5 +1,5 @@
 -- What a request asks for, of the request alone.
-use Rattle.std.specs.Prelude.{◌≡◌, ℕ, ◌/◌, ◌^◌, ◌==◌, List, length, Bool, false, not, if◌then◌else◌, Option, Some, None, Result, Ok, Err, option_and_then, codes, bytes_eq, ⊤}
+use Rattle.std.specs.Prelude.{◌≡◌, ◌≢◌, ℕ, ◌/◌, ◌^◌, ◌==◌, List, length, Bool, false, not, if◌then◌else◌, Option, Some, None, Result, Ok, Err, option_and_then, codes, bytes_eq, ⊤}
 use Rattle.std.specs.Str.{is_utf8}
 use Rattle.serde_json.specs.Data.{Data}
 use Rattle.serde_json.specs.Read.{read}
@@ -9,15 +9,23 @@ use Rattle.bim_model.specs.Identifiers.{identifier}
 use Rattle.bim_model.specs.declared.topic.TopicBody.{TopicBody}
 use Rattle.bim_model.specs.declared.topic.Author.{Author}
 use Rattle.bim_model.specs.declared.upload.Mode.{Mode}
+use Rattle.bim_model.specs.declared.rules.Rule.{Rule}
+use Rattle.clash_rules.specs.declared.fault.RuleFault.{RuleFault}
+use Rattle.clash_rules.specs.Json.{rules_of}
+use Rattle.bucket_check.specs.Sets.{SetValue}
 use Rattle.http_frame.specs.declared.types.HttpRequest.{HttpRequest}
-use Rattle.federation_book.specs.declared.types.BookRequest.TheVariants.{ListTopics, PostTopic, ReadVersion}
+use Rattle.book_history.specs.declared.requests.BookRequest.{BookRequest}
+use Rattle.book_history.specs.declared.requests.BookRequest.TheVariants.{ListTopics, PostTopic, Remove, SetRules, ReadVersion, ReadClashes, Finish}
+use Rattle.book_history.specs.declared.requests.Wanted.{Wanted}
 use Rattle.bcf_json.specs.declared.body.BodyFault.{BodyFault}
 use Rattle.bcf_json.specs.Bodies.{is_object, topic_body}
 use Rattle.bcf_http.specs.declared.paths.RoutePath.{RoutePath}
 use Rattle.bcf_http.specs.declared.paths.RoutePath.TheVariants as row
+use Rattle.bcf_http.specs.declared.query.QueryName.{QueryName}
 use Rattle.bcf_http.specs.declared.query.QueryName.TheVariants.{Grid}
+use Rattle.bcf_http.specs.declared.query.Page.{Page}
 use Rattle.bcf_http.specs.declared.calls.RequestFault.{RequestFault}
-use Rattle.bcf_http.specs.declared.calls.RequestFault.TheVariants.{NoRoute, Method, Encoding, Query, BadJson, Body}
+use Rattle.bcf_http.specs.declared.calls.RequestFault.TheVariants.{NoRoute, Method, Encoding, Query, BadJson, Rules, Body}
 use Rattle.bcf_http.specs.declared.calls.Refusal.{Refusal}
 use Rattle.bcf_http.specs.declared.calls.Refusal.TheVariants.{Fault, Memory}
 use Rattle.bcf_http.specs.declared.calls.HttpCall.{HttpCall}
@@ -25,8 +33,8 @@ use Rattle.bcf_http.specs.declared.calls.HttpCall.TheVariants.{Ask, Build}
 use Rattle.bcf_http.specs.declared.calls.ReplyKind.{ReplyKind}
 use Rattle.bcf_http.specs.Paths.{has_method}
 use Rattle.bcf_http.specs.Targets.{query_of}
-use Rattle.bcf_http.specs.Queries.{grid_asked}
-use Rattle.bcf_http.specs.Places.{Place, topics, model, version, row_of, project_at, place_of}
+use Rattle.bcf_http.specs.Queries.{grid_asked, page_asked}
+use Rattle.bcf_http.specs.Places.{Place, topics, model, rules, version, clashes, row_of, project_at, place_of}
 
 -- the tree, where it is an object
 abbrev pub if_object : Data → Option Data
@@ -63,17 +71,47 @@ topics_call moment request project =
     then post_call moment request project (topic_asked (object_of request.body))
     else Ok (Ask (ListTopics project))
 
--- a model is to be built of the body, and put into the project under its name
+-- what is asked of a model: by PUT it is to be built of the body and put into the project under its name, else it is
+-- removed
+abbrev pub put_call : HttpRequest → ℕ → List ℕ → Mode → Result HttpCall RequestFault
+put_call request project name mode =
+    if bytes_eq request.method (codes "PUT") then Ok (Build project name mode request.body)
+    else Ok (Ask (Remove project name))
+
+-- the same, where the query says well how lengths come on the grid
 abbrev pub model_call : HttpRequest → ℕ → List ℕ → Option Mode → Result HttpCall RequestFault
 model_call request project name None = Err (Query Grid)
-model_call request project name (Some mode) = Ok (Build project name mode request.body)
+model_call request project name (Some mode) = put_call request project name mode
+
+-- a fault of clash rules as one of its request
+abbrev pub with_rule_fault : Result (List Rule) RuleFault → Result (List Rule) RequestFault
+with_rule_fault (Ok rules) = Ok rules
+with_rule_fault (Err fault) = Err (Rules fault)
+
+-- the clash rules that a body asks for, or its first fault: no object, then what its members say
+abbrev pub rules_asked : Option Data → Result (List Rule) RequestFault
+rules_asked None = Err BadJson
+rules_asked (Some tree) = with_rule_fault (rules_of tree)
+
+-- the call that sets clash rules, or the fault of the body
+abbrev pub rules_call : HttpRequest → ℕ → Result (List Rule) RequestFault → Result HttpCall RequestFault
+rules_call request project (Ok rules) = Ok (Ask (SetRules project rules (length request.body)))
+rules_call request project (Err fault) = Err fault
+
+-- the clashes of a version that the query asks for
+abbrev pub clashes_call : ℕ → Wanted → Result Page QueryName → Result HttpCall RequestFault
+clashes_call project wanted (Ok page) = Ok (Ask (ReadClashes project wanted page.first page.count))
+clashes_call project wanted (Err name) = Err (Query name)
 
 -- what is asked for at a place, by a method of its row
 abbrev pub call_at : ℕ → HttpRequest → Place → Result HttpCall RequestFault
 call_at moment request (topics project) = topics_call moment request project
 call_at moment request (model project name) =
     model_call request project name (grid_asked (query_of request.target))
+call_at moment request (rules project) = rules_call request project (rules_asked (object_of request.body))
 call_at moment request (version project wanted) = Ok (Ask (ReadVersion project wanted))
+call_at moment request (clashes project wanted) =
+    clashes_call project wanted (page_asked (query_of request.target))
 
 -- what is asked for where a place is named: the method is judged first, then the encoding, then the rest
 abbrev pub asked_at : ℕ → HttpRequest → Option Place → Result HttpCall RequestFault
@@ -100,7 +138,9 @@ number_of id = let n = id / 2 ^ 96 in if id == identifier n 0 then n else 0
 abbrev pub creates : List ℕ → RoutePath → Bool
 creates method row.Topics = bytes_eq method (codes "POST")
 creates method row.Model = bytes_eq method (codes "PUT")
+creates method row.Rules = false
 creates method row.Version = false
+creates method row.Clashes = false
 
 -- the method is HEAD
 abbrev pub is_head : HttpRequest → Bool
@@ -130,8 +170,17 @@ IsTreeOf (Ok value) meant = meant ≡ Some (view value)
 IsTreeOf (Err (Fault fault)) meant = (fault ≡ BadJson) × (meant ≡ None)
 IsTreeOf (Err Memory) meant = ⊤
 
--- the topic, or the fault, is what is meant, or want of memory
-abbrev pub IsTopicAs : Result TopicBody Refusal → Result TopicBody RequestFault → Type 0
-IsTopicAs (Ok body) meant = meant ≡ Ok body
-IsTopicAs (Err (Fault fault)) meant = meant ≡ Err fault
-IsTopicAs (Err Memory) meant = ⊤
+-- what is read of a body, or its fault, is what is meant, or want of memory
+abbrev pub IsMeantAs : {A : Type 0} → Result A Refusal → Result A RequestFault → Type 0
+IsMeantAs (Ok body) meant = meant ≡ Ok body
+IsMeantAs (Err (Fault fault)) meant = meant ≡ Err fault
+IsMeantAs (Err Memory) meant = ⊤
+
+-- a call of the book that may be made at every history: it brings no set of a bucket
+abbrev pub BringsNone : BookRequest → Type 0
+BringsNone call = (set : SetValue) → call ≢ Finish set
+
+-- the same of what a request asks for
+abbrev pub AsksNone : HttpCall → Type 0
+AsksNone (Ask call) = BringsNone call
+AsksNone (Build project name mode body) = Unit {0}

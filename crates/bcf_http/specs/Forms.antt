@@ -5,8 +5,9 @@ use Rattle.std.specs.List.{list_all}
 use Rattle.std.specs.Char.{is_ascii_alphanumeric}
 use Rattle.uuid.specs.Text.{parsed}
 use Rattle.bim_model.specs.declared.limits.TheConstants.{MOST_NAME}
-use Rattle.federation_book.specs.declared.types.Wanted.{Wanted}
-use Rattle.federation_book.specs.declared.types.Wanted.TheVariants.{Newest}
+use Rattle.book_history.specs.declared.requests.Wanted.{Wanted}
+use Rattle.book_history.specs.declared.requests.Wanted.TheVariants.{Newest, Number}
+use Rattle.bcf_http.specs.Numbers.{number_in}
 
 -- sixteen bytes as a number, the first one highest
 abbrev pub number_of_bytes : List ℕ → ℕ
@@ -28,6 +29,6 @@ is_name text = nat_lt 0 (length text) && nat_le (length text) MOST_NAME && list_
 abbrev pub if_name : List ℕ → Option (List ℕ)
 if_name text = if is_name text then Some text else None
 
--- the version that a text names
+-- the version that a text names: the newest one, or one by its number
 abbrev pub wanted_in : List ℕ → Option Wanted
-wanted_in text = if bytes_eq text (codes "newest") then Some Newest else None
+wanted_in text = if bytes_eq text (codes "newest") then Some Newest else option_map Number (number_in text)

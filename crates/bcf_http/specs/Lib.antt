@@ -6,6 +6,4 @@ pub mod Queries
 pub mod Calls
 pub mod Responses
 pub mod Answers
-pub mod Versions
-pub mod Rules
-pub mod UploadFaults
+pub mod Numbers

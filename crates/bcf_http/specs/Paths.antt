@@ -7,19 +7,23 @@ use Rattle.matchit.specs.Route.{Scan, parse_route}
 use Rattle.matchit.specs.Router.{RouteOf, route_from}
 use Rattle.matchit.specs.declared.error.InsertError.{InsertError}
 use Rattle.bcf_http.specs.declared.paths.RoutePath.{RoutePath}
-use Rattle.bcf_http.specs.declared.paths.RoutePath.TheVariants.{Topics, Model, Version}
+use Rattle.bcf_http.specs.declared.paths.RoutePath.TheVariants.{Topics, Model, Rules, Version, Clashes}
 
 -- the address of a row, each part in braces being a parameter
 abbrev pub address_of : RoutePath → List ℕ
 address_of Topics = codes "/bcf/3.0/projects/{p}/topics"
 address_of Model = codes "/coord/1/projects/{p}/models/{name}"
+address_of Rules = codes "/coord/1/projects/{p}/rules"
 address_of Version = codes "/coord/1/projects/{p}/versions/{v}"
+address_of Clashes = codes "/coord/1/projects/{p}/versions/{v}/clashes"
 
 -- its methods, in the order in which they are told
 abbrev pub methods_of : RoutePath → List (List ℕ)
 methods_of Topics = codes "GET" ∷ codes "POST" ∷ []
-methods_of Model = codes "PUT" ∷ []
+methods_of Model = codes "PUT" ∷ codes "DELETE" ∷ []
+methods_of Rules = codes "PUT" ∷ []
 methods_of Version = codes "GET" ∷ []
+methods_of Clashes = codes "GET" ∷ []
 
 -- the row has the method
 abbrev pub has_method : RoutePath → List ℕ → Bool
@@ -43,4 +47,4 @@ with_row routes path = with_read routes path (parse_route (address_of path))
 
 -- the routes of the table, its rows put in in their order
 unfoldable pub table : RowsOf (RouteOf RoutePath)
-table = fold with_row [] (Topics ∷ Model ∷ Version ∷ [])
+table = fold with_row [] (Topics ∷ Model ∷ Rules ∷ Version ∷ Clashes ∷ [])

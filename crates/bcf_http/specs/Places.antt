@@ -6,38 +6,47 @@ use Rattle.matchit.specs.Seek.{first}
 use Rattle.matchit.specs.Params.{walk, named}
 use Rattle.matchit.specs.Router.{RouteOf}
 use Rattle.matchit.specs.declared.params.Params.{Params}
-use Rattle.federation_book.specs.declared.types.Wanted.{Wanted}
+use Rattle.book_history.specs.declared.requests.Wanted.{Wanted}
 use Rattle.bcf_http.specs.declared.paths.RoutePath.{RoutePath}
-use Rattle.bcf_http.specs.declared.paths.RoutePath.TheVariants.{Topics, Model, Version}
+use Rattle.bcf_http.specs.declared.paths.RoutePath.TheVariants.{Topics, Model, Rules, Version, Clashes}
 use Rattle.bcf_http.specs.declared.resource.Resource.{Resource}
 use Rattle.bcf_http.specs.declared.resource.Resource.TheVariants as resource
 use Rattle.bcf_http.specs.Paths.{table}
 use Rattle.bcf_http.specs.Targets.{path_of}
 use Rattle.bcf_http.specs.Forms.{identifier_in, if_name, wanted_in}
 
--- what a path names of the project with an identifier: its topics, a model by its name, or a version
+-- what a path names of the project with an identifier: its topics, a model by its name, its clash rules, a version, or
+-- the clashes of one
 pub data Place : Type 0 where
   topics : ℕ → Place
   model : ℕ → List ℕ → Place
+  rules : ℕ → Place
   version : ℕ → Wanted → Place
+  clashes : ℕ → Wanted → Place
 
 -- what is lent as a place
 abbrev pub place_lent : Resource → Place
 place_lent (resource.Topics project) = topics project
 place_lent (resource.Model project name) = model project name.now
+place_lent (resource.Rules project) = rules project
 place_lent (resource.Version project wanted) = version project wanted
+place_lent (resource.Clashes project wanted) = clashes project wanted
 
 -- the row of the table that a place is on
 abbrev pub row_of : Place → RoutePath
 row_of (topics project) = Topics
 row_of (model project name) = Model
+row_of (rules project) = Rules
 row_of (version project wanted) = Version
+row_of (clashes project wanted) = Clashes
 
 -- the identifier of its project
 abbrev pub project_at : Place → ℕ
 project_at (topics project) = project
 project_at (model project name) = project
+project_at (rules project) = project
 project_at (version project wanted) = project
+project_at (clashes project wanted) = project
 
 -- the parameters of a route, each with its part of a path that fits it
 abbrev pub parts_by : RouteOf RoutePath → List ℕ → List (List ℕ × List ℕ)
@@ -63,7 +72,9 @@ version_in parts = option_and_then wanted_in (named (codes "v") parts)
 abbrev pub place_for : RoutePath → List (List ℕ × List ℕ) → ℕ → Option Place
 place_for Topics parts project = Some (topics project)
 place_for Model parts project = option_map (model project) (name_in parts)
+place_for Rules parts project = Some (rules project)
 place_for Version parts project = option_map (version project) (version_in parts)
+place_for Clashes parts project = option_map (clashes project) (version_in parts)
 
 -- what the parts name on a row, where each has its form
 abbrev pub place_by : RoutePath → List (List ℕ × List ℕ) → Option Place

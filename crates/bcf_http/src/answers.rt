@@ -1,6 +1,6 @@
 //! From answers to responses.
 ghost use Rattle.std.specs.Prelude.{◌≡◌, IfOk, string_bytes};
-ghost use Rattle.bcf_http.specs.Answers.{IsResponse, IsAnswerText, reply_status, fault_status, frame_status, status_of, allow_of};
+ghost use Rattle.bcf_http.specs.Answers.{IsResponse, IsAnswerText, refusal_status, reply_status, fault_status, frame_status, status_of, allow_of};
 
 use crate::calls::{ReplyKind, RequestFault};
 use crate::paths::RoutePath;
@@ -8,7 +8,7 @@ use crate::responses::response;
 use crate::trees::answer_out;
 use bcf_json::BodyFault;
 use bim_model::{Bytes, UploadFault};
-use federation_book::{BookFault, BookReply, ReplyBody};
+use book_history::{BookFault, BookReply, ReplyBody};
 use http::StatusCode;
 use http_frame::FrameFault;
 use std::alloc::{AllocError, Global};
@@ -22,6 +22,24 @@ pub enum Answer {
     Built(UploadFault),
     Frame(FrameFault),
     Memory,
+}
+
+fn refusal_status(fault: BookFault) -> StatusCode
+    ensures { result ≡ refusal_status fault }
+{
+    match fault {
+        BookFault::NoProject => StatusCode::NOT_FOUND,
+        BookFault::NoModel => StatusCode::NOT_FOUND,
+        BookFault::NoVersion { .. } => StatusCode::NOT_FOUND,
+        BookFault::VersionDropped { .. } => StatusCode::GONE,
+        BookFault::Pending { .. } => StatusCode::ACCEPTED,
+        BookFault::StoreFull { .. } => StatusCode::INSUFFICIENT_STORAGE,
+        BookFault::ElementsFull { .. } => StatusCode::INSUFFICIENT_STORAGE,
+        BookFault::TooSpread { .. } => StatusCode::INSUFFICIENT_STORAGE,
+        BookFault::JournalFull { .. } => StatusCode::INSUFFICIENT_STORAGE,
+        BookFault::AlreadyDone => StatusCode::NOT_FOUND,
+        BookFault::NoWork => StatusCode::NOT_FOUND,
+    }
 }
 
 fn reply_status(created: bool, reply: &ReplyBody) -> StatusCode
@@ -44,7 +62,10 @@ fn reply_status(created: bool, reply: &ReplyBody) -> StatusCode
             }
         }
         ReplyBody::Version { .. } => StatusCode::OK,
-        ReplyBody::Refused(BookFault::NoProject) => StatusCode::NOT_FOUND,
+        ReplyBody::Clashes { .. } => StatusCode::OK,
+        ReplyBody::Work(_) => StatusCode::OK,
+        ReplyBody::Finished { .. } => StatusCode::OK,
+        ReplyBody::Refused(fault) => refusal_status(*fault),
     }
 }
 
@@ -57,6 +78,7 @@ fn fault_status(fault: RequestFault) -> StatusCode
         RequestFault::Encoding => StatusCode::UNSUPPORTED_MEDIA_TYPE,
         RequestFault::Query { .. } => StatusCode::BAD_REQUEST,
         RequestFault::BadJson => StatusCode::BAD_REQUEST,
+        RequestFault::Rules(_) => StatusCode::UNPROCESSABLE_ENTITY,
         RequestFault::Body(BodyFault::Title) => StatusCode::UNPROCESSABLE_ENTITY,
     }
 }
@@ -98,6 +120,7 @@ fn allow_of(answer: &Answer) -> Option<RoutePath>
             RequestFault::Encoding => None,
             RequestFault::Query { .. } => None,
             RequestFault::BadJson => None,
+            RequestFault::Rules(_) => None,
             RequestFault::Body(_) => None,
         },
         Answer::Built(_) => None,

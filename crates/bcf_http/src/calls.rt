@@ -1,21 +1,23 @@
 //! From requests to calls of the book.
-ghost use Rattle.std.specs.Prelude.{◌≡◌, option_and_then};
+ghost use Rattle.std.specs.Prelude.{◌≡◌, option_and_then, IfOk};
 ghost use Rattle.serde_json.specs.View.{view};
 ghost use Rattle.serde_json.specs.Read.{read};
 ghost use Rattle.bim_model.specs.Moments.{IsMoment};
-ghost use Rattle.bcf_http.specs.Queries.{grid_asked};
+ghost use Rattle.bcf_http.specs.Queries.{grid_asked, page_asked};
 ghost use Rattle.bcf_http.specs.Targets.{query_of};
-ghost use Rattle.bcf_http.specs.Calls.{object_of, if_object, with_fault, topic_asked, post_call, topics_call, model_call, asked_by, number_of, creates, IsAskedAs, IsTreeOf, IsTopicAs, kind_of, no_kind};
+ghost use Rattle.bcf_http.specs.Calls.{object_of, if_object, with_fault, topic_asked, post_call, topics_call, put_call, model_call, with_rule_fault, rules_asked, rules_call, clashes_call, asked_by, number_of, creates, IsAskedAs, IsTreeOf, IsMeantAs, AsksNone, kind_of, no_kind};
 ghost use Rattle.bcf_json.specs.Bodies.{topic_body};
+ghost use Rattle.clash_rules.specs.Json.{rules_of};
 
 use crate::paths::{RoutePath, has_method, is_same};
-use crate::query::{QueryName, grid_asked};
+use crate::query::{PageError, QueryName, grid_asked, page_asked};
 use crate::resource::Resource;
 use crate::routes::Routes;
 use crate::target::split_target;
 use bcf_json::{BodyError, BodyFault, topic_in};
-use bim_model::{Author, Bytes, Mode, Moment, Text, TopicBody, id_of};
-use federation_book::BookRequest;
+use bim_model::{Author, Bytes, Mode, Moment, Rules, Text, TopicBody, id_of};
+use book_history::{BookRequest, Wanted};
+use clash_rules::{RuleError, RuleFault, from_json};
 use http_frame::HttpRequest;
 use serde_json::Value;
 use std::alloc::Global;
@@ -33,7 +35,9 @@ pub enum RequestFault {
     Query { name: QueryName },
     /// H9: the body is no JSON text, or no object.
     BadJson,
-    /// A fault of the body's members.
+    /// A fault of the members of clash rules.
+    Rules(RuleFault),
+    /// A fault of the members of another body.
     Body(BodyFault),
 }
 
@@ -97,7 +101,9 @@ fn creates(method: &[u8], row: RoutePath) -> bool
     match row {
         RoutePath::Topics => is_same(method, "POST"),
         RoutePath::Model => is_same(method, "PUT"),
+        RoutePath::Rules => false,
         RoutePath::Version => false,
+        RoutePath::Clashes => false,
     }
 }
 
@@ -162,7 +168,7 @@ fn object_in(alloc: Global, text: &str) -> Result<Value, Refusal>
 
 // The topic that an object asks for.
 fn topic_of(alloc: Global, tree: &Value) -> Result<TopicBody, Refusal>
-    ensures { IsTopicAs result (with_fault (topic_body (view tree.now))) }
+    ensures { IsMeantAs result (with_fault (topic_body (view tree.now))) }
 {
     match topic_in(alloc, tree) {
         Ok(body) => Ok(body),
@@ -173,7 +179,7 @@ fn topic_of(alloc: Global, tree: &Value) -> Result<TopicBody, Refusal>
 
 // The topic that a body asks for.
 fn topic_asked(alloc: Global, body: &[u8]) -> Result<TopicBody, Refusal>
-    ensures { IsTopicAs result (topic_asked (object_of body.now)) }
+    ensures { IsMeantAs result (topic_asked (object_of body.now)) }
 {
     match object_of(alloc, body) {
         Ok(tree) => topic_of(alloc, &tree),
@@ -244,7 +250,23 @@ fn build_call(
     }
 }
 
-// What is asked for by the query of a model's target.
+// What is asked of a model, where its target says well how lengths come on the grid.
+fn model_asked(
+    alloc: Global,
+    request: HttpRequest,
+    project: u128,
+    name: Text,
+    mode: Mode,
+) -> Result<HttpCall, Refusal>
+    ensures { IsAskedAs result (put_call request project name mode) }
+{
+    if is_same(request.method.as_slice(), "PUT") {
+        return build_call(alloc, request, project, name, mode);
+    }
+    Ok(HttpCall::Ask(BookRequest::Remove { project, name }))
+}
+
+// What is asked of a model, by the query of its target.
 fn model_call(
     alloc: Global,
     request: HttpRequest,
@@ -255,7 +277,7 @@ fn model_call(
 {
     let (_, query) = split_target(request.target.as_slice());
     match grid_asked(alloc, query) {
-        Ok(Some(mode)) => build_call(alloc, request, project, name, mode),
+        Ok(Some(mode)) => model_asked(alloc, request, project, name, mode),
         Ok(None) => Err(Refusal::Fault(RequestFault::Query {
             name: QueryName::Grid,
         })),
@@ -263,8 +285,66 @@ fn model_call(
     }
 }
 
+// The clash rules that an object asks for.
+fn rules_of(alloc: Global, tree: &Value) -> Result<Rules, Refusal>
+    ensures { IsMeantAs result (with_rule_fault (rules_of (view tree.now))) }
+{
+    match from_json(alloc, tree) {
+        Ok(rules) => Ok(rules),
+        Err(RuleError::Fault(fault)) => Err(Refusal::Fault(RequestFault::Rules(fault))),
+        Err(RuleError::Memory) => Err(Refusal::Memory),
+    }
+}
+
+// The clash rules that a body asks for.
+fn rules_asked(alloc: Global, body: &[u8]) -> Result<Rules, Refusal>
+    ensures { IsMeantAs result (rules_asked (object_of body.now)) }
+{
+    match object_of(alloc, body) {
+        Ok(tree) => rules_of(alloc, &tree),
+        Err(refusal) => Err(refusal),
+    }
+}
+
+// The call that sets the clash rules of the body.
+fn rules_call(alloc: Global, request: &HttpRequest, project: u128) -> Result<HttpCall, Refusal>
+    ensures { IsAskedAs result (rules_call request.now project (rules_asked (object_of request.now.body))) }
+{
+    match rules_asked(alloc, request.body.as_slice()) {
+        Ok(rules) => Ok(HttpCall::Ask(BookRequest::SetRules {
+            project,
+            rules,
+            weight: request.body.len() as u64,
+        })),
+        Err(refusal) => Err(refusal),
+    }
+}
+
+// What is asked of the clashes of a version, by the query of its target.
+fn clashes_call(
+    alloc: Global,
+    request: &HttpRequest,
+    project: u128,
+    version: Wanted,
+) -> Result<HttpCall, Refusal>
+    ensures { IsAskedAs result (clashes_call project version (page_asked (query_of request.now.target))) }
+{
+    let (_, query) = split_target(request.target.as_slice());
+    match page_asked(alloc, query) {
+        Ok(page) => Ok(HttpCall::Ask(BookRequest::ReadClashes {
+            project,
+            version,
+            first: page.first,
+            count: page.count,
+        })),
+        Err(PageError::Bad(name)) => Err(Refusal::Fault(RequestFault::Query { name })),
+        Err(PageError::Memory) => Err(Refusal::Memory),
+    }
+}
+
 /// What a request asks for at a moment, in seconds since 1970; or the first fault that the request alone
-/// decides: its target names nothing, this hasn't the method, the body is encoded, the query, the body.
+/// decides: its target names nothing, this hasn't the method, the body is encoded, the query, the body. A call that is
+/// asked for brings no set of a bucket.
 #[tactic(auto, unfolding(crate::specs::Calls::asked_by))]
 pub fn to_call(
     alloc: Global,
@@ -273,7 +353,8 @@ pub fn to_call(
     moment: u64,
 ) -> Result<HttpCall, Refusal>
     requires { IsMoment moment }
-    ensures { IsAskedAs result (asked_by moment request) }
+    ensures asked { IsAskedAs result (asked_by moment request) }
+    ensures none { IfOk result AsksNone }
 {
     let Some(resource) = routes.resource_of(request.target.as_slice()) else {
         return Err(Refusal::Fault(RequestFault::NoRoute));
@@ -291,9 +372,11 @@ pub fn to_call(
             Ok(name) => model_call(alloc, request, project, name),
             Err(_) => Err(Refusal::Memory),
         },
+        Resource::Rules { project } => rules_call(alloc, &request, project),
         Resource::Version { project, wanted } => Ok(HttpCall::Ask(BookRequest::ReadVersion {
             project,
             version: wanted,
         })),
+        Resource::Clashes { project, wanted } => clashes_call(alloc, &request, project, wanted),
     }
 }

@@ -6,10 +6,11 @@ ghost use Rattle.matchit.specs.Params.{AllText};
 ghost use Rattle.bcf_http.specs.Forms.{identifier_in, is_name_char, is_name, wanted_in};
 ghost use Rattle.bcf_http.specs.Places.{place_lent, parts_of, project_in, name_in, version_in, place_for, place_by};
 
+use crate::numbers::number_in;
 use crate::paths::{RoutePath, is_same};
 use crate::resource::Resource;
 use bim_model::MOST_NAME;
-use federation_book::Wanted;
+use book_history::Wanted;
 use matchit::Params;
 use uuid::Uuid;
 
@@ -53,9 +54,11 @@ fn wanted_in(text: &str) -> Option<Wanted>
     ensures { result ≡ wanted_in text.now }
 {
     if is_same(text.as_bytes(), "newest") {
-        Some(Wanted::Newest)
-    } else {
-        None
+        return Some(Wanted::Newest);
+    }
+    match number_in(text) {
+        Some(number) => Some(Wanted::Number(number)),
+        None => None,
     }
 }
 
@@ -109,15 +112,20 @@ fn resource_for<'t>(row: RoutePath, params: &Params<'_, 't>, project: u128) -> O
             Some(name) => Some(Resource::Model { project, name }),
             None => None,
         },
+        RoutePath::Rules => Some(Resource::Rules { project }),
         RoutePath::Version => match version_in(params) {
             Some(wanted) => Some(Resource::Version { project, wanted }),
+            None => None,
+        },
+        RoutePath::Clashes => match version_in(params) {
+            Some(wanted) => Some(Resource::Clashes { project, wanted }),
             None => None,
         },
     }
 }
 
 /// What the parameters name on a row, where each has its form: an identifier that `uuid` reads, a name of
-/// 1 to 64 characters of `A-Za-z0-9_.-`, `newest`.
+/// 1 to 64 characters of `A-Za-z0-9_.-`, `newest` or 1 to 15 digits.
 pub fn resource_by<'t>(row: RoutePath, params: &Params<'_, 't>) -> Option<Resource<'t>>
     requires { AllText (parts_of params.now) }
     ensures { option_map place_lent result ≡ place_by row (parts_of params.now) }

@@ -4,21 +4,19 @@
 mod answers;
 mod calls;
 mod forms;
+mod numbers;
 mod paths;
 mod query;
 mod resource;
 mod responses;
 mod routes;
-mod rules;
 mod target;
 mod trees;
-mod upload_faults;
-mod versions;
 
 pub use answers::{Answer, to_response};
 pub use calls::{HttpCall, Refusal, ReplyKind, RequestFault, kind_of, to_call};
 pub use paths::RoutePath;
-pub use query::QueryName;
+pub use query::{MOST_PAIRS, QueryName};
 pub use routes::Routes;
 
 #[cfg(test)]

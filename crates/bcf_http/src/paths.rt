@@ -7,10 +7,14 @@ ghost use Rattle.bcf_http.specs.Paths.{address_of, methods_of, has_method, joine
 pub enum RoutePath {
     /// The topics of a project: GET, POST.
     Topics,
-    /// A model of a project: PUT.
+    /// A model of a project: PUT, DELETE.
     Model,
+    /// The clash rules of a project: PUT.
+    Rules,
     /// A version of a project: GET.
     Version,
+    /// The clashes of a version: GET.
+    Clashes,
 }
 
 /// Whether the bytes are those of the text.
@@ -27,7 +31,9 @@ pub fn address_of(path: RoutePath) -> &'static str
     match path {
         RoutePath::Topics => "/bcf/3.0/projects/{p}/topics",
         RoutePath::Model => "/coord/1/projects/{p}/models/{name}",
+        RoutePath::Rules => "/coord/1/projects/{p}/rules",
         RoutePath::Version => "/coord/1/projects/{p}/versions/{v}",
+        RoutePath::Clashes => "/coord/1/projects/{p}/versions/{v}/clashes",
     }
 }
 
@@ -37,8 +43,10 @@ pub fn methods_text(path: RoutePath) -> &'static str
 {
     match path {
         RoutePath::Topics => "GET, POST",
-        RoutePath::Model => "PUT",
+        RoutePath::Model => "PUT, DELETE",
+        RoutePath::Rules => "PUT",
         RoutePath::Version => "GET",
+        RoutePath::Clashes => "GET",
     }
 }
 
@@ -48,7 +56,9 @@ pub fn has_method(path: RoutePath, method: &[u8]) -> bool
 {
     match path {
         RoutePath::Topics => is_same(method, "GET") || is_same(method, "POST"),
-        RoutePath::Model => is_same(method, "PUT"),
+        RoutePath::Model => is_same(method, "PUT") || is_same(method, "DELETE"),
+        RoutePath::Rules => is_same(method, "PUT"),
         RoutePath::Version => is_same(method, "GET"),
+        RoutePath::Clashes => is_same(method, "GET"),
     }
 }

@@ -1,6 +1,6 @@
 //! What targets name.
 use crate::paths::RoutePath;
-use federation_book::Wanted;
+use book_history::Wanted;
 
 /// What the path of a target names. A project is named by its identifier.
 #[derive(Clone, Copy)]
@@ -9,8 +9,12 @@ pub enum Resource<'t> {
     Topics { project: u128 },
     /// A model of a project.
     Model { project: u128, name: &'t str },
+    /// The clash rules of a project.
+    Rules { project: u128 },
     /// A version of a project.
     Version { project: u128, wanted: Wanted },
+    /// The clashes of a version of a project.
+    Clashes { project: u128, wanted: Wanted },
 }
 
 impl Resource<'_> {
@@ -24,7 +28,9 @@ impl Resource<'_> {
         match self {
             Resource::Topics { .. } => RoutePath::Topics,
             Resource::Model { .. } => RoutePath::Model,
+            Resource::Rules { .. } => RoutePath::Rules,
             Resource::Version { .. } => RoutePath::Version,
+            Resource::Clashes { .. } => RoutePath::Clashes,
         }
     }
 
@@ -35,7 +41,9 @@ impl Resource<'_> {
         match self {
             Resource::Topics { project } => *project,
             Resource::Model { project, .. } => *project,
+            Resource::Rules { project } => *project,
             Resource::Version { project, .. } => *project,
+            Resource::Clashes { project, .. } => *project,
         }
     }
 }

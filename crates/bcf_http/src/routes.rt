@@ -74,7 +74,9 @@ impl Routes {
         let mut router = Router::new(alloc);
         put_row(&mut router, RoutePath::Topics)?;
         put_row(&mut router, RoutePath::Model)?;
+        put_row(&mut router, RoutePath::Rules)?;
         put_row(&mut router, RoutePath::Version)?;
+        put_row(&mut router, RoutePath::Clashes)?;
         Ok(Routes { router })
     }
 

@@ -5,7 +5,8 @@ use crate::paths::RoutePath;
 use crate::query::QueryName;
 use crate::routes::Routes;
 use bim_model::{Author, Bytes, Items, Mode, Moment, Text, Topic, TopicBody, id_of};
-use federation_book::{BookReply, BookRequest, ReplyBody};
+use book_history::{BookFault, BookReply, BookRequest, Horizon, ReplyBody, Wanted};
+use clash_rules::RuleFault;
 use http_frame::{FrameFault, HttpRequest};
 use std::alloc::{AllocError, Global};
 use std::process::Abort;
@@ -94,6 +95,107 @@ fn is_model(rt: &impl Abort, call: Result<HttpCall, Refusal>) {
     }
 }
 
+const PROJECT: &str = "/coord/1/projects/00000001-0000-8000-8000-000000000000";
+
+fn asked(
+    alloc: Global,
+    method: &str,
+    target: &str,
+    body: &[u8],
+) -> Result<Result<HttpCall, Refusal>, Fail> {
+    let routes = Routes::new(alloc)?;
+    let target = format!(in alloc; "{PROJECT}{target}")?;
+    let request = request(alloc, method, target.as_str(), body)?;
+    Ok(to_call(alloc, &routes, request, 0))
+}
+
+// The rules that a PUT sets: how many, and the weight of its body.
+fn sets_rules(rt: &impl Abort, call: Result<HttpCall, Refusal>, wanted: (usize, u64)) {
+    match call {
+        Ok(HttpCall::Ask(BookRequest::SetRules { rules, weight, .. })) => {
+            assert_eq!(rt; (rules.list().len(), weight), wanted);
+        }
+        _ => assert!(rt; false),
+    }
+}
+
+fn reads_clashes(rt: &impl Abort, call: Result<HttpCall, Refusal>, wanted: (Wanted, u64, u64)) {
+    match call {
+        Ok(
+            HttpCall::Ask(
+                BookRequest::ReadClashes {
+                    version,
+                    first,
+                    count,
+                    ..
+                },
+            ),
+        ) => assert_eq!(rt; (version, first, count), wanted),
+        _ => assert!(rt; false),
+    }
+}
+
+fn removes(rt: &impl Abort, call: Result<HttpCall, Refusal>, wanted: &str) {
+    match call {
+        Ok(HttpCall::Ask(BookRequest::Remove { name, .. })) => {
+            assert_eq!(rt; name.as_str(), wanted);
+        }
+        _ => assert!(rt; false),
+    }
+}
+
+#[test]
+fn asks_for_versions(rt: HostRuntime) -> Result<(), Fail> {
+    let alloc = rt.alloc();
+    let one = br#"{"rules":[{"a":"*","b":"*","distance":50}]}"#;
+    sets_rules(&rt, asked(alloc, "PUT", "/rules", one)?, (1, 43));
+    removes(&rt, asked(alloc, "DELETE", "/models/m", b"x")?, "m");
+    let whole = asked(alloc, "GET", "/versions/newest/clashes?x=1", b"")?;
+    reads_clashes(&rt, whole, (Wanted::Newest, 0, 1_000));
+    let part = asked(
+        alloc,
+        "GET",
+        "/versions/00002/clashes?count=1&fir%73t=999999999999999",
+        b"",
+    )?;
+    reads_clashes(&rt, part, (Wanted::Number(2), 999_999_999_999_999, 1));
+    Ok(())
+}
+
+#[test]
+fn refuses_parts(rt: HostRuntime) -> Result<(), Fail> {
+    let alloc = rt.alloc();
+    for query in [
+        "first=1&count=0&first=x",
+        "count=1001",
+        "count=1&count=1",
+        "count=",
+    ] {
+        let target = format!(in alloc; "/versions/1/clashes?{query}")?;
+        let name = QueryName::Count;
+        let refused = asked(alloc, "GET", target.as_str(), b"")?;
+        is_refused(&rt, refused, RequestFault::Query { name });
+    }
+    for query in [
+        "first=+1&count=0",
+        "first=1&first=1",
+        "first=1000000000000000",
+    ] {
+        let target = format!(in alloc; "/versions/1/clashes?{query}")?;
+        let name = QueryName::First;
+        let refused = asked(alloc, "GET", target.as_str(), b"")?;
+        is_refused(&rt, refused, RequestFault::Query { name });
+    }
+    let far = br#"{"rules":[{"a":"*","b":"*","distance":1001}]}"#;
+    let fault = RequestFault::Rules(RuleFault::Distance { index: 0 });
+    is_refused(&rt, asked(alloc, "PUT", "/rules", far)?, fault);
+    let refused = asked(alloc, "PUT", "/rules", b"[]")?;
+    is_refused(&rt, refused, RequestFault::BadJson);
+    let refused = asked(alloc, "GET", "/versions/1234567890123456", b"")?;
+    is_refused(&rt, refused, RequestFault::NoRoute);
+    Ok(())
+}
+
 #[test]
 fn refuses(rt: HostRuntime) -> Result<(), Fail> {
     let alloc = rt.alloc();
@@ -139,9 +241,13 @@ fn pipe(alloc: Global) -> Result<Topic, AllocError> {
     })
 }
 
+fn replied(body: ReplyBody) -> Answer {
+    let horizon = Horizon { newest: [0; 8] };
+    Answer::Book(BookReply { body, horizon })
+}
+
 fn made(alloc: Global) -> Result<Answer, AllocError> {
-    let body = ReplyBody::TopicIs(pipe(alloc)?);
-    Ok(Answer::Book(BookReply { body }))
+    Ok(replied(ReplyBody::TopicIs(pipe(alloc)?)))
 }
 
 fn try_answer(
@@ -188,5 +294,24 @@ fn writes_faults(rt: HostRuntime) -> Result<(), Fail> {
         "HTTP/1.1 431 Request Header Fields Too Large\r\nContent-Type: application/json\r\nConnection: close\r\nContent-Length: 40\r\n\r\n{\"code\":\"H2\",\"message\":\"H2 HeadTooLong\"}";
     let long = Answer::Frame(FrameFault::HeadTooLong);
     try_answer(&rt, alloc, &long, (ReplyKind::none(), None, true), wanted)?;
+    let pending = replied(ReplyBody::Refused(BookFault::Pending {
+        version: 2,
+        left: 1,
+    }));
+    let wanted =
+        "HTTP/1.1 202 Accepted\r\nContent-Type: application/json\r\nX-Book-Turn: 5\r\nContent-Length: 22\r\n\r\n{\"left\":1,\"version\":2}";
+    try_answer(
+        &rt,
+        alloc,
+        &pending,
+        (ReplyKind::none(), Some(5), false),
+        wanted,
+    )?;
+    let lacks = Answer::Refused(RequestFault::Method {
+        path: RoutePath::Model,
+    });
+    let wanted =
+        "HTTP/1.1 405 Method Not Allowed\r\nContent-Type: application/json\r\nAllow: PUT, DELETE\r\nContent-Length: 35\r\n\r\n{\"code\":\"H8\",\"message\":\"H8 Method\"}";
+    try_answer(&rt, alloc, &lacks, (ReplyKind::none(), None, false), wanted)?;
     Ok(())
 }

@@ -1,15 +1,17 @@
 //! Answers as JSON values.
 ghost use Rattle.std.specs.Prelude.{◌≡◌, IfOk};
 ghost use Rattle.serde_json.specs.View.{view};
-ghost use Rattle.bcf_http.specs.Answers.{query_text, request_fault_tree, frame_fault_tree, IsReplyTree, IsAnswerTree};
+ghost use Rattle.bcf_http.specs.Answers.{query_text, store_text, request_fault_tree, book_fault_tree, frame_fault_tree, IsReplyTree, IsAnswerTree};
 
 use crate::answers::Answer;
 use crate::calls::RequestFault;
 use crate::query::QueryName;
-use crate::upload_faults::{error_named, error_out, upload_fault_out};
-use crate::versions::{changed_out, version_out};
 use bcf_json::{BodyFault, topic_out, topics_out};
-use federation_book::{BookFault, ReplyBody};
+use book_history::{BookFault, ReplyBody, StoreWhat};
+use coord_json::{
+    changed_out, clashes_out, error_full, error_named, error_newest, error_out, error_store,
+    error_version, pending_out, rule_fault_out, upload_fault_out, version_out,
+};
 use http_frame::FrameFault;
 use serde_json::Value;
 use std::alloc::{AllocError, Global};
@@ -19,6 +21,17 @@ fn query_text(name: QueryName) -> &'static str
 {
     match name {
         QueryName::Grid => "grid",
+        QueryName::First => "first",
+        QueryName::Count => "count",
+    }
+}
+
+fn store_text(what: StoreWhat) -> &'static str
+    ensures { result.now ≡ store_text what }
+{
+    match what {
+        StoreWhat::Triangles => "triangles",
+        StoreWhat::Text => "text",
     }
 }
 
@@ -31,6 +44,7 @@ fn fault_out(alloc: Global, fault: RequestFault) -> Result<Value, AllocError>
         RequestFault::Encoding => error_out(alloc, "H12", "Encoding"),
         RequestFault::Query { name } => error_named(alloc, "H11", "Query", query_text(name)),
         RequestFault::BadJson => error_out(alloc, "H9", "BadJson"),
+        RequestFault::Rules(fault) => rule_fault_out(alloc, fault),
         RequestFault::Body(BodyFault::Title) => error_out(alloc, "B3", "Title"),
     }
 }
@@ -45,6 +59,32 @@ fn frame_out(alloc: Global, fault: FrameFault) -> Result<Value, AllocError>
         FrameFault::BodyTooLong => error_out(alloc, "H4", "BodyTooLong"),
         FrameFault::BadChunk => error_out(alloc, "H5", "BadChunk"),
         FrameFault::Version => error_out(alloc, "H6", "Version"),
+    }
+}
+
+fn refusal_out(alloc: Global, fault: BookFault) -> Result<Value, AllocError>
+    ensures { IfOk result (λ v. view v ≡ book_fault_tree fault) }
+{
+    match fault {
+        BookFault::NoProject => error_out(alloc, "K1", "NoProject"),
+        BookFault::NoModel => error_out(alloc, "K2", "NoModel"),
+        BookFault::NoVersion { newest } => error_newest(alloc, "K3", "NoVersion", newest),
+        BookFault::VersionDropped { version, newest } => {
+            error_version(alloc, "K4", "VersionDropped", newest, version)
+        }
+        BookFault::Pending { version, left } => pending_out(alloc, left, version),
+        BookFault::StoreFull { what, count, limit } => {
+            error_store(alloc, "K6", "StoreFull", count, limit, store_text(what))
+        }
+        BookFault::ElementsFull { count, limit } => {
+            error_full(alloc, "K7", "ElementsFull", count, limit)
+        }
+        BookFault::TooSpread { count, limit } => error_full(alloc, "K8", "TooSpread", count, limit),
+        BookFault::JournalFull { count, limit } => {
+            error_full(alloc, "K9", "JournalFull", count, limit)
+        }
+        BookFault::AlreadyDone => error_out(alloc, "K10", "AlreadyDone"),
+        BookFault::NoWork => error_out(alloc, "K11", "NoWork"),
     }
 }
 
@@ -68,7 +108,16 @@ fn reply_out(alloc: Global, project: u32, reply: &ReplyBody) -> Result<Value, Al
             newest,
             snapshot,
         } => version_out(alloc, *version, *newest, snapshot.get()),
-        ReplyBody::Refused(BookFault::NoProject) => error_out(alloc, "K1", "NoProject"),
+        ReplyBody::Clashes {
+            version,
+            set,
+            first,
+            count,
+        } => clashes_out(alloc, *version, set.get(), *first, *count),
+        // no client is given work
+        ReplyBody::Work(_) => Ok(Value::Null),
+        ReplyBody::Finished { .. } => Ok(Value::Null),
+        ReplyBody::Refused(fault) => refusal_out(alloc, *fault),
     }
 }
 

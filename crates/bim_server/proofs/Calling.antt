@@ -2,7 +2,7 @@
 use Rattle.std.proofs.Common.{◌≡◌, ℕ, List, Option, Some, None, IsSome, IfSome, Result, inr, refl}
 use Rattle.std.specs.declared.alloc.AllocError.{AllocError}
 use Rattle.bim_io.specs.Seen.{SinkSeen}
-use Rattle.federation_book.specs.declared.types.BookRequest.{BookRequest}
+use Rattle.book_history.specs.declared.requests.BookRequest.{BookRequest}
 use Rattle.bim_session.specs.declared.want.Waiting.{Waiting}
 use Rattle.bim_session.specs.declared.want.Want.TheVariants.{Write}
 use Rattle.bim_session.specs.Talking.{TalkState, BookReceipt, Replies}

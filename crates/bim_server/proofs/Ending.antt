@@ -1,11 +1,12 @@
 -- A session so far ends.
-use Rattle.std.proofs.Common.{◌≡◌, ◌⊎◌, ℕ, ◌+◌, List, [], ◌++◌, length, true, false, Some, None, inl, inr, sym, ap, subst, refl, append-nil, arith}
+use Rattle.std.proofs.Common.{◌≡◌, ◌⊎◌, ◌≤◌, ℕ, ◌+◌, List, [], ◌++◌, length, Bool, true, false, Option, Some, None, inl, inr, sym, ◌∙◌, ap, subst, refl, append-nil, arith}
 use Rattle.bim_io.specs.Causes.{Rose, ComesOfFault}
 use Rattle.bim_io.specs.Seen.{Outside, EndsEmpty, Exchanges}
 use Rattle.bim_io.proofs.Calls.{exchanges_none, exchanges_trans}
 use Rattle.http_frame.specs.Events.{IsRest, IsTold}
-use Rattle.federation_book.specs.Runs.{Step, IsRun, IsOneThread}
-use Rattle.federation_book.proofs.Histories.{one_none}
+use Rattle.book_history.specs.declared.limits.Settings.{Settings}
+use Rattle.book_history.specs.Runs.{Step, IsRun, IsOneThread}
+use Rattle.book_history.proofs.Histories.{one_none}
 use Rattle.bim_session.specs.declared.end.SessionEnd.{SessionEnd}
 use Rattle.bim_session.specs.declared.end.SessionEnd.TheVariants as end
 use Rattle.bim_session.specs.declared.want.Want.TheVariants.{Leave}
@@ -54,15 +55,15 @@ pub some_end : (e : SessionEnd) → IsOwnLeaving (Some e) → IsOwnEnd e
 some_end e own = λ n. (λ is. (own n).0 (ap Some is), λ is. (own n).1 (ap Some is))
 
 -- it ends after more was exchanged, and perhaps one more step
-finish : (w a b : Outside) (old : TalkState) (server server' : ServerState) (so : SoFar w a old server) (input rest late tail : List ℕ) (e : SessionEnd) (more : List Step)
+finish : (buckets : Option ℕ) (w a b : Outside) (old : TalkState) (server server' : ServerState) (so : SoFar buckets w a old server) (input rest late tail : List ℕ) (e : SessionEnd) (more : List Step)
     → old.leaving ≡ None → Exchanges w b input (so.moments ++ late) (so.output ++ tail) → EndsEmpty b.source
     → Reads input false so.events rest so.told → ReadsAsNeeded w.source.most input so.events
     → ComesOfFault a.source.faults b.source.faults (IsReadFault e) → ComesOfFault a.sink.faults b.sink.faults (IsWriteFault e)
-    → IsRun server'.projects (so.steps ++ more) server'.history → IsOneThread (so.steps ++ more) → length (so.steps ++ more) ≡ server'.turns
-    → Answered (start_of server') so.events so.asked so.out so.steps
-    → Ends (stop_of (start_of server') so.events so.steps b.source.ended rest so.told late tail more) e
-    → Replays server'.projects w b e
-finish w a b old server server' so input rest late tail e more here gave empty reads needed read write run one count answered ends = record {
+    → IsRun server'.settings (so.steps ++ more) server'.history → IsOneThread (so.steps ++ more) → length (so.steps ++ more) ≡ server'.turns
+    → Answered (start_of buckets server') so.events so.asked so.out so.steps so.printed
+    → Ends (stop_of (start_of buckets server') so.events so.steps so.printed b.source.ended rest so.told late tail more) e
+    → Replays server'.settings buckets w b e
+finish buckets w a b old server server' so input rest late tail e more here gave empty reads needed read write run one count answered ends = record {
   input = input;
   moments = so.moments ++ late;
   output = so.output ++ tail;
@@ -82,12 +83,13 @@ finish w a b old server server' so input rest late tail e more here gave empty r
     tail = tail;
     done = so.steps;
     more = more;
-    moments_are = ap (λ l. l ++ late) (plain_moments w a old server so here);
-    output_is = ap (λ o. o ++ tail) (plain_output w a old server so here);
+    printed = so.printed;
+    moments_are = ap (λ l. l ++ late) (plain_moments buckets w a old server so here);
+    output_is = ap (λ o. o ++ tail) (plain_output buckets w a old server so here);
     steps_are = refl;
     reads = reads;
-    answered = subst (λ (n : ℕ). Answered (beginning server'.projects server'.history n) so.events so.asked so.out so.steps) (sym count) answered;
-    ends = subst (λ (n : ℕ). Ends (stop_of (beginning server'.projects server'.history n) so.events so.steps b.source.ended rest so.told late tail more) e) (sym count) ends;
+    answered = subst (λ (n : ℕ). Answered (beginning server'.settings buckets server'.history n) so.events so.asked so.out so.steps so.printed) (sym count) answered;
+    ends = subst (λ (n : ℕ). Ends (stop_of (beginning server'.settings buckets server'.history n) so.events so.steps so.printed b.source.ended rest so.told late tail more) e) (sym count) ends;
   };
   as_needed = needed;
   read_fault = subst (λ (n : ℕ). ComesOfFault n b.source.faults (IsReadFault e)) so.quiet.0 read;
@@ -95,43 +97,43 @@ finish w a b old server server' so input rest late tail e more here gave empty r
 }
 
 -- it ends without another read, and perhaps after one more step
-pub finish_step : (w a b : Outside) (old : TalkState) (server server' : ServerState) (so : SoFar w a old server) (late tail : List ℕ) (e : SessionEnd) (more : List Step)
+pub finish_step : (buckets : Option ℕ) (w a b : Outside) (old : TalkState) (server server' : ServerState) (so : SoFar buckets w a old server) (late tail : List ℕ) (e : SessionEnd) (more : List Step)
     → old.leaving ≡ None → Exchanges a b [] late tail → EndsEmpty b.source
     → ComesOfFault a.source.faults b.source.faults (IsReadFault e) → ComesOfFault a.sink.faults b.sink.faults (IsWriteFault e)
-    → IsRun server'.projects (so.steps ++ more) server'.history → IsOneThread (so.steps ++ more) → length (so.steps ++ more) ≡ server'.turns
-    → Answered (start_of server') so.events so.asked so.out so.steps
-    → Ends (stop_of (start_of server') so.events so.steps b.source.ended so.rest so.told late tail more) e
-    → Replays server'.projects w b e
-finish_step w a b old server server' so late tail e more here gave empty read write run one count answered ends =
-    finish w a b old server server' so so.input so.rest late tail e more here (exchanged w a b so.input so.moments so.output late tail so.exchanges gave)
+    → IsRun server'.settings (so.steps ++ more) server'.history → IsOneThread (so.steps ++ more) → length (so.steps ++ more) ≡ server'.turns
+    → Answered (start_of buckets server') so.events so.asked so.out so.steps so.printed
+    → Ends (stop_of (start_of buckets server') so.events so.steps so.printed b.source.ended so.rest so.told late tail more) e
+    → Replays server'.settings buckets w b e
+finish_step buckets w a b old server server' so late tail e more here gave empty read write run one count answered ends =
+    finish buckets w a b old server server' so so.input so.rest late tail e more here (exchanged w a b so.input so.moments so.output late tail so.exchanges gave)
     empty so.reads so.as_needed read write run one count answered ends
 
 -- it ends without another read and without one more step
-pub finish_same : (w a b : Outside) (old : TalkState) (server : ServerState) (so : SoFar w a old server) (late tail : List ℕ) (e : SessionEnd)
+pub finish_same : (buckets : Option ℕ) (w a b : Outside) (old : TalkState) (server : ServerState) (so : SoFar buckets w a old server) (late tail : List ℕ) (e : SessionEnd)
     → old.leaving ≡ None → Exchanges a b [] late tail → EndsEmpty b.source
     → ComesOfFault a.source.faults b.source.faults (IsReadFault e) → ComesOfFault a.sink.faults b.sink.faults (IsWriteFault e)
-    → Ends (stop_of (start_of server) so.events so.steps b.source.ended so.rest so.told late tail []) e
-    → Replays server.projects w b e
-finish_same w a b old server so late tail e here gave empty read write ends =
+    → Ends (stop_of (start_of buckets server) so.events so.steps so.printed b.source.ended so.rest so.told late tail []) e
+    → Replays server.settings buckets w b e
+finish_same buckets w a b old server so late tail e here gave empty read write ends =
     let same : so.steps ++ [] ≡ so.steps = append-nil so.steps in
-    finish_step w a b old server server so late tail e [] here gave empty read write
+    finish_step buckets w a b old server server so late tail e [] here gave empty read write
     (rw same so.run) (rw same so.one_thread) (rw same so.count) so.answered ends
 
 -- it ends by an end of its own, and nothing failed
-pub finish_own : (w a b : Outside) (old : TalkState) (server : ServerState) (so : SoFar w a old server) (late : List ℕ) (e : SessionEnd)
+pub finish_own : (buckets : Option ℕ) (w a b : Outside) (old : TalkState) (server : ServerState) (so : SoFar buckets w a old server) (late : List ℕ) (e : SessionEnd)
     → old.leaving ≡ None → IsOwnEnd e → Exchanges a b [] late [] → IsQuiet a b → EndsEmpty b.source
-    → Ends (stop_of (start_of server) so.events so.steps b.source.ended so.rest so.told late [] []) e
-    → Replays server.projects w b e
-finish_own w a b old server so late e here own gave quiet empty ends =
-    finish_same w a b old server so late [] e here gave empty
+    → Ends (stop_of (start_of buckets server) so.events so.steps so.printed b.source.ended so.rest so.told late [] []) e
+    → Replays server.settings buckets w b e
+finish_own buckets w a b old server so late e here own gave quiet empty ends =
+    finish_same buckets w a b old server so late [] e here gave empty
     (no_fault a.source.faults b.source.faults (IsReadFault e) quiet.0 (own_read e own))
     (no_fault a.sink.faults b.sink.faults (IsWriteFault e) quiet.1 (own_write e own)) ends
 
 -- it ends as it was leaving
-pub finish_leaving : (w a : Outside) (old : TalkState) (server : ServerState) (so : SoFar w a old server) (e : SessionEnd)
-    → old.leaving ≡ Some e → IsOwnEnd e → EndsEmpty a.source → Replays server.projects w a e
-finish_leaving w a old server so e leaving own empty =
-    let ends = leaves_some (stop_of (start_of server) so.events so.steps a.source.ended so.rest so.told so.late so.tail []) old.leaving e leaving so.leaving in
+pub finish_leaving : (buckets : Option ℕ) (w a : Outside) (old : TalkState) (server : ServerState) (so : SoFar buckets w a old server) (e : SessionEnd)
+    → old.leaving ≡ Some e → IsOwnEnd e → EndsEmpty a.source → Replays server.settings buckets w a e
+finish_leaving buckets w a old server so e leaving own empty =
+    let ends = leaves_some (stop_of (start_of buckets server) so.events so.steps so.printed a.source.ended so.rest so.told so.late so.tail []) old.leaving e leaving so.leaving in
     record {
       input = so.input;
       moments = so.moments;
@@ -152,12 +154,13 @@ finish_leaving w a old server so e leaving own empty =
         tail = so.tail;
         done = so.steps;
         more = [];
+        printed = so.printed;
         moments_are = so.moments_are;
         output_is = so.output_is;
         steps_are = sym (append-nil so.steps);
         reads = so.reads;
-        answered = subst (λ (n : ℕ). Answered (beginning server.projects server.history n) so.events so.asked so.out so.steps) (sym so.count) so.answered;
-        ends = subst (λ (n : ℕ). Ends (stop_of (beginning server.projects server.history n) so.events so.steps a.source.ended so.rest so.told so.late so.tail []) e) (sym so.count) ends;
+        answered = subst (λ (n : ℕ). Answered (beginning server.settings buckets server.history n) so.events so.asked so.out so.steps so.printed) (sym so.count) so.answered;
+        ends = subst (λ (n : ℕ). Ends (stop_of (beginning server.settings buckets server.history n) so.events so.steps so.printed a.source.ended so.rest so.told so.late so.tail []) e) (sym so.count) ends;
       };
       as_needed = so.as_needed;
       read_fault = no_fault w.source.faults a.source.faults (IsReadFault e) so.quiet.0 (own_read e own);
@@ -165,33 +168,33 @@ finish_leaving w a old server so e leaving own empty =
     }
 
 -- it ends where the input has, and nothing is left to answer
-pub finish_met : (w a : Outside) (old : TalkState) (server : ServerState) (so : SoFar w a old server) (e : SessionEnd)
-    → old.leaving ≡ None → old.ended ≡ true → IsTold so.told so.rest → IsRest so.rest → MeetsEnd so.rest old.served e → EndsEmpty a.source → Replays server.projects w a e
-finish_met w a old server so e here over settled nothing (inl closed) empty =
-    subst (λ (z : SessionEnd). Replays server.projects w a z) (sym closed.1)
-    (finish_own w a a old server so [] (end.Closed old.served) here (closed_own old.served) (exchanges_none a) (refl, refl) empty
-    (inl (ap end.Closed so.served, (let goes = open_of w a old server so here in goes.open_), (refl, refl, refl), so.ended_is over, (settled, (nothing, closed.0)))))
-finish_met w a old server so e here over settled nothing (inr cut) empty =
-    subst (λ (z : SessionEnd). Replays server.projects w a z) (sym cut.1)
-    (finish_own w a a old server so [] (end.Cut old.served) here (cut_own old.served) (exchanges_none a) (refl, refl) empty
-    (inr (inr (inl (ap end.Cut so.served, (let goes = open_of w a old server so here in goes.open_), (refl, refl, refl), so.ended_is over, (settled, (nothing, cut.0)))))))
+pub finish_met : (buckets : Option ℕ) (w a : Outside) (old : TalkState) (server : ServerState) (so : SoFar buckets w a old server) (e : SessionEnd)
+    → old.leaving ≡ None → old.ended ≡ true → IsTold so.told so.rest → IsRest so.rest → MeetsEnd so.rest old.served e → EndsEmpty a.source → Replays server.settings buckets w a e
+finish_met buckets w a old server so e here over settled nothing (inl closed) empty =
+    subst (λ (z : SessionEnd). Replays server.settings buckets w a z) (sym closed.1)
+    (finish_own buckets w a a old server so [] (end.Closed old.served) here (closed_own old.served) (exchanges_none a) (refl, refl) empty
+    (inl (ap end.Closed so.served, (let goes = open_of buckets w a old server so here in goes.open_), (refl, refl, refl), so.ended_is over, (settled, (nothing, closed.0)))))
+finish_met buckets w a old server so e here over settled nothing (inr cut) empty =
+    subst (λ (z : SessionEnd). Replays server.settings buckets w a z) (sym cut.1)
+    (finish_own buckets w a a old server so [] (end.Cut old.served) here (cut_own old.served) (exchanges_none a) (refl, refl) empty
+    (inr (inr (inl (ap end.Cut so.served, (let goes = open_of buckets w a old server so here in goes.open_), (refl, refl, refl), so.ended_is over, (settled, (nothing, cut.0)))))))
 
 -- it ends for want of memory, where no request was taken, or one was at its moment
-pub finish_short : (w a b : Outside) (old new : TalkState) (server : ServerState) (so : SoFar w a old server) (late : List ℕ)
+pub finish_short : (buckets : Option ℕ) (w a b : Outside) (old new : TalkState) (server : ServerState) (so : SoFar buckets w a old server) (late : List ℕ)
     → old.leaving ≡ None → StopsShort so.rest so.told late new → Exchanges a b [] late [] → IsQuiet a b → EndsEmpty b.source
-    → Replays server.projects w b (end.Memory old.served)
-finish_short w a b old new server so late here stops gave quiet empty =
-    finish_own w a b old server so late (end.Memory old.served) here (memory_own old.served) gave quiet empty
-    (inr (inr (inr (inr (inr (inr (inr (
+    → Replays server.settings buckets w b (end.Memory old.served)
+finish_short buckets w a b old new server so late here stops gave quiet empty =
+    finish_own buckets w a b old server so late (end.Memory old.served) here (memory_own old.served) gave quiet empty
+    (inr (inr (inr (inr (inr (inr (inr (inl (
       ap end.Memory so.served,
-      (let goes = open_of w a old server so here in goes.open_),
+      (let goes = open_of buckets w a old server so here in goes.open_),
       refl,
       of_kind stops,
-    ))))))))
+    )))))))))
   where
     of_kind : (late ≡ []) ⊎ TakesRequest so.rest so.told late new.framer
         → ((late ≡ []) × (let none : List Step = [] in none ≡ []))
-        ⊎ TakesUnanswered (stop_of (start_of server) so.events so.steps b.source.ended so.rest so.told late [] [])
+        ⊎ TakesUnanswered (stop_of (start_of buckets server) so.events so.steps so.printed b.source.ended so.rest so.told late [] [])
     of_kind (inl none) = inl (none, refl)
     of_kind (inr one) = inr (record {
       moment = one.moment;
@@ -204,35 +207,35 @@ finish_short w a b old new server so late here stops gave quiet empty =
     })
 
 -- it ends for want of memory where a piece was read that was not fed
-pub finish_unfed : (w a b : Outside) (old : TalkState) (server : ServerState) (so : SoFar w a old server) (piece : List ℕ)
+pub finish_unfed : (buckets : Option ℕ) (w a b : Outside) (old : TalkState) (server : ServerState) (so : SoFar buckets w a old server) (piece : List ℕ)
     → old.leaving ≡ None → IsTold so.told so.rest → IsRest so.rest → IsOneRead a.source.most (length piece) → Exchanges a b piece [] [] → IsQuiet a b → EndsEmpty b.source
-    → Replays server.projects w b (end.Memory old.served)
-finish_unfed w a b old server so piece here settled nothing short gave quiet empty =
+    → Replays server.settings buckets w b (end.Memory old.served)
+finish_unfed buckets w a b old server so piece here settled nothing short gave quiet empty =
     let same : so.steps ++ [] ≡ so.steps = append-nil so.steps in
     let own : IsOwnEnd (end.Memory old.served) = memory_own old.served in
-    finish w a b old server server so (so.input ++ piece) (so.rest ++ piece) [] [] (end.Memory old.served) [] here
+    finish buckets w a b old server server so (so.input ++ piece) (so.rest ++ piece) [] [] (end.Memory old.served) [] here
     (exchanges_trans w a b so.input so.moments so.output piece [] [] so.exchanges gave) empty
     (Reads_more so.input false so.events so.rest so.told piece so.reads) (needed_more w.source.most so.input piece so.events so.rest so.told so.reads settled nothing
     (first_most w a so.input so.moments so.output (length piece) so.exchanges short))
     (no_fault a.source.faults b.source.faults (IsReadFault (end.Memory old.served)) quiet.0 (own_read (end.Memory old.served) own))
     (no_fault a.sink.faults b.sink.faults (IsWriteFault (end.Memory old.served)) quiet.1 (own_write (end.Memory old.served) own))
     (rw same so.run) (rw same so.one_thread) (rw same so.count) so.answered
-    (inr (inr (inr (inr (inr (inr (inr (
+    (inr (inr (inr (inr (inr (inr (inr (inl (
       ap end.Memory so.served,
-      (let goes = open_of w a old server so here in goes.open_),
+      (let goes = open_of buckets w a old server so here in goes.open_),
       refl,
       inl (refl, refl),
-    ))))))))
+    )))))))))
 
 -- it ends for want of memory, where nothing was done
-pub finish_memory : (w a : Outside) (old : TalkState) (server : ServerState) (so : SoFar w a old server)
-    → old.leaving ≡ None → EndsEmpty a.source → Replays server.projects w a (end.Memory old.served)
-finish_memory w a old server so here empty =
-    finish_short w a a old old server so [] here (inl refl) (exchanges_none a) (refl, refl) empty
+pub finish_memory : (buckets : Option ℕ) (w a : Outside) (old : TalkState) (server : ServerState) (so : SoFar buckets w a old server)
+    → old.leaving ≡ None → EndsEmpty a.source → Replays server.settings buckets w a (end.Memory old.served)
+finish_memory buckets w a old server so here empty =
+    finish_short buckets w a a old old server so [] here (inl refl) (exchanges_none a) (refl, refl) empty
 
 -- nothing was done
-pub nothing_done : (w : Outside) (projects : ℕ) → EndsEmpty w.source → Replays projects w w (end.Memory 0)
-nothing_done w projects empty = record {
+pub nothing_done : (buckets : Option ℕ) (w : Outside) (settings : Settings) → EndsEmpty w.source → Replays settings buckets w w (end.Memory 0)
+nothing_done buckets w settings empty = record {
   input = [];
   moments = [];
   output = [];
@@ -252,12 +255,13 @@ nothing_done w projects empty = record {
     tail = [];
     done = [];
     more = [];
+    printed = 0;
     moments_are = refl;
     output_is = refl;
     steps_are = refl;
     reads = (refl, refl);
-    answered = (refl, refl, refl);
-    ends = inr (inr (inr (inr (inr (inr (inr (refl, refl, refl, inl (refl, refl))))))));
+    answered = (refl, refl, refl, refl);
+    ends = inr (inr (inr (inr (inr (inr (inr (inl (refl, refl, refl, inl (refl, refl)))))))));
   };
   as_needed = none_needed w.source.most;
   read_fault = no_fault w.source.faults w.source.faults (IsReadFault (end.Memory 0)) refl (own_read (end.Memory 0) (memory_own 0));

@@ -1,7 +1,7 @@
 -- What the parser of command lines finds in words, and what they say.
 use Rattle.std.proofs.Common.{◌≡◌, ◌∙◌, ℕ, Bool, true, false, List, [], Option, Some, None, if◌then◌else◌, codes, refl, sym, ap, ap₂, subst}
 use Rattle.std.proofs.lemmas.Bool.{and_parts}
-use Rattle.clap.specs.Words.{App, HasMatchesOf, built, fault_of, first_value, found_of, is_simple, kind_of, matches_of, rows_of, takes}
+use Rattle.clap.specs.Words.{App, HasMatchesOf, built, fault_of, first_of, first_value, found_of, is_simple, kind_of, matches_of, rows_of, takes}
 use Rattle.clap.specs.Faults.{is_free_app}
 use Rattle.clap.specs.declared.error.Error.{Error}
 use Rattle.clap.specs.declared.error.kind.ErrorKind.TheVariants.{OutOfMemory}
@@ -10,7 +10,7 @@ use Rattle.clap.specs.declared.parser.matches.Found.{Found}
 use Rattle.clap.proofs.WalkLemmas.{first_value-rows}
 use Rattle.bim_server.specs.declared.words.ReplayWords.{ReplayWords}
 use Rattle.bim_server.specs.declared.words.Time.{Time}
-use Rattle.bim_server.specs.Words.{IsParse, IsPlainCommand, both_said, projects_said, replay_command, replay_said, replay_words, time_said}
+use Rattle.bim_server.specs.Words.{IsParse, IsPlainCommand, all_said, buckets_said, projects_said, replay_command, replay_said, replay_words, time_said}
 use Rattle.bim_server.proofs.Taking.{takes_faultless}
 
 -- `replay` is a command whose parse is known
@@ -63,9 +63,12 @@ words_refused command lent words found same words_are found_is parse =
     let whole : IsParse replay_command words None = parse_of command lent words found None same words_are found_is parse in
     sym (untaken words whole)
 
--- what the values of the two options say
-pub values_said : (f : Found) (at projects : Option (List ℕ)) (time : Option Time) (count : Option ℕ) → at ≡ first_value f (codes "at")
-    → projects ≡ first_value f (codes "projects") → time ≡ time_said at → count ≡ projects_said projects → both_said time count ≡ replay_said (rows_of f)
-values_said f at projects time count at_is projects_is time_is count_is =
-    ap₂ both_said (time_is ∙ ap time_said (at_is ∙ first_value-rows f (codes "at")))
+-- what the values of the three options say
+pub values_said : (f : Found) (at buckets projects : Option (List ℕ)) (time : Option Time) (most : Option (Option ℕ)) (count : Option ℕ) → at ≡ first_value f (codes "at")
+    → buckets ≡ first_value f (codes "buckets") → projects ≡ first_value f (codes "projects") → time ≡ time_said at → most ≡ buckets_said buckets → count ≡ projects_said projects
+    → all_said time most count ≡ replay_said (rows_of f)
+values_said f at buckets projects time most count at_is buckets_is projects_is time_is most_is count_is =
+    ap₂ (λ t m. all_said t m count) (time_is ∙ ap time_said (at_is ∙ first_value-rows f (codes "at")))
+    (most_is ∙ ap buckets_said (buckets_is ∙ first_value-rows f (codes "buckets")))
+    ∙ ap (λ n. all_said (time_said (first_of (codes "at") (rows_of f))) (buckets_said (first_of (codes "buckets") (rows_of f))) n)
     (count_is ∙ ap projects_said (projects_is ∙ first_value-rows f (codes "projects")))

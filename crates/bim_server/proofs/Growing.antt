@@ -4,15 +4,18 @@ use Rattle.std.proofs.lemmas.Bool.Decides.{eqb_tells}
 use Rattle.bim_io.specs.Causes.{WithinMost}
 use Rattle.bim_io.specs.Seen.{Outside, Exchanges}
 use Rattle.bim_io.proofs.Calls.{exchanges_none, exchanges_trans}
+use Rattle.http_frame.specs.declared.types.HttpRequest.{HttpRequest}
 use Rattle.http_frame.specs.Events.{Event, IsRest, IsTold}
 use Rattle.http_frame.specs.Events as frame
 use Rattle.http_frame.specs.Framers.{Stands}
-use Rattle.federation_book.specs.History.{IsBefore}
-use Rattle.federation_book.specs.Runs.{Step, IsRun, IsOneThread}
-use Rattle.federation_book.proofs.Histories.{none_before, one_none}
+use Rattle.book_history.specs.declared.limits.Settings.{Settings}
+use Rattle.book_history.specs.History.{IsBefore}
+use Rattle.book_history.specs.Runs.{Step, IsRun, IsOneThread}
+use Rattle.book_history.proofs.Histories.{none_before, one_none}
 use Rattle.bim_session.specs.declared.end.SessionEnd.{SessionEnd}
 use Rattle.bim_session.specs.declared.end.SessionEnd.TheVariants as end
-use Rattle.bim_session.specs.Session.{Stop, IsBare, Ends, Reads, AnswersEvent, Answered, behind, closes, counted, requests, most_requests, closes_after}
+use Rattle.bim_session.specs.Works.{Standing}
+use Rattle.bim_session.specs.Session.{WorksBehind, past, Stop, IsBare, Ends, Reads, AnswersEvent, Answered, behind, closes, is_closed, counted, requests, most_requests, closes_after}
 use Rattle.bim_session.specs.Replay.{ReadsAsNeeded, HoldsNoMore, IsOneRead}
 use Rattle.bim_session.specs.Talking.{TalkState, fresh, Feeds, is_end, with_framer, with_piece, leaving_after}
 use Rattle.bim_session.proofs.Reading.{Reads_more, Reads_append, requests-push, is_closed-push}
@@ -46,21 +49,21 @@ leaves_here stop None e goes = goes
 leaves_here stop (Some x) e goes = cc
 
 -- where a session stands so far
-abbrev pub stands_at : (w a : Outside) (old : TalkState) (server : ServerState) → SoFar w a old server → Stop
-stands_at w a old server so = stop_of (start_of server) so.events so.steps a.source.ended so.rest so.told so.late so.tail []
+abbrev pub stands_at : (buckets : Option ℕ) (w a : Outside) (old : TalkState) (server : ServerState) → SoFar buckets w a old server → Stop
+stands_at buckets w a old server so = stop_of (start_of buckets server) so.events so.steps so.printed a.source.ended so.rest so.told so.late so.tail []
 
 -- what is known where a session goes on
-pub open_of : (w a : Outside) (old : TalkState) (server : ServerState) (so : SoFar w a old server) → old.leaving ≡ None → GoesOn (stands_at w a old server so)
-open_of w a old server so here = leaves_none (stands_at w a old server so) old.leaving here so.leaving
+pub open_of : (buckets : Option ℕ) (w a : Outside) (old : TalkState) (server : ServerState) (so : SoFar buckets w a old server) → old.leaving ≡ None → GoesOn (stands_at buckets w a old server so)
+open_of buckets w a old server so here = leaves_none (stands_at buckets w a old server so) old.leaving here so.leaving
 
-pub plain_moments : (w a : Outside) (old : TalkState) (server : ServerState) (so : SoFar w a old server) → old.leaving ≡ None → so.moments ≡ so.asked
-plain_moments w a old server so here =
-    let goes = open_of w a old server so here in
+pub plain_moments : (buckets : Option ℕ) (w a : Outside) (old : TalkState) (server : ServerState) (so : SoFar buckets w a old server) → old.leaving ≡ None → so.moments ≡ so.asked
+plain_moments buckets w a old server so here =
+    let goes = open_of buckets w a old server so here in
     so.moments_are ∙ ap (λ t. so.asked ++ t) goes.bare.0 ∙ append-nil so.asked
 
-pub plain_output : (w a : Outside) (old : TalkState) (server : ServerState) (so : SoFar w a old server) → old.leaving ≡ None → so.output ≡ so.out
-plain_output w a old server so here =
-    let goes = open_of w a old server so here in
+pub plain_output : (buckets : Option ℕ) (w a : Outside) (old : TalkState) (server : ServerState) (so : SoFar buckets w a old server) → old.leaving ≡ None → so.output ≡ so.out
+plain_output buckets w a old server so here =
+    let goes = open_of buckets w a old server so here in
     so.output_is ∙ ap (λ t. so.out ++ t) goes.bare.1 ∙ append-nil so.out
 
 -- ---- the beginning
@@ -97,11 +100,11 @@ fresh_of talk stands is = record {
 }
 
 -- a book without a history
-abbrev pub new_server : ℕ → ServerState
-new_server projects = record { projects = projects; history = []; turns = 0 }
+abbrev pub new_server : Settings → ServerState
+new_server settings = record { settings = settings; history = []; turns = 0 }
 
-pub so_far_start : (w : Outside) (projects : ℕ) (talk : TalkState) → IsFresh talk → SoFar w w talk (new_server projects)
-so_far_start w projects talk is_fresh = record {
+pub so_far_start : (buckets : Option ℕ) (w : Outside) (settings : Settings) (talk : TalkState) → IsFresh talk → SoFar buckets w w talk (new_server settings)
+so_far_start buckets w settings talk is_fresh = record {
   input = [];
   moments = [];
   output = [];
@@ -113,6 +116,7 @@ so_far_start w projects talk is_fresh = record {
   out = [];
   tail = [];
   steps = [];
+  printed = 0;
   exchanges = exchanges_none w;
   quiet = (refl, refl);
   moments_are = refl;
@@ -123,14 +127,14 @@ so_far_start w projects talk is_fresh = record {
   one_thread = one_none;
   count = refl;
   earlier = none_before 1;
-  answered = (refl, refl, refl);
+  answered = (refl, refl, refl, refl);
+  turns = omega arith;
   stands = is_fresh.stands;
   served = is_fresh.served;
   idle = is_fresh.waits;
-  few = omega arith;
   most = omega arith;
   ended_is = λ e. absurd (let f : false ≡ true = sym is_fresh.ended ∙ e in cc);
-  leaving = leaves_here (stop_of (start_of (new_server projects)) [] [] w.source.ended [] false [] [] []) talk.leaving is_fresh.leaving
+  leaving = leaves_here (stop_of (start_of buckets (new_server settings)) [] [] 0 w.source.ended [] false [] [] []) talk.leaving is_fresh.leaving
       (record { open_ = refl; room = omega arith; bare = (refl, refl, refl) });
 }
 
@@ -165,12 +169,12 @@ pub first_most : (w a : Outside) (input moments output : List ℕ) (n : ℕ) →
 first_most w a input moments output n gave short = subst (λ (o : Option ℕ). IsOneRead o n) gave.gave.most short
 
 -- a piece is fed, or the end
-pub so_far_fed : (w a b : Outside) (old mid new : TalkState) (server : ServerState) (so : SoFar w a old server) (piece : List ℕ)
+pub so_far_fed : (buckets : Option ℕ) (w a b : Outside) (old mid new : TalkState) (server : ServerState) (so : SoFar buckets w a old server) (piece : List ℕ)
     → old.leaving ≡ None → IsTold so.told so.rest → IsRest so.rest → Stands mid.framer so.rest so.told → mid ≡ with_framer mid.framer old
     → IsOneRead a.source.most (length piece) → Feeds piece mid new → Exchanges a b piece [] [] → IsQuiet a b → (piece ≡ [] → IsTrue b.source.ended)
-    → SoFar w b new server
-so_far_fed w a b old mid new server so piece here settled nothing stands same short feeds gave quiet at_end =
-    let goes = open_of w a old server so here in
+    → SoFar buckets w b new server
+so_far_fed buckets w a b old mid new server so piece here settled nothing stands same short feeds gave quiet at_end =
+    let goes = open_of buckets w a old server so here in
     let fed : new ≡ with_piece new.framer piece (with_framer mid.framer old) = feeds.1 ∙ ap (λ (z : TalkState). with_piece new.framer piece z) same in
     record {
       input = so.input ++ piece;
@@ -184,10 +188,11 @@ so_far_fed w a b old mid new server so piece here settled nothing stands same sh
       out = so.out;
       tail = [];
       steps = so.steps;
+      printed = so.printed;
       exchanges = exchanges_trans w a b so.input so.moments so.output piece [] [] so.exchanges gave;
       quiet = quiet_trans w a b so.quiet quiet;
-      moments_are = ap (λ l. l ++ []) (plain_moments w a old server so here);
-      output_is = ap (λ l. l ++ []) (plain_output w a old server so here);
+      moments_are = ap (λ l. l ++ []) (plain_moments buckets w a old server so here);
+      output_is = ap (λ l. l ++ []) (plain_output buckets w a old server so here);
       reads = Reads_more so.input false so.events so.rest so.told piece so.reads;
       as_needed = needed_more w.source.most so.input piece so.events so.rest so.told so.reads settled nothing (first_most w a so.input so.moments so.output (length piece) so.exchanges short);
       run = so.run;
@@ -195,13 +200,13 @@ so_far_fed w a b old mid new server so piece here settled nothing stands same sh
       count = so.count;
       earlier = so.earlier;
       answered = so.answered;
+      turns = so.turns;
       stands = feeds.0 so.rest so.told stands;
       served = ap (λ (z : TalkState). z.served) fed ∙ so.served;
       idle = ap (λ (z : TalkState). z.waits) fed ∙ so.idle;
-      few = so.few;
       most = so.most;
       ended_is = λ e. piece_ends piece b.source.ended at_end (sym (ap (λ (z : TalkState). z.ended) fed) ∙ e);
-      leaving = leaves_here (stop_of (start_of server) so.events so.steps b.source.ended (so.rest ++ piece) so.told [] [] []) new.leaving
+      leaving = leaves_here (stop_of (start_of buckets server) so.events so.steps so.printed b.source.ended (so.rest ++ piece) so.told [] [] []) new.leaving
           (ap (λ (z : TalkState). z.leaving) fed ∙ here)
           (record { open_ = goes.open_; room = goes.room; bare = (refl, refl, refl) });
     }
@@ -289,23 +294,24 @@ needed_push most input events event needs = record {
       nothing = holds.nothing;
     })
 
--- one more event is answered
-pub so_far_push : (w a b : Outside) (old new : TalkState) (server server' : ServerState) (so : SoFar w a old server)
-    (event : Event) (later : List ℕ) (mark : Bool) (asked bytes : List ℕ) (first : List Step)
+-- one more event is answered, and the work behind it is done
+pub so_far_push : (buckets : Option ℕ) (w a b : Outside) (old new : TalkState) (server server' : ServerState) (so : SoFar buckets w a old server)
+    (event : Event) (later : List ℕ) (mark : Bool) (asked bytes : List ℕ) (own work : List Step) (printed : ℕ)
     → old.leaving ≡ None → Reads so.rest so.told (event ∷ []) later mark → Stands new.framer later mark
-    → AnswersEvent (behind (start_of server') so.events so.steps) event asked bytes first
-    → IsRun server'.projects (so.steps ++ first) server'.history → IsOneThread (so.steps ++ first) → length (so.steps ++ first) ≡ server'.turns
+    → AnswersEvent (behind (start_of buckets server') so.events so.steps so.printed) event asked bytes own printed
+    → WorksBehind (past (behind (start_of buckets server') so.events so.steps so.printed) event own printed) event work
+    → IsRun server'.settings (so.steps ++ (own ++ work)) server'.history → IsOneThread (so.steps ++ (own ++ work)) → length (so.steps ++ (own ++ work)) ≡ server'.turns
     → IsBefore (server'.turns + 1) server'.history
-    → Answered (start_of server') so.events so.asked so.out so.steps
-    → server'.turns ≤ (0 + requests so.events) + counted event
+    → Answered (start_of buckets server') so.events so.asked so.out so.steps so.printed
+    → printed ≤ server'.turns
     → Exchanges a b [] asked bytes → IsQuiet a b → b.source.ended ≡ a.source.ended
     → new.served ≡ old.served + counted event → new.waits ≡ None → new.ended ≡ old.ended → new.leaving ≡ leaving_behind old.served event
-    → SoFar w b new server'
-so_far_push w a b old new server server' so event later mark asked bytes first here reads stands answers run one count earlier answered few gave quiet over served idle going leaving =
-    let goes = open_of w a old server so here in
+    → SoFar buckets w b new server'
+so_far_push buckets w a b old new server server' so event later mark asked bytes own work printed here reads stands answers works run one count earlier answered turns gave quiet over served idle going leaving =
+    let goes = open_of buckets w a old server so here in
     let room : 0 + requests so.events < most_requests = goes.room in
     let more : 0 + requests (so.events ++ event ∷ []) ≡ (0 + requests so.events) + counted event = count_behind 0 so.events event in
-    let stop : Stop = stop_of (start_of server') (so.events ++ event ∷ []) (so.steps ++ first) b.source.ended later mark [] [] [] in
+    let stop : Stop = stop_of (start_of buckets server') (so.events ++ event ∷ []) (so.steps ++ (own ++ work)) printed b.source.ended later mark [] [] [] in
     let leaves : LeavesBy stop (leaving_behind (0 + requests so.events) event) =
     leaves_behind stop (0 + requests so.events) event (is_closed-push 0 so.events event goes.open_) more room (refl, refl, refl) in
     record {
@@ -319,22 +325,23 @@ so_far_push w a b old new server server' so event later mark asked bytes first h
       late = [];
       out = so.out ++ bytes;
       tail = [];
-      steps = so.steps ++ first;
+      steps = so.steps ++ (own ++ work);
+      printed = printed;
       exchanges = exchanged w a b so.input so.moments so.output asked bytes so.exchanges gave;
       quiet = quiet_trans w a b so.quiet quiet;
-      moments_are = ap (λ l. l ++ asked) (plain_moments w a old server so here) ∙ sym (append-nil (so.asked ++ asked));
-      output_is = ap (λ o. o ++ bytes) (plain_output w a old server so here) ∙ sym (append-nil (so.out ++ bytes));
+      moments_are = ap (λ l. l ++ asked) (plain_moments buckets w a old server so here) ∙ sym (append-nil (so.asked ++ asked));
+      output_is = ap (λ o. o ++ bytes) (plain_output buckets w a old server so here) ∙ sym (append-nil (so.out ++ bytes));
       reads = Reads_append so.input false so.events so.rest so.told (event ∷ []) later mark so.reads reads;
       as_needed = needed_push w.source.most so.input so.events event so.as_needed;
       run = run;
       one_thread = one;
       count = count;
       earlier = earlier;
-      answered = Answered_push (start_of server') so.events so.asked so.out so.steps event asked bytes first answered goes.open_ answers;
+      answered = Answered_push (start_of buckets server') so.events so.asked so.out so.steps so.printed event asked bytes own work printed answered goes.open_ answers works;
+      turns = turns;
       stands = stands;
       served = served ∙ ap (λ n. n + counted event) so.served ∙ sym more;
       idle = idle;
-      few = rw more few;
       most = (let one_more = counted_one event in let le : (0 + requests so.events) + counted event ≤ most_requests = omega (arith, room, one_more) in rw more le);
       ended_is = λ e. rw over (so.ended_is (sym going ∙ e));
       leaving = subst (λ (o : Option SessionEnd). LeavesBy stop o)

@@ -3,10 +3,14 @@ pub mod SoFar
 pub mod Growing
 pub mod Events
 pub mod Ending
+pub mod Worked
+pub mod Owed
 pub mod Stepping
+pub mod Behind
 pub mod Running
 pub mod Numbers
 pub mod Taking
 pub mod Grammar
 pub mod Statuses
 pub mod Calling
+pub mod Giving

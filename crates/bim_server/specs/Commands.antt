@@ -4,7 +4,7 @@ use Rattle.std.specs.Str.{bytes_eq}
 use Rattle.bim_io.specs.Causes.{ComesOfFault}
 use Rattle.bim_io.specs.Seen.{ClockSeen, Outside, outside, SinkTakes}
 use Rattle.bim_session.specs.declared.end.SessionEnd.{SessionEnd}
-use Rattle.bim_session.specs.Replay.{Replays, status_of}
+use Rattle.bim_session.specs.Replay.{Replays, stated_settings, status_of}
 use Rattle.bim_server.specs.declared.words.ReplayWords.{ReplayWords}
 use Rattle.bim_server.specs.declared.words.Time.{Time}
 use Rattle.bim_server.specs.declared.words.Time.TheVariants.{OfClock, At}
@@ -21,24 +21,24 @@ pub record PrintsUsage (before after : Outside) (status : ℕ) : Type 0 where
   pub wrote : SinkTakes before.sink after.sink front
   pub short : ComesOfFault before.sink.faults after.sink.faults (more ≢ [])
 
--- a session over so many projects is replayed, and its end decides the status
-pub record ReplaysTo (projects : ℕ) (before after : Outside) (status : ℕ) : Type 0 where
+-- a session over so many projects is replayed, with so much work behind each answer, and its end decides the status
+pub record ReplaysTo (buckets : Option ℕ) (projects : ℕ) (before after : Outside) (status : ℕ) : Type 0 where
   pub end : SessionEnd
   pub status_is : status ≡ status_of end
-  pub replays : Replays projects before after end
+  pub replays : Replays (stated_settings projects) buckets before after end
 
 -- a session is replayed by a clock that always gives this moment; the one of the outside was not asked
-pub record ReplaysAt (projects moment : ℕ) (before after : Outside) (status : ℕ) : Type 0 where
+pub record ReplaysAt (buckets : Option ℕ) (projects moment : ℕ) (before after : Outside) (status : ℕ) : Type 0 where
   pub clock : after.clock ≡ before.clock
   pub own : ClockSeen
   pub own' : ClockSeen
   pub one : own.one ≡ Some moment
-  pub replays : ReplaysTo projects (outside before.source before.sink own) (outside after.source after.sink own') status
+  pub replays : ReplaysTo buckets projects (outside before.source before.sink own) (outside after.source after.sink own') status
 
 -- a session is replayed by the clock of the outside, or by one of one moment
-abbrev pub ReplaysBy : Time → ℕ → Outside → Outside → ℕ → Type 0
-ReplaysBy OfClock projects before after status = ReplaysTo projects before after status
-ReplaysBy (At moment) projects before after status = ReplaysAt projects moment before after status
+abbrev pub ReplaysBy : Time → Option ℕ → ℕ → Outside → Outside → ℕ → Type 0
+ReplaysBy OfClock buckets projects before after status = ReplaysTo buckets projects before after status
+ReplaysBy (At moment) buckets projects before after status = ReplaysAt buckets projects moment before after status
 
 -- memory was wanting for the words: nothing was read or written, and the clock was not asked
 pub record WantsMemory (before after : Outside) (status : ℕ) : Type 0 where
@@ -48,7 +48,7 @@ pub record WantsMemory (before after : Outside) (status : ℕ) : Type 0 where
 -- what `replay` does by what its words say: outside its grammar it prints the usage line, else it replays a session
 abbrev pub DoesBy : Option ReplayWords → Outside → Outside → ℕ → Type 0
 DoesBy None before after status = PrintsUsage before after status
-DoesBy (Some said) before after status = ReplaysBy said.time said.projects before after status
+DoesBy (Some said) before after status = ReplaysBy said.time said.buckets said.projects before after status
 
 -- what `replay` does, or memory was wanting before it could
 abbrev pub Does : Option ReplayWords → Outside → Outside → ℕ → Type 0

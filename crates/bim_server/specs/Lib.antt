@@ -1,4 +1,5 @@
 pub mod Writes
 pub mod Loop
+pub mod Working
 pub mod Words
 pub mod Commands

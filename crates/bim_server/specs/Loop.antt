@@ -4,9 +4,11 @@ use Rattle.std.specs.declared.alloc.AllocError.{AllocError}
 use Rattle.bim_io.specs.Causes.{Rose}
 use Rattle.bim_io.specs.Seen.{SourceSeen, SinkSeen, Outside, SourceGives, SinkTakes}
 use Rattle.book_turn.specs.declared.object.Stamp.{Stamp}
-use Rattle.federation_book.specs.declared.types.Entry.{Entry}
-use Rattle.federation_book.specs.declared.types.BookRequest.{BookRequest}
-use Rattle.federation_book.specs.History.{added_by, reply_of, IsBefore}
+use Rattle.book_history.specs.declared.limits.Settings.{Settings}
+use Rattle.book_history.specs.declared.changes.Entry.{Entry}
+use Rattle.book_history.specs.declared.requests.BookRequest.{BookRequest}
+use Rattle.book_history.specs.History.{IsBefore, left_all}
+use Rattle.book_history.specs.Requests.{added_by, reply_of}
 use Rattle.bim_session.specs.declared.end.SessionEnd.{SessionEnd}
 use Rattle.bim_session.specs.declared.end.SessionEnd.TheVariants as end
 use Rattle.bim_session.specs.declared.want.Waiting.{Waiting}
@@ -20,10 +22,9 @@ use Rattle.bim_server.specs.declared.session.Progress.TheVariants.{Again, End}
 
 -- ---- the book
 
--- what contracts see of a one-thread book: how many projects it has, its history, and how many turns were
--- taken
+-- what contracts see of a one-thread book: its settings, its history, and how many turns were taken
 pub record ServerState : Type 0 where
-  pub projects : ℕ
+  pub settings : Settings
   pub history : List Entry
   pub turns : ℕ
 
@@ -34,15 +35,20 @@ stamp_of turn = record { turn = turn; pass = 0; call = turn }
 -- the next turn is taken by a request
 abbrev pub with_turn : BookRequest → ServerState → ServerState
 with_turn request s = record {
-  projects = s.projects;
-  history = s.history ++ added_by s.projects s.history (stamp_of (s.turns + 1)) request;
+  settings = s.settings;
+  history = s.history ++ added_by s.settings s.history (stamp_of (s.turns + 1)) request;
   turns = s.turns + 1;
 }
+
+-- how many buckets of live versions are to be checked
+abbrev pub left_of : ServerState → ℕ
+left_of s = left_all s.settings.projects s.history
 
 -- a call takes the next turn and is answered at the history so far, or nothing happens
 abbrev pub Calls : BookRequest → ServerState → Result BookReceipt AllocError → ServerState → Type 0
 Calls request old (Ok receipt) new =
-    (receipt.turn ≡ old.turns + 1) × (receipt.reply ≡ reply_of old.projects old.history request)
+    (receipt.turn ≡ old.turns + 1)
+    × (receipt.reply ≡ reply_of old.settings old.history (stamp_of (old.turns + 1)) request)
     × (new ≡ with_turn request old)
 Calls request old (Err e) new = new ≡ old
 

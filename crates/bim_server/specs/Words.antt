@@ -10,7 +10,8 @@ use Rattle.clap.specs.Takes.{default_passes}
 use Rattle.clap.specs.declared.builder.action.ArgAction.TheVariants.{Set}
 use Rattle.clap.specs.declared.parser.matches.ArgMatches.{ArgMatches}
 use Rattle.bim_model.specs.Moments.{last_moment, IsMoment}
-use Rattle.federation_book.specs.declared.limits.TheConstants.{MOST_PROJECTS}
+use Rattle.book_history.specs.declared.limits.TheConstants.{MOST_PROJECTS}
+use Rattle.bim_server.specs.declared.words.TheConstants.{MOST_BUCKETS}
 use Rattle.bim_server.specs.declared.words.ReplayWords.{ReplayWords}
 use Rattle.bim_server.specs.declared.words.Time.{Time}
 use Rattle.bim_server.specs.declared.words.Time.TheVariants.{OfClock, At}
@@ -35,9 +36,12 @@ option_of name = record (new_rule name) { long = Some name; action = Some Set }
 abbrev pub bare_command : List ℕ → App
 bare_command name = on_top (λ s. record s { no_binary_name = true; disable_help_flag = true }) (new_app name)
 
--- `replay` has two options, in any order
+-- `replay` has three options, in any order
 unfoldable pub replay_command : App
-replay_command = with_rule (with_rule (bare_command (codes "replay")) (option_of (codes "at"))) (option_of (codes "projects"))
+replay_command =
+    with_rule
+    (with_rule (with_rule (bare_command (codes "replay")) (option_of (codes "at"))) (option_of (codes "buckets")))
+    (option_of (codes "projects"))
 
 -- a command of which it is known what a parse finds: it has no subcommands, no argument that depends on another, and
 -- defaults that their arguments take
@@ -61,13 +65,21 @@ abbrev pub projects_said : Option (List ℕ) → Option ℕ
 projects_said None = Some 1
 projects_said (Some text) = number_word 1 MOST_PROJECTS text
 
-abbrev pub both_said : Option Time → Option ℕ → Option ReplayWords
-both_said (Some time) (Some projects) = Some (record { time = time; projects = projects })
-both_said _ _ = None
+-- how many buckets are worked behind each answered request, all where it isn't said
+abbrev pub buckets_said : Option (List ℕ) → Option (Option ℕ)
+buckets_said None = Some None
+buckets_said (Some text) = option_map Some (number_word 0 MOST_BUCKETS text)
+
+abbrev pub all_said : Option Time → Option (Option ℕ) → Option ℕ → Option ReplayWords
+all_said (Some time) (Some buckets) (Some projects) =
+    Some (record { time = time; buckets = buckets; projects = projects })
+all_said _ _ _ = None
 
 -- what the values of the options of `replay` say
 abbrev pub replay_said : List Row → Option ReplayWords
-replay_said rows = both_said (time_said (first_of (codes "at") rows)) (projects_said (first_of (codes "projects") rows))
+replay_said rows =
+    all_said (time_said (first_of (codes "at") rows)) (buckets_said (first_of (codes "buckets") rows))
+    (projects_said (first_of (codes "projects") rows))
 
 -- what the words behind `replay` say: nothing where they are outside its grammar, which are those that the command doesn't
 -- take, and those with a value of another form

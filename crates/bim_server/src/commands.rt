@@ -33,22 +33,32 @@ fn replay<S: Source, K: Sink, C: Clock>(
     clock: &mut C,
 ) -> u8
     requires { IsReplay said }
-    ensures does { ReplaysBy said.time said.projects (outside (S.seen source.old) (K.seen sink.old) (C.seen clock.old))
+    ensures does { ReplaysBy said.time said.buckets said.projects (outside (S.seen source.old) (K.seen sink.old) (C.seen clock.old))
         (outside (S.seen source.new) (K.seen sink.new) (C.seen clock.new)) result }
     ensures read { ComesOfFault (S.seen source.old).faults (S.seen source.new).faults (result ≡ 4) }
     ensures write { result ≡ 5 → Rose (K.seen sink.old).faults (K.seen sink.new).faults }
 {
     match said.time {
-        Time::OfClock => status_of(run_session(alloc, said.projects, source, sink, clock)),
+        Time::OfClock => {
+            status_of(run_session(alloc, said.projects, said.buckets, source, sink, clock))
+        }
         Time::At(moment) => {
             let mut one_moment = MemClock::new(moment);
-            status_of(run_session(alloc, said.projects, source, sink, &mut one_moment))
+            let end = run_session(
+                alloc,
+                said.projects,
+                said.buckets,
+                source,
+                sink,
+                &mut one_moment,
+            );
+            status_of(end)
         }
     }
 }
 
-/// Replays one recorded session: reads requests from the source, answers them over a book of one thread, and writes
-/// the responses to the sink. The words are those behind `replay`. It answers the exit status: 0 where the input ended
+/// Replays one recorded session: reads requests from the source, answers them over a book of one thread, writes the
+/// responses to the sink, and behind each works the buckets that are to be checked, or as many as the words say. The words are those behind `replay`. It answers the exit status: 0 where the input ended
 /// between requests, 2 where the words are outside their grammar, 4 where a read failed, 5 where a write failed, 6
 /// where memory was wanting, and 7 where the session ended within a request, by a fault of its bytes, or after 10,000
 /// requests.

@@ -1,30 +1,70 @@
-//! A book that one thread calls, with turns counted from 1.
-ghost use Rattle.std.specs.Prelude.{◌≡◌, ◌<◌, ◌≤◌, ◌+◌, ◌^◌, [], IfOk};
-ghost use Rattle.federation_book.specs.History.{IsBefore};
-ghost use Rattle.bim_server.specs.Loop.{Calls};
+//! A book that one thread calls and works for, with turns counted from 1.
+ghost use Rattle.std.specs.Prelude.{◌≡◌, ◌<◌, ◌≤◌, ◌+◌, [], IfOk, OnOk, OnErr};
+ghost use Rattle.bucket_grid.specs.Cells.{IsBucket};
+ghost use Rattle.book_history.specs.History.{IsBefore, left_all};
+ghost use Rattle.book_history.specs.Legal.{IsLegal};
+ghost use Rattle.bim_session.specs.Works.{IsSetOf};
+ghost use Rattle.bim_session.specs.Replay.{stated_limits, stated_settings};
+ghost use Rattle.bim_server.specs.Loop.{Calls, left_of};
+ghost use Rattle.bim_server.specs.Working.{WorksBucket, WorksPart, WorksUpTo, WorksLess, WorksAll, WorksSome};
 
+use bim_model::{Shared, Steps};
+use book_history::{
+    BookRequest, Limits, MOST_COMMENTS, MOST_ENTRIES, MOST_PROJECTS, MOST_STORED_TRIANGLES,
+    MOST_TEXT, MOST_TOPICS, MOST_VERSION_ELEMENTS, MOST_VERSION_MEMBERSHIPS, MOST_VIEWPOINTS,
+    ReplyBody, Stamp, WorkOrder,
+};
 use book_turn::turn::Receipt;
-use federation_book::{Book, BookRequest, MOST_PROJECTS, Stamp};
+use bucket_check::{BucketSet, Room, check};
+use federation_book::Book;
 use std::alloc::{AllocError, Global};
-use std::marker::Model;
+use std::marker::{Brand, Model};
+use std::sync::ledger::Blank;
 
-/// A book, and how many turns were taken of it.
+/// A book, how many turns were taken of it, and room for the work on its buckets.
 #[derive(Drop)]
 pub struct OneThread {
     book: Book,
     turns: u64,
+    room: Room,
 }
 
 impl Model for OneThread {
     ghost use Rattle.std.specs.Prelude.{◌+◌};
-    ghost use Rattle.federation_book.specs.History.{IsBefore};
+    ghost use Rattle.book_history.specs.History.{IsBefore};
     ghost use Rattle.bim_server.specs.Loop.{ServerState};
 
     ghost Value = { ServerState };
 
-    ghost view = { λ s. record { projects = s.book.projects; history = s.book.journal; turns = s.turns } };
+    ghost view = { λ s. record { settings = s.book.settings; history = s.book.journal; turns = s.turns } };
 
     ghost invariant = { λ s. IsBefore (s.turns + 1) s.book.journal };
+}
+
+// How much a book of the program may hold.
+fn stated_limits() -> Limits
+    ensures { result ≡ stated_limits }
+{
+    Limits {
+        elements: MOST_VERSION_ELEMENTS,
+        memberships: MOST_VERSION_MEMBERSHIPS,
+        triangles: MOST_STORED_TRIANGLES,
+        text: MOST_TEXT,
+        journal: MOST_ENTRIES,
+        topics: MOST_TOPICS,
+        comments: MOST_COMMENTS,
+        viewpoints: MOST_VIEWPOINTS,
+    }
+}
+
+// What is found for the bucket of an order.
+fn set_of(alloc: Global, room: &mut Room, order: WorkOrder) -> Result<Shared<BucketSet>, AllocError>
+    ensures set { IfOk result (IsSetOf order) }
+    ensures bucket { IfOk result (λ set. IsBucket set.work.grid.boxes set.work.cell) }
+{
+    let mut steps = Steps::<Brand>::new(Blank::new(1));
+    let set = check(alloc, order.into_work(), room, &mut steps)?;
+    Shared::new(alloc, set)
 }
 
 impl OneThread {
@@ -32,22 +72,34 @@ impl OneThread {
     pub fn new(alloc: Global, projects: u32) -> Result<OneThread, AllocError>
         requires some { 1 ≤ projects }
         requires few { projects ≤ MOST_PROJECTS }
-        ensures { IfOk result (λ s. s ≡ record { projects = projects; history = []; turns = 0 }) }
+        ensures { IfOk result (λ s. s
+            ≡ record { settings = stated_settings projects; history = []; turns = 0 }) }
     {
         Ok(OneThread {
-            book: Book::new(alloc, projects)?,
+            book: Book::new(alloc, projects, stated_limits())?,
             turns: 0,
+            room: Room::new(alloc),
         })
     }
 
-    /// Answers a request at the next turn. An `Err` takes no turn and changes nothing.
+    /// How many buckets of live versions are to be checked.
+    pub fn left_all(&self) -> u64
+        ensures { result ≡ left_of self.now }
+    {
+        self.book.left_all()
+    }
+
+    /// Answers a request at the next turn. An `Err` takes no turn and changes nothing. The number of the last turn fits
+    /// 64 bits: a call that would take one more is an `Err`.
     pub fn call(&mut self, request: BookRequest) -> Result<Receipt<Book>, AllocError>
-        requires { self.old.turns < 2 ^ 63 }
+        requires { IsLegal self.old.settings self.old.history request }
         ensures receipt { Calls request self.old result self.new }
         ensures before { IsBefore (self.new.turns + 1) self.new.history }
-        ensures projects { self.new.projects ≡ self.old.projects }
+        ensures settings { self.new.settings ≡ self.old.settings }
     {
-        let turn = self.turns + 1;
+        let Some(turn) = self.turns.checked_add(1) else {
+            return Err(AllocError);
+        };
         let stamp = Stamp {
             turn,
             pass: 0,
@@ -56,5 +108,58 @@ impl OneThread {
         let reply = self.book.act(stamp, request)?;
         self.turns = turn;
         Ok(Receipt { turn, reply })
+    }
+
+    // Works a bucket: it is given out at one turn, and its set is brought at the next. An `Err` may come between.
+    fn work_one(&mut self, alloc: Global) -> Result<(), AllocError>
+        requires { 0 < left_of self.old }
+        ensures ok { OnOk result (WorksBucket self.old self.new) }
+        ensures err { OnErr result (WorksPart self.old self.new) }
+        ensures settings { self.new.settings ≡ self.old.settings }
+    {
+        let receipt = self.call(BookRequest::TakeWork { seat: 0 })?;
+        let ReplyBody::Work(order) = receipt.reply.body else {
+            unreachable!()
+        };
+        let set = set_of(alloc, &mut self.room, order)?;
+        let _receipt = self.call(BookRequest::Finish { set })?;
+        Ok(())
+    }
+
+    // Works buckets until none is to be checked, at most so many.
+    fn work_up_to(&mut self, alloc: Global, most: u64) -> Result<(), AllocError>
+        ensures ok { OnOk result (WorksUpTo most self.old self.new) }
+        ensures err { OnErr result (WorksLess most self.old self.new) }
+        ensures settings { self.new.settings ≡ self.old.settings }
+    {
+        for _done in 0..most {
+            if self.left_all() == 0 {
+                return Ok(());
+            }
+            self.work_one(alloc)?;
+        }
+        Ok(())
+    }
+
+    /// Works buckets until none is to be checked, at most so many where so many are said. An `Err` stops between two
+    /// turns.
+    pub fn work(&mut self, alloc: Global, buckets: Option<u64>) -> Result<(), AllocError>
+        ensures ok { OnOk result (WorksAll buckets self.old self.new) }
+        ensures err { OnErr result (WorksSome buckets self.old self.new) }
+        ensures before { IsBefore (self.new.turns + 1) self.new.history }
+        ensures settings { self.new.settings ≡ self.old.settings }
+    {
+        match buckets {
+            Some(most) => self.work_up_to(alloc, most),
+            None => {
+                self.work_up_to(alloc, u64::MAX)?;
+                // no book comes near so many buckets
+                if self.left_all() == 0 {
+                    Ok(())
+                } else {
+                    Err(AllocError)
+                }
+            }
+        }
     }
 }

@@ -1,15 +1,17 @@
 //! One session over one source and one sink, with a one-thread book.
-ghost use Rattle.std.specs.Prelude.{◌≡◌, ◌<◌, ◌≤◌, ◌^◌, ◌+◌, false, None, IsSome};
+ghost use Rattle.std.specs.Prelude.{◌≡◌, ◌≤◌, ◌+◌, false, None, IsSome};
 ghost use Rattle.bim_io.specs.Seen.{outside};
-ghost use Rattle.federation_book.specs.History.{IsBefore};
-ghost use Rattle.bim_session.specs.Replay.{Replays, status_of};
+ghost use Rattle.book_history.specs.History.{IsBefore};
+ghost use Rattle.bcf_http.specs.Calls.{BringsNone};
+ghost use Rattle.bim_session.specs.Replay.{Replays, stated_settings, status_of};
 ghost use Rattle.bim_server.specs.Loop.{Reading, Writing, Called, StepsOn};
+ghost use Rattle.bim_server.specs.Working.{WorksBehind, StepsAndWorks};
 
 use crate::one_thread::OneThread;
 use crate::sinks::write_whole;
 use bim_io::{Clock, Sink, Source};
 use bim_session::{MOST_READ, SessionEnd, Talk, Want};
-use federation_book::{BookRequest, MOST_PROJECTS};
+use book_history::{BookRequest, MOST_PROJECTS};
 use std::alloc::Global;
 
 /// Whether a session goes on after a step.
@@ -71,11 +73,11 @@ fn call_book<K: Sink>(
 ) -> Progress
     requires waits { IsSome talk.old.waits }
     requires leaving { talk.old.leaving ≡ None }
-    requires turns { server.old.turns < 2 ^ 63 }
+    requires none { BringsNone call }
     ensures step { Called call (K.seen sink.old) (K.seen sink.new) talk.old server.old result talk.new
         server.new }
     ensures earlier { IsBefore (server.new.turns + 1) server.new.history }
-    ensures projects { server.new.projects ≡ server.old.projects }
+    ensures settings { server.new.settings ≡ server.old.settings }
 {
     let served = talk.served();
     let receipt = server.call(call);
@@ -97,12 +99,11 @@ fn take_step<S: Source, K: Sink, C: Clock>(
     clock: &mut C,
 ) -> Progress
     requires idle { talk.old.waits ≡ None }
-    requires turns { server.old.turns < 2 ^ 63 }
     requires earlier { IsBefore (server.old.turns + 1) server.old.history }
     ensures step { StepsOn (outside (S.seen source.old) (K.seen sink.old) (C.seen clock.old))
         (outside (S.seen source.new) (K.seen sink.new) (C.seen clock.new)) talk.old server.old result talk.new
         server.new }
-    ensures projects { server.new.projects ≡ server.old.projects }
+    ensures settings { server.new.settings ≡ server.old.settings }
 {
     let served = talk.served();
     match talk.next(clock) {
@@ -114,17 +115,64 @@ fn take_step<S: Source, K: Sink, C: Clock>(
     }
 }
 
-/// Reads requests, and answers them over a book of so many projects, until the session ends.
+// The work behind an answer.
+fn work_behind(alloc: Global, buckets: Option<u64>, talk: &Talk, server: &mut OneThread) -> Progress
+    ensures works { WorksBehind buckets talk.now server.old result server.new }
+    ensures earlier { IsBefore (server.new.turns + 1) server.new.history }
+    ensures settings { server.new.settings ≡ server.old.settings }
+{
+    match server.work(alloc, buckets) {
+        Ok(()) => Progress::Again,
+        Err(_) => Progress::End(SessionEnd::Memory {
+            served: talk.served(),
+        }),
+    }
+}
+
+// Does what the talk wants, and behind the answer to a request the work on buckets.
+fn step_and_work<S: Source, K: Sink, C: Clock>(
+    alloc: Global,
+    buckets: Option<u64>,
+    talk: &mut Talk,
+    server: &mut OneThread,
+    source: &mut S,
+    sink: &mut K,
+    clock: &mut C,
+) -> Progress
+    requires idle { talk.old.waits ≡ None }
+    requires earlier { IsBefore (server.old.turns + 1) server.old.history }
+    ensures step { StepsAndWorks buckets (outside (S.seen source.old) (K.seen sink.old) (C.seen clock.old))
+        (outside (S.seen source.new) (K.seen sink.new) (C.seen clock.new)) talk.old server.old result talk.new
+        server.new }
+    ensures settings { server.new.settings ≡ server.old.settings }
+{
+    let served = talk.served();
+    match take_step(talk, server, source, sink, clock) {
+        Progress::Again => {
+            if talk.served() > served {
+                work_behind(alloc, buckets, talk, server)
+            } else {
+                Progress::Again
+            }
+        }
+        Progress::End(end) => Progress::End(end),
+    }
+}
+
+/// Reads requests, and answers them over a book of so many projects, until the session ends. Behind each answered
+/// request buckets are worked until none is to be checked, at most so many where so many are said.
 pub fn run_session<S: Source, K: Sink, C: Clock>(
     alloc: Global,
     projects: u32,
+    buckets: Option<u64>,
     source: &mut S,
     sink: &mut K,
     clock: &mut C,
 ) -> SessionEnd
     requires some { 1 ≤ projects }
     requires few { projects ≤ MOST_PROJECTS }
-    ensures { Replays projects (outside (S.seen source.old) (K.seen sink.old) (C.seen clock.old))
+    ensures { Replays (stated_settings projects) buckets
+        (outside (S.seen source.old) (K.seen sink.old) (C.seen clock.old))
         (outside (S.seen source.new) (K.seen sink.new) (C.seen clock.new)) result }
 {
     let Ok(mut talk) = Talk::new(alloc) else {
@@ -136,7 +184,7 @@ pub fn run_session<S: Source, K: Sink, C: Clock>(
     // No session comes near so many steps: each one answers, or reads a piece of a request whose bytes are
     // bounded.
     'steps: for _ in 0..u64::MAX {
-        match take_step(&mut talk, &mut server, source, sink, clock) {
+        match step_and_work(alloc, buckets, &mut talk, &mut server, source, sink, clock) {
             Progress::Again => {}
             Progress::End(end) => return end,
         }

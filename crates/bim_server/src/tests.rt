@@ -94,6 +94,20 @@ fn a_session_goes_on_and_closes(rt: HostRuntime) -> Result<(), Fail> {
     assert_replays(&rt, alloc, 3, b"\r\n\n\r\n", b"")
 }
 
+// A rule, two pipes ten millimetres apart at an edge of four cells, and the clashes of that version.
+const FOUND: &[u8] =
+    b"PUT /coord/1/projects/00000001-0000-8000-8000-000000000000/rules HTTP/1.1\r\nHost: h\r\nContent-Length: 43\r\n\r\n{\"rules\":[{\"a\":\"*\",\"b\":\"*\",\"distance\":50}]}PUT /coord/1/projects/00000001-0000-8000-8000-000000000000/models/m HTTP/1.1\r\nHost: h\r\nContent-Length: 969\r\n\r\nISO-10303-21;\nHEADER;\nFILE_DESCRIPTION((''),'2;1');\nFILE_NAME('a.ifc','2024-05-01T12:00:00',(''),(''),'','','');\nFILE_SCHEMA(('IFC4'));\nENDSEC;\nDATA;\n#1=IFCPROJECT('0000000000000000000001',$,'P',$,$,$,$,(),#2);\n#2=IFCUNITASSIGNMENT((#3));\n#3=IFCSIUNIT(*,.LENGTHUNIT.,.MILLI.,.METRE.);\n#10=IFCCARTESIANPOINTLIST3D(((3950.,3950.,1500.),(4050.,3950.,1500.),(3950.,4050.,1500.)));\n#11=IFCTRIANGULATEDFACESET(#10,$,$,((1,2,3)),$);\n#12=IFCSHAPEREPRESENTATION($,'Body','Tessellation',(#11));\n#13=IFCPRODUCTDEFINITIONSHAPE($,$,(#12));\n#14=IFCPIPESEGMENT('0000000000000000000011',$,'0000000000000000000011',$,$,$,#13,$,$);\n#20=IFCCARTESIANPOINTLIST3D(((3950.,3950.,1510.),(4050.,3950.,1510.),(3950.,4050.,1510.)));\n#21=IFCTRIANGULATEDFACESET(#20,$,$,((1,2,3)),$);\n#22=IFCSHAPEREPRESENTATION($,'Body','Tessellation',(#21));\n#23=IFCPRODUCTDEFINITIONSHAPE($,$,(#22));\n#24=IFCPIPESEGMENT('0000000000000000000012',$,'0000000000000000000012',$,$,$,#23,$,$);\nENDSEC;\nEND-ISO-10303-21;\nGET /coord/1/projects/00000001-0000-8000-8000-000000000000/versions/2/clashes HTTP/1.1\r\nHost: h\r\n\r\n";
+
+const FOUND_ANSWERS: &[u8] =
+    b"HTTP/1.1 200 OK\r\nContent-Type: application/json\r\nX-Book-Turn: 1\r\nContent-Length: 49\r\n\r\n{\"elements\":0,\"left\":0,\"triangles\":0,\"version\":1}HTTP/1.1 201 Created\r\nContent-Type: application/json\r\nX-Book-Turn: 2\r\nContent-Length: 49\r\n\r\n{\"elements\":2,\"left\":4,\"triangles\":2,\"version\":2}HTTP/1.1 200 OK\r\nContent-Type: application/json\r\nX-Book-Turn: 11\r\nContent-Length: 170\r\n\r\n{\"clashes\":[{\"a\":{\"guid\":\"0000000000000000000011\",\"model\":\"m\"},\"b\":{\"guid\":\"0000000000000000000012\",\"model\":\"m\"},\"distance\":50,\"rule\":0}],\"first\":0,\"total\":1,\"version\":2}";
+
+// All four buckets are checked, by eight turns, before the next request is read.
+#[test]
+fn a_pair_in_four_cells_is_found_once(rt: HostRuntime) -> Result<(), Fail> {
+    let alloc = rt.alloc();
+    assert_replays(&rt, alloc, 100_000, FOUND, FOUND_ANSWERS)
+}
+
 fn fails_at(alloc: Global, call: u64) -> Result<Items<u64>, Fail> {
     let mut fails = Items::new(alloc);
     fails.push(call)?;
@@ -191,6 +205,8 @@ fn words_outside_the_grammar_print_the_usage(rt: HostRuntime) -> Result<(), Fail
     assert_words(&rt, alloc, &["replay", "--at", "+5"], 2, usage)?;
     assert_words(&rt, alloc, &["replay", "--projects", "8", "--at=5"], 0, b"")?;
     assert_words(&rt, alloc, &["replay", "--projects", "9"], 2, usage)?;
+    assert_words(&rt, alloc, &["replay", "--buckets=1000000"], 0, b"")?;
+    assert_words(&rt, alloc, &["replay", "--buckets", "1000001"], 2, usage)?;
     assert_words(&rt, alloc, &["replay", "--at", "5", "--at", "6"], 2, usage)?;
     assert_words(&rt, alloc, &["replay", "--help"], 2, usage)?;
     assert_words(&rt, alloc, &["check"], 2, usage)?;

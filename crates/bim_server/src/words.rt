@@ -4,13 +4,16 @@ ghost use Rattle.std.specs.List.{list_all};
 ghost use Rattle.std.specs.Char.{is_ascii_digit};
 ghost use Rattle.std.specs.Str.{bytes_eq};
 ghost use Rattle.clap.specs.Words.{app_of, found_of, rows_of, rule_of};
-ghost use Rattle.bim_server.specs.Words.{is_number, within, number_word, option_of, replay_command, IsPlainCommand, IsParse, time_said, projects_said, both_said, replay_said, replay_words, IsTime, IsCount, IsReplay};
+ghost use Rattle.bim_server.specs.Words.{is_number, within, number_word, option_of, replay_command, IsPlainCommand, IsParse, time_said, buckets_said, projects_said, all_said, replay_said, replay_words, IsTime, IsCount, IsReplay};
 
 use bim_model::{Moment, Text};
+use book_history::MOST_PROJECTS;
 use clap::error::ErrorKind;
 use clap::{Arg, ArgAction, ArgMatches, Command};
-use federation_book::MOST_PROJECTS;
 use std::alloc::{AllocError, Global};
+
+/// The most buckets that words may say.
+pub const MOST_BUCKETS: u64 = 1_000_000;
 
 /// What time it is for a replay.
 #[derive(Clone, Copy, Debug, PartialEq, Eq)]
@@ -25,6 +28,8 @@ pub enum Time {
 #[derive(Clone, Copy, Debug, PartialEq, Eq)]
 pub struct ReplayWords {
     pub time: Time,
+    /// How many buckets are worked behind each answered request, at most 1,000,000; all where it isn't said.
+    pub buckets: Option<u64>,
     /// How many projects there are: 1 to 8.
     pub projects: u32,
 }
@@ -92,7 +97,8 @@ fn replay_command<'a>(alloc: Global) -> Result<Command<'a>, AllocError>
         .no_binary_name(true)
         .disable_help_flag(true);
     let timed = plain.arg(option_of(alloc, "at"))?;
-    timed.arg(option_of(alloc, "projects"))
+    let worked = timed.arg(option_of(alloc, "buckets"))?;
+    worked.arg(option_of(alloc, "projects"))
 }
 
 // The words as texts, lent.
@@ -146,14 +152,35 @@ fn projects_said(text: Option<&str>) -> Option<u32>
     }
 }
 
-fn both_said(time: Option<Time>, projects: Option<u32>) -> Option<ReplayWords>
+// How many buckets are worked, all where it isn't said.
+fn buckets_said(text: Option<&str>) -> Option<Option<u64>>
+    ensures { result ≡ buckets_said (option_map (λ s. s.now) text.entry) }
+{
+    let Some(text) = text else {
+        return Some(None);
+    };
+    match number_word(0, MOST_BUCKETS, text) {
+        Some(number) => Some(Some(number)),
+        None => None,
+    }
+}
+
+fn all_said(
+    time: Option<Time>,
+    buckets: Option<Option<u64>>,
+    projects: Option<u32>,
+) -> Option<ReplayWords>
     requires time { IfSome time IsTime }
     requires count { IfSome projects IsCount }
-    ensures said { result ≡ both_said time projects }
+    ensures said { result ≡ all_said time buckets projects }
     ensures replay { IfSome result IsReplay }
 {
-    match (time, projects) {
-        (Some(time), Some(projects)) => Some(ReplayWords { time, projects }),
+    match (time, buckets, projects) {
+        (Some(time), Some(buckets), Some(projects)) => Some(ReplayWords {
+            time,
+            buckets,
+            projects,
+        }),
         _ => None,
     }
 }
@@ -163,12 +190,13 @@ fn replay_said(matches: &ArgMatches<'_>) -> Option<ReplayWords>
     ensures replay { IfSome result IsReplay }
 {
     let time = time_said(matches.get_str("at"));
+    let buckets = buckets_said(matches.get_str("buckets"));
     let projects = projects_said(matches.get_str("projects"));
-    both_said(time, projects)
+    all_said(time, buckets, projects)
 }
 
-/// What the words behind `replay` say, where they are in its grammar: `--at N` for a moment, at most 253,402,207,200, and
-/// `--projects N`, from 1 to 8, in any order, each at most once, also spelled `--at=N`. A number is 1 to 20 digits.
+/// What the words behind `replay` say, where they are in its grammar: `--at N` for a moment, at most 253,402,207,200,
+/// `--buckets N` for the work behind each answer, at most 1,000,000, and `--projects N`, from 1 to 8, in any order, each at most once, also spelled `--at=N`. A number is 1 to 20 digits.
 pub fn replay_words(alloc: Global, words: &[Text]) -> Result<Option<ReplayWords>, AllocError>
     ensures words { IfOk result (λ said. said ≡ replay_words words.now) }
     ensures replay { IfOk result (λ said. IfSome said IsReplay) }

@@ -1,3 +1,4 @@
 pub mod Talks
 pub mod Reading
 pub mod Sessions
+pub mod Pending

@@ -1,13 +1,21 @@
--- How a session grows by one more event, and its history by one more step.
-use Rattle.std.proofs.Common.{◌≡◌, ◌⊎◌, ℕ, ◌+◌, ◌≤◌, List, [], ◌∷◌, ◌++◌, true, false, Some, inl, inr, sym, ◌∙◌, ap, subst, refl, append_assoc, append-nil, add_assoc, arith}
+-- How a session grows by one more event, and its history by more steps.
+use Rattle.std.proofs.Common.{◌≡◌, ◌⊎◌, ℕ, zero, suc, ◌+◌, ◌*◌, ◌<◌, ◌≤◌, List, [], ◌∷◌, ◌++◌, length, filter, nat_lt, Option, Some, None, Bool, true, false, inl, inr, sym, ◌∙◌, ap, subst, refl, append_assoc, append-nil, add_assoc, length-append, arith}
+use Rattle.std.proofs.lemmas.List.Elements.{filter-append}
+use Rattle.std.proofs.lemmas.Bool.Decides.{nat_tests}
+use Rattle.http_frame.specs.declared.types.HttpRequest.{HttpRequest}
 use Rattle.http_frame.specs.Events.{Event}
 use Rattle.http_frame.specs.Events as frame
-use Rattle.federation_book.specs.declared.types.Entry.{Entry}
-use Rattle.federation_book.specs.History.{reply_of, added_by, at_turn, of_turn, IsBefore}
-use Rattle.federation_book.specs.Runs.{Step}
-use Rattle.federation_book.proofs.Histories.{AreAbove, AreOf, added_of, at_turn-grown, of_turn-grown, at_turn-new, of_turn-new}
+use Rattle.book_history.specs.declared.limits.Settings.{Settings}
+use Rattle.book_history.specs.declared.changes.Entry.{Entry}
+use Rattle.book_history.specs.declared.requests.BookRequest.{BookRequest}
+use Rattle.book_history.specs.declared.replies.ReplyBody.TheVariants as reply
+use Rattle.book_history.specs.History.{at_turn, of_turn, left_all, IsBefore}
+use Rattle.book_history.specs.Requests.{reply_of, added_by}
+use Rattle.book_history.specs.Runs.{Step, Runs}
+use Rattle.book_history.proofs.Histories.{AreAbove, AreOf, added_of, at_turn-grown, of_turn-grown, at_turn-new, of_turn-new}
 use Rattle.bcf_http.specs.declared.answers.Answer.TheVariants as answer
-use Rattle.bim_session.specs.Session.{Standing, Asking, asking, TakesTurn, IsResponseTo, IsBooked, TakesIdly, Answers, AnswersEvent, Answered, last_turn, counted, requests, closes, is_closed, past, behind}
+use Rattle.bim_session.specs.Works.{Standing, IsTaken, Gives, WorksOne, WorksOn, Works, IsEnough, left_behind, last_turn}
+use Rattle.bim_session.specs.Session.{Asking, asking, Means, TakesTurn, IsResponseTo, IsBooked, TakesIdly, Answers, AnswersEvent, WorksBehind, AnswersFirst, Answered, counted, requests, closes, is_closed, past, behind}
 use Rattle.bim_session.proofs.Reading.{or_false}
 
 -- ---- later entries
@@ -20,29 +28,34 @@ abbrev pub grown_asking : List Entry → ℕ → Asking → Asking
 grown_asking more top a = record a { standing = grown more top a.standing }
 
 -- later entries change nothing of a step up to the last turn before them
-turn_grown : (a : Asking) (more : List Entry) (top : ℕ) (steps : List Step) → TakesTurn a steps → a.standing.top ≤ top → AreAbove a.standing.top more
-    → TakesTurn (grown_asking more top a) steps
-turn_grown a more top steps t le above =
-    let turn : ℕ = t.step.stamp.turn in
-    let within : t.step.stamp.turn ≤ a.standing.top = t.within in
+pub taken_grown : (s : Standing) (more : List Entry) (top : ℕ) (step : Step) → IsTaken s step → s.top ≤ top → AreAbove s.top more → IsTaken (grown more top s) step
+taken_grown s more top step t le above =
+    let within : step.stamp.turn ≤ s.top = t.within in
     record {
-      step = t.step;
-      one = t.one;
-      above = t.above;
-      within = (let later : t.step.stamp.turn ≤ top = omega arith in later);
-      means = t.means;
-      entry = of_turn-grown t.step.stamp.turn a.standing.top a.standing.history more within above ∙ t.entry
-          ∙ ap (λ es. added_by a.standing.projects es t.step.stamp t.step.request)
-          (sym (at_turn-grown t.step.stamp.turn a.standing.top a.standing.history more within above));
+      within = (let later : step.stamp.turn ≤ top = omega arith in later);
+      entry = of_turn-grown step.stamp.turn s.top s.history more within above ∙ t.entry
+          ∙ ap (λ es. added_by s.settings es step.stamp step.request) (sym (at_turn-grown step.stamp.turn s.top s.history more within above));
     }
 
-booked_grown : (a : Asking) (more : List Entry) (top : ℕ) (bytes : List ℕ) (steps : List Step) → IsBooked a bytes steps → a.standing.top ≤ top
-    → AreAbove a.standing.top more → IsBooked (grown_asking more top a) bytes steps
+turn_grown : (a : Asking) (more : List Entry) (top : ℕ) (steps : List Step) → TakesTurn a steps → a.standing.top ≤ top → AreAbove a.standing.top more
+    → TakesTurn (grown_asking more top a) steps
+turn_grown a more top steps t le above = record {
+  step = t.step;
+  one = t.one;
+  above = t.above;
+  means = t.means;
+  taken = taken_grown a.standing more top t.step t.taken le above;
+}
+
+booked_grown : (a : Asking) (more : List Entry) (top : ℕ) (bytes : List ℕ) (steps : List Step) (printed : ℕ) → IsBooked a bytes steps printed → a.standing.top ≤ top
+    → AreAbove a.standing.top more → IsBooked (grown_asking more top a) bytes steps printed
 unfolding turn_grown
-booked_grown a more top bytes steps b le above = record {
+booked_grown a more top bytes steps printed b le above = record {
   taken = turn_grown a more top steps b.taken le above;
-  response = subst (λ (es : List Entry). IsResponseTo a (answer.Book (reply_of a.standing.projects es b.taken.step.request)) (Some b.taken.step.stamp.turn) bytes)
-      (sym (at_turn-grown b.taken.step.stamp.turn a.standing.top a.standing.history more b.taken.within above)) b.response;
+  response = subst (λ (es : List Entry). IsResponseTo a (answer.Book (reply_of a.standing.settings es b.taken.step.stamp b.taken.step.request)) (Some b.taken.step.stamp.turn) bytes)
+      (sym (at_turn-grown b.taken.step.stamp.turn a.standing.top a.standing.history more b.taken.taken.within above)) b.response;
+  above = b.above;
+  printed_is = b.printed_is;
 }
 
 idly_grown : (a : Asking) (more : List Entry) (top : ℕ) (steps : List Step) → TakesIdly a steps → a.standing.top ≤ top → AreAbove a.standing.top more
@@ -50,137 +63,282 @@ idly_grown : (a : Asking) (more : List Entry) (top : ℕ) (steps : List Step) �
 unfolding turn_grown
 idly_grown a more top steps t le above = record {
   taken = turn_grown a more top steps t.taken le above;
-  idle = of_turn-grown t.taken.step.stamp.turn a.standing.top a.standing.history more t.taken.within above ∙ t.idle;
+  idle = of_turn-grown t.taken.step.stamp.turn a.standing.top a.standing.history more t.taken.taken.within above ∙ t.idle;
 }
 
-answers_grown : (a : Asking) (more : List Entry) (top : ℕ) (bytes : List ℕ) (steps : List Step) → Answers a bytes steps → a.standing.top ≤ top
-    → AreAbove a.standing.top more → Answers (grown_asking more top a) bytes steps
-answers_grown a more top bytes steps (inl plain) le above =
-    inl (record { refusal = plain.refusal; refused = plain.refused; response = plain.response; none = plain.none })
-answers_grown a more top bytes steps (inr (inl booked)) le above = inr (inl (booked_grown a more top bytes steps booked le above))
-answers_grown a more top bytes steps (inr (inr lacks)) le above =
-    inr (inr (record { response = lacks.response; idle = idle_grown lacks.idle }))
+answers_grown : (a : Asking) (more : List Entry) (top : ℕ) (bytes : List ℕ) (steps : List Step) (printed : ℕ) → Answers a bytes steps printed → a.standing.top ≤ top
+    → AreAbove a.standing.top more → Answers (grown_asking more top a) bytes steps printed
+answers_grown a more top bytes steps printed (inl plain) le above =
+    inl (record { refusal = plain.refusal; refused = plain.refused; response = plain.response; none = plain.none; printed_is = plain.printed_is })
+answers_grown a more top bytes steps printed (inr (inl booked)) le above = inr (inl (booked_grown a more top bytes steps printed booked le above))
+answers_grown a more top bytes steps printed (inr (inr lacks)) le above =
+    inr (inr (record { response = lacks.response; idle = idle_grown lacks.idle; printed_is = lacks.printed_is }))
   where
     idle_grown : (steps ≡ []) ⊎ TakesIdly a steps → (steps ≡ []) ⊎ TakesIdly (grown_asking more top a) steps
     idle_grown (inl none) = inl none
     idle_grown (inr idly) = inr (idly_grown a more top steps idly le above)
 
-event_grown : (s : Standing) (more : List Entry) (top : ℕ) (event : Event) (moments bytes : List ℕ) (steps : List Step)
-    → AnswersEvent s event moments bytes steps → s.top ≤ top → AreAbove s.top more → AnswersEvent (grown more top s) event moments bytes steps
-event_grown s more top frame.continue moments bytes steps answers le above = answers
-event_grown s more top (frame.request r) moments bytes steps answers le above =
-    (answers.0, answers.1, answers_grown (asking s answers.0 r) more top bytes steps answers.2 le above)
+pub event_grown : (s : Standing) (more : List Entry) (top : ℕ) (event : Event) (moments bytes : List ℕ) (steps : List Step) (printed : ℕ)
+    → AnswersEvent s event moments bytes steps printed → s.top ≤ top → AreAbove s.top more → AnswersEvent (grown more top s) event moments bytes steps printed
+event_grown s more top frame.continue moments bytes steps printed answers le above = answers
+event_grown s more top (frame.request r) moments bytes steps printed answers le above =
+    (answers.0, answers.1, answers_grown (asking s answers.0 r) more top bytes steps printed answers.2 le above)
 
-pub Answered_grown : (s : Standing) (more : List Entry) (top : ℕ) (events : List Event) (moments out : List ℕ) (steps : List Step)
-    → Answered s events moments out steps → s.top ≤ top → AreAbove s.top more → Answered (grown more top s) events moments out steps
-Answered_grown s more top [] moments out steps answered le above = answered
-Answered_grown s more top (event ∷ events) moments out steps answered le above = (
-  answered.0,
-  answered.1,
-  answered.2,
-  answered.3,
-  answered.4,
-  answered.5,
-  answered.6,
-  answered.7,
-  answered.8,
-  event_grown s more top event answered.0 answered.2 answered.4 answered.9 le above,
-  answered.10,
-  Answered_grown (past s event answered.4) more top events answered.1 answered.3 answered.5 answered.11 le above,
-)
+-- ---- later entries and the work on buckets
+
+none_up_to : (t top : ℕ) (es : List Entry) → t ≤ top + 1 → AreAbove top es → filter (λ (e : Entry). nat_lt e.stamp.turn t) es ≡ []
+none_up_to t top [] le above = refl
+none_up_to t top (e ∷ es) le above =
+    let rest = none_up_to t top es le above.1 in
+    let late : top < e.stamp.turn = above.0 in
+    grind (arith, nat_tests, rest, late, le)
+
+-- what comes later changes nothing of the entries up to an earlier turn
+up_to_grown : (turn top : ℕ) (h more : List Entry) → turn ≤ top → AreAbove top more → at_turn (turn + 1) (h ++ more) ≡ at_turn (turn + 1) h
+unfolding at_turn
+up_to_grown turn top h more le above =
+    let le' : turn + 1 ≤ top + 1 = omega (arith, le) in
+    filter-append (λ (e : Entry). nat_lt e.stamp.turn (turn + 1)) h more
+    ∙ ap (λ es. filter (λ (e : Entry). nat_lt e.stamp.turn (turn + 1)) h ++ es) (none_up_to (turn + 1) top more le' above)
+    ∙ append-nil (filter (λ (e : Entry). nat_lt e.stamp.turn (turn + 1)) h)
+
+left_grown : (s : Standing) (more : List Entry) (top turn : ℕ) → turn ≤ s.top → AreAbove s.top more → left_behind (grown more top s) turn ≡ left_behind s turn
+left_grown s more top turn le above = ap (λ es. left_all s.settings.projects es) (up_to_grown turn s.top s.history more le above)
+
+pub gives_grown : (s : Standing) (more : List Entry) (top last : ℕ) (step : Step) → Gives s last step → s.top ≤ top → AreAbove s.top more → Gives (grown more top s) last step
+gives_grown s more top last step g le above =
+    let within : step.stamp.turn ≤ s.top = g.taken.within in
+    let turn : step.stamp.turn ≡ last + 1 = g.turn in
+    let before : last ≤ s.top = omega (arith, within, turn) in
+    record {
+      order = g.order;
+      some = subst (λ n. 0 < n) (sym (left_grown s more top last before above)) g.some;
+      turn = turn;
+      request = g.request;
+      taken = taken_grown s more top step g.taken le above;
+      given = ap (λ es. (reply_of s.settings es step.stamp step.request).body) (at_turn-grown step.stamp.turn s.top s.history more within above) ∙ g.given;
+    }
+
+pub one_grown : (s : Standing) (more : List Entry) (top last : ℕ) (steps : List Step) → WorksOne s last steps → s.top ≤ top → AreAbove s.top more → WorksOne (grown more top s) last steps
+unfolding gives_grown
+one_grown s more top last steps w le above = record {
+  first = w.first;
+  second = w.second;
+  set = w.set;
+  two = w.two;
+  gives = gives_grown s more top last w.first w.gives le above;
+  found = w.found;
+  turn = w.turn;
+  request = w.request;
+  taken = taken_grown s more top w.second w.taken le above;
+}
+
+pub on_grown : (s : Standing) (more : List Entry) (top last count : ℕ) (steps : List Step) → WorksOn s last count steps → s.top ≤ top → AreAbove s.top more
+    → WorksOn (grown more top s) last count steps
+on_grown s more top last zero steps works le above = works
+on_grown s more top last (suc count) steps works le above =
+    (works.0, works.1, works.2, on_grown s more top last count works.0 works.3 le above, one_grown s more top (last + 2 * count) works.1 works.4 le above)
+
+-- the turns of buckets that were worked
+on_within : (s : Standing) (last count : ℕ) (steps : List Step) → last ≤ s.top → WorksOn s last count steps → last + 2 * count ≤ s.top
+on_within s last zero steps le works = omega (arith, le)
+on_within s last (suc count) steps le works =
+    let one = works.4 in
+    let within : one.second.stamp.turn ≤ s.top = one.taken.within in
+    let turn : one.second.stamp.turn ≡ last + 2 * count + 2 = one.turn in
+    omega (arith, within, turn)
+
+works_grown : (s : Standing) (more : List Entry) (top : ℕ) (steps : List Step) → s.last ≤ s.top → Works s steps → s.top ≤ top → AreAbove s.top more → Works (grown more top s) steps
+works_grown s more top steps last works le above =
+    let within : s.last + 2 * works.count ≤ s.top = on_within s s.last works.count steps last works.worked in
+    record {
+      count = works.count;
+      worked = on_grown s more top s.last works.count steps works.worked le above;
+      enough = subst (λ n. IsEnough s.buckets works.count n) (sym (left_grown s more top (s.last + 2 * works.count) within above)) works.enough;
+    }
+
+behind_grown : (s : Standing) (more : List Entry) (top : ℕ) (event : Event) (steps : List Step) → s.last ≤ s.top → WorksBehind s event steps → s.top ≤ top → AreAbove s.top more
+    → WorksBehind (grown more top s) event steps
+behind_grown s more top frame.continue steps last works le above = works
+behind_grown s more top (frame.request r) steps last works le above = works_grown s more top steps last works le above
 
 -- ---- the last turn
 
-last_turn-append : (last : ℕ) (a b : List Step) → last_turn last (a ++ b) ≡ last_turn (last_turn last a) b
+pub last_turn-append : (last : ℕ) (a b : List Step) → last_turn last (a ++ b) ≡ last_turn (last_turn last a) b
 last_turn-append last [] b = refl
 last_turn-append last (s ∷ ss) b = last_turn-append s.stamp.turn ss b
 
-turn_last : (a : Asking) (steps : List Step) → TakesTurn a steps → last_turn a.standing.last steps ≤ a.standing.top
-turn_last a steps taken = rw taken.one taken.within
+-- the last turn of buckets that were worked
+on_last : (s : Standing) (last count : ℕ) (steps : List Step) → WorksOn s last count steps → last_turn last steps ≡ last + 2 * count
+on_last s last zero steps works = ap (last_turn last) works ∙ (let e : last ≡ last + 2 * 0 = omega arith in e)
+on_last s last (suc count) steps works =
+    let one = works.4 in
+    let turn : one.second.stamp.turn ≡ last + 2 * count + 2 = one.turn in
+    ap (last_turn last) works.2 ∙ last_turn-append last works.0 works.1 ∙ ap (last_turn (last_turn last works.0)) one.two
+    ∙ turn ∙ (let e : last + 2 * count + 2 ≡ last + 2 * (suc count) = omega arith in e)
 
-answers_last : (a : Asking) (bytes : List ℕ) (steps : List Step) → Answers a bytes steps → a.standing.last ≤ a.standing.top
+turn_last : (a : Asking) (steps : List Step) → TakesTurn a steps → last_turn a.standing.last steps ≤ a.standing.top
+turn_last a steps t = rw t.one t.taken.within
+
+answers_last : (a : Asking) (bytes : List ℕ) (steps : List Step) (printed : ℕ) → Answers a bytes steps printed → a.standing.last ≤ a.standing.top
     → last_turn a.standing.last steps ≤ a.standing.top
-answers_last a bytes steps (inl plain) le = rw plain.none le
-answers_last a bytes steps (inr (inl booked)) le = turn_last a steps booked.taken
-answers_last a bytes steps (inr (inr lacks)) le = idle_last lacks.idle
+answers_last a bytes steps printed (inl plain) le = rw plain.none le
+answers_last a bytes steps printed (inr (inl booked)) le = turn_last a steps booked.taken
+answers_last a bytes steps printed (inr (inr lacks)) le = idle_last lacks.idle
   where
     idle_last : (steps ≡ []) ⊎ TakesIdly a steps → last_turn a.standing.last steps ≤ a.standing.top
     idle_last (inl none) = rw none le
     idle_last (inr idly) = turn_last a steps idly.taken
 
-event_last : (s : Standing) (event : Event) (moments bytes : List ℕ) (steps : List Step) → AnswersEvent s event moments bytes steps → s.last ≤ s.top
+pub event_last : (s : Standing) (event : Event) (moments bytes : List ℕ) (steps : List Step) (printed : ℕ) → AnswersEvent s event moments bytes steps printed → s.last ≤ s.top
     → last_turn s.last steps ≤ s.top
-event_last s frame.continue moments bytes steps answers le = rw answers.2 le
-event_last s (frame.request r) moments bytes steps answers le = answers_last (asking s answers.0 r) bytes steps answers.2 le
+event_last s frame.continue moments bytes steps printed answers le = rw answers.2 le
+event_last s (frame.request r) moments bytes steps printed answers le = answers_last (asking s answers.0 r) bytes steps printed answers.2 le
+
+behind_last : (s : Standing) (event : Event) (steps : List Step) → WorksBehind s event steps → s.last ≤ s.top → last_turn s.last steps ≤ s.top
+behind_last s frame.continue steps works le = rw works le
+behind_last s (frame.request r) steps works le =
+    let within = on_within s s.last works.count steps le works.worked in
+    let last = on_last s s.last works.count steps works.worked in
+    rw last within
+
+-- the first of some answered events, with the work behind it, took no turn above the top
+first_last : (s : Standing) (event : Event) (events : List Event) (moments out : List ℕ) (steps : List Step) (first : AnswersFirst s event events moments out steps)
+    → s.last ≤ s.top → last_turn s.last (first.own ++ first.work) ≤ s.top
+first_last s event events moments out steps first le =
+    let own = event_last s event first.asked first.bytes first.own first.printed first.answers le in
+    let work = behind_last (past s event first.own first.printed) event first.work first.works own in
+    rw (last_turn-append s.last first.own first.work) work
+
+first_grown : (s : Standing) (more : List Entry) (top : ℕ) (event : Event) (events : List Event) (moments out : List ℕ) (steps : List Step)
+    → AnswersFirst s event events moments out steps → s.last ≤ s.top → s.top ≤ top → AreAbove s.top more → AnswersFirst (grown more top s) event events moments out steps
+first_grown s more top event events moments out steps first last le above = record {
+  asked = first.asked;
+  after = first.after;
+  bytes = first.bytes;
+  later = first.later;
+  own = first.own;
+  work = first.work;
+  others = first.others;
+  printed = first.printed;
+  moments_are = first.moments_are;
+  out_is = first.out_is;
+  steps_are = first.steps_are;
+  answers = event_grown s more top event first.asked first.bytes first.own first.printed first.answers le above;
+  works = behind_grown (past s event first.own first.printed) more top event first.work
+      (event_last s event first.asked first.bytes first.own first.printed first.answers last) first.works le above;
+  closing = first.closing;
+}
+
+pub Answered_grown : (s : Standing) (more : List Entry) (top : ℕ) (events : List Event) (moments out : List ℕ) (steps : List Step) (printed : ℕ)
+    → Answered s events moments out steps printed → s.last ≤ s.top → s.top ≤ top → AreAbove s.top more → Answered (grown more top s) events moments out steps printed
+unfolding first_grown
+Answered_grown s more top [] moments out steps printed answered last le above = answered
+Answered_grown s more top (event ∷ events) moments out steps printed answered last le above = (
+  first_grown s more top event events moments out steps answered.0 last le above,
+  Answered_grown (past s event (answered.0.own ++ answered.0.work) answered.0.printed) more top events answered.0.after answered.0.later answered.0.others printed answered.1
+      (first_last s event events moments out steps answered.0 last) le above,
+)
 
 -- the answered events took no turn above the top
-pub answered_last : (s : Standing) (events : List Event) (moments out : List ℕ) (steps : List Step) → Answered s events moments out steps → s.last ≤ s.top
+pub answered_last : (s : Standing) (events : List Event) (moments out : List ℕ) (steps : List Step) (printed : ℕ) → Answered s events moments out steps printed → s.last ≤ s.top
     → last_turn s.last steps ≤ s.top
-answered_last s [] moments out steps answered le = rw answered.2 le
-answered_last s (event ∷ events) moments out steps answered le =
-    let first = event_last s event answered.0 answered.2 answered.4 answered.9 le in
-    let rest = answered_last (past s event answered.4) events answered.1 answered.3 answered.5 answered.11 first in
-    rw (answered.8, last_turn-append s.last answered.4 answered.5) rest
+answered_last s [] moments out steps printed answered le = rw answered.2 le
+answered_last s (event ∷ events) moments out steps printed answered le =
+    let first = answered.0 in
+    let rest = answered_last (past s event (first.own ++ first.work) first.printed) events first.after first.later first.others printed answered.1
+    (first_last s event events moments out steps first le) in
+    rw (first.steps_are, sym (append_assoc first.own first.work first.others), last_turn-append s.last (first.own ++ first.work) first.others) rest
 
 -- ---- one more event
 
-same_standing : (s : Standing) (l k : ℕ) (n m : ℕ) → l ≡ k → n ≡ m
-    → (let a : Standing = record s { last = l; served = n } in a) ≡ record s { last = k; served = m }
-same_standing s l k n m e d = λ i. record s { last = e i; served = d i }
+same_standing : (s : Standing) (l k p q n m : ℕ) → l ≡ k → p ≡ q → n ≡ m
+    → (let a : Standing = record s { last = l; printed = p; served = n } in a) ≡ record s { last = k; printed = q; served = m }
+same_standing s l k p q n m e c d = λ i. record s { last = e i; printed = c i; served = d i }
 
-behind_none : (s : Standing) (steps : List Step) → steps ≡ [] → behind s [] steps ≡ s
-behind_none s steps none =
-    same_standing s (last_turn s.last steps) s.last (s.served + 0) s.served (ap (λ ss. last_turn s.last ss) none) (omega arith)
+behind_none : (s : Standing) (steps : List Step) (printed : ℕ) → steps ≡ [] → printed ≡ s.printed → behind s [] steps printed ≡ s
+behind_none s steps printed none same =
+    same_standing s (last_turn s.last steps) s.last printed s.printed (s.served + 0) s.served (ap (λ ss. last_turn s.last ss) none) same (omega arith)
 
-behind_past : (s : Standing) (event : Event) (events : List Event) (steps first others : List Step) → steps ≡ first ++ others
-    → behind s (event ∷ events) steps ≡ behind (past s event first) events others
-behind_past s event events steps first others are =
-    same_standing s (last_turn s.last steps) (last_turn (last_turn s.last first) others) (s.served + (counted event + requests events))
-    (s.served + counted event + requests events) (ap (λ ss. last_turn s.last ss) are ∙ last_turn-append s.last first others)
+behind_past : (s : Standing) (event : Event) (events : List Event) (steps own others : List Step) (first printed : ℕ) → steps ≡ own ++ others
+    → behind s (event ∷ events) steps printed ≡ behind (past s event own first) events others printed
+behind_past s event events steps own others first printed are =
+    same_standing s (last_turn s.last steps) (last_turn (last_turn s.last own) others) printed printed (s.served + (counted event + requests events))
+    (s.served + counted event + requests events) (ap (λ ss. last_turn s.last ss) are ∙ last_turn-append s.last own others) refl
     (sym (add_assoc s.served (counted event) (requests events)))
 
--- one more event is answered after the others, behind which the connection was not closed
-pub Answered_push : (s : Standing) (events : List Event) (moments out : List ℕ) (steps : List Step)
-    (event : Event) (asked bytes : List ℕ) (first : List Step)
-    → Answered s events moments out steps → is_closed s.served events ≡ false → AnswersEvent (behind s events steps) event asked bytes first
-    → Answered s (events ++ event ∷ []) (moments ++ asked) (out ++ bytes) (steps ++ first)
-Answered_push s [] moments out steps event asked bytes first answered open_ one = (
-  asked,
-  [],
-  bytes,
-  [],
-  first,
-  [],
-  rw answered.0 (sym (append-nil asked)),
-  rw answered.1 (sym (append-nil bytes)),
-  rw answered.2 (sym (append-nil first)),
-  subst (λ (z : Standing). AnswersEvent z event asked bytes first) (behind_none s steps answered.2) one,
-  λ closing. refl,
-  (refl, refl, refl),
-)
-Answered_push s (q ∷ events) moments out steps event asked bytes first answered open_ one =
-    let parts = or_false (closes s.served q) (is_closed (s.served + counted q) events) open_ in (
-      answered.0,
-      answered.1 ++ asked,
-      answered.2,
-      answered.3 ++ bytes,
-      answered.4,
-      answered.5 ++ first,
-      ap (λ l. l ++ asked) answered.6 ∙ append_assoc answered.0 answered.1 asked,
-      ap (λ b. b ++ bytes) answered.7 ∙ append_assoc answered.2 answered.3 bytes,
-      ap (λ b. b ++ first) answered.8 ∙ append_assoc answered.4 answered.5 first,
-      answered.9,
-      λ closing. absurd (let e : true ≡ false = sym closing ∙ parts.0 in cc),
-      Answered_push (past s q answered.4) events answered.1 answered.3 answered.5 event asked bytes first answered.11 parts.1
-          (subst (λ (z : Standing). AnswersEvent z event asked bytes first) (behind_past s q events steps answered.4 answered.5 answered.8) one),
+-- one more event is answered after the others, behind which the connection was not closed, and the work behind it is done
+pub Answered_push : (s : Standing) (events : List Event) (moments out : List ℕ) (steps : List Step) (printed : ℕ)
+    (event : Event) (asked bytes : List ℕ) (own work : List Step) (last : ℕ)
+    → Answered s events moments out steps printed → is_closed s.served events ≡ false → AnswersEvent (behind s events steps printed) event asked bytes own last
+    → WorksBehind (past (behind s events steps printed) event own last) event work
+    → Answered s (events ++ event ∷ []) (moments ++ asked) (out ++ bytes) (steps ++ (own ++ work)) last
+Answered_push s [] moments out steps printed event asked bytes own work last answered open_ one works =
+    let here : behind s [] steps printed ≡ s = behind_none s steps printed answered.2 answered.3 in (
+      record {
+        asked = asked;
+        after = [];
+        bytes = bytes;
+        later = [];
+        own = own;
+        work = work;
+        others = [];
+        printed = last;
+        moments_are = rw answered.0 (sym (append-nil asked));
+        out_is = rw answered.1 (sym (append-nil bytes));
+        steps_are = rw answered.2 (ap (λ w. own ++ w) (sym (append-nil work)));
+        answers = subst (λ (z : Standing). AnswersEvent z event asked bytes own last) here one;
+        works = subst (λ (z : Standing). WorksBehind (past z event own last) event work) here works;
+        closing = λ closing. refl;
+      },
+      (refl, refl, refl, refl),
+    )
+Answered_push s (q ∷ events) moments out steps printed event asked bytes own work last answered open_ one works =
+    let parts = or_false (closes s.served q) (is_closed (s.served + counted q) events) open_ in
+    let first = answered.0 in
+    let are : steps ≡ (first.own ++ first.work) ++ first.others = first.steps_are ∙ sym (append_assoc first.own first.work first.others) in
+    let same : behind s (q ∷ events) steps printed ≡ behind (past s q (first.own ++ first.work) first.printed) events first.others printed =
+    behind_past s q events steps (first.own ++ first.work) first.others first.printed printed are in (
+      record {
+        asked = first.asked;
+        after = first.after ++ asked;
+        bytes = first.bytes;
+        later = first.later ++ bytes;
+        own = first.own;
+        work = first.work;
+        others = first.others ++ (own ++ work);
+        printed = first.printed;
+        moments_are = ap (λ l. l ++ asked) first.moments_are ∙ append_assoc first.asked first.after asked;
+        out_is = ap (λ b. b ++ bytes) first.out_is ∙ append_assoc first.bytes first.later bytes;
+        steps_are = ap (λ b. b ++ (own ++ work)) first.steps_are ∙ append_assoc first.own (first.work ++ first.others) (own ++ work)
+            ∙ ap (λ b. first.own ++ b) (append_assoc first.work first.others (own ++ work));
+        answers = first.answers;
+        works = first.works;
+        closing = λ closing. absurd (let e : true ≡ false = sym closing ∙ parts.0 in cc);
+      },
+      Answered_push (past s q (first.own ++ first.work) first.printed) events first.after first.later first.others printed event asked bytes own work last answered.1 parts.1
+          (subst (λ (z : Standing). AnswersEvent z event asked bytes own last) same one)
+          (subst (λ (z : Standing). WorksBehind (past z event own last) event work) same works),
     )
 
--- the entries of the next step of a history are those that its request adds
-pub entry_new : (projects : ℕ) (history : List Entry) (step : Step) → IsBefore step.stamp.turn history
-    → (let more : List Entry = history ++ added_by projects history step.stamp step.request in
-    of_turn step.stamp.turn more ≡ added_by projects (at_turn step.stamp.turn more) step.stamp step.request)
-entry_new projects history step before =
-    let added : List Entry = added_by projects history step.stamp step.request in
-    let own : AreOf step.stamp.turn added = added_of projects history step.stamp step.request in
+-- ---- the next step of a history
+
+-- the entries of the next step are those that its request adds
+pub entry_new : (settings : Settings) (history : List Entry) (step : Step) → IsBefore step.stamp.turn history
+    → (let more : List Entry = history ++ added_by settings history step.stamp step.request in
+    of_turn step.stamp.turn more ≡ added_by settings (at_turn step.stamp.turn more) step.stamp step.request)
+entry_new settings history step before =
+    let added : List Entry = added_by settings history step.stamp step.request in
+    let own : AreOf step.stamp.turn added = added_of settings history step.stamp step.request in
     of_turn-new step.stamp.turn history added before own
-    ∙ ap (λ es. added_by projects es step.stamp step.request) (sym (at_turn-new step.stamp.turn history added before own))
+    ∙ ap (λ es. added_by settings es step.stamp step.request) (sym (at_turn-new step.stamp.turn history added before own))
+
+-- the last turn of a run is the number of its steps
+pub run_last : (settings : Settings) (done : List Step) (h : List Entry) (steps : List Step) (final : List Entry) → Runs settings done h steps final
+    → last_turn (length done) steps ≡ length done + length steps
+run_last settings done h [] final runs = let e : length done ≡ length done + 0 = omega arith in e
+run_last settings done h (s ∷ ss) final runs =
+    let turn : s.stamp.turn ≡ length done + 1 = runs.0.turn in
+    let one : length (done ++ s ∷ []) ≡ length done + 1 = length-append done (s ∷ []) in
+    let rest = run_last settings (done ++ s ∷ []) (h ++ added_by settings h s.stamp s.request) ss final runs.1 in
+    ap (λ n. last_turn n ss) (turn ∙ sym one) ∙ rest ∙ (let e : length (done ++ s ∷ []) + length ss ≡ length done + suc (length ss) = omega (arith, one) in e)

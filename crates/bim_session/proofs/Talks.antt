@@ -9,11 +9,13 @@ use Rattle.http_frame.specs.declared.framer.Framer.{Framer}
 use Rattle.http_frame.specs.Framers.{Stands, Answered}
 use Rattle.bim_io.specs.Seen.{ClockSeen, ClockGives}
 use Rattle.bim_io.proofs.Calls.{clock_none}
+use Rattle.book_history.specs.declared.requests.BookRequest.{BookRequest}
+use Rattle.bcf_http.specs.Calls.{BringsNone}
 use Rattle.bim_session.specs.declared.end.SessionEnd.{SessionEnd}
 use Rattle.bim_session.specs.declared.want.Want.{Want}
 use Rattle.bim_session.specs.declared.want.Want.TheVariants.{More, Write, Call, Leave}
 use Rattle.bim_session.specs.Session.{closes_after, continue_bytes, IsFaultResponse}
-use Rattle.bim_session.specs.Talking.{TalkState, IsOwnLeaving, IsOwnWant, GrowsBy, Feeds, is_end, Wants, StopsNext, TakesRequest, Writes, WantsFor, AtRest, waiting_for, with_answer, with_call, with_fault, with_framer}
+use Rattle.bim_session.specs.Talking.{TalkState, IsOwnLeaving, IsOwnWant, GrowsBy, Feeds, is_end, Wants, StopsNext, TakesRequest, Writes, WantsFor, AtRest, waiting_for, with_answer, with_call, with_fault, with_framer, asks_change, IsCallable}
 
 pub none_of : (o : Option SessionEnd) → ((e : SessionEnd) → o ≡ Some e → ⊥) → o ≡ None
 none_of None not_some = refl
@@ -25,6 +27,13 @@ leave_is a b e = cc
 -- a talk that leaves does so by an end of its own
 pub own_leaving : (leaving : Option SessionEnd) (e : SessionEnd) → IsOwnLeaving leaving → leaving ≡ Some e → IsOwnWant (Leave e)
 own_leaving leaving e own is = λ n. (λ w. (own n).0 (is ∙ ap Some (leave_is e _ w)), λ w. (own n).1 (is ∙ ap Some (leave_is e _ w)))
+
+call_is : (a b : BookRequest) → Call a ≡ Call b → a ≡ b
+call_is a b e = cc
+
+-- a talk wants the call that a request means, which brings no set
+pub callable : (call : BookRequest) → BringsNone call → IsCallable (Call call)
+callable call none = λ set e. none set (call_is call _ e)
 
 -- ---- what a framer stands for
 
@@ -127,7 +136,7 @@ requested old new f m r (Call call) a b here steps gives wants = λ rest told st
         (
           took m r f new.framer rest told (steps rest told stands) same,
           wants.0,
-          wants.1 ∙ ap (λ (g : Framer). with_call (waiting_for r (old.served + 1)) (with_framer g old)) (sym same),
+          wants.1 ∙ ap (λ (g : Framer). with_call (waiting_for r (old.served + 1) (asks_change call)) (with_framer g old)) (sym same),
         ),
       ),
     )

@@ -1,3 +1,4 @@
+pub mod Works
 pub mod Session
 pub mod Replay
 pub mod Talking

@@ -1,14 +1,23 @@
 -- A session over a one-thread book, as a run with one actor.
-use Rattle.std.specs.Prelude.{◌≡◌, ◌⊎◌, ◌≤◌, ◌++◌, ℕ, List, [], length, Bool, false, Option}
+use Rattle.std.specs.Prelude.{◌≡◌, ◌⊎◌, ◌≤◌, ◌++◌, ℕ, List, [], length, Bool, false, Option, None, All}
 use Rattle.bim_io.specs.Causes.{ComesOfFault, WithinMost}
 use Rattle.bim_io.specs.Seen.{Outside, EndsEmpty, Exchanges}
 use Rattle.http_frame.specs.Events.{Event, IsRest, IsTold}
-use Rattle.federation_book.specs.declared.types.Entry.{Entry}
-use Rattle.federation_book.specs.Runs.{Step, IsRun, IsOneThread}
+use Rattle.book_history.specs.declared.limits.Limits.{Limits}
+use Rattle.book_history.specs.declared.limits.Settings.{Settings}
+use Rattle.book_history.specs.declared.limits.TheConstants.{MOST_VERSION_ELEMENTS, MOST_VERSION_MEMBERSHIPS, MOST_STORED_TRIANGLES, MOST_TEXT, MOST_ENTRIES, MOST_TOPICS, MOST_COMMENTS, MOST_VIEWPOINTS}
+use Rattle.book_history.specs.declared.changes.Entry.{Entry}
+use Rattle.book_history.specs.declared.faults.BookFault.TheVariants.{Pending}
+use Rattle.book_history.specs.declared.replies.ReplyBody.{ReplyBody}
+use Rattle.book_history.specs.declared.replies.ReplyBody.TheVariants.{Refused}
+use Rattle.book_history.specs.History.{at_turn}
+use Rattle.book_history.specs.Requests.{reply_of}
+use Rattle.book_history.specs.Runs.{Step, IsRun, IsOneThread}
 use Rattle.bim_session.specs.declared.talk.TheConstants.{MOST_READ}
 use Rattle.bim_session.specs.declared.end.SessionEnd.{SessionEnd}
 use Rattle.bim_session.specs.declared.end.SessionEnd.TheVariants.{Closed, Asked, Cut, ReadFault, WriteFault, Frame, Spent, Memory}
-use Rattle.bim_session.specs.Session.{Session, Standing, Reads}
+use Rattle.bim_session.specs.Works.{Standing}
+use Rattle.bim_session.specs.Session.{Session, Reads}
 
 -- it ends by a failed read
 abbrev pub IsReadFault : SessionEnd → Type 0
@@ -18,10 +27,35 @@ IsReadFault end = (n : ℕ) × (end ≡ ReadFault n)
 abbrev pub IsWriteFault : SessionEnd → Type 0
 IsWriteFault end = (n : ℕ) × (end ≡ WriteFault n)
 
--- where a session over a new book begins, whose steps have turns up to this one
-abbrev pub beginning : ℕ → List Entry → ℕ → Standing
-beginning projects history top =
-    record { projects = projects; history = history; last = 0; top = top; served = 0 }
+-- how much a book of the program may hold
+abbrev pub stated_limits : Limits
+stated_limits = record {
+  elements = MOST_VERSION_ELEMENTS;
+  memberships = MOST_VERSION_MEMBERSHIPS;
+  triangles = MOST_STORED_TRIANGLES;
+  text = MOST_TEXT;
+  journal = MOST_ENTRIES;
+  topics = MOST_TOPICS;
+  comments = MOST_COMMENTS;
+  viewpoints = MOST_VIEWPOINTS;
+}
+
+-- a book of the program with so many projects
+abbrev pub stated_settings : ℕ → Settings
+stated_settings projects = record { projects = projects; limits = stated_limits }
+
+-- where a session over a new book begins, behind whose answers so many buckets are worked, and whose steps have turns up
+-- to this one
+abbrev pub beginning : Settings → Option ℕ → List Entry → ℕ → Standing
+beginning settings buckets history top = record {
+  settings = settings;
+  history = history;
+  buckets = buckets;
+  last = 0;
+  printed = 0;
+  top = top;
+  served = 0;
+}
 
 -- the most bytes that a session takes by one read
 abbrev pub most_read : ℕ
@@ -54,8 +88,8 @@ pub record ReadsAsNeeded (most : Option ℕ) (input : List ℕ) (events : List E
 
 -- A source gave the input and has nothing left once it answered its end, a clock gave the moments, and a sink
 -- took the output. The steps of the session are the turns of a run with one actor, from 1 without a gap, and
--- its history is the one whose entries below a printed turn decide the reply. It ends by a fault exactly
--- where a read or a write failed. Where an object doesn't tell, some input, some moments and some output are
+-- its history is the one whose entries below a printed turn decide the reply. They are those of the requests, and
+-- behind each answer those of the work on buckets. It ends by a fault exactly where a read or a write failed. Where an object doesn't tell, some input, some moments and some output are
 -- meant.
 --
 -- What is written before a read: since a session ends by the first call that fails, a read or a write,
@@ -63,7 +97,7 @@ pub record ReadsAsNeeded (most : Option ℕ) (input : List ℕ) (events : List E
 -- n-th read fails shows that all events of what the reads before it gave were answered before it, and a sink
 -- whose n-th write fails shows that no read came between an event and its answer; where the source gives a
 -- byte at a time, not a byte more was taken.
-pub record Replays (projects : ℕ) (before after : Outside) (end : SessionEnd) : Type 0 where
+pub record Replays (settings : Settings) (buckets : Option ℕ) (before after : Outside) (end : SessionEnd) : Type 0 where
   pub input : List ℕ
   pub moments : List ℕ
   pub output : List ℕ
@@ -71,9 +105,9 @@ pub record Replays (projects : ℕ) (before after : Outside) (end : SessionEnd) 
   pub steps : List Step
   pub exchanges : Exchanges before after input moments output
   pub empty : EndsEmpty after.source
-  pub run : IsRun projects steps history
+  pub run : IsRun settings steps history
   pub one_thread : IsOneThread steps
-  pub session : Session (beginning projects history (length steps)) after.source.ended
+  pub session : Session (beginning settings buckets history (length steps)) after.source.ended
       input moments output steps end
   pub as_needed : ReadsAsNeeded before.source.most input session.events
   pub read_fault : ComesOfFault before.source.faults after.source.faults (IsReadFault end)
@@ -89,3 +123,19 @@ status_of (WriteFault n) = 5
 status_of (Frame n fault) = 7
 status_of (Spent n) = 7
 status_of (Memory n) = 6
+
+-- ---- whole clashes
+
+-- the reply tells that buckets of a version are still to be checked
+abbrev pub IsPending : ReplyBody → Type 0
+IsPending body = (version : ℕ) × (left : ℕ) × (body ≡ Refused (Pending version left))
+
+-- the reply to a step at the entries below its turn
+abbrev pub reply_at : Settings → List Entry → Step → ReplyBody
+reply_at settings history step = (reply_of settings (at_turn step.stamp.turn history) step.stamp step.request).body
+
+-- where all buckets are worked behind each answer, no step of the session is answered so
+abbrev pub NoneIsPending : Type 0
+NoneIsPending =
+    (settings : Settings) (before after : Outside) (end : SessionEnd) (replays : Replays settings None before after end)
+    → All (λ (step : Step). IsPending (reply_at settings replays.history step) → ⊥) replays.steps

@@ -7,11 +7,13 @@ use Rattle.http_frame.specs.declared.types.HttpRequest.{HttpRequest}
 use Rattle.http_frame.specs.declared.types.FrameFault.{FrameFault}
 use Rattle.http_frame.specs.Events.{Begins, Asks, Event, IsRest, IsTold, Spells}
 use Rattle.http_frame.specs.Events as frame
-use Rattle.federation_book.specs.declared.types.Entry.{Entry}
-use Rattle.federation_book.specs.declared.types.BookRequest.{BookRequest}
-use Rattle.federation_book.specs.declared.types.BookRequest.TheVariants.{Upload}
-use Rattle.federation_book.specs.History.{reply_of, added_by, at_turn, of_turn}
-use Rattle.federation_book.specs.Runs.{Step}
+use Rattle.book_history.specs.declared.limits.Settings.{Settings}
+use Rattle.book_history.specs.declared.changes.Entry.{Entry}
+use Rattle.book_history.specs.declared.requests.BookRequest.{BookRequest}
+use Rattle.book_history.specs.declared.requests.BookRequest.TheVariants.{Upload}
+use Rattle.book_history.specs.History.{at_turn, of_turn}
+use Rattle.book_history.specs.Requests.{reply_of}
+use Rattle.book_history.specs.Runs.{Step}
 use Rattle.bcf_http.specs.declared.calls.RequestFault.{RequestFault}
 use Rattle.bcf_http.specs.declared.calls.HttpCall.{HttpCall}
 use Rattle.bcf_http.specs.declared.calls.HttpCall.TheVariants.{Ask, Build}
@@ -20,6 +22,7 @@ use Rattle.bcf_http.specs.declared.answers.Answer.TheVariants as answer
 use Rattle.bcf_http.specs.Calls.{asked_by, kind_of, no_kind}
 use Rattle.bcf_http.specs.Answers.{IsResponse}
 use Rattle.bim_session.specs.declared.talk.TheConstants.{MOST_REQUESTS}
+use Rattle.bim_session.specs.Works.{Standing, IsTaken, Works, WorksShort, last_turn}
 use Rattle.bim_session.specs.declared.end.SessionEnd.{SessionEnd}
 use Rattle.bim_session.specs.declared.end.SessionEnd.TheVariants.{Closed, Asked, Cut, ReadFault, WriteFault, Frame, Spent, Memory}
 
@@ -67,15 +70,6 @@ is_closed served (event ∷ events) = closes served event || is_closed (served +
 
 -- ---- the answer to a request
 
--- where a session stands between two answers: how many projects there are, the history, the last turn of its
--- steps and the greatest that one may have, and how many requests were answered
-pub record Standing : Type 0 where
-  pub projects : ℕ
-  pub history : List Entry
-  pub last : ℕ
-  pub top : ℕ
-  pub served : ℕ
-
 -- a request that was taken where a session stands, at its moment
 pub record Asking : Type 0 where
   pub standing : Standing
@@ -113,31 +107,31 @@ abbrev pub IsResponseTo : Asking → Answer → Option ℕ → List ℕ → Type
 IsResponseTo a answer turn bytes =
     IsResponse answer (kind_of a.request) turn (closes_after a.request (a.standing.served + 1)) bytes
 
--- the request took the one step of the book that it means, at a turn above those before; the step's entry is
--- what the change adds
+-- the request took the one step of the book that it means, at a turn above those before
 pub record TakesTurn (a : Asking) (steps : List Step) : Type 0 where
   pub step : Step
   pub one : steps ≡ step ∷ []
   pub above : a.standing.last < step.stamp.turn
-  pub within : step.stamp.turn ≤ a.standing.top
   pub means : Means a.moment a.request step.request
-  pub entry : of_turn step.stamp.turn a.standing.history
-      ≡ added_by a.standing.projects (at_turn step.stamp.turn a.standing.history) step.stamp step.request
+  pub taken : IsTaken a.standing step
 
 -- the request alone decides the answer, which prints no turn
-pub record IsPlain (a : Asking) (bytes : List ℕ) (steps : List Step) : Type 0 where
+pub record IsPlain (a : Asking) (bytes : List ℕ) (steps : List Step) (printed : ℕ) : Type 0 where
   pub refusal : Answer
   pub refused : IsRefusedBy a.moment a.request refusal
   pub response : IsResponseTo a refusal None bytes
   pub none : steps ≡ []
+  pub printed_is : printed ≡ a.standing.printed
 
--- the answer is the book's at the entries below the turn that it prints
-pub record IsBooked (a : Asking) (bytes : List ℕ) (steps : List Step) : Type 0 where
+-- the answer is the book's at the entries below the turn that it prints, which is above those printed before
+pub record IsBooked (a : Asking) (bytes : List ℕ) (steps : List Step) (printed : ℕ) : Type 0 where
   pub taken : TakesTurn a steps
   pub response : IsResponseTo a
-      (answer.Book (reply_of a.standing.projects (at_turn taken.step.stamp.turn a.standing.history)
-      taken.step.request))
+      (answer.Book (reply_of a.standing.settings (at_turn taken.step.stamp.turn a.standing.history)
+      taken.step.stamp taken.step.request))
       (Some taken.step.stamp.turn) bytes
+  pub above : a.standing.printed < taken.step.stamp.turn
+  pub printed_is : printed ≡ taken.step.stamp.turn
 
 -- the step that the request took changes nothing
 pub record TakesIdly (a : Asking) (steps : List Step) : Type 0 where
@@ -145,13 +139,15 @@ pub record TakesIdly (a : Asking) (steps : List Step) : Type 0 where
   pub idle : of_turn taken.step.stamp.turn a.standing.history ≡ []
 
 -- memory is wanting for the answer: nothing is changed, and no turn is printed
-pub record LacksMemory (a : Asking) (bytes : List ℕ) (steps : List Step) : Type 0 where
+pub record LacksMemory (a : Asking) (bytes : List ℕ) (steps : List Step) (printed : ℕ) : Type 0 where
   pub response : IsResponseTo a answer.Memory None bytes
   pub idle : (steps ≡ []) ⊎ TakesIdly a steps
+  pub printed_is : printed ≡ a.standing.printed
 
--- the answer to a request, which is of one of three kinds, with the steps that it took
-abbrev pub Answers : Asking → List ℕ → List Step → Type 0
-Answers a bytes steps = IsPlain a bytes steps ⊎ (IsBooked a bytes steps ⊎ LacksMemory a bytes steps)
+-- the answer to a request, which is of one of three kinds, with the steps that it took, and the last turn printed then
+abbrev pub Answers : Asking → List ℕ → List Step → ℕ → Type 0
+Answers a bytes steps printed =
+    IsPlain a bytes steps printed ⊎ (IsBooked a bytes steps printed ⊎ LacksMemory a bytes steps printed)
 
 -- ---- the answers to events
 
@@ -159,35 +155,55 @@ Answers a bytes steps = IsPlain a bytes steps ⊎ (IsBooked a bytes steps ⊎ La
 abbrev pub continue_bytes : List ℕ
 continue_bytes = codes "HTTP/1.1 100 Continue\r\n\r\n"
 
--- the answer to an event, with the moments that were asked for and the steps that it took
-abbrev pub AnswersEvent : Standing → Event → List ℕ → List ℕ → List Step → Type 0
-AnswersEvent s frame.continue moments bytes steps = (moments ≡ []) × (bytes ≡ continue_bytes) × (steps ≡ [])
-AnswersEvent s (frame.request r) moments bytes steps =
-    (moment : ℕ) × (moments ≡ moment ∷ []) × Answers (asking s moment r) bytes steps
+-- the answer to an event, with the moments that were asked for, the steps that it took, and the last turn printed then
+abbrev pub AnswersEvent : Standing → Event → List ℕ → List ℕ → List Step → ℕ → Type 0
+AnswersEvent s frame.continue moments bytes steps printed =
+    (moments ≡ []) × (bytes ≡ continue_bytes) × (steps ≡ []) × (printed ≡ s.printed)
+AnswersEvent s (frame.request r) moments bytes steps printed =
+    (moment : ℕ) × (moments ≡ moment ∷ []) × Answers (asking s moment r) bytes steps printed
 
--- the last turn of the steps, or the one before them
-abbrev pub last_turn : ℕ → List Step → ℕ
-last_turn last [] = last
-last_turn last (s ∷ ss) = last_turn s.stamp.turn ss
+-- the work behind an event: buckets are worked behind the answer to a request, and behind nothing else
+abbrev pub WorksBehind : Standing → Event → List Step → Type 0
+WorksBehind s frame.continue steps = steps ≡ []
+WorksBehind s (frame.request r) steps = Works s steps
 
--- where a session stands after an event that was answered by these steps
-abbrev pub past : Standing → Event → List Step → Standing
-past s event steps = record s { last = last_turn s.last steps; served = s.served + counted event }
+-- where a session stands after events and these steps, the last turn printed then being this one
+abbrev pub behind : Standing → List Event → List Step → ℕ → Standing
+behind s events steps printed =
+    record s { last = last_turn s.last steps; printed = printed; served = s.served + requests events }
 
--- where it stands after all of these events
-abbrev pub behind : Standing → List Event → List Step → Standing
-behind s events steps = record s { last = last_turn s.last steps; served = s.served + requests events }
+-- the same after one event
+abbrev pub past : Standing → Event → List Step → ℕ → Standing
+past s event steps printed =
+    record s { last = last_turn s.last steps; printed = printed; served = s.served + counted event }
 
--- The events are answered in their order, each once, and each request at the moment of its own; what is
--- written is the answers. Behind the answer that closes the connection none is answered.
-abbrev pub Answered : Standing → List Event → List ℕ → List ℕ → List Step → Type 0
-Answered s [] moments out steps = (moments ≡ []) × (out ≡ []) × (steps ≡ [])
-Answered s (event ∷ events) moments out steps =
-    (asked : List ℕ) × (after : List ℕ) × (bytes : List ℕ) × (later : List ℕ)
-    × (first : List Step) × (others : List Step)
-    × (moments ≡ asked ++ after) × (out ≡ bytes ++ later) × (steps ≡ first ++ others)
-    × AnswersEvent s event asked bytes first × (closes s.served event ≡ true → events ≡ [])
-    × Answered (past s event first) events after later others
+-- The first of some events is answered, each request at the moment of its own, and the work behind it is done; the
+-- other events come after. Behind the answer that closes the connection none is answered.
+pub record AnswersFirst (s : Standing) (event : Event) (events : List Event) (moments out : List ℕ)
+    (steps : List Step) : Type 0 where
+  pub asked : List ℕ
+  pub after : List ℕ
+  pub bytes : List ℕ
+  pub later : List ℕ
+  pub own : List Step
+  pub work : List Step
+  pub others : List Step
+  pub printed : ℕ
+  pub moments_are : moments ≡ asked ++ after
+  pub out_is : out ≡ bytes ++ later
+  pub steps_are : steps ≡ own ++ (work ++ others)
+  pub answers : AnswersEvent s event asked bytes own printed
+  pub works : WorksBehind (past s event own printed) event work
+  pub closing : closes s.served event ≡ true → events ≡ []
+
+-- The events are answered in their order, each once; what is written is the answers. The last turn printed is told.
+abbrev pub Answered : Standing → List Event → List ℕ → List ℕ → List Step → ℕ → Type 0
+Answered s [] moments out steps printed =
+    (moments ≡ []) × (out ≡ []) × (steps ≡ []) × (printed ≡ s.printed)
+Answered s (event ∷ events) moments out steps printed =
+    (first : AnswersFirst s event events moments out steps)
+    × Answered (past s event (first.own ++ first.work) first.printed) events first.after first.later first.others
+    printed
 
 -- the response to a fault of the bytes, which closes the connection
 abbrev pub IsFaultResponse : FrameFault → List ℕ → Type 0
@@ -223,7 +239,7 @@ AnswersFault s fault bytes =
 abbrev pub IsNext : Stop → List ℕ → Type 0
 IsNext s bytes =
     ((event : Event) × (later : List ℕ) × (mark : Bool) × Reads s.rest s.told (event ∷ []) later mark
-    × AnswersEvent s.standing event s.moments bytes s.steps)
+    × ((printed : ℕ) × AnswersEvent s.standing event s.moments bytes s.steps printed))
     ⊎ ((fault : FrameFault) × AnswersFault s fault bytes)
 
 -- the next request was taken at its moment, and perhaps a step for it, although no answer to it was written
@@ -281,11 +297,25 @@ EndsMemory s end =
     (end ≡ Memory s.standing.served) × (s.closed ≡ false) × (s.bytes ≡ [])
     × (((s.moments ≡ []) × (s.steps ≡ [])) ⊎ TakesUnanswered s)
 
+-- memory was wanting in the work behind the answer to the next request, which was written whole
+pub record EndsWorking (s : Stop) (end : SessionEnd) : Type 0 where
+  pub request : HttpRequest
+  pub later : List ℕ
+  pub own : List Step
+  pub work : List Step
+  pub printed : ℕ
+  pub end_is : end ≡ Memory (s.standing.served + 1)
+  pub open_ : s.closed ≡ false
+  pub reads : Reads s.rest s.told (frame.request request ∷ []) later false
+  pub answers : AnswersEvent s.standing (frame.request request) s.moments s.bytes own printed
+  pub steps_are : s.steps ≡ own ++ work
+  pub short : WorksShort (past s.standing (frame.request request) own printed) work
+
 -- how a session ends where it stops
 abbrev pub Ends : Stop → SessionEnd → Type 0
 Ends s end =
     EndsClosed s end ⊎ (EndsAsked s end ⊎ (EndsCut s end ⊎ (EndsReading s end
-    ⊎ (EndsWriting s end ⊎ (EndsFrame s end ⊎ (EndsSpent s end ⊎ EndsMemory s end))))))
+    ⊎ (EndsWriting s end ⊎ (EndsFrame s end ⊎ (EndsSpent s end ⊎ (EndsMemory s end ⊎ EndsWorking s end)))))))
 
 -- A session from a standing that took this input, asked for these moments and wrote this output, by these
 -- steps. Each request that it took has one of the moments, in their order, and there is no other. `ended`
@@ -301,13 +331,14 @@ pub record Session (start : Standing) (ended : Bool) (input moments output : Lis
   pub tail : List ℕ
   pub done : List Step
   pub more : List Step
+  pub printed : ℕ
   pub moments_are : moments ≡ asked ++ late
   pub output_is : output ≡ out ++ tail
   pub steps_are : steps ≡ done ++ more
   pub reads : Reads input false events rest told
-  pub answered : Answered start events asked out done
+  pub answered : Answered start events asked out done printed
   pub ends : Ends (record {
-    standing = behind start events done;
+    standing = behind start events done printed;
     closed = is_closed start.served events;
     ended = ended;
     rest = rest;

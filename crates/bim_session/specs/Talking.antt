@@ -1,5 +1,5 @@
 -- One connection as a machine: what each of its calls does.
-use Rattle.std.specs.Prelude.{◌≡◌, ◌≢◌, ◌⊎◌, ℕ, ◌+◌, ◌==◌, ◌++◌, List, [], ◌∷◌, Bool, true, false, if◌then◌else◌, Option, Some, None, IsSome, Result, Ok, Err}
+use Rattle.std.specs.Prelude.{◌≡◌, ◌≢◌, ◌⊎◌, ℕ, ◌+◌, ◌==◌, ◌++◌, List, [], ◌∷◌, ◌||◌, Bool, true, false, not, IsTrue, if◌then◌else◌, Option, Some, None, IsSome, Result, Ok, Err}
 use Rattle.std.specs.declared.alloc.AllocError.{AllocError}
 use Rattle.bim_io.specs.Seen.{ClockSeen, ClockGives}
 use Rattle.http_frame.specs.declared.types.HttpRequest.{HttpRequest}
@@ -10,11 +10,15 @@ use Rattle.http_frame.specs.Events as frame
 use Rattle.http_frame.specs.Framers.{Stands}
 use Rattle.book_turn.specs.declared.turn.Receipt.{Receipt}
 use Rattle.federation_book.specs.declared.book.Book.{Book}
-use Rattle.federation_book.specs.declared.types.BookRequest.{BookRequest}
-use Rattle.federation_book.specs.declared.types.BookReply.{BookReply}
-use Rattle.federation_book.specs.declared.types.Entry.{Entry}
-use Rattle.federation_book.specs.declared.types.ReplyBody.{ReplyBody}
-use Rattle.federation_book.specs.declared.types.ReplyBody.TheVariants as reply
+use Rattle.bucket_check.specs.Sets.{SetValue}
+use Rattle.book_history.specs.declared.limits.Settings.{Settings}
+use Rattle.book_history.specs.declared.requests.BookRequest.{BookRequest}
+use Rattle.book_history.specs.declared.requests.BookRequest.TheVariants as request
+use Rattle.book_history.specs.declared.replies.BookReply.{BookReply}
+use Rattle.book_history.specs.declared.changes.Entry.{Entry}
+use Rattle.book_history.specs.declared.replies.ReplyBody.{ReplyBody}
+use Rattle.book_history.specs.declared.replies.ReplyBody.TheVariants as reply
+use Rattle.bcf_http.specs.declared.calls.ReplyKind.{ReplyKind}
 use Rattle.bcf_http.specs.declared.answers.Answer.{Answer}
 use Rattle.bcf_http.specs.declared.answers.Answer.TheVariants as answer
 use Rattle.bcf_http.specs.Calls.{kind_of}
@@ -70,9 +74,22 @@ Stays old new =
 
 -- ---- how a talk goes on
 
--- what the response to the request of this number needs of it
-abbrev pub waiting_for : HttpRequest → ℕ → Waiting
-waiting_for request number = record { kind = kind_of request; close = closes_after request number }
+-- a call asks for a change
+abbrev pub asks_change : BookRequest → Bool
+asks_change (request.ListTopics project) = false
+asks_change (request.PostTopic project body author weight) = true
+asks_change (request.Upload project name model) = true
+asks_change (request.Remove project name) = true
+asks_change (request.SetRules project rules weight) = true
+asks_change (request.ReadVersion project version) = false
+asks_change (request.ReadClashes project version first count) = false
+asks_change (request.TakeWork seat) = false
+asks_change (request.Finish set) = true
+
+-- what the response to the request of this number needs of it, whose call asks for a change or not
+abbrev pub waiting_for : HttpRequest → ℕ → Bool → Waiting
+waiting_for request number changes =
+    record { kind = kind_of request; close = closes_after request number; changes = changes }
 
 -- how a session ends behind the answer to the request of this number, if it does
 abbrev pub leaving_after : ℕ → Bool → Option SessionEnd
@@ -125,9 +142,9 @@ Writes P (Leave e) = ⊥
 abbrev pub WantsFor : ℕ → HttpRequest → TalkState → Want → TalkState → Type 0
 WantsFor moment request old More new = ⊥
 WantsFor moment request old (Call call) new =
-    Means moment request call × (new ≡ with_call (waiting_for request (old.served + 1)) old)
+    Means moment request call × (new ≡ with_call (waiting_for request (old.served + 1) (asks_change call)) old)
 WantsFor moment request old (Write bytes) new =
-    AnswersAlone moment request (waiting_for request (old.served + 1)) bytes
+    AnswersAlone moment request (waiting_for request (old.served + 1) false) bytes
     × (new ≡ with_answer (closes_after request (old.served + 1)) old)
 WantsFor moment request old (Leave e) new = ⊥
 
@@ -169,7 +186,7 @@ Continues rest told moments old bytes new =
 abbrev pub AnswersOne : List ℕ → Bool → List ℕ → TalkState → List ℕ → TalkState → Type 0
 AnswersOne rest told moments old bytes new =
     (one : TakesRequest rest told moments new.framer)
-    × AnswersAlone one.moment one.request (waiting_for one.request (old.served + 1)) bytes
+    × AnswersAlone one.moment one.request (waiting_for one.request (old.served + 1) false) bytes
     × (new ≡ with_answer (closes_after one.request (old.served + 1)) (with_framer new.framer old))
 
 -- the fault is answered in which the bytes end, and ends the talk
@@ -191,7 +208,7 @@ Talks rest told moments old (Write bytes) new =
 Talks rest told moments old (Call call) new =
     (old.leaving ≡ None)
     × ((one : TakesRequest rest told moments new.framer) × Means one.moment one.request call
-    × (new ≡ with_call (waiting_for one.request (old.served + 1)) (with_framer new.framer old)))
+    × (new ≡ with_call (waiting_for one.request (old.served + 1) (asks_change call)) (with_framer new.framer old)))
 Talks rest told moments old (Leave e) new =
     (moments ≡ [])
     × ((old.leaving ≡ Some e)
@@ -234,23 +251,24 @@ LacksNext before after old new =
 
 -- ---- the answer to a call
 
--- a reply that comes of no accepted change
-abbrev pub ChangesNothing : ReplyBody → Type 0
-ChangesNothing (reply.TopicIs topic) = ⊥
-ChangesNothing (reply.TopicList topics) = Unit {0}
-ChangesNothing (reply.Changed version elements triangles left) = ⊥
-ChangesNothing (reply.Version version newest models) = Unit {0}
-ChangesNothing (reply.Refused fault) = Unit {0}
+-- the reply is a refusal
+abbrev pub is_refusal : ReplyBody → Bool
+is_refusal (reply.Refused fault) = true
+is_refusal other = false
+
+-- a reply that comes of no accepted change: the call asks for none, or is refused
+abbrev pub changes_nothing : Bool → ReplyBody → Bool
+changes_nothing changes body = not changes || is_refusal body
 
 -- the book's answer to a call, with the turn that the call took
 abbrev pub BookReceipt : Type 0
-BookReceipt = Receipt Book BookRequest BookReply Entry ℕ
+BookReceipt = Receipt Book BookRequest BookReply Entry Settings
 
 -- the response to a call that the book answered with this receipt, or for which memory was wanting
 abbrev pub AnswersCall : Result BookReceipt AllocError → Waiting → List ℕ → Type 0
 AnswersCall (Ok receipt) waiting bytes =
     IsResponse (answer.Book receipt.reply) waiting.kind (Some receipt.turn) waiting.close bytes
-    ⊎ (ChangesNothing receipt.reply.body × IsResponse answer.Memory waiting.kind None waiting.close bytes)
+    ⊎ (IsTrue (changes_nothing waiting.changes receipt.reply.body) × IsResponse answer.Memory waiting.kind None waiting.close bytes)
 AnswersCall (Err e) waiting bytes = IsResponse answer.Memory waiting.kind None waiting.close bytes
 
 -- what a talk wants after the answer to its call
@@ -282,3 +300,7 @@ IsOwnLeaving leaving = (n : ℕ) → (leaving ≢ Some (end.ReadFault n)) × (le
 -- where a talk wants to leave, it is by an end of its own
 abbrev pub IsOwnWant : Want → Type 0
 IsOwnWant want = (n : ℕ) → (want ≢ Leave (end.ReadFault n)) × (want ≢ Leave (end.WriteFault n))
+
+-- where a talk wants a call, it is one that may be made at every history
+abbrev pub IsCallable : Want → Type 0
+IsCallable want = (set : SetValue) → want ≢ Call (request.Finish set)

@@ -4,10 +4,11 @@ ghost use Rattle.bim_model.specs.Moments.{IsMoment};
 ghost use Rattle.model_build.specs.Profile.{IsCause};
 ghost use Rattle.bim_session.specs.Session.{Means, MeansCall};
 ghost use Rattle.bim_session.specs.Talking.{IsUnasked};
+ghost use Rattle.bcf_http.specs.Calls.{BringsNone};
 
 use bcf_http::{Answer, HttpCall, Refusal, Routes, to_call};
 use bim_model::{BuildError, Bytes, Mode, Shared, Text};
-use federation_book::BookRequest;
+use book_history::BookRequest;
 use http_frame::HttpRequest;
 use model_build::build_owned;
 use std::alloc::Global;
@@ -21,6 +22,7 @@ fn upload_of(
     body: Bytes,
 ) -> Result<BookRequest, BuildError>
     ensures call { IfOk result (MeansCall (Ok (HttpCall.Build project name mode body))) }
+    ensures none { IfOk result BringsNone }
     ensures fault { IfErr result (λ error. IsCause body mode error) }
 {
     let model = build_owned(alloc, body, mode)?;
@@ -34,7 +36,7 @@ fn upload_of(
 
 /// The call of the book that a request means at a moment, in seconds since 1970; or how the request is
 /// answered without one: by the fault that it alone decides, or by want of memory. The model of an upload is
-/// built here, before any turn is taken.
+/// built here, before any turn is taken. The call brings no set of a bucket, so it may be made at every history.
 pub fn call_of(
     alloc: Global,
     routes: &Routes,
@@ -43,6 +45,7 @@ pub fn call_of(
 ) -> Result<BookRequest, Answer>
     requires { IsMoment moment }
     ensures call { IfOk result (Means moment request) }
+    ensures none { IfOk result BringsNone }
     ensures unasked { IfErr result (IsUnasked moment request) }
 {
     match to_call(alloc, routes, request, moment) {

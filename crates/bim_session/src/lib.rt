@@ -8,6 +8,6 @@ mod talk;
 mod want;
 
 pub use end::SessionEnd;
-pub use laws::answers_are_to_the_events;
+pub use laws::{answers_are_to_the_events, no_reply_is_pending};
 pub use talk::{MOST_READ, MOST_REQUESTS, Talk};
 pub use want::{Waiting, Want};

@@ -4,7 +4,7 @@ ghost use Rattle.bim_model.specs.Moments.{IsMoment};
 ghost use Rattle.http_frame.specs.Framers.{Stands};
 ghost use Rattle.bim_session.specs.Session.{most_requests, closes_after, continue_bytes, IsFaultResponse};
 ghost use Rattle.bcf_http.specs.Answers.{IsResponse};
-ghost use Rattle.bim_session.specs.Talking.{fresh, Feeds, Stays, with_answer, with_fault, with_framer, with_memory, WantsFor, Writes, Wants, StopsNext, LacksNext, Replies, LacksFor, AtRest, IsReady, IsOwnLeaving, IsOwnWant, leaving_after, ChangesNothing};
+ghost use Rattle.bim_session.specs.Talking.{fresh, Feeds, Stays, with_answer, with_fault, with_framer, with_memory, WantsFor, Writes, Wants, StopsNext, LacksNext, Replies, LacksFor, AtRest, IsReady, IsOwnLeaving, IsOwnWant, leaving_after, asks_change, is_refusal, changes_nothing, IsCallable};
 
 use crate::calls::call_of;
 use crate::end::SessionEnd;
@@ -12,8 +12,9 @@ use crate::want::{Waiting, Want};
 use bcf_http::{Answer, ReplyKind, Routes, kind_of, to_response};
 use bim_io::Clock;
 use bim_model::Bytes;
+use book_history::{BookRequest, ReplyBody};
 use book_turn::turn::Receipt;
-use federation_book::{Book, ReplyBody};
+use federation_book::Book;
 use http_frame::{FrameError, FrameFault, FrameStep, Framer, HttpRequest};
 use std::alloc::{AllocError, Global};
 use std::marker::Model;
@@ -83,16 +84,35 @@ fn leaving_after(number: u64, close: bool) -> Option<SessionEnd>
     }
 }
 
-fn changes_nothing(reply: &ReplyBody) -> bool
-    ensures { IsTrue result ↔ ChangesNothing reply.now }
+fn asks_change(call: &BookRequest) -> bool
+    ensures { result ≡ asks_change call.now }
+{
+    match call {
+        BookRequest::ListTopics { .. } => false,
+        BookRequest::PostTopic { .. } => true,
+        BookRequest::Upload { .. } => true,
+        BookRequest::Remove { .. } => true,
+        BookRequest::SetRules { .. } => true,
+        BookRequest::ReadVersion { .. } => false,
+        BookRequest::ReadClashes { .. } => false,
+        BookRequest::TakeWork { .. } => false,
+        BookRequest::Finish { .. } => true,
+    }
+}
+
+fn is_refusal(reply: &ReplyBody) -> bool
+    ensures { result ≡ is_refusal reply.now }
 {
     match reply {
-        ReplyBody::TopicIs(_) => false,
-        ReplyBody::TopicList(_) => true,
-        ReplyBody::Changed { .. } => false,
-        ReplyBody::Version { .. } => true,
         ReplyBody::Refused(_) => true,
+        _ => false,
     }
+}
+
+fn changes_nothing(changes: bool, reply: &ReplyBody) -> bool
+    ensures { result ≡ changes_nothing changes reply.now }
+{
+    !changes || is_refusal(reply)
 }
 
 impl Talk {
@@ -155,6 +175,7 @@ impl Talk {
         ensures lacks { OnErr result (LacksNext (C.seen clock.old) (C.seen clock.new) self.old self.new) }
         ensures ready { IfOk result (λ want. IsReady want self.new) }
         ensures own { IfOk result IsOwnWant }
+        ensures callable { IfOk result IsCallable }
     {
         match self.step(clock) {
             Ok(want) => Ok(want),
@@ -175,6 +196,7 @@ impl Talk {
         ensures short { OnErr result (StopsNext (C.seen clock.old) (C.seen clock.new) self.old self.new) }
         ensures ready { IfOk result (λ want. IsReady want self.new) }
         ensures own { IfOk result IsOwnWant }
+        ensures callable { IfOk result IsCallable }
     {
         if let Some(end) = self.leaving {
             return Ok(Want::Leave(end));
@@ -209,6 +231,7 @@ impl Talk {
         ensures want { AtRest self.now result }
         ensures ready { IsReady result self.now }
         ensures own { IsOwnWant result }
+        ensures callable { IsCallable result }
     {
         let served = self.served;
         if !self.ended {
@@ -226,6 +249,7 @@ impl Talk {
         ensures want { IfOk result (Writes (λ bytes. bytes ≡ continue_bytes)) }
         ensures ready { IfOk result (λ want. IsReady want self.now) }
         ensures own { IfOk result IsOwnWant }
+        ensures callable { IfOk result IsCallable }
     {
         let bytes = Bytes::of(self.alloc, CONTINUE.as_bytes())?;
         Ok(Want::Write(bytes))
@@ -238,6 +262,7 @@ impl Talk {
         ensures err { OnErr result (self.new ≡ self.old) }
         ensures ready { IfOk result (λ want. IsReady want self.new) }
         ensures own { IfOk result IsOwnWant }
+        ensures callable { IfOk result IsCallable }
     {
         let bytes = to_response(
             self.alloc,
@@ -266,6 +291,7 @@ impl Talk {
         ensures err { OnErr result (self.new ≡ self.old) }
         ensures ready { IfOk result (λ want. IsReady want self.new) }
         ensures own { IfOk result IsOwnWant }
+        ensures callable { IfOk result IsCallable }
     {
         let served = self.served + 1;
         let bytes = to_response(self.alloc, answer, waiting.kind, turn, waiting.close)?;
@@ -283,17 +309,28 @@ impl Talk {
         ensures err { OnErr result (self.new ≡ self.old) }
         ensures ready { IfOk result (λ want. IsReady want self.new) }
         ensures own { IfOk result IsOwnWant }
+        ensures callable { IfOk result IsCallable }
     {
-        let waiting = Waiting {
-            kind: kind_of(&self.routes, &request),
-            close: closes_after(&request, self.served + 1),
-        };
+        let kind = kind_of(&self.routes, &request);
+        let close = closes_after(&request, self.served + 1);
         match call_of(self.alloc, &self.routes, request, moment) {
             Ok(call) => {
-                self.waits = Some(waiting);
+                let changes = asks_change(&call);
+                self.waits = Some(Waiting {
+                    kind,
+                    close,
+                    changes,
+                });
                 Ok(Want::Call(call))
             }
-            Err(answer) => self.respond(&answer, waiting, None),
+            Err(answer) => {
+                let waiting = Waiting {
+                    kind,
+                    close,
+                    changes: false,
+                };
+                self.respond(&answer, waiting, None)
+            }
         }
     }
 
@@ -338,7 +375,7 @@ impl Talk {
         ensures ok { IsOk result }
     {
         let Receipt { turn, reply } = receipt;
-        let changes_nothing = changes_nothing(&reply.body);
+        let changes_nothing = changes_nothing(waiting.changes, &reply.body);
         match self.respond(&Answer::Book(reply), waiting, Some(turn)) {
             Ok(want) => Ok(want),
             Err(_) => {

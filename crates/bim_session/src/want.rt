@@ -2,7 +2,7 @@
 use crate::end::SessionEnd;
 use bcf_http::ReplyKind;
 use bim_model::Bytes;
-use federation_book::BookRequest;
+use book_history::BookRequest;
 
 /// What is to be done next for a connection.
 #[derive(Drop)]
@@ -23,4 +23,6 @@ pub struct Waiting {
     pub kind: ReplyKind,
     /// The connection is closed behind the response.
     pub close: bool,
+    /// The call asks for a change.
+    pub changes: bool,
 }

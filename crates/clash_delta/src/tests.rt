@@ -8,7 +8,7 @@ use bim_model::{
     ClassTest, Element, Guid, Items, Model, ModelTest, NamedModel, PER_MM, Point, Rule, RuleKind,
     Rules, Shared, Snapshot, Steps, StoreyTest, Text, Triangle,
 };
-use bucket_check::{BucketWork, Room, SetPair, check};
+use bucket_check::{BucketSet, BucketWork, Room, SetPair, check};
 use bucket_grid::{Cell, Grid, has_few_elements};
 use std::alloc::{AllocError, Global};
 use std::marker::Brand;
@@ -19,6 +19,44 @@ use std::test::Fail;
 const NEAR: Cell = Cell { x: 0, y: 0, z: 0 };
 
 const FAR: Cell = Cell { x: 2, y: 0, z: 0 };
+
+const PAIR: SetPair = SetPair {
+    a: 0,
+    b: 1,
+    rule: 0,
+};
+
+// A version: the distance of its rule, the height of the fourth element, and whether it has the other model.
+#[derive(Clone, Copy)]
+struct Scene {
+    distance: u32,
+    height: i32,
+    with: bool,
+}
+
+const FIRST: Scene = Scene {
+    distance: 50,
+    height: 1700,
+    with: false,
+};
+
+const MOVED: Scene = Scene {
+    distance: 50,
+    height: 1640,
+    with: false,
+};
+
+const MORE: Scene = Scene {
+    distance: 50,
+    height: 1700,
+    with: true,
+};
+
+const CLOSER: Scene = Scene {
+    distance: 49,
+    height: 1700,
+    with: false,
+};
 
 // A corner in millimetres.
 fn corner(x: i32, y: i32, z: i32) -> Result<Point, Fail> {
@@ -98,23 +136,25 @@ fn grid_of(rt: &impl Abort, alloc: Global, version: Snapshot) -> Result<Shared<G
 }
 
 // The grid of the four elements, and of the one before them by name where it is wanted.
-fn grid(
-    rt: &impl Abort,
-    alloc: Global,
-    distance: u32,
-    height: i32,
-    with: bool,
-) -> Result<Shared<Grid>, Fail>
-    requires { distance < 1000 }
+fn grid(rt: &impl Abort, alloc: Global, scene: Scene) -> Result<Shared<Grid>, Fail>
+    requires { scene.distance < 1000 }
 {
-    let empty = Snapshot::new(alloc, rules(alloc, distance)?);
-    let version = empty.with_model(alloc, four(alloc, height)?)?;
-    if with {
+    let empty = Snapshot::new(alloc, rules(alloc, scene.distance)?);
+    let version = empty.with_model(alloc, four(alloc, scene.height)?)?;
+    if scene.with {
         let more = version.with_model(alloc, one(alloc)?)?;
         grid_of(rt, alloc, more)
     } else {
         grid_of(rt, alloc, version)
     }
+}
+
+// Whether so many buckets are left, the two are done or not, and which comes next.
+fn is_at(progress: &Progress, left: u64, near: bool, far: bool, next: Option<Cell>) -> bool {
+    progress.left() == left
+        && progress.is_done(NEAR) == near
+        && progress.is_done(FAR) == far
+        && progress.undone(0) == next
 }
 
 // Checks a bucket and takes its set.
@@ -140,8 +180,8 @@ fn put<L: Ledger>(
     Ok(progress.put(Shared::new(alloc, set)?))
 }
 
-// The progress of a grid of two buckets that are both done.
-fn all_done<L: Ledger>(
+// The progress of a grid of two buckets of which the nearer is done.
+fn near_done<L: Ledger>(
     rt: &impl Abort,
     alloc: Global,
     grid: &Shared<Grid>,
@@ -150,59 +190,65 @@ fn all_done<L: Ledger>(
     ensures { IfOk result (IsOf grid.now) }
 {
     let mut progress = Progress::fresh(alloc, grid.get())?;
-    assert_eq!(rt; progress.left(), 2);
-    assert_eq!(rt; progress.undone(0), Some(NEAR));
-    assert_eq!(rt; progress.undone(1), Some(FAR));
-    assert_eq!(rt; progress.undone(2), None);
-    let first = put(rt, alloc, &mut progress, grid, NEAR, steps)?;
-    assert_eq!(rt; first, PutAnswer::Taken);
-    assert_eq!(rt; progress.left(), 1);
-    assert_eq!(rt; progress.is_done(NEAR), true);
-    assert_eq!(rt; progress.is_done(FAR), false);
-    assert_eq!(rt; progress.undone(0), Some(FAR));
-    let again = put(rt, alloc, &mut progress, grid, NEAR, steps)?;
-    assert_eq!(rt; again, PutAnswer::AlreadyDone);
-    assert_eq!(rt; progress.left(), 1);
-    let second = put(rt, alloc, &mut progress, grid, FAR, steps)?;
-    assert_eq!(rt; second, PutAnswer::Taken);
-    assert_eq!(rt; progress.left(), 0);
+    assert!(rt; is_at(&progress, 2, false, false, Some(NEAR)));
+    assert!(rt; progress.undone(1) == Some(FAR));
+    let answer = put(rt, alloc, &mut progress, grid, NEAR, steps)?;
+    assert!(rt; answer == PutAnswer::Taken);
+    assert!(rt; is_at(&progress, 1, true, false, Some(FAR)));
     Ok(progress)
 }
 
-// What is carried to a grid: whether the two buckets are done there.
+// .. of which both are done.
+fn all_done<L: Ledger>(
+    rt: &impl Abort,
+    alloc: Global,
+    grid: &Shared<Grid>,
+    steps: &mut Steps<L>,
+) -> Result<Progress, Fail>
+    ensures { IfOk result (IsOf grid.now) }
+{
+    let mut progress = near_done(rt, alloc, grid, steps)?;
+    let again = put(rt, alloc, &mut progress, grid, NEAR, steps)?;
+    assert!(rt; again == PutAnswer::AlreadyDone);
+    assert!(rt; is_at(&progress, 1, true, false, Some(FAR)));
+    put(rt, alloc, &mut progress, grid, FAR, steps)?;
+    assert!(rt; is_at(&progress, 0, true, true, None));
+    Ok(progress)
+}
+
+// The first of two sets has one pair, the second none; they are of this version.
+fn are_sets(sets: &[Shared<BucketSet>], version: u64) -> bool {
+    match sets {
+        [near, far] => {
+            near.get().pairs() == [PAIR].as_slice()
+                && far.get().pairs().is_empty()
+                && far.get().work().version == version
+                && far.get().work().project == 7
+        }
+        _ => false,
+    }
+}
+
+fn has_sets(rt: &impl Abort, alloc: Global, progress: &Progress, version: u64) -> Result<(), Fail> {
+    assert!(rt; progress.left() == 0);
+    let sets = progress.sets(alloc)?;
+    assert!(rt; are_sets(&sets, version));
+    Ok(())
+}
+
+// What is carried to a grid where the rules and the models are these.
 fn carried(
     rt: &impl Abort,
     alloc: Global,
     done: &Progress,
     before: &Grid,
-    after: &Shared<Grid>,
-    near: bool,
-    far: bool,
+    scene: Scene,
 ) -> Result<Progress, Fail>
-    requires { IsOf before.now done.now }
-    ensures { IfOk result (IsOf after.now) }
+    requires of { IsOf before.now done.now }
+    requires distance { scene.distance < 1000 }
 {
-    let progress = carry(alloc, done, before, after, 3)?;
-    assert_eq!(rt; progress.is_done(NEAR), near);
-    assert_eq!(rt; progress.is_done(FAR), far);
-    Ok(progress)
-}
-
-// The sets of a progress of two buckets that are done: their versions, projects and pairs.
-fn are_sets(rt: &impl Abort, alloc: Global, progress: &Progress, version: u64) -> Result<(), Fail> {
-    assert_eq!(rt; progress.left(), 0);
-    let sets = progress.sets(alloc)?;
-    assert_eq!(rt; sets.len(), 2);
-    let pair = SetPair {
-        a: 0,
-        b: 1,
-        rule: 0,
-    };
-    assert_eq!(rt; sets[0].get().pairs(), [pair].as_slice());
-    assert_eq!(rt; sets[1].get().pairs().len(), 0);
-    assert_eq!(rt; sets[1].get().work().version, version);
-    assert_eq!(rt; sets[1].get().work().project, 7);
-    Ok(())
+    let after = grid(rt, alloc, scene)?;
+    Ok(carry(alloc, done, before, &after, 3)?)
 }
 
 // One element moved, a model before by name, and the rules set anew and to another distance.
@@ -212,28 +258,17 @@ fn runs<L: Ledger>(rt: &impl Abort, alloc: Global, blank: Blank) -> Result<(), F
     requires some { 0 < blank.parts }
 {
     let mut steps = Steps::<L>::new(blank);
-    let first = grid(rt, alloc, 50, 1700, false)?;
+    let first = grid(rt, alloc, FIRST)?;
     let done = all_done(rt, alloc, &first, &mut steps)?;
-    are_sets(rt, alloc, &done, 2)?;
-
-    let moved = grid(rt, alloc, 50, 1640, false)?;
-    let next = carried(rt, alloc, &done, first.get(), &moved, true, false)?;
-    assert_eq!(rt; next.left(), 1);
-    assert_eq!(rt; next.undone(0), Some(FAR));
-
-    let more = grid(rt, alloc, 50, 1700, true)?;
-    let mut next = carried(rt, alloc, &done, first.get(), &more, false, true)?;
-    assert_eq!(rt; next.left(), 1);
-    let answer = put(rt, alloc, &mut next, &more, NEAR, &mut steps)?;
-    assert_eq!(rt; answer, PutAnswer::Taken);
-
-    let again = grid(rt, alloc, 50, 1700, false)?;
-    let next = carried(rt, alloc, &done, first.get(), &again, true, true)?;
-    are_sets(rt, alloc, &next, 3)?;
-
-    let other = grid(rt, alloc, 49, 1700, false)?;
-    let next = carried(rt, alloc, &done, first.get(), &other, false, false)?;
-    assert_eq!(rt; next.left(), 2);
+    has_sets(rt, alloc, &done, 2)?;
+    let moved = carried(rt, alloc, &done, first.get(), MOVED)?;
+    assert!(rt; is_at(&moved, 1, true, false, Some(FAR)));
+    let more = carried(rt, alloc, &done, first.get(), MORE)?;
+    assert!(rt; is_at(&more, 1, false, true, Some(NEAR)));
+    let again = carried(rt, alloc, &done, first.get(), FIRST)?;
+    has_sets(rt, alloc, &again, 3)?;
+    let other = carried(rt, alloc, &done, first.get(), CLOSER)?;
+    assert!(rt; is_at(&other, 2, false, false, Some(NEAR)));
     Ok(())
 }
 

@@ -1,3 +1,11 @@
 pub mod Keeping
-pub mod Histories
-pub mod Newest
+pub mod Slots
+pub mod Carrying
+pub mod Counting
+pub mod Grids
+pub mod Accepting
+pub mod Taking
+pub mod Sizes
+pub mod Reading
+pub mod Advancing
+pub mod Starting

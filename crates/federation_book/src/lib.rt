@@ -1,17 +1,28 @@
 //! The book: the history of all projects, and what follows from it.
 #![tactic(auto)]
 
+mod answers;
 mod book;
-mod limits;
+mod making;
 mod project;
 mod sequence;
-mod types;
+mod state;
+mod topics;
+mod version;
+mod working;
 
 pub use book::Book;
-pub use book_turn::object::Stamp;
-pub use limits::MOST_PROJECTS;
-pub use types::{BookFault, BookReply, BookRequest, Change, Entry, ReplyBody, Wanted};
+pub use book_history::{
+    BookFault, BookReply, BookRequest, Change, Entry, Horizon, Limits, MOST_PROJECTS, ReplyBody,
+    Settings, Stamp, StoreWhat, Wanted, WorkOrder,
+};
 
+#[cfg(test)]
+mod clash_tests;
+#[cfg(test)]
+mod desk;
+#[cfg(test)]
+mod samples;
 #[cfg(test)]
 mod tests;
 #[cfg(test)]

@@ -1,11 +1,15 @@
 //! What the book keeps of each project.
-ghost use Rattle.std.specs.Prelude.{◌≡◌, ◌≤◌, ◌+◌, ◌++◌, ◌∷◌, [], List, IfOk, OnOk, OnErr};
-ghost use Rattle.federation_book.specs.History.{untouched, new_topic, named_model, with_upload};
-ghost use Rattle.federation_book.specs.Kept.{state_kept};
+ghost use Rattle.std.specs.Prelude.{◌≡◌, ◌≤◌, ◌<◌, ◌+◌, ◌-◌, ◌^◌, ◌++◌, ◌∷◌, [], ℕ, length, drop, slice_index_or, vec_len, vec_capacity, IfOk};
+ghost use Rattle.clash_publish.specs.declared.horizon.TheConstants.{LIVE_VERSIONS};
+ghost use Rattle.book_history.specs.Versions.{VersionState, live_in};
+ghost use Rattle.book_history.specs.Projects.{untouched, new_topic};
+ghost use Rattle.book_history.specs.History.{left_in};
+ghost use Rattle.book_history.specs.Weights.{told};
+ghost use Rattle.federation_book.specs.Kept.{KeepsProject};
 
-use bim_model::{
-    Author, Duplicate, Items, Model, NamedModel, Rules, Shared, Snapshot, Text, Topic, TopicBody,
-};
+use crate::version::KeptVersion;
+use bim_model::{Author, Duplicate, Items, Topic, TopicBody};
+use clash_publish::LIVE_VERSIONS;
 use std::alloc::{AllocError, Global};
 
 /// What follows of the journal for a project.
@@ -13,23 +17,47 @@ use std::alloc::{AllocError, Global};
 pub struct Project {
     /// Its topics by rising serial number.
     pub topics: Items<Topic>,
+    /// How many objects were made in it.
+    pub made: u64,
     /// The number of its newest version.
-    pub version: u64,
-    /// The models and the rules of its newest version.
-    pub newest: Shared<Snapshot>,
+    pub newest: u64,
+    /// Its last sixteen versions, oldest first.
+    pub live: Vec<KeptVersion>,
+}
+
+/// How many buckets of some versions are to be checked, or the greatest number.
+pub fn left_in(versions: &[KeptVersion]) -> u64
+    ensures { result ≡ told (left_in versions.now) }
+{
+    let mut left = 0_u64;
+    for version in versions {
+        left = left.saturating_add(version.left());
+    }
+    left
+}
+
+// Lets the first of seventeen versions go.
+fn keep_sixteen(versions: &mut Vec<KeptVersion>)
+    requires { length versions.old.items ≤ 17 }
+    ensures { versions.new.items ≡ live_in versions.old.items }
+{
+    if versions.len() > LIVE_VERSIONS as usize {
+        versions.remove(0);
+    }
 }
 
 impl Project {
     /// A project of which nothing was changed yet.
-    #[tactic(auto, using(crate::proofs::Newest::version_is))]
     pub fn new(alloc: Global) -> Result<Project, AllocError>
-        ensures { IfOk result (λ made. state_kept made ≡ untouched) }
+        ensures { IfOk result (λ made. KeepsProject made untouched) }
     {
-        let rules = Shared::new(alloc, Rules::new(alloc))?;
+        let mut live = Vec::new(alloc);
+        live.push(KeptVersion::nothing(alloc)?)?;
         Ok(Project {
             topics: Items::new(alloc),
-            version: 0,
-            newest: Shared::new(alloc, Snapshot::new(alloc, rules))?,
+            made: 0,
+            newest: 0,
+            live,
         })
     }
 
@@ -40,30 +68,51 @@ impl Project {
         body: &TopicBody,
         author: &Author,
     ) -> Result<Topic, AllocError>
-        ensures { IfOk result (λ topic. topic ≡ new_topic self.now.topics body.now author.now) }
+        requires { self.now.made + 1 < 2 ^ 64 }
+        ensures { IfOk result (λ topic. topic ≡ new_topic self.now.made body.now author.now) }
     {
         Ok(Topic {
-            serial: self.topics.as_slice().len() as u64 + 1,
+            serial: self.made + 1,
             body: body.copy(alloc)?,
             created: author.copy(alloc)?,
         })
     }
 
-    /// The version that an upload makes: the model in its place, and the same rules.
-    #[tactic(auto, using(crate::proofs::Newest::version_is))]
-    pub fn next_version(
-        &self,
-        alloc: Global,
-        name: &Text,
-        model: &Shared<Model>,
-    ) -> Result<Shared<Snapshot>, AllocError>
-        ensures { IfOk result (λ next. next ≡ with_upload self.now.newest (named_model name.now model.now)) }
+    /// Its newest version, lent.
+    pub fn newest_version(&self) -> &KeptVersion
+        requires { 0 < length self.now.live.items }
+        ensures { (d : VersionState) → result.now
+            ≡ slice_index_or self.now.live.items (length self.now.live.items - 1) d }
     {
-        let named = NamedModel {
-            name: name.copy(alloc)?,
-            model: model.share()?,
-        };
-        let next = self.newest.get().with_model(alloc, named)?;
-        Shared::new(alloc, next)
+        &self.live[self.live.len() - 1]
+    }
+
+    /// How many buckets of live versions are to be checked, if another version were made of which so many are.
+    pub fn left_with(&self, left: u64) -> u64
+        requires { 0 < length self.now.live.items }
+        ensures { let live = self.now.live.items in
+            result ≡ told (left_in (drop (length live + 1 - LIVE_VERSIONS) live) + left) }
+    {
+        let live = self.live.as_slice();
+        if live.len() < LIVE_VERSIONS as usize {
+            left_in(live).saturating_add(left)
+        } else {
+            left_in(&live[live.len() - 15..]).saturating_add(left)
+        }
+    }
+
+    /// Adds a version, for which there is room, and lets the oldest go where there are sixteen.
+    pub fn push_version(&mut self, version: KeptVersion)
+        requires room { vec_len self.old.live < vec_capacity self.old.live }
+        requires few { length self.old.live.items ≤ LIVE_VERSIONS }
+        requires number { self.old.newest + 1 < 2 ^ 64 }
+        ensures live { self.new.live.items ≡ live_in (self.old.live.items ++ version ∷ []) }
+        ensures newest { self.new.newest ≡ self.old.newest + 1 }
+        ensures topics { self.new.topics ≡ self.old.topics }
+        ensures made { self.new.made ≡ self.old.made }
+    {
+        self.live.push_reserved(version);
+        keep_sixteen(&mut self.live);
+        self.newest += 1;
     }
 }

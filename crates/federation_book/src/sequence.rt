@@ -1,14 +1,14 @@
 //! The book as an object whose calls take turns.
 
 use crate::book::Book;
-use crate::types::{BookReply, BookRequest, Entry};
+use book_history::{BookReply, BookRequest, Entry, Settings};
 use book_turn::object::{SeqObject, Stamp};
 use std::alloc::AllocError;
 
 impl SeqObject for Book {
-    ghost use Rattle.federation_book.specs.History as history;
-    ghost use Rattle.std.proofs.Common.{arith};
-    ghost use Rattle.std.proofs.lemmas.Grind.{common_steps};
+    ghost use Rattle.book_history.specs.Requests as requests;
+    ghost use Rattle.book_history.specs.Legal as legal;
+    ghost use Rattle.book_history.proofs.Legality.{legal_later, stamped};
 
     type Request = BookRequest;
 
@@ -16,27 +16,26 @@ impl SeqObject for Book {
 
     type Entry = Entry;
 
-    /// How many projects it has.
-    type Settings = u32;
+    /// How many projects it has, and its limits.
+    type Settings = Settings;
 
-    ghost settings = { λ book. book.projects };
+    ghost settings = { λ book. book.settings };
 
     ghost journal = { λ book. book.journal };
 
     ghost stamp_of = { λ e. e.stamp };
 
-    ghost reply_of = { λ projects entries _ request. history.reply_of projects entries request };
+    ghost reply_of = { requests.reply_of };
 
-    ghost added_by = { λ projects entries stamp request. history.entry_added projects entries stamp request };
+    ghost added_by = { requests.entry_added };
 
-    // every request may be made at any time
-    ghost is_legal = { λ _ _ _. Unit {0} };
+    ghost is_legal = { legal.IsLegal };
 
     fn act(&mut self, stamp: Stamp, request: BookRequest) -> Result<BookReply, AllocError> {
         Book::act(self, stamp, request)
     }
 
-    ghost legal_later = { λ projects entries more request may. tt };
+    ghost legal_later = { legal_later };
 
-    ghost stamped = { λ projects entries stamp request e is. Prim.grind (arith, common_steps) };
+    ghost stamped = { stamped };
 }

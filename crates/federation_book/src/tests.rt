@@ -1,11 +1,11 @@
 //! A book of two projects: what is made and listed, and what is refused.
 ghost use Rattle.std.specs.Prelude.{◌≡◌, ◌+◌, OnOk};
-ghost use Rattle.federation_book.specs.History.{IsBefore};
+ghost use Rattle.book_history.specs.History.{IsBefore};
 
 use crate::book::Book;
-use crate::types::{BookFault, BookRequest, Change, Entry, ReplyBody, Wanted};
-use bim_model::{Author, Model, Moment, NamedModel, Shared, Text, Topic, TopicBody, id_of};
-use book_turn::object::Stamp;
+use crate::samples::to_post;
+use bim_model::{Model, NamedModel, Shared, Text, Topic, id_of};
+use book_history::{BookFault, BookRequest, Change, Entry, Limits, ReplyBody, Stamp, Wanted};
 use std::alloc::{AllocError, Global};
 use std::process::Abort;
 use std::test::Fail;
@@ -18,21 +18,6 @@ fn stamp(turn: u64) -> Stamp
         pass: 0,
         call: turn,
     }
-}
-
-// A request to make a topic.
-pub fn to_post(alloc: Global, project: u128, title: &str) -> Result<BookRequest, AllocError> {
-    Ok(BookRequest::PostTopic {
-        project,
-        body: TopicBody {
-            title: Text::of(alloc, title)?,
-        },
-        author: Author {
-            user: Text::of(alloc, "anna")?,
-            moment: Moment::new(1_714_564_800),
-        },
-        weight: 17,
-    })
 }
 
 fn post(
@@ -62,7 +47,7 @@ fn list(book: &mut Book, turn: u64, project: u128) -> Result<ReplyBody, AllocErr
 #[test]
 fn keeps_the_topics_of_each_project(rt: HostRuntime) -> Result<(), Fail> {
     let alloc = rt.alloc();
-    let mut book = Book::new(alloc, 2)?;
+    let mut book = Book::new(alloc, 2, Limits::stated())?;
     let pipe = post(alloc, &mut book, 1, id_of(1, 0), "Pipe")?;
     is_topic(&rt, &pipe, 1, "Pipe");
     let beam = post(alloc, &mut book, 2, id_of(2, 0), "Beam")?;
@@ -75,7 +60,7 @@ fn keeps_the_topics_of_each_project(rt: HostRuntime) -> Result<(), Fail> {
 #[test]
 fn refuses_projects_that_are_not_there(rt: HostRuntime) -> Result<(), Fail> {
     let alloc = rt.alloc();
-    let mut book = Book::new(alloc, 2)?;
+    let mut book = Book::new(alloc, 2, Limits::stated())?;
     is_refused(&rt, &list(&mut book, 1, id_of(3, 0))?);
     is_refused(&rt, &post(alloc, &mut book, 2, id_of(1, 1), "Pipe")?);
     assert!(rt; book.journal().is_empty());
@@ -137,7 +122,7 @@ fn is_post(rt: &impl Abort, change: &Change, title: &str) {
             assert_eq!(rt; author.user.as_str(), "anna");
             assert_eq!(rt; *weight, 17);
         }
-        Change::Upload { .. } => assert!(rt; false),
+        _ => assert!(rt; false),
     }
 }
 
@@ -211,7 +196,7 @@ fn is_changed(rt: &impl Abort, body: &ReplyBody, wanted: u64) {
 #[test]
 fn makes_a_version_of_each_upload(rt: HostRuntime) -> Result<(), Fail> {
     let alloc = rt.alloc();
-    let mut book = Book::new(alloc, 2)?;
+    let mut book = Book::new(alloc, 2, Limits::stated())?;
     let first = id_of(1, 0);
     let second = id_of(2, 0);
     is_changed(&rt, &upload(alloc, &mut book, 1, first, "m")?, 1);

@@ -1,10 +1,13 @@
 //! A book whose calls take turns, by two passes of one thread.
+ghost use Rattle.std.specs.Prelude.{IfSome};
 ghost use Rattle.book_turn.specs.Passes.{IsSingle};
+ghost use Rattle.book_history.specs.Legal.{IsLegal};
 
 use crate::book::Book;
-use crate::tests::{is_list, is_refused, is_topic, to_post};
-use crate::types::{BookRequest, Entry, ReplyBody};
+use crate::samples::to_post;
+use crate::tests::{is_list, is_refused, is_topic};
 use bim_model::id_of;
+use book_history::{BookRequest, Entry, Limits, ReplyBody};
 use book_turn::pass::Pass;
 use book_turn::turn::Turn;
 use std::alloc::Global;
@@ -19,7 +22,8 @@ fn ask<R: Wait>(
     pass: &mut Pass<Book>,
     request: BookRequest,
 ) -> Option<(u64, ReplyBody)>
-    requires { IsSingle turn.now pass.old }
+    requires single { IsSingle turn.now pass.old }
+    requires legal { IfSome pass.old.settings (λ s. IsLegal s pass.old.seen request) }
     ensures { IsSingle turn.now pass.new }
 {
     match turn.call(rt, pass, request) {
@@ -78,7 +82,7 @@ fn lists<R: Wait + Abort>(
 #[test]
 fn answers_two_passes_at_one_history(rt: HostRuntime) -> Result<(), Fail> {
     let alloc = rt.alloc();
-    let (turn, mut passes) = Turn::new(alloc, Book::new(alloc, 2)?, 2)?;
+    let (turn, mut passes) = Turn::new(alloc, Book::new(alloc, 2, Limits::stated())?, 2)?;
     let (Some(mut second), Some(mut first)) = (passes.pop(), passes.pop()) else {
         panic!(rt; "no passes")
     };

@@ -32,3 +32,8 @@ returns-in-Ok-Leave-clause-step g c =
 pub returns-in-Err-clause-step : goal.returns-in-Err-clause-step
 returns-in-Err-clause-step g c =
     inr (c.in-Err.ensures.lacks, ap (λ n. End (end.Memory n)) c.served-served.ensures, refl, refl, refl)
+
+pub call_book-requires-clause-none : goal.call_book-requires-clause-none
+call_book-requires-clause-none g c =
+    let callable = rw c.in-Ok-Call.field-0-is at c.in-Ok-Call.ensures.callable in
+    λ set e. callable set (ap Call e)

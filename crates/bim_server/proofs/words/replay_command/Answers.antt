@@ -17,4 +17,6 @@ returns c =
     (named ∙ ap (on_top (λ (s : Shape). record s { no_binary_name = true })) c.new.ensures.app) in
     let timed : app_of c.in_ok-timed.timed ≡ with_rule (bare_command (codes "replay")) (option_of (codes "at")) =
     c.in_ok-timed.ensures.shape c.option_of.ensures.local ∙ ap₂ with_rule plain c.option_of.ensures.rule in
-    IfOk-weaker c.arg-2.result _ _ (λ command added. added.shape c.option_of-2.ensures.local ∙ ap₂ with_rule timed c.option_of-2.ensures.rule) c.arg-2.ensures
+    let worked : app_of c.in_ok-worked.worked ≡ with_rule (with_rule (bare_command (codes "replay")) (option_of (codes "at"))) (option_of (codes "buckets")) =
+    c.in_ok-worked.ensures.shape c.option_of-2.ensures.local ∙ ap₂ with_rule timed c.option_of-2.ensures.rule in
+    IfOk-weaker c.arg-3.result _ _ (λ command added. added.shape c.option_of-3.ensures.local ∙ ap₂ with_rule worked c.option_of-3.ensures.rule) c.arg-3.ensures

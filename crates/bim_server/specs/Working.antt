@@ -1,0 +1,89 @@
+-- The work on buckets of a one-thread book.
+use Rattle.std.specs.Prelude.{◌≡◌, ◌⊎◌, ℕ, zero, suc, ◌+◌, ◌<◌, ◌≤◌, Option}
+use Rattle.bucket_check.specs.Sets.{SetValue}
+use Rattle.book_history.specs.declared.requests.BookRequest.TheVariants.{TakeWork, Finish}
+use Rattle.book_history.specs.declared.replies.ReplyBody.TheVariants.{Work}
+use Rattle.book_history.specs.Orders.{OrderValue}
+use Rattle.book_history.specs.Requests.{reply_of}
+use Rattle.bim_io.specs.Seen.{Outside}
+use Rattle.bim_session.specs.declared.end.SessionEnd.{SessionEnd}
+use Rattle.bim_session.specs.declared.end.SessionEnd.TheVariants.{Memory}
+use Rattle.bim_session.specs.Works.{IsSetOf, IsEnough, IsMore}
+use Rattle.bim_session.specs.Talking.{TalkState}
+use Rattle.bim_server.specs.declared.session.Progress.{Progress}
+use Rattle.bim_server.specs.declared.session.Progress.TheVariants.{Again, End}
+use Rattle.bim_server.specs.Loop.{ServerState, StepsOn, with_turn, stamp_of, left_of}
+
+-- the next turn gives this bucket out
+abbrev pub GivesOut : ServerState → OrderValue → Type 0
+GivesOut s order = (reply_of s.settings s.history (stamp_of (s.turns + 1)) (TakeWork 0)).body ≡ Work order
+
+-- a bucket is given out at the next turn, and its set is brought at the turn behind that
+pub record WorksBucket (old new : ServerState) : Type 0 where
+  pub order : OrderValue
+  pub set : SetValue
+  pub given : GivesOut old order
+  pub found : IsSetOf order set
+  pub new_is : new ≡ with_turn (Finish set) (with_turn (TakeWork 0) old)
+
+-- nothing was done of that, or the bucket was given out alone
+abbrev pub WorksPart : ServerState → ServerState → Type 0
+WorksPart old new =
+    (new ≡ old) ⊎ ((order : OrderValue) × GivesOut old order × (new ≡ with_turn (TakeWork 0) old))
+
+-- so many buckets are worked, one behind the other
+abbrev pub WorksTimes : ServerState → ℕ → ServerState → Type 0
+WorksTimes old zero new = new ≡ old
+WorksTimes old (suc count) new =
+    (mid : ServerState) × WorksTimes old count mid × (0 < left_of mid) × WorksBucket mid new
+
+-- buckets are worked until none is to be checked, at most so many
+pub record WorksUpTo (most : ℕ) (old new : ServerState) : Type 0 where
+  pub count : ℕ
+  pub worked : WorksTimes old count new
+  pub few : count ≤ most
+  pub rest : count < most → left_of new ≡ 0
+
+-- the same, which stopped before it was done
+pub record WorksLess (most : ℕ) (old new : ServerState) : Type 0 where
+  pub count : ℕ
+  pub mid : ServerState
+  pub worked : WorksTimes old count mid
+  pub room : count < most
+  pub some : 0 < left_of mid
+  pub part : WorksPart mid new
+
+-- buckets are worked until none is to be checked, at most so many where so many are said
+pub record WorksAll (buckets : Option ℕ) (old new : ServerState) : Type 0 where
+  pub count : ℕ
+  pub worked : WorksTimes old count new
+  pub enough : IsEnough buckets count (left_of new)
+
+-- the same, which stopped before it was done
+pub record WorksSome (buckets : Option ℕ) (old new : ServerState) : Type 0 where
+  pub count : ℕ
+  pub mid : ServerState
+  pub worked : WorksTimes old count mid
+  pub room : IsMore buckets count
+  pub some : 0 < left_of mid
+  pub part : WorksPart mid new
+
+-- the work behind the last answer of a talk was done, or memory was wanting in it, which ends the session
+abbrev pub WorksBehind : Option ℕ → TalkState → ServerState → Progress → ServerState → Type 0
+WorksBehind buckets talk server Again server' = WorksAll buckets server server'
+WorksBehind buckets talk server (End e) server' = (e ≡ Memory talk.served) × WorksSome buckets server server'
+
+-- behind a step there is work exactly where it answered a request
+abbrev pub WorksAfter : Option ℕ → ℕ → TalkState → ServerState → Progress → Progress → ServerState → Type 0
+WorksAfter buckets served talk server (End e) progress server' = (progress ≡ End e) × (server' ≡ server)
+WorksAfter buckets served talk server Again progress server' =
+    ((talk.served ≤ served) × (progress ≡ Again) × (server' ≡ server))
+    ⊎ ((served < talk.served) × WorksBehind buckets talk server progress server')
+
+-- a step of a session, and the work behind it
+pub record StepsAndWorks (buckets : Option ℕ) (before after : Outside) (talk : TalkState) (server : ServerState)
+    (progress : Progress) (talk' : TalkState) (server' : ServerState) : Type 0 where
+  pub stepped : Progress
+  pub mid : ServerState
+  pub step : StepsOn before after talk server stepped talk' mid
+  pub work : WorksAfter buckets talk.served talk' mid stepped progress server'

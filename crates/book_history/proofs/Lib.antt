@@ -1,0 +1,11 @@
+pub mod Told
+pub mod Least
+pub mod Listing
+pub mod Alone
+pub mod Same
+pub mod States
+pub mod Growing
+pub mod Legality
+pub mod Live
+pub mod Given
+pub mod Histories

@@ -1,0 +1,14 @@
+pub mod Settings
+pub mod Boxes
+pub mod Buckets
+pub mod Unmoved
+pub mod Orders
+pub mod Versions
+pub mod Projects
+pub mod History
+pub mod Weights
+pub mod Refusals
+pub mod Requests
+pub mod Legal
+pub mod Laws
+pub mod Runs

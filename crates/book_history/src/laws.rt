@@ -1,0 +1,17 @@
+//! Laws of the definitions.
+ghost use Rattle.book_history.specs.Laws.{GridsAreOne, WorkStaysGiven, RequestsStayLegal};
+
+/// A version has one grid.
+pub fn grids_are_one()
+    ensures { GridsAreOne }
+{}
+
+/// What is given out to be checked may be brought back at any later time.
+pub fn work_stays_given()
+    ensures { WorkStaysGiven }
+{}
+
+/// A request that may be made may be made at any later time.
+pub fn requests_stay_legal()
+    ensures { RequestsStayLegal }
+{}

@@ -1,0 +1,26 @@
+//! What is asked of the book and what it answers: requests, replies, faults, changes and entries, and what
+//! follows of a history of entries.
+#![tactic(auto)]
+
+mod changes;
+mod faults;
+mod laws;
+mod limits;
+mod replies;
+mod requests;
+mod weights;
+mod work;
+
+pub use book_turn::object::Stamp;
+pub use changes::{Change, Entry};
+pub use clash_publish::{Horizon, LIVE_VERSIONS};
+pub use faults::{BookFault, StoreWhat};
+pub use laws::{grids_are_one, requests_stay_legal, work_stays_given};
+pub use limits::{
+    Limits, MOST_COMMENTS, MOST_ENTRIES, MOST_PROJECTS, MOST_STORED_TRIANGLES, MOST_TEXT,
+    MOST_TOPICS, MOST_VERSION_ELEMENTS, MOST_VERSION_MEMBERSHIPS, MOST_VIEWPOINTS, Settings,
+};
+pub use replies::{BookReply, ReplyBody};
+pub use requests::{BookRequest, Wanted};
+pub use weights::{elements_in, model_text, triangles_among};
+pub use work::WorkOrder;

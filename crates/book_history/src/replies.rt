@@ -1,0 +1,53 @@
+//! The book's replies.
+
+use crate::faults::BookFault;
+use crate::work::WorkOrder;
+use bim_model::{Items, Shared, Snapshot, Topic};
+use clash_publish::{Horizon, Published};
+
+#[derive(Drop)]
+pub enum ReplyBody {
+    /// The topics of a project by rising serial number.
+    TopicList(Items<Topic>),
+    TopicIs(Topic),
+    /// A change made a version.
+    Changed {
+        /// Its number.
+        version: u64,
+        /// How many elements the uploaded model has; after another change, how many the version has.
+        elements: u64,
+        /// How many triangles these have together.
+        triangles: u64,
+        /// How many buckets of the version are to be checked.
+        left: u64,
+    },
+    Version {
+        version: u64,
+        /// The number of the project's newest version.
+        newest: u64,
+        snapshot: Shared<Snapshot>,
+    },
+    /// All clashes of a version. The pairs from `first` on, at most `count` of them, are asked for.
+    Clashes {
+        version: u64,
+        set: Shared<Published>,
+        first: u64,
+        count: u64,
+    },
+    /// A bucket to be checked.
+    Work(WorkOrder),
+    /// A bucket's clashes were taken.
+    Finished {
+        /// How many buckets of its version are still to be checked.
+        left: u64,
+    },
+    Refused(BookFault),
+}
+
+/// The book's answer to a request.
+#[derive(Drop)]
+pub struct BookReply {
+    pub body: ReplyBody,
+    /// The newest version of each project after the call.
+    pub horizon: Horizon,
+}

@@ -1,0 +1,5 @@
+pub mod Errors
+pub mod Faults
+pub mod Rules
+pub mod Versions
+pub mod Clashes

@@ -1,0 +1,79 @@
+-- A change that makes a version.
+use Rattle.std.proofs.Common.{◌≡◌, ◌+◌, ◌-◌, ◌<◌, ◌≤◌, ℕ, List, [], ◌∷◌, ◌++◌, length, drop, get_or, Option, Some, None, refl, sym, ◌∙◌, ap, ap₂, subst, arith, length-append, length-drop}
+use Rattle.std.proofs.lemmas.List.{drop-append-le, get_or_default}
+use Rattle.bim_model.specs.Snapshots.{Version}
+use Rattle.book_history.specs.declared.changes.Change.{Change}
+use Rattle.book_history.specs.declared.changes.Change.TheVariants.{PostTopic, Upload, Remove, SetRules, BucketDone}
+use Rattle.book_history.specs.declared.changes.Entry.{Entry}
+use Rattle.book_history.specs.declared.faults.BookFault.{BookFault}
+use Rattle.book_history.specs.Versions.{VersionState, nothing, version_at, newest_in, live_in, made_after}
+use Rattle.book_history.specs.Projects.{ProjectState, newest, newest_content, next_content, with_change, with_version, with_next}
+use Rattle.book_history.specs.History.{state_of, left_in}
+use Rattle.book_history.specs.Refusals.{first_of}
+use Rattle.book_history.specs.Weights.{told}
+use Rattle.book_history.proofs.Live.{gone, live_push, live_at, live_length, few_live}
+use Rattle.book_history.proofs.States.{Within, within}
+use Rattle.federation_book.specs.declared.project.Project.{Project}
+use Rattle.federation_book.specs.Kept.{KeepsProject}
+use Rattle.federation_book.proofs.Taking.{left_snoc}
+
+none_some : (v : Version) → None ≡ Some v → ⊥
+none_some v e = cc
+
+-- a change that makes a version adds it
+pub advances : (s : ProjectState) (c : Change) (v : Version) → next_content (newest_content s) c ≡ Some v → with_change s c ≡ with_version s v
+advances s (PostTopic body author weight) v e = absurd (none_some v e)
+advances s (Upload name model) v e = ap (with_next s) e
+advances s (Remove name) v e = ap (with_next s) e
+advances s (SetRules rules weight) v e = ap (with_next s) e
+advances s (BucketDone number cell) v e = absurd (none_some v e)
+
+-- the newest version of a kept project
+pub last_is : (p : Project) (s : ProjectState) (v : VersionState) → KeepsProject p s → 0 < length s.versions → ((d : VersionState) → v ≡ get_or p.live.items (length p.live.items - 1) d) → v ≡ version_at s.versions (newest s)
+last_is p s v k some is =
+    let count = ap length k.live in
+    let all = live_length s.versions in
+    let from : gone s.versions ≤ newest s = omega (arith, some) in
+    let at : length p.live.items - 1 ≡ newest s - gone s.versions = omega (arith, count, all) in
+    is nothing ∙ ap (λ l. get_or l (length p.live.items - 1) nothing) k.live ∙ ap (λ m. get_or (live_in s.versions) m nothing) at ∙ live_at s.versions (newest s) nothing from
+
+-- a project after one more version
+pub keeps_next : (p q : Project) (s : ProjectState) (v : VersionState) (content : Version) → KeepsProject p s
+    → q.live.items ≡ live_in (p.live.items ++ v ∷ []) → q.newest ≡ p.newest + 1 → q.topics ≡ p.topics → q.made ≡ p.made
+    → v ≡ made_after (version_at s.versions (newest s)) content → KeepsProject q (with_version s content)
+keeps_next p q s v content k live number topics made is =
+    let one = length-append s.versions (made_after (version_at s.versions (newest s)) content ∷ []) in
+    let n = k.newest in
+    record {
+      topics = topics ∙ k.topics;
+      made = made ∙ k.made;
+      newest = omega (arith, one, n, number);
+      live = live ∙ ap₂ (λ vs w. live_in (vs ++ w ∷ [])) k.live is ∙ live_push s.versions (made_after (version_at s.versions (newest s)) content);
+    }
+
+-- what is left then of the live versions
+pub left_next : (p : Project) (s : ProjectState) (v : VersionState) (content : Version) → KeepsProject p s → v ≡ made_after (version_at s.versions (newest s)) content → 0 < length p.live.items
+    → left_in (drop (length p.live.items + 1 - 16) p.live.items) + length v.undone ≡ left_in (live_in (with_version s content).versions)
+left_next p s v content k is some =
+    let ps = p.live.items in
+    let cut = length ps + 1 - 16 in
+    let m = length-append ps (v ∷ []) in
+    let count : length (ps ++ v ∷ []) - 16 ≡ cut = omega (arith, m) in
+    let low : cut ≤ length ps = omega (arith, some) in
+    let all : live_in (with_version s content).versions ≡ drop cut ps ++ v ∷ [] =
+    sym (live_push s.versions (made_after (version_at s.versions (newest s)) content))
+    ∙ ap₂ (λ vs w. live_in (vs ++ w ∷ [])) (sym k.live) (sym is)
+    ∙ ap (λ n. drop n (ps ++ v ∷ [])) count
+    ∙ drop-append-le cut ps (v ∷ []) low in
+    sym (ap left_in all ∙ left_snoc (drop cut ps) v)
+
+-- refusals behind two others
+pub two_some : (a b : Option BookFault) (rest : List (Option BookFault)) (f : BookFault) → first_of (a ∷ b ∷ []) ≡ Some f → first_of (a ∷ b ∷ rest) ≡ Some f
+two_some None None rest f e = cc
+two_some None (Some g) rest f e = e
+two_some (Some g) b rest f e = e
+
+pub two_none : (a b : Option BookFault) (rest : List (Option BookFault)) → first_of (a ∷ b ∷ []) ≡ None → first_of (a ∷ b ∷ rest) ≡ first_of rest
+two_none None None rest e = refl
+two_none None (Some g) rest e = cc
+two_none (Some g) b rest e = cc

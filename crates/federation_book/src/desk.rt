@@ -1,0 +1,147 @@
+//! A book that is asked one request after another, in the turns 1, 2, ..
+ghost use Rattle.std.specs.Prelude.{◌≡◌, ◌+◌, ◌<◌, ◌^◌, OnOk, IfOk};
+ghost use Rattle.book_history.specs.History.{IsBefore};
+ghost use Rattle.book_history.specs.Legal.{IsLegal, IsGiven};
+
+use crate::book::Book;
+use bim_model::{Shared, Steps};
+use book_history::{BookFault, BookRequest, ReplyBody, Stamp};
+use bucket_check::{BucketWork, Room, SetPair, check};
+use bucket_grid::Cell;
+use std::alloc::{AllocError, Global};
+use std::process::Abort;
+use std::sync::ledger::Ledger;
+use std::test::Fail;
+
+/// Asks the book at a turn.
+pub fn ask(book: &mut Book, turn: u64, request: BookRequest) -> Result<ReplyBody, AllocError>
+    requires before { IsBefore turn book.old.journal }
+    requires legal { IsLegal book.old.settings book.old.journal request }
+    ensures { OnOk result (IsBefore (turn + 1) book.new.journal) }
+{
+    let stamp = Stamp {
+        turn,
+        pass: 0,
+        call: turn,
+    };
+    Ok(book.act(stamp, request)?.body)
+}
+
+/// Has a bucket given out: one of this version and cell.
+pub fn take(
+    rt: &impl Abort,
+    book: &mut Book,
+    turn: u64,
+    seat: u32,
+    version: u64,
+    cell: Cell,
+) -> Result<BucketWork, Fail>
+    requires { IsBefore turn book.old.journal }
+    ensures before { OnOk result (IsBefore (turn + 1) book.new.journal) }
+    ensures settings { book.new.settings ≡ book.old.settings }
+    ensures given { IfOk result (IsGiven book.new.settings book.new.journal) }
+{
+    let body = ask(book, turn, BookRequest::TakeWork { seat })?;
+    let ReplyBody::Work(order) = body else {
+        return Err(Fail::from("no work"));
+    };
+    let work = order.into_work();
+    assert_eq!(rt; (work.project, work.version), (1, version));
+    assert_eq!(rt; work.cell, cell);
+    Ok(work)
+}
+
+/// Checks a bucket that was given out, and brings its clashes.
+pub fn bring<L: Ledger>(
+    alloc: Global,
+    book: &mut Book,
+    turn: u64,
+    work: BucketWork,
+    steps: &mut Steps<L>,
+) -> Result<ReplyBody, Fail>
+    requires before { IsBefore turn book.old.journal }
+    requires given { IsGiven book.old.settings book.old.journal work }
+    ensures { OnOk result (IsBefore (turn + 1) book.new.journal) }
+{
+    let set = check(alloc, work, &mut Room::new(alloc), steps)?;
+    let set = Shared::new(alloc, set)?;
+    Ok(ask(book, turn, BookRequest::Finish { set })?)
+}
+
+/// Checks a bucket in two turns: the first gives it out, in the second its clashes are brought. So many are left.
+pub fn work<L: Ledger>(
+    rt: &impl Abort,
+    alloc: Global,
+    book: &mut Book,
+    turn: u64,
+    steps: &mut Steps<L>,
+    version: u64,
+    cell: Cell,
+    left: u64,
+) -> Result<(), Fail>
+    requires before { IsBefore turn book.old.journal }
+    requires few { turn < 2 ^ 40 }
+    ensures { OnOk result (IsBefore (turn + 2) book.new.journal) }
+{
+    let work = take(rt, book, turn, 0, version, cell)?;
+    let body = bring(alloc, book, turn + 1, work, steps)?;
+    is_finished(rt, &body, left)
+}
+
+/// A bucket's clashes were taken, and so many are left.
+pub fn is_finished(rt: &impl Abort, body: &ReplyBody, wanted: u64) -> Result<(), Fail> {
+    match body {
+        ReplyBody::Finished { left } => assert_eq!(rt; *left, wanted),
+        _ => return Err(Fail::from("not finished")),
+    }
+    Ok(())
+}
+
+/// A version was made.
+pub fn is_changed(
+    rt: &impl Abort,
+    body: &ReplyBody,
+    wanted: (u64, u64, u64, u64),
+) -> Result<(), Fail> {
+    match body {
+        ReplyBody::Changed {
+            version,
+            elements,
+            triangles,
+            left,
+        } => assert_eq!(rt; (*version, *elements, *triangles, *left), wanted),
+        _ => return Err(Fail::from("no version")),
+    }
+    Ok(())
+}
+
+/// The clashes of a version are these.
+pub fn are_clashes(
+    rt: &impl Abort,
+    body: &ReplyBody,
+    wanted: u64,
+    pairs: &[SetPair],
+) -> Result<(), Fail> {
+    match body {
+        ReplyBody::Clashes {
+            version,
+            set,
+            first,
+            count,
+        } => {
+            assert_eq!(rt; (*version, *first, *count), (wanted, 0, 1000));
+            assert_eq!(rt; set.get().pairs(), pairs);
+        }
+        _ => return Err(Fail::from("no clashes")),
+    }
+    Ok(())
+}
+
+/// The request is refused for this.
+pub fn is_refused(rt: &impl Abort, body: &ReplyBody, wanted: BookFault) -> Result<(), Fail> {
+    match body {
+        ReplyBody::Refused(fault) => assert_eq!(rt; *fault, wanted),
+        _ => return Err(Fail::from("not refused")),
+    }
+    Ok(())
+}
