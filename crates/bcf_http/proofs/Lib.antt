@@ -4,5 +4,5 @@ pub mod Routers
 pub mod Parts
 pub mod Rows
 pub mod Floats
-pub mod Numbers
+pub mod Numerals
 pub mod Plain

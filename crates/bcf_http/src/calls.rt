@@ -345,7 +345,6 @@ fn clashes_call(
 /// What a request asks for at a moment, in seconds since 1970; or the first fault that the request alone
 /// decides: its target names nothing, this hasn't the method, the body is encoded, the query, the body. A call that is
 /// asked for brings no set of a bucket.
-#[tactic(auto, unfolding(crate::specs::Calls::asked_by))]
 pub fn to_call(
     alloc: Global,
     routes: &Routes,
@@ -355,6 +354,20 @@ pub fn to_call(
     requires { IsMoment moment }
     ensures asked { IsAskedAs result (asked_by moment request) }
     ensures none { IfOk result AsksNone }
+{
+    asked_by(alloc, routes, request, moment)
+}
+
+// What a request asks for at a moment.
+#[tactic(auto, unfolding(crate::specs::Calls::asked_by))]
+fn asked_by(
+    alloc: Global,
+    routes: &Routes,
+    request: HttpRequest,
+    moment: u64,
+) -> Result<HttpCall, Refusal>
+    requires { IsMoment moment }
+    ensures { IsAskedAs result (asked_by moment request) }
 {
     let Some(resource) = routes.resource_of(request.target.as_slice()) else {
         return Err(Refusal::Fault(RequestFault::NoRoute));

@@ -1,5 +1,5 @@
 use Rattle.std.proofs.Common.{sym}
-use Rattle.bcf_http.proofs.Numbers.{unwritten, word_read, word_is_read}
+use Rattle.bcf_http.proofs.Numerals.{unwritten, word_read, word_is_read}
 use Rattle.bcf_http.proofs.numbers.number_in.Goals as goal
 
 pub returns-then-not-is_number : goal.returns-then-not-is_number
