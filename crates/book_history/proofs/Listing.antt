@@ -20,7 +20,7 @@ use Rattle.bucket_grid.proofs.Owners.{cell_of_rises, same_cell}
 use Rattle.bucket_grid.proofs.Parts.{flat_all, flat_any, flat_pairs, all_upto}
 use Rattle.bucket_grid.proofs.Searching.{turned_back}
 use Rattle.bucket_grid.proofs.Tables.{less_x, less_y, less_z, further, along, above, tested, members_upto}
-use Rattle.bucket_check.proofs.Lists.{Lists, lists_filter, lists_same, lists_one}
+use Rattle.bucket_check.proofs.Lists.{Lists, lists_filter, lists_one}
 use Rattle.book_history.specs.Buckets.{cell_on, cube, cells_of_grid, buckets_among}
 
 abbrev pub Below : Cell → Cell → Type 0
@@ -141,6 +141,9 @@ member boxes c h =
 
 bucket_held : (boxes : List Extent) (c : Cell) → All IsGridBox boxes → IsBucket boxes c → Contains cells_of_grid c
 bucket_held boxes c near h = let m = member boxes c h in held c (box_at boxes m.0) (near m.0 _ m.1) m.2
+
+lists_same : {X : Type 0} (R : X → X → Type 0) (P Q : X → Type 0) (xs : List X) → ((x : X) → P x → Q x) → ((x : X) → Q x → P x) → Lists R P xs → Lists R Q xs
+lists_same R P Q xs f g l = record { rising = l.rising; each = λ x c. f x (l.each x c); all = λ x q. l.all x (g x q) }
 
 -- the buckets of boxes of the grid are listed
 pub buckets_listed : (boxes : List Extent) → All IsGridBox boxes → Lists Below (IsBucket boxes) (buckets_among boxes)

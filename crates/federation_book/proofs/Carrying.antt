@@ -1,5 +1,5 @@
 -- What a progress leaves to be checked is what a version leaves.
-use Rattle.std.proofs.Common.{◌≡◌, ◌↔◌, ◌<◌, ◌≤◌, ◌⊎◌, inl, inr, ℕ, zero, suc, Bool, true, false, not, ◌&&◌, ◌||◌, cond, is_none, IsSome, List, [], ◌∷◌, length, get_or, map, filter, Option, Some, None, refl, sym, ap, ap₂, subst, ◌∙◌, arith, true≢false}
+use Rattle.std.proofs.Common.{◌≡◌, ◌↔◌, ◌<◌, ◌≤◌, ◌⊎◌, inl, inr, ℕ, zero, suc, Bool, true, false, not, ◌&&◌, ◌||◌, cond, is_none, IsSome, IsTrue, List, [], ◌∷◌, length, get_or, map, filter, Option, Some, None, refl, sym, ap, ap₂, subst, ◌∙◌, arith, true≢false}
 use Rattle.std.specs.List.{All, Any, AllPairs, Contains, list_any}
 use Rattle.std.proofs.lemmas.Bool.{and_parts, and_from}
 use Rattle.std.proofs.lemmas.List.{get_or_default, get_or-map, length-map}
@@ -149,3 +149,34 @@ module _ (before after : GridValue) (h : HasParts before) (k : HasParts after) (
   carried_left =
       map_filter (λ (s : Slot). is_none s.set) (λ c. not (is_carried was after.version c)) made (λ i d lt. own_slot i d lt (get_or made i d).set refl (is_carried was after.version (get_or made i d).cell) refl)
       ∙ ap (filter (λ c. not (is_carried was after.version c))) (is.buckets ∙ grid_cells after k)
+
+-- ---- what a version tells of its grid and progress
+abbrev pub kept_as : Version → List Cell → VersionState
+kept_as content undone = record { content = content; undone = undone }
+
+same_bool : (a b : Bool) → (a ≡ true → b ≡ true) → (b ≡ true → a ≡ true) → a ≡ b
+same_bool true b f g = sym (f refl)
+same_bool false true f g = g refl
+same_bool false false f g = refl
+
+-- the test of a bucket, of a version that holds what its grid does
+pub done_is : (g : GridValue) → HasParts g → (slots : List Slot) → IsOf g slots → (content : Version) → g.version ≡ content → (c : Cell) (r : Bool) → (IsTrue r ↔ IsDone slots c)
+    → r ≡ is_done (kept_as content (undone_cells slots)) c
+done_is g h slots is content same c r tells =
+    subst (λ v. r ≡ is_done (kept_as v (undone_cells slots)) c) same
+    (same_bool r (is_done (kept_as g.version (undone_cells slots)) c)
+    (λ e. let d = tells.0 (subst IsTrue (sym e) tt) in then_done g h slots is c (bucket_from g h slots is c (d.0, d.1, d.2, d.3, d.4.0)) d)
+    (λ e. truth r (tells.1 (done_then g h slots is c e).1)))
+  where
+    truth : (b : Bool) → IsTrue b → b ≡ true
+    truth true t = refl
+    truth false t = absurd t
+
+-- the version that is made
+pub made_is : (before after : GridValue) → HasParts before → HasParts after → (done made : List Slot) → IsOf before done → IsOf after made
+    → ((c : Cell) → IsDone made c ↔ IsCarried done before after c) → (old new : Version) → before.version ≡ old → after.version ≡ new
+    → kept_as new (undone_cells made) ≡ made_after (kept_as old (undone_cells done)) new
+made_is before after h k done made of is carried old new e f =
+    subst (λ v. kept_as v (undone_cells made) ≡ made_after (kept_as old (undone_cells done)) v) f
+    (subst (λ u. kept_as after.version (undone_cells made) ≡ made_after (kept_as u (undone_cells done)) after.version) e
+    (ap (kept_as after.version) (carried_left before after h k done made of is carried)))

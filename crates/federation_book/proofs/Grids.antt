@@ -13,6 +13,9 @@ use Rattle.bucket_grid.specs.Grids.{GridValue, HasMemberships}
 use Rattle.bucket_grid.specs.Places.{IsPlace, IsGridBox}
 use Rattle.bucket_grid.specs.Subjects.{AreBoxes}
 use Rattle.bucket_grid.specs.Table.{IsTable}
+use Rattle.bucket_check.specs.Sets.{SetValue}
+use Rattle.clash_delta.specs.Slots.{IsSetOf}
+use Rattle.clash_publish.specs.Merged as merged
 use Rattle.book_history.proofs.Alone.{HasParts}
 
 -- what is known of a grid, by what its calls lend
@@ -52,3 +55,10 @@ no_memberships v count e h = h.counted ∙ ap memberships (of_none v h.boxes e h
 pub no_items : {A : Type 0} (xs : List A) → length xs ≡ 0 → xs ≡ []
 no_items [] e = refl
 no_items (x ∷ xs) e = absurd (omega (arith, e))
+
+-- sets that are right are sets of their buckets
+pub sets_are : (g : GridValue) (bs : List Bucket) (ss : List SetValue) → AllZip (λ (b : Bucket) (s : SetValue). IsSetOf g b.cell s) bs ss → AllZip (λ (b : Bucket) (s : SetValue). merged.IsSetOf g b.cell s) bs ss
+sets_are g [] [] h = h
+sets_are g [] (s ∷ ss) h = h
+sets_are g (b ∷ bs) [] h = h
+sets_are g (b ∷ bs) (s ∷ ss) h = (record { grid_is = h.0.grid_is; cell_is = h.0.cell_is }, sets_are g bs ss h.1)
