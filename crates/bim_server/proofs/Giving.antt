@@ -5,7 +5,8 @@ use Rattle.std.specs.declared.alloc.AllocError.{AllocError}
 use Rattle.std.proofs.lemmas.List.Sums.{sum_by-cons}
 use Rattle.bucket_grid.specs.declared.cell.Cell.{Cell}
 use Rattle.bucket_grid.specs.Cells.{IsBucket}
-use Rattle.bucket_check.specs.Sets.{SetValue}
+use Rattle.bucket_check.specs.declared.work.BucketWork.{BucketWork}
+use Rattle.bucket_check.specs.Sets.{SetValue, own_places}
 use Rattle.book_history.specs.declared.limits.Settings.{Settings}
 use Rattle.book_history.specs.declared.changes.Entry.{Entry}
 use Rattle.book_history.specs.declared.replies.BookReply.{BookReply}
@@ -70,6 +71,25 @@ pub gives_some : (s : ServerState) → 0 < left_of s → (order : OrderValue) ×
 gives_some s some =
     let count : length (all_orders s.settings.projects s.history) ≡ left_of s = flat_length s.history (project_numbers s.settings.projects) in
     some_order s.history (all_orders s.settings.projects s.history) (omega (arith, some, count))
+
+-- ---- a set
+
+-- the set that was found for the work of an order, shared
+pub set_found : (order : OrderValue) (work : BucketWork) (set : SetValue) (r : Result SetValue AllocError) → order_of work ≡ order → set.work ≡ work
+    → set.pairs ≡ own_places work.grid work.cell → IfOk r (λ s. s ≡ set) → IfOk r (IsSetOf order)
+set_found order work set (Ok s) is own pairs same =
+    let work_is : s.work ≡ work = ap (λ (x : SetValue). x.work) same ∙ own in
+    record {
+      order_is = ap order_of work_is ∙ is;
+      pairs_are = ap (λ (x : SetValue). x.pairs) same ∙ pairs ∙ ap (λ (w : BucketWork). own_places w.grid w.cell) (sym work_is);
+    }
+set_found order work set (Err e) is own pairs same = tt
+
+-- .. is of a bucket of the work's grid
+pub set_bucket : (work : BucketWork) (set : SetValue) (r : Result SetValue AllocError) → IsBucket work.grid.boxes work.cell → set.work ≡ work → IfOk r (λ s. s ≡ set)
+    → IfOk r (λ s. IsBucket s.work.grid.boxes s.work.cell)
+set_bucket work set (Ok s) bucket own same = subst (λ (w : BucketWork). IsBucket w.grid.boxes w.cell) (sym (ap (λ (x : SetValue). x.work) same ∙ own)) bucket
+set_bucket work set (Err e) bucket own same = tt
 
 -- ---- the two calls
 

@@ -35,6 +35,16 @@ call_is a b e = cc
 pub callable : (call : BookRequest) → BringsNone call → IsCallable (Call call)
 callable call none = λ set e. none set (call_is call _ e)
 
+-- more bytes, a write and an end are no calls
+pub more_callable : IsCallable More
+more_callable = λ set e. cc
+
+pub write_callable : (bytes : List ℕ) → IsCallable (Write bytes)
+write_callable bytes = λ set e. cc
+
+pub leave_callable : (e : SessionEnd) → IsCallable (Leave e)
+leave_callable e = λ set is. cc
+
 -- ---- what a framer stands for
 
 stands_at : (f : Framer) (a b : List ℕ) (t u : Bool) → a ≡ b → t ≡ u → Stands f a t → Stands f b u

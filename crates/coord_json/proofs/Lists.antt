@@ -68,9 +68,8 @@ pairs_push version (q ∷ ps) (w ∷ vs) p v are is =
     let rest : items_view vs ≡ pair_items version ps = cc in
     ap (λ d. item d (items_view (vs ++ v ∷ []))) first ∙ ap (λ ds. item (clash_data version q) ds) (pairs_push version ps vs p v rest is)
 
-pub pairs_more : (version : Version) (ps : List SetPair) (i : ℕ) (old new : List Value) → i < length ps → (p : SetPair) → p ≡ get_or ps i p
-    → (v : Value) → view v ≡ clash_data version p → new ≡ old ++ v ∷ []
+pub pairs_more : (version : Version) (ps : List SetPair) (i : ℕ) (old new : List Value) (d : SetPair) (v : Value) → i < length ps
+    → view v ≡ clash_data version (get_or ps i d) → new ≡ old ++ v ∷ []
     → items_view old ≡ pair_items version (take i ps) → items_view new ≡ pair_items version (take (i + 1) ps)
-pairs_more version ps i old new lt p at v is grown are =
-    let more : take (i + 1) ps ≡ take i ps ++ p ∷ [] = take_more ps i p lt ∙ ap (λ x. take i ps ++ x ∷ []) (sym at) in
-    rw (more, grown) (pairs_push version (take i ps) old p v are is)
+pairs_more version ps i old new d v lt is grown are =
+    rw (take_more ps i d lt, grown) (pairs_push version (take i ps) old (get_or ps i d) v are is)

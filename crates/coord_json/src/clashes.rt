@@ -49,7 +49,6 @@ fn pair_out(alloc: Global, set: &Published, pair: SetPair) -> Result<Value, Allo
 }
 
 // Clashes of a version, as values in their order.
-#[tactic(auto, using(crate::proofs::Lists::pairs_more))]
 fn pairs_out(alloc: Global, set: &Published, pairs: &[SetPair]) -> Result<Vec<Value>, AllocError>
     requires { All (IsClash set.now) pairs.now }
     ensures { IfOk result (λ trees. items_view trees.items ≡ pair_items set.now pairs.now) }
