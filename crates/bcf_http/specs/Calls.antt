@@ -85,7 +85,7 @@ model_call request project name (Some mode) = put_call request project name mode
 
 -- a fault of clash rules as one of its request
 abbrev pub with_rule_fault : Result (List Rule) RuleFault → Result (List Rule) RequestFault
-with_rule_fault (Ok rules) = Ok rules
+with_rule_fault (Ok asked) = Ok asked
 with_rule_fault (Err fault) = Err (Rules fault)
 
 -- the clash rules that a body asks for, or its first fault: no object, then what its members say
@@ -95,7 +95,7 @@ rules_asked (Some tree) = with_rule_fault (rules_of tree)
 
 -- the call that sets clash rules, or the fault of the body
 abbrev pub rules_call : HttpRequest → ℕ → Result (List Rule) RequestFault → Result HttpCall RequestFault
-rules_call request project (Ok rules) = Ok (Ask (SetRules project rules (length request.body)))
+rules_call request project (Ok asked) = Ok (Ask (SetRules project asked (length request.body)))
 rules_call request project (Err fault) = Err fault
 
 -- the clashes of a version that the query asks for
