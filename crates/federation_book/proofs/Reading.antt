@@ -1,5 +1,6 @@
 -- Versions of a kept project, by their numbers.
 use Rattle.std.proofs.Common.{◌≡◌, ◌+◌, ◌-◌, ◌<◌, ◌≤◌, ◌^◌, nat_lt, leb, ℕ, Bool, true, false, if◌then◌else◌, List, [], ◌∷◌, length, get_or, set, Option, Some, None, refl, sym, ◌∙◌, ap, subst, arith}
+use Rattle.std.proofs.lemmas.Bool.{leb-false}
 use Rattle.std.proofs.lemmas.Bool.Decides.{nat_tests}
 use Rattle.std.proofs.lemmas.List.{get_or_default}
 use Rattle.book_history.specs.declared.faults.BookFault.{BookFault}
@@ -113,3 +114,21 @@ some_live p n j k =
     let count = ap length k.live in
     let all = live_length (state_of n j).versions in
     omega (arith, w, count, all)
+
+-- one that isn't dropped is live, and has a place
+pub not_dropped : (p : Project) (s : ProjectState) (number : ℕ) → KeepsProject p s → None ≡ dropped s number → p.newest < number + 16
+not_dropped p s number k e = subst (λ n. n < number + 16) (newest_is p s k) (by (leb (number + 16) (newest s)) refl)
+  where
+    none_some : (f : BookFault) → None ≡ Some f → ⊥
+    none_some f q = cc
+
+    by : (b : Bool) → leb (number + 16) (newest s) ≡ b → newest s < number + 16
+    by true t = absurd (none_some (fault.VersionDropped number (newest s)) (e ∙ ap (λ (c : Bool). if c then Some (fault.VersionDropped number (newest s)) else None) t))
+    by false t = leb-false (number + 16) (newest s) t
+
+pub live_place : (p : Project) (s : ProjectState) (number : ℕ) → KeepsProject p s → number ≤ p.newest → p.newest < number + 16 → p.newest < number + length p.live.items
+live_place p s number k made live =
+    let n = k.newest in
+    let count = ap length k.live in
+    let all = live_length s.versions in
+    omega (arith, n, count, all, made, live)

@@ -18,10 +18,12 @@ use Rattle.book_history.specs.Versions.{VersionState}
 use Rattle.book_history.specs.Projects.{ProjectState}
 use Rattle.book_history.specs.History.{state_of, live_of, left_in, left_all, project_numbers}
 use Rattle.book_history.specs.Requests.{order_at, orders_in, orders_from, orders_of, all_orders, order_for, body_of}
+use Rattle.book_history.specs.Weights.{told}
 use Rattle.book_history.proofs.Live.{live_length}
 use Rattle.federation_book.specs.declared.project.Project.{Project}
-use Rattle.federation_book.specs.Kept.{KeepsProject}
+use Rattle.federation_book.specs.Kept.{KeepsProject, KeepStates}
 use Rattle.federation_book.proofs.Accepting.{sum_same}
+use Rattle.federation_book.proofs.Keeping.{kept_at}
 
 -- one more version at the end comes first
 pub orders_snoc : (p n : ℕ) (vs : List VersionState) (v : VersionState) → orders_from p n (vs ++ v ∷ []) ≡ orders_in p (n + length vs) v ++ orders_from p n vs
@@ -140,6 +142,15 @@ pub numbers_more : (projects i : ℕ) → i < projects → drop i (project_numbe
 numbers_more projects i lt =
     let all = numbers_length projects in
     drop_more (project_numbers projects) i 0 (omega (arith, all, lt)) ∙ ap (λ n. n ∷ drop (i + 1) (project_numbers projects)) (number_at projects i 0 lt)
+
+-- a project that is kept, by its place
+pub kept_here : (ps : List Project) (h : List Entry) (i : ℕ) (p : Project) → KeepStates 1 ps h → i < length ps → p ≡ get_or ps i p → KeepsProject p (state_of (i + 1) h)
+kept_here ps h i p kept lt is =
+    let place : 1 + i ≡ i + 1 = omega arith in
+    subst (λ n. KeepsProject p (state_of n h)) place (subst (λ q. KeepsProject q (state_of (1 + i) h)) (sym is) (kept_at 1 ps h i p kept lt))
+
+pub below_told : (a x : ℕ) → a < told x → a < x
+below_told a x lt = omega (arith, lt)
 
 -- a project's orders, by what is kept of it
 pub orders_kept : (p : Project) (n : ℕ) (s : ProjectState) → KeepsProject p s → orders_from n (p.newest + 1 - length p.live.items) p.live.items ≡ orders_of n s
