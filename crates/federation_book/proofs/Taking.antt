@@ -149,6 +149,11 @@ kept_here ps h i p kept lt is =
     let place : 1 + i ≡ i + 1 = omega arith in
     subst (λ n. KeepsProject p (state_of n h)) place (subst (λ q. KeepsProject q (state_of (1 + i) h)) (sym is) (kept_at 1 ps h i p kept lt))
 
+pub kept_numbered : (ps : List Project) (h : List Entry) (n : ℕ) (p : Project) → KeepStates 1 ps h → 1 ≤ n → n ≤ length ps → p ≡ get_or ps (n - 1) p → KeepsProject p (state_of n h)
+kept_numbered ps h n p kept low high is =
+    let place : n - 1 + 1 ≡ n = omega (arith, low) in
+    subst (λ m. KeepsProject p (state_of m h)) place (kept_here ps h (n - 1) p kept (omega (arith, low, high)) is)
+
 pub below_told : (a x : ℕ) → a < told x → a < x
 below_told a x lt = omega (arith, lt)
 

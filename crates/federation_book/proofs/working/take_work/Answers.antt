@@ -28,15 +28,15 @@ loop-index-init c =
       there = λ d. ap (λ n. get_or (all_orders projects h) (c.args.seat % n) d) (sym c.left_all-total.ensures);
     }
 
-here : (c : goal.After-index-project) → KeepsProject c.index-project.result.now (state_of (c.loop-index.index + 1) c.args.state.now.entries.items)
-here c =
+pub order_in-requires-clause-few : goal.order_in-requires-clause-few
+order_in-requires-clause-few c =
+    let h = c.args.state.now.entries.items in
+    let i = c.loop-index.index in
     let all = c.args.state.now.projects.ok.0 in
     let end = c.len-index-end.ensures in
     let test = c.loop-index-test.true in
-    kept_here c.args.state.now.projects.items c.args.state.now.entries.items c.loop-index.index c.index-project.result.now c.requires.states (omega (arith, all, end, test)) c.index-project.ensures
-
-pub order_in-requires-clause-few : goal.order_in-requires-clause-few
-order_in-requires-clause-few c = few_kept c.index-project.result.now (state_of (c.loop-index.index + 1) c.args.state.now.entries.items) (here (goal.at.order_in-requires c).After-index-project)
+    few_kept c.index-project.result.now (state_of (i + 1) h)
+    (kept_here c.args.state.now.projects.items h i c.index-project.result.now c.requires.states (omega (arith, all, end, test)) c.index-project.ensures)
 
 pub order_in-requires-clause-place : goal.order_in-requires-clause-place
 order_in-requires-clause-place c =
