@@ -17,7 +17,7 @@ use Rattle.book_history.specs.declared.faults.BookFault.TheVariants as fault
 use Rattle.book_history.specs.declared.replies.ReplyBody.TheVariants as reply
 use Rattle.book_history.specs.Buckets.{buckets_of, is_among}
 use Rattle.book_history.specs.Versions.{VersionState, nothing, version_at, with_done, is_done, live_in}
-use Rattle.book_history.specs.Projects.{ProjectState, with_bucket, with_change}
+use Rattle.book_history.specs.Projects.{ProjectState, newest, with_bucket}
 use Rattle.book_history.specs.History.{state_of, live_of, left_in, left_all, project_numbers}
 use Rattle.book_history.specs.Refusals.{first_of, dropped, done_before, left_if, left_after}
 use Rattle.book_history.specs.Requests.{Accepted, refused_or, finished, body_of}
@@ -142,3 +142,6 @@ module _ (j : List Entry) (set : SetValue) where
   finish_taken e d =
       ap (λ o. refused_or (first_of (o ∷ done_before v set.work.cell ∷ [])) (Accepted set.work.project (BucketDone set.work.version set.work.cell))) (sym e)
       ∙ ap (λ (b : Bool). refused_or (first_of ((if b then Some fault.AlreadyDone else None) ∷ [])) (Accepted set.work.project (BucketDone set.work.version set.work.cell))) (sym d)
+
+pub made_is : (p : Project) (s : ProjectState) (number : ℕ) → KeepsProject p s → number ≤ newest s → number ≤ p.newest
+made_is p s number k le = let n = k.newest in omega (arith, n, le)
