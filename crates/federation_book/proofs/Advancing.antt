@@ -77,3 +77,7 @@ pub two_none : (a b : Option BookFault) (rest : List (Option BookFault)) → fir
 two_none None None rest e = refl
 two_none None (Some g) rest e = cc
 two_none (Some g) b rest e = cc
+
+-- .. and its number
+pub newest_is : (p : Project) (s : ProjectState) → KeepsProject p s → p.newest ≡ newest s
+newest_is p s k = let n = k.newest in omega (arith, n)
