@@ -9,3 +9,6 @@ pub mod Sizes
 pub mod Reading
 pub mod Advancing
 pub mod Starting
+pub mod Answering
+pub mod Finishing
+pub mod Acting

@@ -2,6 +2,8 @@
 ghost use Rattle.std.specs.Prelude.{IfOk, OnOk};
 ghost use Rattle.book_history.specs.History.{IsBefore};
 ghost use Rattle.book_history.specs.Legal.{IsGiven};
+ghost use Rattle.book_history.specs.Settings.{IsWithinStated};
+ghost use Rattle.federation_book.specs.AnyTime.{IsFree};
 
 use crate::book::Book;
 use crate::desk::{are_clashes, ask, bring, is_changed, is_finished, is_refused, take, work};
@@ -140,19 +142,10 @@ fn across<L: Ledger>(rt: &impl Abort, alloc: Global, steps: &mut Steps<L>) -> Re
     let _rules = ask(&mut book, 1, to_set_rules(alloc, 50)?)?;
     let body = ask(&mut book, 2, to_upload(alloc, "m", two_pipes(alloc)?)?)?;
     is_changed(rt, &body, (2, 2, 2, 4))?;
-    let cells = [
-        Cell { x: 0, y: 0, z: 0 },
-        Cell { x: 0, y: 1, z: 0 },
-        Cell { x: 1, y: 0, z: 0 },
-        Cell { x: 1, y: 1, z: 0 },
-    ];
-    let mut turn = 3;
-    let mut left = 4;
-    for cell in cells {
-        left -= 1;
-        work(rt, alloc, &mut book, turn, steps, 2, cell, left)?;
-        turn += 2;
-    }
+    work(rt, alloc, &mut book, 3, steps, 2, Cell { x: 0, y: 0, z: 0 }, 3)?;
+    work(rt, alloc, &mut book, 5, steps, 2, Cell { x: 0, y: 1, z: 0 }, 2)?;
+    work(rt, alloc, &mut book, 7, steps, 2, Cell { x: 1, y: 0, z: 0 }, 1)?;
+    work(rt, alloc, &mut book, 9, steps, 2, Cell { x: 1, y: 1, z: 0 }, 0)?;
     let body = ask(&mut book, 11, to_read(Wanted::Newest))?;
     are_clashes(rt, &body, 2, &[PAIR])
 }
@@ -184,7 +177,11 @@ fn second(
     first: BookRequest,
     request: BookRequest,
     fault: BookFault,
-) -> Result<(), Fail> {
+) -> Result<(), Fail>
+    requires limits { IsWithinStated limits }
+    requires first { IsFree first }
+    requires second { IsFree request }
+{
     let mut book = Book::new(alloc, 1, limits)?;
     let _first = ask(&mut book, 1, first)?;
     let body = ask(&mut book, 2, request)?;

@@ -2,6 +2,7 @@
 ghost use Rattle.std.specs.Prelude.{◌≡◌, ◌+◌, ◌<◌, ◌^◌, OnOk, IfOk};
 ghost use Rattle.book_history.specs.History.{IsBefore};
 ghost use Rattle.book_history.specs.Legal.{IsLegal, IsGiven};
+ghost use Rattle.federation_book.specs.AnyTime.{GivenStays};
 
 use crate::book::Book;
 use bim_model::{Shared, Steps};
@@ -17,14 +18,20 @@ use std::test::Fail;
 pub fn ask(book: &mut Book, turn: u64, request: BookRequest) -> Result<ReplyBody, AllocError>
     requires before { IsBefore turn book.old.journal }
     requires legal { IsLegal book.old.settings book.old.journal request }
-    ensures { OnOk result (IsBefore (turn + 1) book.new.journal) }
+    ensures before { OnOk result (IsBefore (turn + 1) book.new.journal) }
+    ensures stays { OnOk result (GivenStays book.old book.new) }
 {
-    let stamp = Stamp {
+    Ok(book.act(stamp(turn), request)?.body)
+}
+
+fn stamp(turn: u64) -> Stamp
+    ensures { result.turn ≡ turn }
+{
+    Stamp {
         turn,
         pass: 0,
         call: turn,
-    };
-    Ok(book.act(stamp, request)?.body)
+    }
 }
 
 /// Has a bucket given out: one of this version and cell.
@@ -38,10 +45,10 @@ pub fn take(
 ) -> Result<BucketWork, Fail>
     requires { IsBefore turn book.old.journal }
     ensures before { OnOk result (IsBefore (turn + 1) book.new.journal) }
-    ensures settings { book.new.settings ≡ book.old.settings }
     ensures given { IfOk result (IsGiven book.new.settings book.new.journal) }
+    ensures stays { OnOk result (GivenStays book.old book.new) }
 {
-    let body = ask(book, turn, BookRequest::TakeWork { seat })?;
+    let body = book.act(stamp(turn), BookRequest::TakeWork { seat })?.body;
     let ReplyBody::Work(order) = body else {
         return Err(Fail::from("no work"));
     };
@@ -61,7 +68,8 @@ pub fn bring<L: Ledger>(
 ) -> Result<ReplyBody, Fail>
     requires before { IsBefore turn book.old.journal }
     requires given { IsGiven book.old.settings book.old.journal work }
-    ensures { OnOk result (IsBefore (turn + 1) book.new.journal) }
+    ensures before { OnOk result (IsBefore (turn + 1) book.new.journal) }
+    ensures stays { OnOk result (GivenStays book.old book.new) }
 {
     let set = check(alloc, work, &mut Room::new(alloc), steps)?;
     let set = Shared::new(alloc, set)?;

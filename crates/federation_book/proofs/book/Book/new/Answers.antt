@@ -8,3 +8,9 @@ loop-number-preserved c = record {
   kept = kept_more c.loop-number.kept.items c.push.new.self.items _ c.loop-number.invariant.kept c.in_ok-project.ensures c.in_ok-push.ensures.items;
   count = grind (arith, common_steps, c.in_ok-push.ensures.items);
 }
+
+pub invariant_of-result : goal.invariant_of-result
+invariant_of-result c = ?
+
+pub returns : goal.returns
+returns c = ?
