@@ -13,3 +13,4 @@ pub mod Answering
 pub mod Finishing
 pub mod Acting
 pub mod Outcomes
+pub mod Changing
