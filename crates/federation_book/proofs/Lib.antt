@@ -12,3 +12,5 @@ pub mod Starting
 pub mod Answering
 pub mod Finishing
 pub mod Acting
+pub mod Outcomes
+pub mod Changing
