@@ -2,11 +2,12 @@
 ghost use Rattle.std.specs.Prelude.{◌≡◌, ◌+◌, ◌<◌, ◌^◌, OnOk, IfOk};
 ghost use Rattle.book_history.specs.History.{IsBefore};
 ghost use Rattle.book_history.specs.Legal.{IsLegal, IsGiven};
-ghost use Rattle.federation_book.specs.AnyTime.{GivenStays};
+ghost use Rattle.federation_book.specs.AnyTime.{IsFree, GivenStays};
 
 use crate::book::Book;
+use crate::samples::to_read;
 use bim_model::{Shared, Steps};
-use book_history::{BookFault, BookRequest, ReplyBody, Stamp};
+use book_history::{BookFault, BookRequest, ReplyBody, Stamp, Wanted};
 use bucket_check::{BucketWork, Room, SetPair, check};
 use bucket_grid::Cell;
 use std::alloc::{AllocError, Global};
@@ -32,6 +33,54 @@ fn stamp(turn: u64) -> Stamp
         pass: 0,
         call: turn,
     }
+}
+
+/// Asks for a change at a turn, and a version is made.
+pub fn change(
+    rt: &impl Abort,
+    book: &mut Book,
+    turn: u64,
+    request: BookRequest,
+    wanted: (u64, u64, u64, u64),
+) -> Result<(), Fail>
+    requires before { IsBefore turn book.old.journal }
+    requires free { IsFree request }
+    ensures { OnOk result (IsBefore (turn + 1) book.new.journal) }
+{
+    let body = ask(book, turn, request)?;
+    is_changed(rt, &body, wanted)
+}
+
+/// Asks at a turn, and it is refused for this.
+pub fn refuse(
+    rt: &impl Abort,
+    book: &mut Book,
+    turn: u64,
+    request: BookRequest,
+    wanted: BookFault,
+) -> Result<(), Fail>
+    requires before { IsBefore turn book.old.journal }
+    requires free { IsFree request }
+    ensures { OnOk result (IsBefore (turn + 1) book.new.journal) }
+{
+    let body = ask(book, turn, request)?;
+    is_refused(rt, &body, wanted)
+}
+
+/// Reads the clashes of a version at a turn: it has this number, and these clashes.
+pub fn read(
+    rt: &impl Abort,
+    book: &mut Book,
+    turn: u64,
+    wanted: Wanted,
+    version: u64,
+    pairs: &[SetPair],
+) -> Result<(), Fail>
+    requires { IsBefore turn book.old.journal }
+    ensures { OnOk result (IsBefore (turn + 1) book.new.journal) }
+{
+    let body = ask(book, turn, to_read(wanted))?;
+    are_clashes(rt, &body, version, pairs)
 }
 
 /// Has a bucket given out: one of this version and cell.
@@ -105,8 +154,8 @@ pub fn is_finished(rt: &impl Abort, body: &ReplyBody, wanted: u64) -> Result<(),
     Ok(())
 }
 
-/// A version was made.
-pub fn is_changed(
+// A version was made.
+fn is_changed(
     rt: &impl Abort,
     body: &ReplyBody,
     wanted: (u64, u64, u64, u64),
@@ -123,8 +172,8 @@ pub fn is_changed(
     Ok(())
 }
 
-/// The clashes of a version are these.
-pub fn are_clashes(
+// The clashes of a version are these.
+fn are_clashes(
     rt: &impl Abort,
     body: &ReplyBody,
     wanted: u64,
