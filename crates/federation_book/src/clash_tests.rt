@@ -190,100 +190,75 @@ fn second(
     Ok(())
 }
 
+// One pipe is put in its place by name.
+fn one(alloc: Global, name: &str) -> Result<BookRequest, Fail>
+    ensures { IfOk result IsFree }
+{
+    Ok(to_upload(alloc, name, one_pipe(alloc)?)?)
+}
+
+// Two models of one triangle and of 84 bytes of texts, and rules and a topic.
+fn too_much_is_stored(rt: &impl Abort, alloc: Global) -> Result<(), Fail> {
+    let mut limits = Limits::stated();
+    limits.triangles = 1;
+    let fault = BookFault::StoreFull {
+        what: StoreWhat::Triangles,
+        count: 2,
+        limit: 1,
+    };
+    second(rt, alloc, limits, one(alloc, "m")?, one(alloc, "m")?, fault)?;
+    let mut limits = Limits::stated();
+    limits.text = 167;
+    let fault = BookFault::StoreFull {
+        what: StoreWhat::Text,
+        count: 168,
+        limit: 167,
+    };
+    second(rt, alloc, limits, one(alloc, "m")?, one(alloc, "m")?, fault)?;
+    let mut limits = Limits::stated();
+    limits.text = 61;
+    let fault = BookFault::StoreFull {
+        what: StoreWhat::Text,
+        count: 62,
+        limit: 61,
+    };
+    let rules = to_set_rules(alloc, 50)?;
+    second(rt, alloc, limits, rules, to_post(alloc, id_of(1, 0), "Pipe")?, fault)
+}
+
+// Two entries, and one with two buckets that are to be checked.
+fn too_many_entries(rt: &impl Abort, alloc: Global) -> Result<(), Fail> {
+    let mut limits = Limits::stated();
+    limits.journal = 1;
+    let fault = BookFault::JournalFull { count: 2, limit: 1 };
+    let rules = to_set_rules(alloc, 50)?;
+    second(rt, alloc, limits, rules, to_set_rules(alloc, 50)?, fault)?;
+    let mut limits = Limits::stated();
+    limits.journal = 3;
+    let fault = BookFault::JournalFull { count: 4, limit: 3 };
+    let pipes = to_upload(alloc, "m", four_pipes(alloc, 1700)?)?;
+    second(rt, alloc, limits, to_set_rules(alloc, 50)?, pipes, fault)
+}
+
+// Four elements, and their four memberships.
+fn too_large_a_version(rt: &impl Abort, alloc: Global) -> Result<(), Fail> {
+    let mut limits = Limits::stated();
+    limits.elements = 1;
+    let fault = BookFault::ElementsFull { count: 4, limit: 1 };
+    let pipes = to_upload(alloc, "m", four_pipes(alloc, 1700)?)?;
+    second(rt, alloc, limits, to_set_rules(alloc, 50)?, pipes, fault)?;
+    let mut limits = Limits::stated();
+    limits.memberships = 3;
+    let fault = BookFault::TooSpread { count: 4, limit: 3 };
+    let pipes = to_upload(alloc, "m", four_pipes(alloc, 1700)?)?;
+    second(rt, alloc, limits, to_set_rules(alloc, 50)?, pipes, fault)
+}
+
 #[test]
 fn refuses_what_is_too_much(rt: HostRuntime) -> Result<(), Fail> {
-    let alloc = rt.alloc();
-    let stated = Limits::stated();
-    let one = |name: &str| -> Result<BookRequest, Fail> {
-        Ok(to_upload(alloc, name, one_pipe(alloc)?)?)
-    };
-    second(
-        &rt,
-        alloc,
-        Limits {
-            triangles: 1,
-            ..stated
-        },
-        one("m")?,
-        one("m")?,
-        BookFault::StoreFull {
-            what: StoreWhat::Triangles,
-            count: 2,
-            limit: 1,
-        },
-    )?;
-    second(
-        &rt,
-        alloc,
-        Limits {
-            text: 167,
-            ..stated
-        },
-        one("m")?,
-        one("m")?,
-        BookFault::StoreFull {
-            what: StoreWhat::Text,
-            count: 168,
-            limit: 167,
-        },
-    )?;
-    second(
-        &rt,
-        alloc,
-        Limits { text: 61, ..stated },
-        to_set_rules(alloc, 50)?,
-        to_post(alloc, id_of(1, 0), "Pipe")?,
-        BookFault::StoreFull {
-            what: StoreWhat::Text,
-            count: 62,
-            limit: 61,
-        },
-    )?;
-    second(
-        &rt,
-        alloc,
-        Limits {
-            journal: 1,
-            ..stated
-        },
-        to_set_rules(alloc, 50)?,
-        to_set_rules(alloc, 50)?,
-        BookFault::JournalFull { count: 2, limit: 1 },
-    )?;
-    second(
-        &rt,
-        alloc,
-        Limits {
-            journal: 3,
-            ..stated
-        },
-        to_set_rules(alloc, 50)?,
-        to_upload(alloc, "m", four_pipes(alloc, 1700)?)?,
-        BookFault::JournalFull { count: 4, limit: 3 },
-    )?;
-    second(
-        &rt,
-        alloc,
-        Limits {
-            elements: 1,
-            ..stated
-        },
-        to_set_rules(alloc, 50)?,
-        to_upload(alloc, "m", four_pipes(alloc, 1700)?)?,
-        BookFault::ElementsFull { count: 4, limit: 1 },
-    )?;
-    second(
-        &rt,
-        alloc,
-        Limits {
-            memberships: 3,
-            ..stated
-        },
-        to_set_rules(alloc, 50)?,
-        to_upload(alloc, "m", four_pipes(alloc, 1700)?)?,
-        BookFault::TooSpread { count: 4, limit: 3 },
-    )?;
-    Ok(())
+    too_much_is_stored(&rt, rt.alloc())?;
+    too_many_entries(&rt, rt.alloc())?;
+    too_large_a_version(&rt, rt.alloc())
 }
 
 // Ten thousand times work is given out, and none of it is done.
