@@ -1,5 +1,7 @@
 -- Models that are uploaded or removed, and rules that are set.
-use Rattle.std.proofs.Common.{◌≡◌, ℕ, List, [], ◌∷◌, ◌++◌, Option, Some, None, length, refl, sym, ◌∙◌, ap, ap₂, subst}
+use Rattle.std.proofs.Common.{◌≡◌, ℕ, List, [], ◌∷◌, ◌++◌, Option, Some, None, Bool, true, false, if◌then◌else◌, length, refl, sym, ◌∙◌, ap, ap₂, subst}
+use Rattle.std.specs.List.{list_any}
+use Rattle.std.specs.Str.{bytes_eq}
 use Rattle.bim_model.specs.declared.element.Element.{Element}
 use Rattle.bim_model.specs.declared.named_model.NamedModel.{NamedModel}
 use Rattle.bim_model.specs.declared.rules.Rule.{Rule}
@@ -11,10 +13,11 @@ use Rattle.book_history.specs.declared.changes.Change.{Change}
 use Rattle.book_history.specs.declared.changes.Change.TheVariants.{Upload, Remove, SetRules}
 use Rattle.book_history.specs.declared.changes.Entry.{Entry}
 use Rattle.book_history.specs.declared.faults.BookFault.{BookFault}
+use Rattle.book_history.specs.declared.faults.BookFault.TheVariants.{NoModel}
 use Rattle.book_history.specs.declared.replies.ReplyBody.{ReplyBody}
 use Rattle.book_history.specs.Projects.{ProjectState, named_model, newest_content, next_content, with_change}
 use Rattle.book_history.specs.History.{state_of}
-use Rattle.book_history.specs.Refusals.{first_of}
+use Rattle.book_history.specs.Refusals.{first_of, no_model}
 use Rattle.book_history.specs.Requests.{Outcome, Accepted, refused_or, unless, in_project, entry_by, entry_of, version_made}
 use Rattle.book_history.specs.Weights.{told, elements_in, triangles_among}
 use Rattle.book_history.proofs.States.{state_own}
@@ -79,3 +82,16 @@ settled_entry j k e fault p none = p ∙ ap (λ f. j ++ unless_refused f e) none
 -- refusals behind one that doesn't hold
 pub behind_none : (a : Option BookFault) (rest : List (Option BookFault)) → a ≡ None → first_of (a ∷ rest) ≡ first_of rest
 behind_none a rest e = ap (λ o. first_of (o ∷ rest)) e
+
+-- ---- whether there is a model of the name
+abbrev no_model_by : Bool → Option BookFault
+no_model_by b = if b then None else Some NoModel
+
+abbrev has : List NamedModel → List ℕ → Bool
+has models name = list_any (λ (m : NamedModel). bytes_eq m.name name) models
+
+pub has_none : (s : ProjectState) (models : List NamedModel) (name text : List ℕ) (b : Bool) → b ≡ has models text → models ≡ (newest_content s).models → text ≡ name → b ≡ false → no_model s name ≡ Some NoModel
+has_none s models name text b e f g none = ap no_model_by (sym (sym none ∙ e ∙ ap₂ has f g))
+
+pub has_one : (s : ProjectState) (models : List NamedModel) (name text : List ℕ) (b : Bool) → b ≡ has models text → models ≡ (newest_content s).models → text ≡ name → b ≡ true → no_model s name ≡ None
+has_one s models name text b e f g one = ap no_model_by (sym (sym one ∙ e ∙ ap₂ has f g))
