@@ -1,15 +1,16 @@
 -- A change that makes a version.
-use Rattle.std.proofs.Common.{◌≡◌, ◌+◌, ◌-◌, ◌<◌, ◌≤◌, ℕ, List, [], ◌∷◌, ◌++◌, length, drop, get_or, Option, Some, None, refl, sym, ◌∙◌, ap, ap₂, subst, arith, length-append, length-drop}
+use Rattle.std.proofs.Common.{◌≡◌, ◌+◌, ◌-◌, ◌<◌, ◌≤◌, ℕ, Bool, true, false, is_some, true≢false, List, [], ◌∷◌, ◌++◌, length, drop, get_or, Option, Some, None, refl, sym, ◌∙◌, ap, ap₂, subst, arith, length-append, length-drop}
 use Rattle.std.proofs.lemmas.List.{drop-append-le, get_or_default}
 use Rattle.bim_model.specs.Snapshots.{Version}
 use Rattle.book_history.specs.declared.changes.Change.{Change}
 use Rattle.book_history.specs.declared.changes.Change.TheVariants.{PostTopic, Upload, Remove, SetRules, BucketDone}
 use Rattle.book_history.specs.declared.changes.Entry.{Entry}
 use Rattle.book_history.specs.declared.faults.BookFault.{BookFault}
+use Rattle.book_history.specs.declared.limits.Limits.{Limits}
 use Rattle.book_history.specs.Versions.{VersionState, nothing, version_at, newest_in, live_in, made_after}
 use Rattle.book_history.specs.Projects.{ProjectState, newest, newest_content, next_content, with_change, with_version, with_next}
 use Rattle.book_history.specs.History.{state_of, left_in}
-use Rattle.book_history.specs.Refusals.{first_of}
+use Rattle.book_history.specs.Refusals.{first_of, elements_full, too_spread}
 use Rattle.book_history.specs.Weights.{told}
 use Rattle.book_history.proofs.Live.{gone, live_push, live_at, live_length, few_live}
 use Rattle.book_history.proofs.States.{Within, within}
@@ -77,3 +78,36 @@ pub two_none : (a b : Option BookFault) (rest : List (Option BookFault)) → fir
 two_none None None rest e = refl
 two_none None (Some g) rest e = cc
 two_none (Some g) b rest e = cc
+
+-- .. and its number
+pub newest_is : (p : Project) (s : ProjectState) → KeepsProject p s → p.newest ≡ newest s
+newest_is p s k = let n = k.newest in omega (arith, n)
+
+-- the project after the change, whose newest version is this one
+module _ (p : Project) (s : ProjectState) (change : Change) (before v : VersionState) (content : Version) (k : KeepsProject p s) (some : 0 < length s.versions)
+    (last : (d : VersionState) → before ≡ get_or p.live.items (length p.live.items - 1) d) (made : v ≡ made_after before content) (next : next_content (newest_content s) change ≡ Some content) where
+  newer : v ≡ made_after (version_at s.versions (newest s)) content
+  newer = made ∙ ap (λ (b : VersionState). made_after b content) (last_is p s before k some last)
+
+  live_some : 0 < length p.live.items
+  live_some =
+      let count = ap length k.live in
+      let all = live_length s.versions in
+      omega (arith, some, count, all)
+
+  pub left_then : (old new : ℕ) → old ≡ length v.undone → new ≡ told (left_in (drop (length p.live.items + 1 - 16) p.live.items) + old) → new ≡ told (left_in (live_in (with_change s change).versions))
+  left_then old new is e =
+      e ∙ ap (λ n. told (left_in (drop (length p.live.items + 1 - 16) p.live.items) + n)) is
+      ∙ ap told (left_next p s v content k newer live_some ∙ ap (λ (t : ProjectState). left_in (live_in t.versions)) (sym (advances s change content next)))
+
+  pub keeps_then : (q r : Project) → KeepsProject q s → r.live.items ≡ live_in (q.live.items ++ v ∷ []) → r.newest ≡ q.newest + 1 → r.topics ≡ q.topics → r.made ≡ q.made → KeepsProject r (with_change s change)
+  keeps_then q r l live number topics same = subst (KeepsProject r) (sym (advances s change content next)) (keeps_next q r s v content l live number topics same newer)
+
+  pub full_then : (limits : Limits) (rest : List (Option BookFault)) (r : Option BookFault) → first_of (elements_full limits (Some content) ∷ too_spread limits (Some content) ∷ []) ≡ None → r ≡ first_of rest
+      → r ≡ first_of (elements_full limits (next_content (newest_content s) change) ∷ too_spread limits (next_content (newest_content s) change) ∷ rest)
+  full_then limits rest r none is =
+      is ∙ sym (ap (λ o. first_of (elements_full limits o ∷ too_spread limits o ∷ rest)) next ∙ two_none (elements_full limits (Some content)) (too_spread limits (Some content)) rest none)
+
+pub not_some : (o : Option BookFault) (b : Bool) → b ≡ is_some o → b ≡ false → o ≡ None
+not_some None b e f = refl
+not_some (Some x) b e f = absurd (true≢false (sym e ∙ f))

@@ -165,12 +165,8 @@ pub done_is : (g : GridValue) → HasParts g → (slots : List Slot) → IsOf g 
 done_is g h slots is content same c r tells =
     subst (λ v. r ≡ is_done (kept_as v (undone_cells slots)) c) same
     (same_bool r (is_done (kept_as g.version (undone_cells slots)) c)
-    (λ e. let d = tells.0 (subst IsTrue (sym e) tt) in then_done g h slots is c (bucket_from g h slots is c (d.0, d.1, d.2, d.3, d.4.0)) d)
-    (λ e. truth r (tells.1 (done_then g h slots is c e).1)))
-  where
-    truth : (b : Bool) → IsTrue b → b ≡ true
-    truth true t = refl
-    truth false t = absurd t
+    (λ e. let d = tells.0 e in then_done g h slots is c (bucket_from g h slots is c (d.0, d.1, d.2, d.3, d.4.0)) d)
+    (λ e. tells.1 (done_then g h slots is c e).1))
 
 -- the version that is made
 pub made_is : (before after : GridValue) → HasParts before → HasParts after → (done made : List Slot) → IsOf before done → IsOf after made

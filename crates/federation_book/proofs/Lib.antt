@@ -9,3 +9,8 @@ pub mod Sizes
 pub mod Reading
 pub mod Advancing
 pub mod Starting
+pub mod Answering
+pub mod Finishing
+pub mod Acting
+pub mod Outcomes
+pub mod Changing

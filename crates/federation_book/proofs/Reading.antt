@@ -1,7 +1,8 @@
 -- Versions of a kept project, by their numbers.
 use Rattle.std.proofs.Common.{◌≡◌, ◌+◌, ◌-◌, ◌<◌, ◌≤◌, ◌^◌, nat_lt, leb, ℕ, Bool, true, false, if◌then◌else◌, List, [], ◌∷◌, length, get_or, set, Option, Some, None, refl, sym, ◌∙◌, ap, subst, arith}
+use Rattle.std.proofs.lemmas.Bool.{leb-false}
 use Rattle.std.proofs.lemmas.Bool.Decides.{nat_tests}
-use Rattle.std.proofs.lemmas.List.{get_or_default}
+use Rattle.std.proofs.lemmas.List.{get_or_default, set-get_or}
 use Rattle.book_history.specs.declared.faults.BookFault.{BookFault}
 use Rattle.book_history.specs.declared.faults.BookFault.TheVariants as fault
 use Rattle.book_history.specs.declared.changes.Entry.{Entry}
@@ -113,3 +114,43 @@ some_live p n j k =
     let count = ap length k.live in
     let all = live_length (state_of n j).versions in
     omega (arith, w, count, all)
+
+-- one that isn't dropped is live, and has a place
+pub not_dropped : (p : Project) (s : ProjectState) (number : ℕ) → KeepsProject p s → None ≡ dropped s number → p.newest < number + 16
+not_dropped p s number k e = subst (λ n. n < number + 16) (newest_is p s k) (by (leb (number + 16) (newest s)) refl)
+  where
+    none_some : (f : BookFault) → None ≡ Some f → ⊥
+    none_some f q = cc
+
+    by : (b : Bool) → leb (number + 16) (newest s) ≡ b → newest s < number + 16
+    by true t = absurd (none_some (fault.VersionDropped number (newest s)) (e ∙ ap (λ (c : Bool). if c then Some (fault.VersionDropped number (newest s)) else None) t))
+    by false t = leb-false (number + 16) (newest s) t
+
+pub live_place : (p : Project) (s : ProjectState) (number : ℕ) → KeepsProject p s → number ≤ p.newest → p.newest < number + 16 → p.newest < number + length p.live.items
+live_place p s number k made live =
+    let n = k.newest in
+    let count = ap length k.live in
+    let all = live_length s.versions in
+    omega (arith, n, count, all, made, live)
+
+-- a project of which a version was only asked
+pub keeps_same : (p q : Project) (s : ProjectState) (place : ℕ) (v : VersionState) → KeepsProject p s → q.topics ≡ p.topics → q.made ≡ p.made → q.newest ≡ p.newest
+    → q.live.items ≡ set p.live.items place v → v ≡ get_or p.live.items place v → KeepsProject q s
+keeps_same p q s place v k topics made newest live is =
+    let n = k.newest in
+    record {
+      topics = topics ∙ k.topics;
+      made = made ∙ k.made;
+      newest = omega (arith, n, newest);
+      live = live ∙ ap (λ x. set p.live.items place x) is ∙ set-get_or p.live.items place v ∙ k.live;
+    }
+
+-- the place by what another copy of the project keeps
+pub placed_there : (p q : Project) (s : ProjectState) (number place : ℕ) → KeepsProject p s → KeepsProject q s → number ≤ p.newest → p.newest < number + 16
+    → place + p.newest + 1 ≡ number + length p.live.items → IsPlaced q s number place
+placed_there p q s number place k l made live at =
+    let n = k.newest in
+    let m = l.newest in
+    let count = ap length k.live in
+    let other = ap length l.live in
+    placed q s number place l (omega (arith, n, m, made)) (omega (arith, n, m, live)) (omega (arith, n, m, count, other, at))

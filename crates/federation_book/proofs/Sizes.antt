@@ -88,3 +88,11 @@ second_is a b r e f = ap (λ o. first_of (o ∷ b ∷ [])) e ∙ ap (λ o. first
     alone : (o : Option BookFault) → first_of (o ∷ []) ≡ o
     alone None = refl
     alone (Some f) = refl
+
+-- .. or of three, where the first two aren't
+pub third_is : (a b c r : Option BookFault) → a ≡ None → b ≡ None → r ≡ c → r ≡ first_of (a ∷ b ∷ c ∷ [])
+third_is a b c r e f is = is ∙ alone c ∙ ap₂ (λ o p. first_of (o ∷ p ∷ c ∷ [])) (sym e) (sym f)
+  where
+    alone : (o : Option BookFault) → o ≡ first_of (o ∷ [])
+    alone None = refl
+    alone (Some f) = refl

@@ -24,7 +24,7 @@ any_tail : {A : Type 0} (P : A → Type 0) (x : A) (xs : List A) → Any P xs �
 any_tail P x xs h = (suc h.0, h.1, omega (arith, h.2), h.3, h.4)
 
 any_split : {A : Type 0} (P : A → Type 0) (x : A) (xs : List A) → Any P (x ∷ xs) → P x ⊎ Any P xs
-any_split P x xs h = by h.0 h.1 h.2 h.3 h.4
+any_split {A = A} P x xs h = by h.0 h.1 h.2 h.3 h.4
   where
     by : (k : ℕ) (y : A) → k < length (x ∷ xs) → get_or (x ∷ xs) k y ≡ y → P y → P x ⊎ Any P xs
     by zero y lt e p = inl (subst P (sym e) p)

@@ -15,7 +15,10 @@ use Rattle.federation_book.proofs.Accepting.{sum_same}
 
 no_sum : (xs : List ℕ) → sum_by (λ n. 0) xs ≡ 0
 no_sum [] = refl
-no_sum (x ∷ xs) = sum_by-cons (λ n. 0) x xs ∙ no_sum xs
+no_sum (x ∷ xs) =
+    let a = sum_by-cons (λ n. 0) x xs in
+    let b = no_sum xs in
+    omega (arith, a, b)
 
 -- nothing is to be checked
 pub left_none : (projects : ℕ) → left_all projects [] ≡ 0

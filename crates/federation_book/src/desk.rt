@@ -2,10 +2,12 @@
 ghost use Rattle.std.specs.Prelude.{◌≡◌, ◌+◌, ◌<◌, ◌^◌, OnOk, IfOk};
 ghost use Rattle.book_history.specs.History.{IsBefore};
 ghost use Rattle.book_history.specs.Legal.{IsLegal, IsGiven};
+ghost use Rattle.federation_book.specs.AnyTime.{IsFree, GivenStays};
 
 use crate::book::Book;
+use crate::samples::to_read;
 use bim_model::{Shared, Steps};
-use book_history::{BookFault, BookRequest, ReplyBody, Stamp};
+use book_history::{BookFault, BookRequest, ReplyBody, Stamp, Wanted};
 use bucket_check::{BucketWork, Room, SetPair, check};
 use bucket_grid::Cell;
 use std::alloc::{AllocError, Global};
@@ -17,14 +19,68 @@ use std::test::Fail;
 pub fn ask(book: &mut Book, turn: u64, request: BookRequest) -> Result<ReplyBody, AllocError>
     requires before { IsBefore turn book.old.journal }
     requires legal { IsLegal book.old.settings book.old.journal request }
-    ensures { OnOk result (IsBefore (turn + 1) book.new.journal) }
+    ensures before { OnOk result (IsBefore (turn + 1) book.new.journal) }
+    ensures stays { OnOk result (GivenStays book.old book.new) }
 {
-    let stamp = Stamp {
+    Ok(book.act(stamp(turn), request)?.body)
+}
+
+fn stamp(turn: u64) -> Stamp
+    ensures { result.turn ≡ turn }
+{
+    Stamp {
         turn,
         pass: 0,
         call: turn,
-    };
-    Ok(book.act(stamp, request)?.body)
+    }
+}
+
+/// Asks for a change at a turn, and a version is made.
+pub fn change(
+    rt: &impl Abort,
+    book: &mut Book,
+    turn: u64,
+    request: BookRequest,
+    wanted: (u64, u64, u64, u64),
+) -> Result<(), Fail>
+    requires before { IsBefore turn book.old.journal }
+    requires free { IsFree request }
+    ensures { OnOk result (IsBefore (turn + 1) book.new.journal) }
+{
+    let body = ask(book, turn, request)?;
+    is_changed(rt, &body, wanted)
+}
+
+/// Asks at a turn, and it is refused for this.
+pub fn refuse(
+    rt: &impl Abort,
+    book: &mut Book,
+    turn: u64,
+    request: BookRequest,
+    wanted: BookFault,
+) -> Result<(), Fail>
+    requires before { IsBefore turn book.old.journal }
+    requires free { IsFree request }
+    ensures { OnOk result (IsBefore (turn + 1) book.new.journal) }
+{
+    let body = ask(book, turn, request)?;
+    is_refused(rt, &body, wanted)
+}
+
+/// Reads the clashes of a version at a turn: it has this number, and these clashes.
+pub fn read(
+    rt: &impl Abort,
+    book: &mut Book,
+    turn: u64,
+    wanted: Wanted,
+    version: u64,
+    pairs: &[SetPair],
+) -> Result<(), Fail>
+    requires { IsBefore turn book.old.journal }
+    ensures { OnOk result (IsBefore (turn + 1) book.new.journal) }
+{
+    let body = ask(book, turn, to_read(wanted))?;
+    are_clashes(rt, &body, version, pairs)
 }
 
 /// Has a bucket given out: one of this version and cell.
@@ -38,10 +94,10 @@ pub fn take(
 ) -> Result<BucketWork, Fail>
     requires { IsBefore turn book.old.journal }
     ensures before { OnOk result (IsBefore (turn + 1) book.new.journal) }
-    ensures settings { book.new.settings ≡ book.old.settings }
     ensures given { IfOk result (IsGiven book.new.settings book.new.journal) }
+    ensures stays { OnOk result (GivenStays book.old book.new) }
 {
-    let body = ask(book, turn, BookRequest::TakeWork { seat })?;
+    let body = book.act(stamp(turn), BookRequest::TakeWork { seat })?.body;
     let ReplyBody::Work(order) = body else {
         return Err(Fail::from("no work"));
     };
@@ -61,7 +117,8 @@ pub fn bring<L: Ledger>(
 ) -> Result<ReplyBody, Fail>
     requires before { IsBefore turn book.old.journal }
     requires given { IsGiven book.old.settings book.old.journal work }
-    ensures { OnOk result (IsBefore (turn + 1) book.new.journal) }
+    ensures before { OnOk result (IsBefore (turn + 1) book.new.journal) }
+    ensures stays { OnOk result (GivenStays book.old book.new) }
 {
     let set = check(alloc, work, &mut Room::new(alloc), steps)?;
     let set = Shared::new(alloc, set)?;
@@ -97,8 +154,8 @@ pub fn is_finished(rt: &impl Abort, body: &ReplyBody, wanted: u64) -> Result<(),
     Ok(())
 }
 
-/// A version was made.
-pub fn is_changed(
+// A version was made.
+fn is_changed(
     rt: &impl Abort,
     body: &ReplyBody,
     wanted: (u64, u64, u64, u64),
@@ -115,8 +172,8 @@ pub fn is_changed(
     Ok(())
 }
 
-/// The clashes of a version are these.
-pub fn are_clashes(
+// The clashes of a version are these.
+fn are_clashes(
     rt: &impl Abort,
     body: &ReplyBody,
     wanted: u64,

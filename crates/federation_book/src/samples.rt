@@ -1,5 +1,6 @@
 //! Models and requests of the tests.
-ghost use Rattle.std.specs.Prelude.{◌<◌};
+ghost use Rattle.std.specs.Prelude.{◌<◌, IfOk};
+ghost use Rattle.federation_book.specs.AnyTime.{IsFree};
 
 use bim_model::{
     Author, ClassTest, Element, Guid, Items, Model, ModelTest, Moment, PER_MM, Point, Rule,
@@ -114,7 +115,9 @@ pub fn to_upload(
     alloc: Global,
     name: &str,
     model: Shared<Model>,
-) -> Result<BookRequest, AllocError> {
+) -> Result<BookRequest, AllocError>
+    ensures { IfOk result IsFree }
+{
     Ok(BookRequest::Upload {
         project: id_of(1, 0),
         name: Text::of(alloc, name)?,
@@ -123,7 +126,9 @@ pub fn to_upload(
 }
 
 /// The model of a name goes.
-pub fn to_remove(alloc: Global, name: &str) -> Result<BookRequest, AllocError> {
+pub fn to_remove(alloc: Global, name: &str) -> Result<BookRequest, AllocError>
+    ensures { IfOk result IsFree }
+{
     Ok(BookRequest::Remove {
         project: id_of(1, 0),
         name: Text::of(alloc, name)?,
@@ -133,6 +138,7 @@ pub fn to_remove(alloc: Global, name: &str) -> Result<BookRequest, AllocError> {
 /// Any two elements clash within so many millimetres.
 pub fn to_set_rules(alloc: Global, distance: u32) -> Result<BookRequest, AllocError>
     requires { distance < 1000 }
+    ensures { IfOk result IsFree }
 {
     let rule = Rule {
         a: ClassTest::Any,
@@ -152,7 +158,9 @@ pub fn to_set_rules(alloc: Global, distance: u32) -> Result<BookRequest, AllocEr
 }
 
 /// The clashes of a version are read.
-pub fn to_read(version: Wanted) -> BookRequest {
+pub fn to_read(version: Wanted) -> BookRequest
+    ensures { IsFree result }
+{
     BookRequest::ReadClashes {
         project: id_of(1, 0),
         version,
@@ -162,7 +170,9 @@ pub fn to_read(version: Wanted) -> BookRequest {
 }
 
 /// A topic is made.
-pub fn to_post(alloc: Global, project: u128, title: &str) -> Result<BookRequest, AllocError> {
+pub fn to_post(alloc: Global, project: u128, title: &str) -> Result<BookRequest, AllocError>
+    ensures { IfOk result IsFree }
+{
     Ok(BookRequest::PostTopic {
         project,
         body: TopicBody {

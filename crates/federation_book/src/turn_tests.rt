@@ -1,7 +1,6 @@
 //! A book whose calls take turns, by two passes of one thread.
-ghost use Rattle.std.specs.Prelude.{IfSome};
 ghost use Rattle.book_turn.specs.Passes.{IsSingle};
-ghost use Rattle.book_history.specs.Legal.{IsLegal};
+ghost use Rattle.federation_book.specs.AnyTime.{IsFree};
 
 use crate::book::Book;
 use crate::samples::to_post;
@@ -23,7 +22,7 @@ fn ask<R: Wait>(
     request: BookRequest,
 ) -> Option<(u64, ReplyBody)>
     requires single { IsSingle turn.now pass.old }
-    requires legal { IfSome pass.old.settings (λ s. IsLegal s pass.old.seen request) }
+    requires legal { IsFree request }
     ensures { IsSingle turn.now pass.new }
 {
     match turn.call(rt, pass, request) {

@@ -41,8 +41,8 @@ impl Model for KeptVersion {
         × IfSome v.published (λ (p : Version). p ≡ v.snapshot) };
 }
 
-// What is known of every grid.
-fn know(grid: &Grid)
+/// What is known of every grid.
+pub fn know(grid: &Grid)
     ensures { HasParts grid.now }
 {
     let _models = grid.models();

@@ -6,8 +6,8 @@ use Rattle.federation_book.proofs.working.order_in.Given as goal
 
 abbrev pub invariant-loop-step : goal.invariant-loop-step
 invariant-loop-step l =
-    let live = l.fn.project.now.live.items in
-    let first = l.fn.project.now.newest + 1 - length live in
+    let live = l.fn.project.live.items in
+    let first = l.fn.project.newest + 1 - length live in
     record {
       within : l.place < left_in (take (length live - l.step) live);
       there : (d : OrderValue) → get_or (orders_from l.fn.number first live) l.fn.place d ≡ get_or (orders_from l.fn.number first (take (length live - l.step) live)) l.place d;

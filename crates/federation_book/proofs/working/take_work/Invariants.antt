@@ -7,8 +7,8 @@ use Rattle.federation_book.proofs.working.take_work.Given as goal
 
 abbrev pub invariant-loop-index : goal.invariant-loop-index
 invariant-loop-index l =
-    let projects = length l.fn.state.now.projects.items in
-    let h = l.fn.state.now.entries.items in
+    let projects = length l.fn.state.projects.items in
+    let h = l.fn.state.entries.items in
     let rest = drop l.index (project_numbers projects) in
     record {
       within : l.place < sum_by (λ n. left_in (live_of n h)) rest;
