@@ -1,7 +1,8 @@
 -- Where nothing is left to check, no call is answered that buckets are pending; and so for the steps of a session.
-use Rattle.std.proofs.Common.{◌≡◌, ◌≢◌, ◌⊎◌, ℕ, zero, suc, ◌+◌, ◌-◌, ◌*◌, ◌<◌, ◌≤◌, List, [], ◌∷◌, ◌++◌, length, get_or, map, Bool, true, false, nat_lt, nat_le, if◌then◌else◌, Option, Some, None, IsTrue, inl, inr, sym, ◌∙◌, ap, subst, refl, arith, append_assoc, length-append, map-append, ◌==◌}
+use Rattle.std.proofs.Common.{◌≡◌, ◌≢◌, ◌⊎◌, ℕ, zero, suc, ◌+◌, ◌-◌, ◌*◌, ◌<◌, ◌≤◌, List, [], ◌∷◌, ◌++◌, length, get_or, map, Bool, true, false, nat_lt, nat_le, if◌then◌else◌, Option, Some, None, IsTrue, inl, inr, sym, ◌∙◌, ap, subst, refl, arith, append_assoc, length-append, ◌==◌}
 use Rattle.std.specs.List.{All, sum_by}
 use Rattle.std.proofs.lemmas.Bool.Decides.{nat_tests}
+use Rattle.std.proofs.lemmas.List.{map-append}
 use Rattle.std.proofs.lemmas.List.Sums.{sum_by-cons, sum_by_push}
 use Rattle.std.proofs.lemmas.List.Elements.{All-nil, All-cons}
 use Rattle.bucket_check.specs.Sets.{SetValue}
