@@ -276,12 +276,14 @@ fn writes_topics(rt: HostRuntime) -> Result<(), Fail> {
     Ok(())
 }
 
+// The response that a method isn't one of the row's.
+fn lacks(path: RoutePath) -> Answer {
+    Answer::Refused(RequestFault::Method { path })
+}
+
 #[test]
-fn writes_faults(rt: HostRuntime) -> Result<(), Fail> {
+fn writes_no_body_to_head(rt: HostRuntime) -> Result<(), Fail> {
     let alloc = rt.alloc();
-    let lacks = Answer::Refused(RequestFault::Method {
-        path: RoutePath::Topics,
-    });
     let head = ReplyKind {
         project: 1,
         created: false,
@@ -289,11 +291,40 @@ fn writes_faults(rt: HostRuntime) -> Result<(), Fail> {
     };
     let wanted =
         "HTTP/1.1 405 Method Not Allowed\r\nContent-Type: application/json\r\nAllow: GET, POST\r\nContent-Length: 35\r\n\r\n";
-    try_answer(&rt, alloc, &lacks, (head, None, false), wanted)?;
+    let answer = lacks(RoutePath::Topics);
+    try_answer(&rt, alloc, &answer, (head, None, false), wanted)?;
+    Ok(())
+}
+
+#[test]
+fn writes_methods_of_a_row(rt: HostRuntime) -> Result<(), Fail> {
+    let alloc = rt.alloc();
+    let wanted =
+        "HTTP/1.1 405 Method Not Allowed\r\nContent-Type: application/json\r\nAllow: PUT, DELETE\r\nContent-Length: 35\r\n\r\n{\"code\":\"H8\",\"message\":\"H8 Method\"}";
+    let answer = lacks(RoutePath::Model);
+    try_answer(
+        &rt,
+        alloc,
+        &answer,
+        (ReplyKind::none(), None, false),
+        wanted,
+    )?;
+    Ok(())
+}
+
+#[test]
+fn writes_faults_of_frames(rt: HostRuntime) -> Result<(), Fail> {
+    let alloc = rt.alloc();
     let wanted =
         "HTTP/1.1 431 Request Header Fields Too Large\r\nContent-Type: application/json\r\nConnection: close\r\nContent-Length: 40\r\n\r\n{\"code\":\"H2\",\"message\":\"H2 HeadTooLong\"}";
     let long = Answer::Frame(FrameFault::HeadTooLong);
     try_answer(&rt, alloc, &long, (ReplyKind::none(), None, true), wanted)?;
+    Ok(())
+}
+
+#[test]
+fn writes_what_is_pending(rt: HostRuntime) -> Result<(), Fail> {
+    let alloc = rt.alloc();
     let pending = replied(ReplyBody::Refused(BookFault::Pending {
         version: 2,
         left: 1,
@@ -307,11 +338,5 @@ fn writes_faults(rt: HostRuntime) -> Result<(), Fail> {
         (ReplyKind::none(), Some(5), false),
         wanted,
     )?;
-    let lacks = Answer::Refused(RequestFault::Method {
-        path: RoutePath::Model,
-    });
-    let wanted =
-        "HTTP/1.1 405 Method Not Allowed\r\nContent-Type: application/json\r\nAllow: PUT, DELETE\r\nContent-Length: 35\r\n\r\n{\"code\":\"H8\",\"message\":\"H8 Method\"}";
-    try_answer(&rt, alloc, &lacks, (ReplyKind::none(), None, false), wanted)?;
     Ok(())
 }

@@ -1,7 +1,8 @@
 -- A bucket that a one-thread book gives out, and its set.
-use Rattle.std.proofs.Common.{◌≡◌, ◌⊎◌, ℕ, suc, ◌+◌, ◌<◌, ◌≤◌, List, [], ◌∷◌, ◌++◌, length, map, slice_index_or, Result, Ok, Err, OnOk, OnErr, IfOk, inl, inr, sym, ◌∙◌, ap, subst, refl, length-append, length-map, arith}
+use Rattle.std.proofs.Common.{◌≡◌, ◌⊎◌, ℕ, suc, ◌+◌, ◌<◌, ◌≤◌, List, [], ◌∷◌, ◌++◌, length, map, slice_index_or, Result, Ok, Err, OnOk, OnErr, IfOk, inl, inr, sym, ◌∙◌, ap, subst, refl, length-append, arith}
 use Rattle.std.specs.List.{flat_map, sum_by}
 use Rattle.std.specs.declared.alloc.AllocError.{AllocError}
+use Rattle.std.proofs.lemmas.List.{length-map}
 use Rattle.std.proofs.lemmas.List.Sums.{sum_by-cons}
 use Rattle.bucket_grid.specs.declared.cell.Cell.{Cell}
 use Rattle.bucket_grid.specs.Cells.{IsBucket}
@@ -98,7 +99,17 @@ pub called_ok : (call : BookRequest) (old new : ServerState) (receipt : BookRece
     → (receipt.reply.body ≡ (reply_of old.settings old.history (stamp_of (old.turns + 1)) call).body) × (new ≡ with_turn call old)
 called_ok call old new receipt calls = (ap (λ (r : BookReply). r.body) calls.1, calls.2)
 
-same_body : (a b : OrderValue) (body : ReplyBody) → body ≡ Work a → body ≡ Work b → a ≡ b
+-- .. and how it takes the next turn
+pub calls_ok : (call : BookRequest) (old : ServerState) (settings : Settings) (history : List Entry) (turn : ℕ) (reply : BookReply) → turn ≡ old.turns + 1
+    → reply ≡ reply_of old.settings old.history (stamp_of turn) call → history ≡ old.history ++ added_by old.settings old.history (stamp_of turn) call → settings ≡ old.settings
+    → Calls call old (Ok (record { turn = turn; reply = reply })) (record { settings = settings; history = history; turns = turn })
+calls_ok call old settings history turn reply next is grown same =
+    let here : reply ≡ reply_of old.settings old.history (stamp_of (old.turns + 1)) call = is ∙ ap (λ n. reply_of old.settings old.history (stamp_of n) call) next in
+    let there : history ≡ old.history ++ added_by old.settings old.history (stamp_of (old.turns + 1)) call =
+    grown ∙ ap (λ n. old.history ++ added_by old.settings old.history (stamp_of n) call) next in
+    (next, here, λ i. record { settings = same i; history = there i; turns = next i })
+
+pub same_body : (a b : OrderValue) (body : ReplyBody) → body ≡ Work a → body ≡ Work b → a ≡ b
 same_body a b body e d = cc
 
 -- the set of an order that was given out may be brought at the next turn

@@ -1,7 +1,8 @@
 -- Where nothing is left to check, no call is answered that buckets are pending; and so for the steps of a session.
-use Rattle.std.proofs.Common.{◌≡◌, ◌≢◌, ◌⊎◌, ℕ, zero, suc, ◌+◌, ◌-◌, ◌*◌, ◌<◌, ◌≤◌, List, [], ◌∷◌, ◌++◌, length, get_or, map, Bool, true, false, nat_lt, nat_le, if◌then◌else◌, Option, Some, None, IsTrue, inl, inr, sym, ◌∙◌, ap, subst, refl, arith, append_assoc, length-append, map-append, ◌==◌}
+use Rattle.std.proofs.Common.{◌≡◌, ◌≢◌, ◌⊎◌, ℕ, zero, suc, ◌+◌, ◌-◌, ◌*◌, ◌<◌, ◌≤◌, List, [], ◌∷◌, ◌++◌, length, get_or, map, Bool, true, false, nat_lt, nat_le, if◌then◌else◌, Option, Some, None, IsTrue, inl, inr, sym, ◌∙◌, ap, subst, refl, arith, append_assoc, length-append, ◌==◌}
 use Rattle.std.specs.List.{All, sum_by}
 use Rattle.std.proofs.lemmas.Bool.Decides.{nat_tests}
+use Rattle.std.proofs.lemmas.List.{map-append}
 use Rattle.std.proofs.lemmas.List.Sums.{sum_by-cons, sum_by_push}
 use Rattle.std.proofs.lemmas.List.Elements.{All-nil, All-cons}
 use Rattle.bucket_check.specs.Sets.{SetValue}
@@ -25,7 +26,7 @@ use Rattle.book_history.specs.Orders.{OrderValue}
 use Rattle.book_history.specs.Versions.{VersionState, nothing, version_at, live_in}
 use Rattle.book_history.specs.Projects.{ProjectState, newest, with_change}
 use Rattle.book_history.specs.History.{state_of, at_turn, left_in, live_of, left_all, project_numbers}
-use Rattle.book_history.specs.Refusals.{project_of, wanted_in, not_yet, dropped, pending, no_model, full}
+use Rattle.book_history.specs.Refusals.{project_of, wanted_in, not_yet, dropped, pending, done_before, no_model, full}
 use Rattle.book_history.specs.Requests.{Outcome, Refusal, Answer, Accepted, unless, in_project, changed, removed, version_read, clashes_read, order_for, all_orders, finished, outcome_of, reply_to, body_of, reply_of, added_by}
 use Rattle.book_history.specs.Runs.{Step, Runs, IsRun}
 use Rattle.book_history.proofs.Live.{gone, live_length, live_at}
@@ -77,15 +78,15 @@ calm_accepted h n before after (change.BucketDone number cell) p = let e = p.2 i
 
 full_other : (settings : Settings) (h : List Entry) (n : ℕ) (c : Change) → AreOther (full settings h n c)
 full_other settings h n (change.PostTopic body author weight) =
-    (tt, tt, other_if _ _ (λ v l e. cc), other_if _ _ (λ v l e. cc), other_if _ _ (λ v l e. cc), tt)
+    (tt, (tt, (other_if _ _ (λ v l e. cc), (other_if _ _ (λ v l e. cc), (other_if _ _ (λ v l e. cc), tt)))))
 full_other settings h n (change.Upload name model) =
-    (other_if _ _ (λ v l e. cc), other_if _ _ (λ v l e. cc), other_if _ _ (λ v l e. cc), other_if _ _ (λ v l e. cc), other_if _ _ (λ v l e. cc), tt)
+    (other_if _ _ (λ v l e. cc), (other_if _ _ (λ v l e. cc), (other_if _ _ (λ v l e. cc), (other_if _ _ (λ v l e. cc), (other_if _ _ (λ v l e. cc), tt)))))
 full_other settings h n (change.Remove name) =
-    (other_if _ _ (λ v l e. cc), other_if _ _ (λ v l e. cc), other_if _ _ (λ v l e. cc), other_if _ _ (λ v l e. cc), other_if _ _ (λ v l e. cc), tt)
+    (other_if _ _ (λ v l e. cc), (other_if _ _ (λ v l e. cc), (other_if _ _ (λ v l e. cc), (other_if _ _ (λ v l e. cc), (other_if _ _ (λ v l e. cc), tt)))))
 full_other settings h n (change.SetRules rules weight) =
-    (other_if _ _ (λ v l e. cc), other_if _ _ (λ v l e. cc), other_if _ _ (λ v l e. cc), other_if _ _ (λ v l e. cc), other_if _ _ (λ v l e. cc), tt)
+    (other_if _ _ (λ v l e. cc), (other_if _ _ (λ v l e. cc), (other_if _ _ (λ v l e. cc), (other_if _ _ (λ v l e. cc), (other_if _ _ (λ v l e. cc), tt)))))
 full_other settings h n (change.BucketDone version cell) =
-    (tt, tt, other_if _ _ (λ v l e. cc), other_if _ _ (λ v l e. cc), other_if _ _ (λ v l e. cc), tt)
+    (tt, (tt, (other_if _ _ (λ v l e. cc), (other_if _ _ (λ v l e. cc), (other_if _ _ (λ v l e. cc), tt)))))
 
 calm_changed : (settings : Settings) (h : List Entry) (c : Change) (n : ℕ) → IsCalm h (changed settings h c n)
 calm_changed settings h c n =
@@ -104,9 +105,9 @@ one_of_sum f (x ∷ xs) (suc i) d lt =
 numbers_more : (n : ℕ) → project_numbers (suc n) ≡ project_numbers n ++ (n + 1) ∷ []
 numbers_more n = map-append (λ k. k + 1) (upto n) (n ∷ [])
 
-one_of_numbers : (f : ℕ → ℕ) (projects n : ℕ) → 1 ≤ n → n ≤ projects → f n ≤ sum_by f (project_numbers projects)
-one_of_numbers f zero n low high = absurd (omega (arith, low, high))
-one_of_numbers f (suc projects) n low high = by (n == suc projects) refl
+-- one of one number more
+one_more : (f : ℕ → ℕ) (projects n : ℕ) → n ≤ suc projects → (n ≤ projects → f n ≤ sum_by f (project_numbers projects)) → f n ≤ sum_by f (project_numbers (suc projects))
+one_more f projects n high earlier = by (n == suc projects) refl
   where
     grown : sum_by f (project_numbers (suc projects)) ≡ sum_by f (project_numbers projects) + f (projects + 1)
     grown = ap (sum_by f) (numbers_more projects) ∙ sum_by_push f (project_numbers projects) (projects + 1)
@@ -118,8 +119,12 @@ one_of_numbers f (suc projects) n low high = by (n == suc projects) refl
         omega (arith, grown, own)
     by false e =
         let other : n ≤ projects = grind (arith, nat_tests, e, high) in
-        let rest = one_of_numbers f projects n low other in
+        let rest = earlier other in
         omega (arith, grown, rest)
+
+one_of_numbers : (f : ℕ → ℕ) (projects n : ℕ) → 1 ≤ n → n ≤ projects → f n ≤ sum_by f (project_numbers projects)
+one_of_numbers f zero n low high = absurd (omega (arith, low, high))
+one_of_numbers f (suc projects) n low high = one_more f projects n high (one_of_numbers f projects n low)
 
 -- the number of a project is one of the book's
 project_within : (projects id n : ℕ) → project_of projects id ≡ Some n → (1 ≤ n) × (n ≤ projects)
@@ -176,9 +181,18 @@ calm_order h (o ∷ os) seat = λ p. (let e = p.2 in cc)
 
 calm_finish : (h : List Entry) (set : SetValue) → IsCalm h (finished h set)
 calm_finish h set =
-    calm_unless h _ (Accepted set.work.project (change.BucketDone set.work.version set.work.cell))
-    (other_if _ _ (λ v l e. cc), other_if _ _ (λ v l e. cc), tt)
+    calm_unless h
+    (dropped (state_of set.work.project h) set.work.version ∷ done_before (version_at (state_of set.work.project h).versions set.work.version) set.work.cell ∷ [])
+    (Accepted set.work.project (change.BucketDone set.work.version set.work.cell))
+    (other_if _ _ (λ v l e. cc), (other_if _ _ (λ v l e. cc), tt))
     (calm_accepted h set.work.project (state_of set.work.project h) (with_change (state_of set.work.project h) (change.BucketDone set.work.version set.work.cell)) (change.BucketDone set.work.version set.work.cell))
+
+calm_version : (h : List Entry) (wanted : Wanted) (n : ℕ) → IsCalm h (version_read h wanted n)
+calm_version h wanted n =
+    let p : ProjectState = state_of n h in
+    let v : ℕ = wanted_in p wanted in
+    calm_unless h (not_yet p v ∷ dropped p v ∷ []) (Answer (reply.Version v (newest p) (version_at p.versions v).content))
+    (other_if _ _ (λ v l e. cc), (other_if _ _ (λ v l e. cc), tt)) (λ q. let e = q.2 in cc)
 
 -- where nothing is left to check, no call is answered so
 calm_call : (settings : Settings) (h : List Entry) (call : BookRequest) → left_all settings.projects h ≡ 0 → IsCalm h (outcome_of settings h call)
@@ -187,7 +201,7 @@ calm_call settings h (PostTopic id body author weight) none = calm_in h (project
 calm_call settings h (Upload id name model) none = calm_in h (project_of settings.projects id) _ (λ n is. calm_changed settings h (change.Upload name model) n)
 calm_call settings h (Remove id name) none =
     calm_in h (project_of settings.projects id) _
-    (λ n is. calm_unless h _ (Accepted n (change.Remove name)) (no_model_other n name, full_other settings h n (change.Remove name))
+    (λ n is. calm_unless h (no_model (state_of n h) name ∷ full settings h n (change.Remove name)) (Accepted n (change.Remove name)) (no_model_other n name, full_other settings h n (change.Remove name))
     (calm_accepted h n (state_of n h) (with_change (state_of n h) (change.Remove name)) (change.Remove name)))
   where
     no_model_other : (n : ℕ) (name : List ℕ) → IsOther (no_model (state_of n h) name)
@@ -199,7 +213,7 @@ calm_call settings h (Remove id name) none =
 calm_call settings h (SetRules id rules weight) none = calm_in h (project_of settings.projects id) _ (λ n is. calm_changed settings h (change.SetRules rules weight) n)
 calm_call settings h (ReadVersion id wanted) none =
     calm_in h (project_of settings.projects id) _
-    (λ n is. calm_unless h _ (Answer _) (other_if _ _ (λ v l e. cc), other_if _ _ (λ v l e. cc), tt) (λ p. let e = p.2 in cc))
+    (λ n is. calm_version h wanted n)
 calm_call settings h (ReadClashes id wanted first count) none =
     calm_in h (project_of settings.projects id) _
     (λ n is. let range = project_within settings.projects id n is in calm_clashes settings h wanted first count n none range.0 range.1)
@@ -281,7 +295,7 @@ calm_on s last (suc count) steps works =
     subst (λ (ss : List Step). AreCalm s.settings s.history ss) (sym works.2)
     (calm_append s.settings s.history works.0 works.1 (calm_on s last count works.0 works.3)
     (subst (λ (ss : List Step). AreCalm s.settings s.history ss) (sym one.two)
-    (calm_given s (last + 2 * count) one.first one.gives, calm_brought s one.second one.set one.request, tt)))
+    (calm_given s (last + 2 * count) one.first one.gives, (calm_brought s one.second one.set one.request, tt))))
 
 calm_short : (s : Standing) (steps : List Step) → WorksShort s steps → AreCalm s.settings s.history steps
 calm_short s steps works =
@@ -356,7 +370,7 @@ ends_calm stop e (inr (inr (inr (inl x)))) all are clear = calm_none stop.standi
 ends_calm stop e (inr (inr (inr (inr (inl x))))) all are clear = of_next x.2.2
   where
     of_next : IsNext stop (stop.bytes ++ x.2.0) → AreCalm stop.standing.settings stop.standing.history stop.steps
-    of_next (inl (event, later, mark, reads, printed, answers)) = calm_event stop.standing event stop.moments (stop.bytes ++ x.2.0) stop.steps printed answers are clear
+    of_next (inl (event, later, mark, reads, (printed, answers))) = calm_event stop.standing event stop.moments (stop.bytes ++ x.2.0) stop.steps printed answers are clear
     of_next (inr (fault, answers)) = calm_none stop.standing.settings stop.standing.history stop.steps answers.3
 ends_calm stop e (inr (inr (inr (inr (inr (inl x)))))) all are clear = calm_none stop.standing.settings stop.standing.history stop.steps x.3.3
 ends_calm stop e (inr (inr (inr (inr (inr (inr (inl x))))))) all are clear = calm_none stop.standing.settings stop.standing.history stop.steps x.2.2

@@ -169,7 +169,7 @@ last_turn-append last [] b = refl
 last_turn-append last (s ∷ ss) b = last_turn-append s.stamp.turn ss b
 
 -- the last turn of buckets that were worked
-on_last : (s : Standing) (last count : ℕ) (steps : List Step) → WorksOn s last count steps → last_turn last steps ≡ last + 2 * count
+pub on_last : (s : Standing) (last count : ℕ) (steps : List Step) → WorksOn s last count steps → last_turn last steps ≡ last + 2 * count
 on_last s last zero steps works = ap (last_turn last) works ∙ (let e : last ≡ last + 2 * 0 = omega arith in e)
 on_last s last (suc count) steps works =
     let one = works.4 in

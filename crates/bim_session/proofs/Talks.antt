@@ -9,13 +9,16 @@ use Rattle.http_frame.specs.declared.framer.Framer.{Framer}
 use Rattle.http_frame.specs.Framers.{Stands, Answered}
 use Rattle.bim_io.specs.Seen.{ClockSeen, ClockGives}
 use Rattle.bim_io.proofs.Calls.{clock_none}
-use Rattle.book_history.specs.declared.requests.BookRequest.{BookRequest}
-use Rattle.bcf_http.specs.Calls.{BringsNone}
+use Rattle.bcf_http.specs.declared.calls.ReplyKind.{ReplyKind}
+use Rattle.bcf_http.specs.declared.answers.Answer.{Answer}
+use Rattle.bcf_http.specs.Calls.{kind_of}
+use Rattle.bcf_http.specs.Answers.{IsResponse}
 use Rattle.bim_session.specs.declared.end.SessionEnd.{SessionEnd}
+use Rattle.bim_session.specs.declared.want.Waiting.{Waiting}
 use Rattle.bim_session.specs.declared.want.Want.{Want}
 use Rattle.bim_session.specs.declared.want.Want.TheVariants.{More, Write, Call, Leave}
 use Rattle.bim_session.specs.Session.{closes_after, continue_bytes, IsFaultResponse}
-use Rattle.bim_session.specs.Talking.{TalkState, IsOwnLeaving, IsOwnWant, GrowsBy, Feeds, is_end, Wants, StopsNext, TakesRequest, Writes, WantsFor, AtRest, waiting_for, with_answer, with_call, with_fault, with_framer, asks_change, IsCallable}
+use Rattle.bim_session.specs.Talking.{TalkState, IsOwnLeaving, IsOwnWant, GrowsBy, Feeds, is_end, Wants, StopsNext, TakesRequest, Writes, WantsFor, AtRest, waiting_for, with_answer, with_call, with_fault, with_framer, asks_change, IsUnasked, AnswersAlone}
 
 pub none_of : (o : Option SessionEnd) → ((e : SessionEnd) → o ≡ Some e → ⊥) → o ≡ None
 none_of None not_some = refl
@@ -27,23 +30,6 @@ leave_is a b e = cc
 -- a talk that leaves does so by an end of its own
 pub own_leaving : (leaving : Option SessionEnd) (e : SessionEnd) → IsOwnLeaving leaving → leaving ≡ Some e → IsOwnWant (Leave e)
 own_leaving leaving e own is = λ n. (λ w. (own n).0 (is ∙ ap Some (leave_is e _ w)), λ w. (own n).1 (is ∙ ap Some (leave_is e _ w)))
-
-call_is : (a b : BookRequest) → Call a ≡ Call b → a ≡ b
-call_is a b e = cc
-
--- a talk wants the call that a request means, which brings no set
-pub callable : (call : BookRequest) → BringsNone call → IsCallable (Call call)
-callable call none = λ set e. none set (call_is call _ e)
-
--- more bytes, a write and an end are no calls
-pub more_callable : IsCallable More
-more_callable = λ set e. cc
-
-pub write_callable : (bytes : List ℕ) → IsCallable (Write bytes)
-write_callable bytes = λ set e. cc
-
-pub leave_callable : (e : SessionEnd) → IsCallable (Leave e)
-leave_callable e = λ set is. cc
 
 -- ---- what a framer stands for
 
@@ -171,6 +157,37 @@ pub wants_taken : (old new : TalkState) (f : Framer) (m : ℕ) (r : HttpRequest)
     → IfOk result (λ want. WantsFor m r (with_framer f old) want new) → IfOk result (λ want. Wants a b old want new)
 wants_taken old new f m r (Ok want) a b here steps gives wants = requested old new f m r want a b here steps gives wants
 wants_taken old new f m r (Err e) a b here steps gives wants = tt
+
+-- ---- a request that becomes no call
+
+alone_of : (m : ℕ) (r : HttpRequest) (refusal : Answer) (waiting : Waiting) (bytes : List ℕ) → IsUnasked m r refusal
+    → IsResponse refusal waiting.kind None waiting.close bytes → AnswersAlone m r waiting bytes
+alone_of m r refusal waiting bytes (inl refused) response = inl (record { refusal = refusal; refused = refused; response = response })
+alone_of m r refusal waiting bytes (inr is) response = inr (subst (λ (a : Answer). IsResponse a waiting.kind None waiting.close bytes) is response)
+
+refuses : (m : ℕ) (r : HttpRequest) (refusal : Answer) (old new : TalkState) (want : Want) → IsUnasked m r refusal
+    → Writes (IsResponse refusal (kind_of r) None (closes_after r (old.served + 1))) want → new ≡ with_answer (closes_after r (old.served + 1)) old → WantsFor m r old want new
+refuses m r refusal old new More unasked writes is = absurd writes
+refuses m r refusal old new (Write bytes) unasked writes is = (alone_of m r refusal (waiting_for r (old.served + 1) false) bytes unasked writes, is)
+refuses m r refusal old new (Call call) unasked writes is = absurd writes
+refuses m r refusal old new (Leave e) unasked writes is = absurd writes
+
+refuses_on : (m : ℕ) (r : HttpRequest) (refusal : Answer) (old new : TalkState) (result : Result Want AllocError) → IsUnasked m r refusal
+    → IfOk result (Writes (IsResponse refusal (kind_of r) None (closes_after r (old.served + 1)))) → OnOk result (new ≡ with_answer (closes_after r (old.served + 1)) old)
+    → IfOk result (λ want. WantsFor m r old want new)
+refuses_on m r refusal old new (Ok want) unasked writes is = refuses m r refusal old new want unasked writes is
+refuses_on m r refusal old new (Err e) unasked writes is = tt
+
+-- the response to a request that is answered alone
+pub wants_refusal : (m : ℕ) (r : HttpRequest) (refusal : Answer) (old new : TalkState) (kind : ReplyKind) (close : Bool) (result : Result Want AllocError) → kind ≡ kind_of r
+    → close ≡ closes_after r (old.served + 1) → IsUnasked m r refusal → IfOk result (Writes (IsResponse refusal kind None close)) → OnOk result (new ≡ with_answer close old)
+    → IfOk result (λ want. WantsFor m r old want new)
+wants_refusal m r refusal old new kind close result kind_is close_is unasked writes is =
+    let closing : IfOk result (Writes (IsResponse refusal kind None (closes_after r (old.served + 1)))) =
+    subst (λ (b : Bool). IfOk result (Writes (IsResponse refusal kind None b))) close_is writes in
+    refuses_on m r refusal old new result unasked
+    (subst (λ (k : ReplyKind). IfOk result (Writes (IsResponse refusal k None (closes_after r (old.served + 1))))) kind_is closing)
+    (subst (λ (b : Bool). OnOk result (new ≡ with_answer b old)) close_is is)
 
 -- ---- want of memory
 
