@@ -28,9 +28,9 @@ sum_same f g (x ∷ xs) h = sum_by-cons f x xs ∙ ap₂ (λ a b. a + b) (h x) (
 -- what is left of the projects after an entry
 left_own : (j : List Entry) (e : Entry) (n : ℕ) → left_in (live_of n (j ++ e ∷ [])) ≡ left_if j e.project (left_in (live_in (with_change (state_of e.project j) e.change).versions)) n
 left_own j e n = elim (eqb_tells n e.project) [
-    inl is ↦ rw is.0 (ap (λ (s : ProjectState). left_in (live_in s.versions)) (state_own n j e is.1 ∙ ap (λ m. with_change (state_of m j) e.change) is.1))
+  | inl is ↦ rw is.0 (ap (λ (s : ProjectState). left_in (live_in s.versions)) (state_own n j e is.1 ∙ ap (λ m. with_change (state_of m j) e.change) is.1))
   | inr none ↦ rw none.0 (ap (λ (s : ProjectState). left_in (live_in s.versions)) (state_other n j e none.1))
-  ]
+]
 
 pub left_pushed : (projects : ℕ) (j : List Entry) (e : Entry) → left_all projects (j ++ e ∷ []) ≡ left_after projects j e.project e.change
 left_pushed projects j e = sum_same _ _ (project_numbers projects) (left_own j e)

@@ -107,9 +107,9 @@ less_after projects j number left low high less =
 
     most : (m : ℕ) → left_if j number left m ≤ left_in (live_of m j)
     most m = elim (eqb_tells m number) [
-        inl is ↦ rw is.0 (subst (λ n. left ≤ left_in (live_of n j)) (sym is.1) (omega (arith, less)))
+      | inl is ↦ rw is.0 (subst (λ n. left ≤ left_in (live_of n j)) (sym is.1) (omega (arith, less)))
       | inr none ↦ rw none.0 (omega arith)
-      ]
+    ]
 
     own : left_if j number left number + 1 ≤ left_in (live_of number j)
     own = elim (eqb_tells number number) [ inl is ↦ rw is.0 less | inr none ↦ absurd (none.1 refl) ]

@@ -61,11 +61,11 @@ returns-then-place-left c =
     let told_is = c.left_in-left.ensures ∙ ap (λ l. told (left_in l)) c.deref.ensures.value ∙ ap (λ l. told (left_in l)) k.live in
     let within : place < left_in (live_of (i + 1) h) = below_told place (left_in (live_of (i + 1) h)) (subst (λ n. place < n) told_is c.if-place-left.true) in
     sym (one_to_give h (all_orders projects h) c.args.seat c.in_ok-order.order (omega (arith, total, apart, count)) (λ d.
-        c.in_ok-order.ensures d
-        ∙ ap (λ os. get_or os place d) (orders_kept p (i + 1) (state_of (i + 1) h) k)
-        ∙ sym (order_own projects h i place lt d within)
-        ∙ sym (c.loop-index.invariant.there d)
-        ∙ ap (λ n. get_or (all_orders projects h) (c.args.seat % n) d) (sym count)))
+    c.in_ok-order.ensures d
+    ∙ ap (λ os. get_or os place d) (orders_kept p (i + 1) (state_of (i + 1) h) k)
+    ∙ sym (order_own projects h i place lt d within)
+    ∙ sym (c.loop-index.invariant.there d)
+    ∙ ap (λ n. get_or (all_orders projects h) (c.args.seat % n) d) (sym count)))
 
 pub loop-index-preserved : goal.loop-index-preserved
 loop-index-preserved c =
