@@ -1,4 +1,4 @@
-use Rattle.std.proofs.Common.{◌≡◌, ◌+◌, ◌-◌, ◌<◌, ◌≤◌, ◌^◌, ◌++◌, ℕ, true, false, List, [], ◌∷◌, length, get_or, slice_set, Option, Some, None, refl, sym, ◌∙◌, ap, subst, arith}
+use Rattle.std.proofs.Common.{◌≡◌, ◌+◌, ◌-◌, ◌<◌, ◌++◌, true, false, [], ◌∷◌, length, Some, None, refl, sym, ◌∙◌, ap, subst, arith}
 use Rattle.std.specs.Vec.{with_item}
 use Rattle.std.proofs.lemmas.List.{length-set}
 use Rattle.bucket_grid.specs.declared.cell.Cell.{Cell}
@@ -12,7 +12,7 @@ use Rattle.book_history.specs.declared.changes.Entry.{Entry}
 use Rattle.book_history.specs.declared.limits.Settings.{Settings}
 use Rattle.book_history.specs.declared.replies.ReplyBody.TheVariants as reply
 use Rattle.book_history.specs.Versions.{VersionState, version_at, is_done, with_done}
-use Rattle.book_history.specs.Projects.{ProjectState, with_bucket}
+use Rattle.book_history.specs.Projects.{with_bucket}
 use Rattle.book_history.specs.History.{state_of}
 use Rattle.book_history.specs.Legal.{IsGiven}
 use Rattle.book_history.specs.Refusals.{dropped}

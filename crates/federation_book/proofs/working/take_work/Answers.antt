@@ -1,9 +1,9 @@
-use Rattle.std.proofs.Common.{◌≡◌, ◌+◌, ◌-◌, ◌%◌, ◌<◌, ◌≤◌, List, [], ◌∷◌, length, drop, get_or, sum_by, refl, sym, ◌∙◌, ap, subst, arith}
+use Rattle.std.proofs.Common.{◌≡◌, ◌+◌, ◌-◌, ◌%◌, ◌<◌, ◌≤◌, length, drop, get_or, sum_by, sym, ◌∙◌, ap, subst, arith}
 use Rattle.std.specs.List.{flat_map}
 use Rattle.std.proofs.lemmas.List.{drop_all}
 use Rattle.std.proofs.lemmas.Nat.{mod_below}
 use Rattle.book_history.specs.History.{state_of, live_of, left_in, left_all, project_numbers}
-use Rattle.book_history.specs.Requests.{orders_of, orders_from, all_orders}
+use Rattle.book_history.specs.Requests.{orders_of, all_orders}
 use Rattle.book_history.specs.Weights.{told}
 use Rattle.federation_book.specs.Kept.{KeepsProject}
 use Rattle.federation_book.proofs.Counting.{told_under}

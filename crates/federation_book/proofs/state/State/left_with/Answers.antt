@@ -1,5 +1,5 @@
 use Rattle.std.proofs.Common.{◌≡◌, ◌+◌, ◌<◌, length, sym, ap, ◌∙◌, arith}
-use Rattle.book_history.specs.History.{live_of, left_in}
+use Rattle.book_history.specs.History.{left_in}
 use Rattle.book_history.specs.Refusals.{left_if}
 use Rattle.book_history.specs.Weights.{told}
 use Rattle.federation_book.proofs.Counting.{told_more, left_kept, if_own, if_other}
