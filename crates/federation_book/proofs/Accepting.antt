@@ -1,24 +1,22 @@
 -- What is kept after an accepted change.
-use Rattle.std.proofs.Common.{◌≡◌, ◌≢◌, ◌+◌, ◌-◌, ◌<◌, ◌≤◌, ◌==◌, nat_lt, ℕ, Bool, true, false, if◌then◌else◌, List, [], ◌∷◌, ◌++◌, length, get_or, slice_set, sum_by, Option, Some, None, inl, inr, refl, sym, ◌∙◌, ap, ap₂, subst, arith, length-append}
-use Rattle.std.specs.List.{All}
+use Rattle.std.proofs.Common.{◌≡◌, ◌+◌, ◌-◌, ◌≤◌, nat_lt, ℕ, Bool, true, false, if◌then◌else◌, List, [], ◌∷◌, ◌++◌, length, slice_set, sum_by, Option, Some, None, inl, inr, refl, sym, ◌∙◌, ap, ap₂, subst, arith, length-append}
 use Rattle.std.proofs.lemmas.Bool.Decides.{eqb_tells, nat_tests}
 use Rattle.std.proofs.lemmas.List.{length-set}
 use Rattle.std.proofs.lemmas.List.Sums.{sum_by-cons, sum_by_push}
 use Rattle.book_history.specs.declared.changes.Entry.{Entry}
-use Rattle.book_history.specs.declared.changes.Change.{Change}
 use Rattle.book_history.specs.declared.faults.BookFault.{BookFault}
 use Rattle.book_history.specs.declared.limits.Limits.{Limits}
 use Rattle.book_history.specs.declared.limits.Settings.{Settings}
 use Rattle.book_history.specs.Settings.{IsWithinStated}
-use Rattle.book_history.specs.Versions.{VersionState, live_in}
+use Rattle.book_history.specs.Versions.{live_in}
 use Rattle.book_history.specs.Projects.{ProjectState, with_change}
 use Rattle.book_history.specs.History.{state_of, live_of, left_in, left_all, project_numbers, IsBefore, IsHistory}
 use Rattle.book_history.specs.Weights.{triangles_in, text_in, triangles_of, text_of}
-use Rattle.book_history.specs.Refusals.{first_of, store_full, triangles_if, text_if, journal_if, left_if, left_after}
+use Rattle.book_history.specs.Refusals.{first_of, triangles_if, text_if, journal_if, left_if, left_after}
 use Rattle.book_history.proofs.States.{state_other, state_own}
 use Rattle.federation_book.specs.declared.project.Project.{Project}
 use Rattle.federation_book.specs.declared.state.State.{State}
-use Rattle.federation_book.specs.Kept.{KeepsProject, KeepStates, IsKept, settings_of}
+use Rattle.federation_book.specs.Kept.{KeepsProject, KeepStates, IsKept}
 use Rattle.federation_book.proofs.Keeping.{states_push, states_same, rising_push}
 
 pub sum_same : (f g : ℕ → ℕ) (xs : List ℕ) → ((n : ℕ) → f n ≡ g n) → sum_by f xs ≡ sum_by g xs
@@ -28,9 +26,9 @@ sum_same f g (x ∷ xs) h = sum_by-cons f x xs ∙ ap₂ (λ a b. a + b) (h x) (
 -- what is left of the projects after an entry
 left_own : (j : List Entry) (e : Entry) (n : ℕ) → left_in (live_of n (j ++ e ∷ [])) ≡ left_if j e.project (left_in (live_in (with_change (state_of e.project j) e.change).versions)) n
 left_own j e n = elim (eqb_tells n e.project) [
-    inl is ↦ rw is.0 (ap (λ (s : ProjectState). left_in (live_in s.versions)) (state_own n j e is.1 ∙ ap (λ m. with_change (state_of m j) e.change) is.1))
+  | inl is ↦ rw is.0 (ap (λ (s : ProjectState). left_in (live_in s.versions)) (state_own n j e is.1 ∙ ap (λ m. with_change (state_of m j) e.change) is.1))
   | inr none ↦ rw none.0 (ap (λ (s : ProjectState). left_in (live_in s.versions)) (state_other n j e none.1))
-  ]
+]
 
 pub left_pushed : (projects : ℕ) (j : List Entry) (e : Entry) → left_all projects (j ++ e ∷ []) ≡ left_after projects j e.project e.change
 left_pushed projects j e = sum_same _ _ (project_numbers projects) (left_own j e)

@@ -1,19 +1,17 @@
 -- A change that makes a version.
-use Rattle.std.proofs.Common.{◌≡◌, ◌+◌, ◌-◌, ◌<◌, ◌≤◌, ℕ, Bool, true, false, is_some, true≢false, List, [], ◌∷◌, ◌++◌, length, drop, get_or, Option, Some, None, refl, sym, ◌∙◌, ap, ap₂, subst, arith, length-append, length-drop}
-use Rattle.std.proofs.lemmas.List.{drop-append-le, get_or_default}
+use Rattle.std.proofs.Common.{◌≡◌, ◌+◌, ◌-◌, ◌<◌, ◌≤◌, ℕ, Bool, false, is_some, true≢false, List, [], ◌∷◌, ◌++◌, length, drop, get_or, Option, Some, None, refl, sym, ◌∙◌, ap, ap₂, subst, arith, length-append}
+use Rattle.std.proofs.lemmas.List.{drop-append-le}
 use Rattle.bim_model.specs.Snapshots.{Version}
 use Rattle.book_history.specs.declared.changes.Change.{Change}
 use Rattle.book_history.specs.declared.changes.Change.TheVariants.{PostTopic, Upload, Remove, SetRules, BucketDone}
-use Rattle.book_history.specs.declared.changes.Entry.{Entry}
 use Rattle.book_history.specs.declared.faults.BookFault.{BookFault}
 use Rattle.book_history.specs.declared.limits.Limits.{Limits}
-use Rattle.book_history.specs.Versions.{VersionState, nothing, version_at, newest_in, live_in, made_after}
+use Rattle.book_history.specs.Versions.{VersionState, nothing, version_at, live_in, made_after}
 use Rattle.book_history.specs.Projects.{ProjectState, newest, newest_content, next_content, with_change, with_version, with_next}
-use Rattle.book_history.specs.History.{state_of, left_in}
+use Rattle.book_history.specs.History.{left_in}
 use Rattle.book_history.specs.Refusals.{first_of, elements_full, too_spread}
 use Rattle.book_history.specs.Weights.{told}
-use Rattle.book_history.proofs.Live.{gone, live_push, live_at, live_length, few_live}
-use Rattle.book_history.proofs.States.{Within, within}
+use Rattle.book_history.proofs.Live.{gone, live_push, live_at, live_length}
 use Rattle.federation_book.specs.declared.project.Project.{Project}
 use Rattle.federation_book.specs.Kept.{KeepsProject}
 use Rattle.federation_book.proofs.Taking.{left_snoc}

@@ -1,9 +1,8 @@
 -- What is answered where something is read, and that nothing is added then.
-use Rattle.std.proofs.Common.{◌≡◌, ◌+◌, ◌-◌, ◌<◌, ◌≤◌, ◌^◌, ◌/◌, ◌==◌, ◌&&◌, nat_lt, nat_le, ℕ, Bool, true, false, if◌then◌else◌, List, [], ◌∷◌, ◌++◌, length, Option, Some, None, refl, sym, ◌∙◌, ap, subst, arith, append-nil}
+use Rattle.std.proofs.Common.{◌≡◌, ◌<◌, ◌≤◌, ◌^◌, ◌/◌, ◌==◌, ◌&&◌, nat_lt, nat_le, ℕ, Bool, true, false, if◌then◌else◌, List, [], ◌∷◌, ◌++◌, length, Option, Some, None, refl, sym, ◌∙◌, ap, subst, arith, append-nil}
 use Rattle.std.specs.Option.{IfSome}
 use Rattle.std.proofs.lemmas.Bool.{ltb-true, leb-true, lt-ltb}
 use Rattle.bim_model.specs.Identifiers.{identifier}
-use Rattle.bim_model.specs.Snapshots.{Version}
 use Rattle.book_turn.specs.declared.object.Stamp.{Stamp}
 use Rattle.book_turn.specs.Entries.{listed}
 use Rattle.book_history.specs.declared.changes.Entry.{Entry}
@@ -13,11 +12,11 @@ use Rattle.book_history.specs.declared.replies.ReplyBody.{ReplyBody}
 use Rattle.book_history.specs.declared.replies.ReplyBody.TheVariants as reply
 use Rattle.book_history.specs.declared.requests.Wanted.{Wanted}
 use Rattle.book_history.specs.Orders.{OrderValue}
-use Rattle.book_history.specs.Versions.{VersionState, version_at}
+use Rattle.book_history.specs.Versions.{version_at}
 use Rattle.book_history.specs.Projects.{ProjectState, newest}
 use Rattle.book_history.specs.History.{state_of}
 use Rattle.book_history.specs.Refusals.{first_of, project_of, wanted_in, not_yet, dropped, pending}
-use Rattle.book_history.specs.Requests.{Outcome, Refusal, Answer, Accepted, refused_or, in_project, version_read, clashes_read, order_for, body_of, entry_by}
+use Rattle.book_history.specs.Requests.{Outcome, Answer, refused_or, in_project, version_read, clashes_read, order_for, body_of, entry_by}
 
 -- ---- a version is read
 module _ (j : List Entry) (n : ℕ) (wanted : Wanted) (number : ℕ) (is : number ≡ wanted_in (state_of n j) wanted) where

@@ -1,20 +1,18 @@
 -- What a progress leaves to be checked is what a version leaves.
-use Rattle.std.proofs.Common.{◌≡◌, ◌↔◌, ◌<◌, ◌≤◌, ◌⊎◌, inl, inr, ℕ, zero, suc, Bool, true, false, not, ◌&&◌, ◌||◌, cond, is_none, IsSome, IsTrue, List, [], ◌∷◌, length, get_or, map, filter, Option, Some, None, refl, sym, ap, ap₂, subst, ◌∙◌, arith, true≢false}
-use Rattle.std.specs.List.{All, Any, AllPairs, Contains, list_any}
+use Rattle.std.proofs.Common.{◌≡◌, ◌↔◌, ◌<◌, ◌⊎◌, inl, inr, ℕ, zero, suc, Bool, true, false, not, ◌||◌, cond, is_none, IsSome, IsTrue, List, [], ◌∷◌, length, get_or, map, filter, Option, Some, None, refl, sym, ap, subst, ◌∙◌, arith, true≢false}
+use Rattle.std.specs.List.{All, AllPairs, Contains}
 use Rattle.std.proofs.lemmas.Bool.{and_parts, and_from}
 use Rattle.std.proofs.lemmas.List.{get_or_default, get_or-map, length-map}
-use Rattle.std.proofs.lemmas.List.Elements.{All-head, All-tail, All-contains}
+use Rattle.std.proofs.lemmas.List.Elements.{All-head, All-tail}
 use Rattle.bim_model.specs.Snapshots.{Version}
 use Rattle.bucket_grid.specs.declared.cell.Cell.{Cell}
-use Rattle.bucket_grid.specs.declared.table.Bucket.{Bucket}
 use Rattle.bucket_grid.specs.Cells.{IsBucket}
 use Rattle.bucket_grid.specs.Grids.{GridValue}
 use Rattle.bucket_check.specs.Clashes.{is_cell}
-use Rattle.bucket_check.specs.Sets.{SetValue, IsUnmoved}
+use Rattle.bucket_check.specs.Sets.{SetValue}
 use Rattle.bucket_check.proofs.Merged.{same_cell, one_cell}
-use Rattle.bucket_check.proofs.Lists.{Lists}
 use Rattle.clash_delta.specs.declared.slot.Slot.{Slot}
-use Rattle.clash_delta.specs.Slots.{cells_of, bucket_cells, undone_slots, undone_cells, IsBucketOf, IsDone, IsOf}
+use Rattle.clash_delta.specs.Slots.{cells_of, bucket_cells, undone_cells, IsBucketOf, IsDone, IsOf}
 use Rattle.clash_delta.specs.Carried.{IsCarried}
 use Rattle.book_history.specs.Boxes.{boxes_of}
 use Rattle.book_history.specs.Buckets.{buckets_of, buckets_among, is_among}

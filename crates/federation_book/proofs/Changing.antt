@@ -1,11 +1,10 @@
 -- Models that are uploaded or removed, and rules that are set.
-use Rattle.std.proofs.Common.{◌≡◌, ℕ, List, [], ◌∷◌, ◌++◌, Option, Some, None, Bool, true, false, if◌then◌else◌, length, refl, sym, ◌∙◌, ap, ap₂, subst}
+use Rattle.std.proofs.Common.{◌≡◌, ℕ, List, [], ◌∷◌, ◌++◌, Option, Some, None, Bool, true, false, if◌then◌else◌, refl, sym, ◌∙◌, ap, ap₂, subst}
 use Rattle.std.specs.List.{list_any}
 use Rattle.std.specs.Str.{bytes_eq}
 use Rattle.bim_model.specs.declared.element.Element.{Element}
 use Rattle.bim_model.specs.declared.named_model.NamedModel.{NamedModel}
 use Rattle.bim_model.specs.declared.rules.Rule.{Rule}
-use Rattle.bim_model.specs.Models.{triangle_count}
 use Rattle.bim_model.specs.Snapshots.{Version, with_model, without_model}
 use Rattle.book_turn.specs.declared.object.Stamp.{Stamp}
 use Rattle.book_turn.specs.Entries.{listed}

@@ -1,5 +1,5 @@
 -- A bucket's clashes that are brought: one bucket less is to be checked, so that the journal's room stays.
-use Rattle.std.proofs.Common.{◌≡◌, ◌+◌, ◌-◌, ◌<◌, ◌≤◌, ◌==◌, ◌||◌, ◌&&◌, not, cond, ℕ, Bool, true, false, if◌then◌else◌, zero, suc, List, [], ◌∷◌, ◌++◌, length, get_or, set, filter, sum_by, Option, Some, None, inl, inr, refl, sym, ◌∙◌, ap, subst, arith, true≢false}
+use Rattle.std.proofs.Common.{◌≡◌, ◌+◌, ◌-◌, ◌<◌, ◌≤◌, ◌||◌, ◌&&◌, not, cond, ℕ, Bool, true, false, if◌then◌else◌, zero, suc, List, [], ◌∷◌, length, get_or, set, filter, sum_by, Some, None, inl, inr, refl, sym, ◌∙◌, ap, subst, arith, true≢false}
 use Rattle.std.proofs.lemmas.Bool.{not-false}
 use Rattle.std.proofs.lemmas.Bool.Decides.{eqb_tells}
 use Rattle.std.proofs.lemmas.List.{get_or-set_same, length-set}
@@ -14,13 +14,12 @@ use Rattle.book_history.specs.declared.changes.Change.TheVariants.{BucketDone}
 use Rattle.book_history.specs.declared.changes.Entry.{Entry}
 use Rattle.book_history.specs.declared.faults.BookFault.{BookFault}
 use Rattle.book_history.specs.declared.faults.BookFault.TheVariants as fault
-use Rattle.book_history.specs.declared.replies.ReplyBody.TheVariants as reply
 use Rattle.book_history.specs.Buckets.{buckets_of, is_among}
 use Rattle.book_history.specs.Versions.{VersionState, nothing, version_at, with_done, is_done, live_in}
 use Rattle.book_history.specs.Projects.{ProjectState, newest, with_bucket}
 use Rattle.book_history.specs.History.{state_of, live_of, left_in, left_all, project_numbers}
 use Rattle.book_history.specs.Refusals.{first_of, dropped, done_before, left_if, left_after}
-use Rattle.book_history.specs.Requests.{Accepted, refused_or, finished, body_of}
+use Rattle.book_history.specs.Requests.{Accepted, refused_or, finished}
 use Rattle.book_history.proofs.Alone.{HasParts}
 use Rattle.federation_book.specs.declared.project.Project.{Project}
 use Rattle.federation_book.specs.Kept.{KeepsProject}
@@ -107,9 +106,9 @@ less_after projects j number left low high less =
 
     most : (m : ℕ) → left_if j number left m ≤ left_in (live_of m j)
     most m = elim (eqb_tells m number) [
-        inl is ↦ rw is.0 (subst (λ n. left ≤ left_in (live_of n j)) (sym is.1) (omega (arith, less)))
+      | inl is ↦ rw is.0 (subst (λ n. left ≤ left_in (live_of n j)) (sym is.1) (omega (arith, less)))
       | inr none ↦ rw none.0 (omega arith)
-      ]
+    ]
 
     own : left_if j number left number + 1 ≤ left_in (live_of number j)
     own = elim (eqb_tells number number) [ inl is ↦ rw is.0 less | inr none ↦ absurd (none.1 refl) ]

@@ -1,9 +1,8 @@
 -- What the book keeps of each project is what follows of its journal.
-use Rattle.std.proofs.Common.{◌≡◌, ◌≢◌, ◌+◌, ◌-◌, ◌<◌, ◌≤◌, ℕ, zero, suc, List, [], ◌∷◌, ◌++◌, length, get_or, slice_set, refl, sym, ◌∙◌, ap, subst, arith}
+use Rattle.std.proofs.Common.{◌≡◌, ◌≢◌, ◌+◌, ◌-◌, ◌<◌, ◌≤◌, ℕ, zero, suc, List, [], ◌∷◌, ◌++◌, length, get_or, slice_set, refl, sym, ◌∙◌, subst, arith}
 use Rattle.std.proofs.lemmas.List.Quantifiers.{all_pairs_push}
-use Rattle.std.proofs.lemmas.Grind.{common_steps}
 use Rattle.book_history.specs.declared.changes.Entry.{Entry}
-use Rattle.book_history.specs.Projects.{ProjectState, untouched, with_change}
+use Rattle.book_history.specs.Projects.{untouched, with_change}
 use Rattle.book_history.specs.History.{state_of, IsBefore, IsHistory}
 use Rattle.book_history.proofs.States.{state_other, state_own, nothing_yet}
 use Rattle.federation_book.specs.declared.project.Project.{Project}

@@ -1,5 +1,5 @@
 -- What becomes of a change of a project.
-use Rattle.std.proofs.Common.{◌≡◌, ℕ, List, [], ◌∷◌, ◌++◌, Option, Some, None, length, ◌≤◌, ◌+◌, sym, ◌∙◌, ap, ap₂, subst, arith}
+use Rattle.std.proofs.Common.{◌≡◌, ℕ, List, [], ◌∷◌, ◌++◌, Option, Some, None, length, sym, ◌∙◌, ap, ap₂, subst, arith}
 use Rattle.book_turn.specs.declared.object.Stamp.{Stamp}
 use Rattle.book_turn.specs.Entries.{listed}
 use Rattle.book_history.specs.declared.changes.Change.{Change}

@@ -1,5 +1,5 @@
 -- How versions are made.
-use Rattle.std.specs.Prelude.{◌≡◌, List, [], ◌∷◌, Option, Some, None, Result, Ok, Err}
+use Rattle.std.specs.Prelude.{◌≡◌, [], ◌∷◌, Option, Some, None, Result, Ok, Err}
 use Rattle.bim_model.specs.Snapshots.{Version}
 use Rattle.bucket_grid.specs.Grids.{GridValue}
 use Rattle.book_history.specs.declared.limits.Limits.{Limits}

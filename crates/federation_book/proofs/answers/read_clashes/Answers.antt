@@ -1,4 +1,4 @@
-use Rattle.std.proofs.Common.{◌≡◌, ◌+◌, ◌-◌, ◌<◌, ◌≤◌, ℕ, List, length, get_or, Option, Some, None, refl, sym, ◌∙◌, ap, subst, arith}
+use Rattle.std.proofs.Common.{◌≡◌, ◌-◌, ◌≤◌, length, get_or, refl, sym, ◌∙◌, ap, subst, arith}
 use Rattle.std.specs.Option.{IfSome}
 use Rattle.std.specs.Vec.{with_item}
 use Rattle.std.proofs.lemmas.List.{length-set}
@@ -10,7 +10,7 @@ use Rattle.book_history.specs.History.{state_of}
 use Rattle.book_history.specs.Requests.{in_project, clashes_read, body_of}
 use Rattle.federation_book.specs.declared.project.Project.{Project}
 use Rattle.federation_book.specs.declared.state.State.{State}
-use Rattle.federation_book.specs.Kept.{KeepsProject, settings_of}
+use Rattle.federation_book.specs.Kept.{KeepsProject}
 use Rattle.federation_book.proofs.Accepting.{kept_asked}
 use Rattle.federation_book.proofs.Reading.{newest_small, not_refused, live_place, placed, placed_there, keeps_same}
 use Rattle.federation_book.proofs.Taking.{kept_numbered}
@@ -31,7 +31,7 @@ returns-in-Some-not_there-clause-reply c =
     let is = c.number_of-version.ensures (state_of n h) k in
     let fault = sym c.in-Some-not_there.is ∙ c.not_there.ensures (state_of n h) k in
     sym (ap (λ o. body_of h (in_project o (clashes_read h c.args.wanted c.args.first c.args.count))) c.in-Some.is
-        ∙ clashes_refused h n c.args.wanted c.number_of-version.result is c.args.first c.args.count c.in-Some-not_there.fault fault)
+    ∙ clashes_refused h n c.args.wanted c.number_of-version.result is c.args.first c.args.count c.in-Some-not_there.fault fault)
 
 pub place_of-place-requires-clause-made : goal.place_of-place-requires-clause-made
 place_of-place-requires-clause-made c =
@@ -71,7 +71,7 @@ returns-then-left-gt0-clause-reply c =
     let kept : c.index.result.now ≡ version_at s.versions v = c.index.ensures ∙ at.is c.index.result.now in
     let many = c.left-left.ensures ∙ ap (λ (x : VersionState). length x.undone) kept in
     sym (ap (λ o. body_of h (in_project o (clashes_read h c.args.wanted c.args.first c.args.count))) c.in-Some.is
-        ∙ clashes_pending h n c.args.wanted v is c.args.first c.args.count c.left-left.result none many c.if-left-gt0.true)
+    ∙ clashes_pending h n c.args.wanted v is c.args.first c.args.count c.left-left.result none many c.if-left-gt0.true)
 
 pub index_mut-project-requires : goal.index_mut-project-requires
 index_mut-project-requires c =
@@ -139,7 +139,7 @@ returns-clause-reply c =
     let content = c.in_ok-set.ensures.set ∙ ap (λ (x : VersionState). x.content) (c.index_mut.ensures.value ∙ second.is c.index_mut.result.now) in
     ap (λ (x : Version). reply.Clashes v x c.args.first c.args.count) content
     ∙ sym (ap (λ o. body_of h (in_project o (clashes_read h c.args.wanted c.args.first c.args.count))) c.in-Some.is
-        ∙ clashes_answered h n c.args.wanted v is c.args.first c.args.count c.left-left.result none many rests)
+    ∙ clashes_answered h n c.args.wanted v is c.args.first c.args.count c.left-left.result none many rests)
 
 pub returns-clause-settings : goal.returns-clause-settings
 returns-clause-settings c =

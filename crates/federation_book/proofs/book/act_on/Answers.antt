@@ -1,9 +1,8 @@
-use Rattle.std.proofs.Common.{◌≡◌, ◌∙◌, List, length, refl, sym, ap, subst}
+use Rattle.std.proofs.Common.{◌∙◌, length, refl, sym, ap, subst}
 use Rattle.book_history.specs.declared.changes.Change.TheVariants as change
-use Rattle.book_history.specs.declared.requests.BookRequest.TheVariants as request
 use Rattle.book_history.specs.declared.replies.ReplyBody.TheVariants as reply
-use Rattle.book_history.specs.History.{topics_of, state_of}
-use Rattle.book_history.specs.Requests.{Outcome, Answer, in_project, changed, removed, version_read, clashes_read, order_for, all_orders, finished, outcome_of}
+use Rattle.book_history.specs.History.{topics_of}
+use Rattle.book_history.specs.Requests.{Answer, in_project, changed, removed, version_read, clashes_read, order_for, all_orders, finished, outcome_of}
 use Rattle.book_history.specs.Legal.{IsLegal}
 use Rattle.federation_book.specs.Kept.{settings_of}
 use Rattle.federation_book.proofs.Acting.{number_is, number_there, reply_is, added_is, asked_is}

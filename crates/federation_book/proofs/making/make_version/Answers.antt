@@ -1,11 +1,9 @@
-use Rattle.std.proofs.Common.{◌≡◌, ◌+◌, ◌-◌, ◌<◌, ◌≤◌, ◌^◌, ◌++◌, ℕ, List, [], ◌∷◌, length, Option, Some, None, refl, sym, ◌∙◌, ap, subst, arith}
+use Rattle.std.proofs.Common.{◌≡◌, ◌+◌, ◌-◌, ◌++◌, [], ◌∷◌, length, None, refl, sym, ◌∙◌, ap, subst, arith}
 use Rattle.std.specs.Vec.{with_item}
 use Rattle.book_history.specs.declared.changes.Entry.{Entry}
-use Rattle.book_history.specs.declared.faults.BookFault.{BookFault}
-use Rattle.book_history.specs.Versions.{VersionState, live_in}
-use Rattle.book_history.specs.Projects.{with_change}
+use Rattle.book_history.specs.Versions.{live_in}
 use Rattle.book_history.specs.History.{state_of}
-use Rattle.book_history.specs.Refusals.{first_of, store_full, triangles_if, text_if, journal_if, left_after}
+use Rattle.book_history.specs.Refusals.{store_full, triangles_if, text_if, journal_if, left_after}
 use Rattle.book_history.specs.Requests.{entry_of}
 use Rattle.book_history.specs.Weights.{triangles_of, text_of}
 use Rattle.book_history.proofs.Live.{few_live}
@@ -14,7 +12,7 @@ use Rattle.federation_book.specs.declared.project.Project.{Project}
 use Rattle.federation_book.specs.declared.state.State.{State}
 use Rattle.federation_book.specs.Kept.{KeepsProject, settings_of}
 use Rattle.federation_book.specs.Making.{IsNext}
-use Rattle.federation_book.proofs.Accepting.{AreNone, none_of, journal_room, triangles_room, text_room, kept_after, kept_asked}
+use Rattle.federation_book.proofs.Accepting.{none_of, journal_room, triangles_room, text_room, kept_after, kept_asked}
 use Rattle.federation_book.proofs.Taking.{kept_numbered}
 use Rattle.federation_book.proofs.Outcomes.{kept_still}
 use Rattle.federation_book.proofs.Advancing.{left_then, keeps_then, full_then, not_some}

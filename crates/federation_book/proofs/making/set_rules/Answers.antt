@@ -1,17 +1,16 @@
-use Rattle.std.proofs.Common.{◌≡◌, ◌++◌, List, sym, refl, ◌∙◌, ap, ap₂, subst}
+use Rattle.std.proofs.Common.{◌≡◌, ◌++◌, List, sym, refl, ◌∙◌, ap, subst}
 use Rattle.bim_model.specs.declared.rules.Rule.{Rule}
-use Rattle.bim_model.specs.Snapshots.{Version, without_model}
-use Rattle.book_history.specs.declared.changes.Change.TheVariants.{Remove, SetRules}
-use Rattle.book_history.specs.declared.faults.BookFault.TheVariants.{NoModel}
+use Rattle.bim_model.specs.Snapshots.{Version}
+use Rattle.book_history.specs.declared.changes.Change.TheVariants.{SetRules}
 use Rattle.book_history.specs.Versions.{VersionState}
-use Rattle.book_history.specs.Projects.{newest_content, with_change}
+use Rattle.book_history.specs.Projects.{with_change}
 use Rattle.book_history.specs.History.{state_of}
-use Rattle.book_history.specs.Refusals.{first_of, full, no_model}
-use Rattle.book_history.specs.Requests.{Accepted, changed, removed, entry_of}
+use Rattle.book_history.specs.Refusals.{first_of, full}
+use Rattle.book_history.specs.Requests.{Accepted, changed, entry_of}
 use Rattle.book_history.proofs.States.{within}
 use Rattle.federation_book.specs.Kept.{settings_of, unless_refused}
 use Rattle.federation_book.proofs.Advancing.{last_is}
-use Rattle.federation_book.proofs.Outcomes.{is_refused, is_accepted, refused_reply, refused_adds, accepted_reply}
+use Rattle.federation_book.proofs.Outcomes.{is_refused, is_accepted, refused_reply, accepted_reply}
 use Rattle.federation_book.proofs.Changing.{rules_next, state_then, whole_then, settled_adds, settled_entry}
 use Rattle.federation_book.proofs.making.set_rules.Goals as goal
 

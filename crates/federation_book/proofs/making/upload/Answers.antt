@@ -1,4 +1,4 @@
-use Rattle.std.proofs.Common.{◌≡◌, length, sym, ◌∙◌, ap, ap₂}
+use Rattle.std.proofs.Common.{length, sym, ◌∙◌, ap, ap₂}
 use Rattle.bim_model.specs.Models.{triangle_count}
 use Rattle.bim_model.specs.Snapshots.{Version}
 use Rattle.book_history.specs.declared.changes.Change.TheVariants.{Upload}

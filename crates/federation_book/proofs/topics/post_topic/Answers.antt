@@ -1,23 +1,20 @@
-use Rattle.std.proofs.Common.{◌≡◌, ◌+◌, ◌-◌, ◌<◌, ◌≤◌, ◌^◌, ◌++◌, ℕ, List, [], ◌∷◌, length, Option, Some, None, refl, sym, ◌∙◌, ap, ap₂, subst, arith}
+use Rattle.std.proofs.Common.{◌≡◌, ◌+◌, ◌-◌, ◌≤◌, ◌++◌, List, [], ◌∷◌, length, refl, sym, ◌∙◌, ap, ap₂, subst, arith}
 use Rattle.std.specs.Option.{IfSome}
 use Rattle.std.specs.Vec.{with_item}
 use Rattle.bim_model.specs.declared.topic.Topic.{Topic}
-use Rattle.book_history.specs.declared.changes.Change.{Change}
 use Rattle.book_history.specs.declared.changes.Change.TheVariants.{PostTopic}
 use Rattle.book_history.specs.declared.changes.Entry.{Entry}
-use Rattle.book_history.specs.declared.faults.BookFault.{BookFault}
-use Rattle.book_history.specs.declared.limits.Settings.{Settings}
 use Rattle.book_history.specs.declared.replies.ReplyBody.TheVariants as reply
 use Rattle.book_history.specs.Projects.{new_topic, with_change}
-use Rattle.book_history.specs.History.{state_of, left_in, left_all}
-use Rattle.book_history.specs.Refusals.{first_of, full, triangles_if, text_if, journal_if, left_after}
+use Rattle.book_history.specs.History.{state_of, left_in}
+use Rattle.book_history.specs.Refusals.{full, triangles_if, text_if, journal_if, left_after}
 use Rattle.book_history.specs.Requests.{Accepted, changed, entry_of}
 use Rattle.book_history.specs.Weights.{told}
 use Rattle.book_history.proofs.States.{within}
 use Rattle.federation_book.specs.declared.project.Project.{Project}
 use Rattle.federation_book.specs.declared.state.State.{State}
 use Rattle.federation_book.specs.Kept.{KeepsProject, settings_of}
-use Rattle.federation_book.proofs.Accepting.{AreNone, none_of, journal_room, text_room, kept_after, kept_asked}
+use Rattle.federation_book.proofs.Accepting.{none_of, journal_room, text_room, kept_after, kept_asked}
 use Rattle.federation_book.proofs.Taking.{kept_numbered}
 use Rattle.federation_book.proofs.Outcomes.{is_refused, is_accepted, refused_reply, refused_adds, accepted_reply, accepted_adds}
 use Rattle.federation_book.proofs.topics.post_topic.Goals as goal

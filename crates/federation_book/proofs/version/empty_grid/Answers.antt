@@ -1,4 +1,4 @@
-use Rattle.std.proofs.Common.{◌≡◌, ◌<◌, [], Err, ap, ◌∙◌, arith}
+use Rattle.std.proofs.Common.{◌≡◌, Err, ap, ◌∙◌, arith}
 use Rattle.bim_model.specs.Snapshots.{Version}
 use Rattle.bucket_grid.specs.declared.grid.GridError.TheVariants.{TooSpread}
 use Rattle.federation_book.proofs.Grids.{no_buckets, no_memberships}

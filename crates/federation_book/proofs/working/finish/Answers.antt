@@ -1,4 +1,4 @@
-use Rattle.std.proofs.Common.{◌≡◌, ◌+◌, ◌-◌, ◌<◌, ◌≤◌, ◌^◌, ◌++◌, ℕ, true, false, List, [], ◌∷◌, length, get_or, slice_set, Option, Some, None, refl, sym, ◌∙◌, ap, subst, arith}
+use Rattle.std.proofs.Common.{◌≡◌, ◌+◌, ◌-◌, ◌<◌, ◌++◌, true, false, [], ◌∷◌, length, Some, None, refl, sym, ◌∙◌, ap, subst, arith}
 use Rattle.std.specs.Vec.{with_item}
 use Rattle.std.proofs.lemmas.List.{length-set}
 use Rattle.bucket_grid.specs.declared.cell.Cell.{Cell}
@@ -12,7 +12,7 @@ use Rattle.book_history.specs.declared.changes.Entry.{Entry}
 use Rattle.book_history.specs.declared.limits.Settings.{Settings}
 use Rattle.book_history.specs.declared.replies.ReplyBody.TheVariants as reply
 use Rattle.book_history.specs.Versions.{VersionState, version_at, is_done, with_done}
-use Rattle.book_history.specs.Projects.{ProjectState, with_bucket}
+use Rattle.book_history.specs.Projects.{with_bucket}
 use Rattle.book_history.specs.History.{state_of}
 use Rattle.book_history.specs.Legal.{IsGiven}
 use Rattle.book_history.specs.Refusals.{dropped}
@@ -96,8 +96,8 @@ returns-then-is_done-clause-reply c =
     let at = placed p s w.version c.place_of-place.result k (made_is p s w.version k given.made) (not_dropped p s w.version k none) c.place_of-place.ensures in
     let done : true ≡ is_done (version_at s.versions w.version) w.cell = sym c.if-is_done.true ∙ c.is_done.ensures ∙ ap (λ v. is_done v w.cell) (c.index.ensures ∙ at.is c.index.result.now) in
     sym (ap (body_of h) (finish_again h c.args.set
-        (subst (λ (x : BucketWork). None ≡ dropped (state_of x.project h) x.version) is none)
-        (subst (λ (x : BucketWork). true ≡ is_done (version_at (state_of x.project h).versions x.version) x.cell) is done)))
+    (subst (λ (x : BucketWork). None ≡ dropped (state_of x.project h) x.version) is none)
+    (subst (λ (x : BucketWork). true ≡ is_done (version_at (state_of x.project h).versions x.version) x.cell) is done)))
 
 pub returns-then-is_done-clause-added : goal.returns-then-is_done-clause-added
 returns-then-is_done-clause-added c =
@@ -112,8 +112,8 @@ returns-then-is_done-clause-added c =
     let at = placed p s w.version c.place_of-place.result k (made_is p s w.version k given.made) (not_dropped p s w.version k none) c.place_of-place.ensures in
     let done : true ≡ is_done (version_at s.versions w.version) w.cell = sym c.if-is_done.true ∙ c.is_done.ensures ∙ ap (λ v. is_done v w.cell) (c.index.ensures ∙ at.is c.index.result.now) in
     nothing_added h (listed (entry_by c.args.stamp (finished h c.args.set))) (ap (λ o. listed (entry_by c.args.stamp o)) (finish_again h c.args.set
-        (subst (λ (x : BucketWork). None ≡ dropped (state_of x.project h) x.version) is none)
-        (subst (λ (x : BucketWork). true ≡ is_done (version_at (state_of x.project h).versions x.version) x.cell) is done)))
+    (subst (λ (x : BucketWork). None ≡ dropped (state_of x.project h) x.version) is none)
+    (subst (λ (x : BucketWork). true ≡ is_done (version_at (state_of x.project h).versions x.version) x.cell) is done)))
 
 pub index_mut-requires : goal.index_mut-requires
 index_mut-requires c =
@@ -173,8 +173,8 @@ returns-clause-reply c =
     c.put-left.ensures.left ∙ ap (λ (v : VersionState). length v.undone) (put ∙ sym (done_is q s w.version c.place_of-place.result w.cell l second there)) in
     subst (λ (x : BucketWork). reply.Finished c.put-left.result ≡ reply.Finished (length (version_at (with_bucket (state_of x.project h) x.version x.cell).versions x.version).undone)) is (ap reply.Finished left)
     ∙ sym (ap (body_of h) (finish_taken h c.args.set
-        (subst (λ (x : BucketWork). None ≡ dropped (state_of x.project h) x.version) is none)
-        (subst (λ (x : BucketWork). false ≡ is_done (version_at (state_of x.project h).versions x.version) x.cell) is open_)))
+    (subst (λ (x : BucketWork). None ≡ dropped (state_of x.project h) x.version) is none)
+    (subst (λ (x : BucketWork). false ≡ is_done (version_at (state_of x.project h).versions x.version) x.cell) is open_)))
 
 pub returns-clause-added : goal.returns-clause-added
 returns-clause-added c =
@@ -194,8 +194,8 @@ returns-clause-added c =
     c.push_reserved.ensures.items ∙ ap (λ es. es ++ entry_of c.args.stamp w.project (BucketDone w.version w.cell) ∷ []) c.in_ok-reserve.ensures.items in
     subst (λ (x : BucketWork). c.push_reserved.new.self.items ≡ h ++ entry_of c.args.stamp x.project (BucketDone x.version x.cell) ∷ []) is pushed
     ∙ ap (λ o. h ++ listed (entry_by c.args.stamp o)) (sym (finish_taken h c.args.set
-        (subst (λ (x : BucketWork). None ≡ dropped (state_of x.project h) x.version) is none)
-        (subst (λ (x : BucketWork). false ≡ is_done (version_at (state_of x.project h).versions x.version) x.cell) is open_)))
+    (subst (λ (x : BucketWork). None ≡ dropped (state_of x.project h) x.version) is none)
+    (subst (λ (x : BucketWork). false ≡ is_done (version_at (state_of x.project h).versions x.version) x.cell) is open_)))
 
 pub returns-clause-settings : goal.returns-clause-settings
 returns-clause-settings c =

@@ -1,10 +1,7 @@
-use Rattle.std.proofs.Common.{◌≡◌, ◌+◌, ◌-◌, ◌<◌, ◌≤◌, List, [], ◌∷◌, ◌++◌, length, take, get_or, Some, None, refl, sym, ◌∙◌, ap, subst, arith}
-use Rattle.std.specs.List.{slice_get}
-use Rattle.std.specs.Option.{option_map}
+use Rattle.std.proofs.Common.{◌≡◌, ◌+◌, ◌-◌, ◌<◌, length, take, get_or, sym, ◌∙◌, ap, subst, arith}
 use Rattle.std.proofs.lemmas.List.{take_all, length-take-le}
-use Rattle.book_history.specs.Versions.{VersionState}
 use Rattle.book_history.specs.History.{left_in}
-use Rattle.book_history.specs.Requests.{orders_from, order_at}
+use Rattle.book_history.specs.Requests.{orders_from}
 use Rattle.federation_book.proofs.Taking.{left_snoc, order_before, take_last, some_order, no_order}
 use Rattle.federation_book.proofs.working.order_in.Goals as goal
 

@@ -1,9 +1,9 @@
-use Rattle.std.proofs.Common.{◌≡◌, ◌+◌, ◌-◌, ◌%◌, ◌<◌, ◌≤◌, List, [], ◌∷◌, length, drop, get_or, sum_by, refl, sym, ◌∙◌, ap, subst, arith}
+use Rattle.std.proofs.Common.{◌≡◌, ◌+◌, ◌-◌, ◌%◌, ◌<◌, ◌≤◌, length, drop, get_or, sum_by, sym, ◌∙◌, ap, subst, arith}
 use Rattle.std.specs.List.{flat_map}
 use Rattle.std.proofs.lemmas.List.{drop_all}
 use Rattle.std.proofs.lemmas.Nat.{mod_below}
 use Rattle.book_history.specs.History.{state_of, live_of, left_in, left_all, project_numbers}
-use Rattle.book_history.specs.Requests.{orders_of, orders_from, all_orders}
+use Rattle.book_history.specs.Requests.{orders_of, all_orders}
 use Rattle.book_history.specs.Weights.{told}
 use Rattle.federation_book.specs.Kept.{KeepsProject}
 use Rattle.federation_book.proofs.Counting.{told_under}
@@ -61,11 +61,11 @@ returns-then-place-left c =
     let told_is = c.left_in-left.ensures ∙ ap (λ l. told (left_in l)) c.deref.ensures.value ∙ ap (λ l. told (left_in l)) k.live in
     let within : place < left_in (live_of (i + 1) h) = below_told place (left_in (live_of (i + 1) h)) (subst (λ n. place < n) told_is c.if-place-left.true) in
     sym (one_to_give h (all_orders projects h) c.args.seat c.in_ok-order.order (omega (arith, total, apart, count)) (λ d.
-        c.in_ok-order.ensures d
-        ∙ ap (λ os. get_or os place d) (orders_kept p (i + 1) (state_of (i + 1) h) k)
-        ∙ sym (order_own projects h i place lt d within)
-        ∙ sym (c.loop-index.invariant.there d)
-        ∙ ap (λ n. get_or (all_orders projects h) (c.args.seat % n) d) (sym count)))
+    c.in_ok-order.ensures d
+    ∙ ap (λ os. get_or os place d) (orders_kept p (i + 1) (state_of (i + 1) h) k)
+    ∙ sym (order_own projects h i place lt d within)
+    ∙ sym (c.loop-index.invariant.there d)
+    ∙ ap (λ n. get_or (all_orders projects h) (c.args.seat % n) d) (sym count)))
 
 pub loop-index-preserved : goal.loop-index-preserved
 loop-index-preserved c =

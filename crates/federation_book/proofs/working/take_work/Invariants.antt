@@ -1,4 +1,4 @@
-use Rattle.std.proofs.Common.{◌≡◌, ◌+◌, ◌-◌, ◌%◌, ◌<◌, length, drop, get_or, sum_by}
+use Rattle.std.proofs.Common.{◌≡◌, ◌%◌, ◌<◌, length, drop, get_or, sum_by}
 use Rattle.std.specs.List.{flat_map}
 use Rattle.book_history.specs.Orders.{OrderValue}
 use Rattle.book_history.specs.History.{state_of, live_of, left_in, left_all, project_numbers}

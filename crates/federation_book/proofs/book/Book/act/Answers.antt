@@ -1,4 +1,4 @@
-use Rattle.std.proofs.Common.{◌≡◌, ◌++◌, ◌∙◌, ℕ, List, length, sym, ap, ap₂, subst}
+use Rattle.std.proofs.Common.{◌≡◌, ◌++◌, ◌∙◌, List, length, sym, ap, ap₂, subst}
 use Rattle.clash_publish.specs.declared.horizon.Horizon.{Horizon}
 use Rattle.book_history.specs.declared.changes.Entry.{Entry}
 use Rattle.book_history.specs.declared.limits.Settings.{Settings}
@@ -7,7 +7,6 @@ use Rattle.book_history.specs.declared.replies.ReplyBody.{ReplyBody}
 use Rattle.book_history.specs.History.{IsBefore, horizon_of}
 use Rattle.book_history.specs.Legal.{IsLegal}
 use Rattle.book_history.specs.Requests.{BookState, added_by, body_of, outcome_of}
-use Rattle.federation_book.specs.Kept.{settings_of}
 use Rattle.federation_book.proofs.Acting.{after_call, after_none, on_err}
 use Rattle.federation_book.proofs.book.Book.act.Goals as goal
 

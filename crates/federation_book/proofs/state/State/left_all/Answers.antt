@@ -1,5 +1,4 @@
 use Rattle.std.proofs.Common.{◌≡◌, ◌+◌, ◌<◌, length, ap, ◌∙◌, arith}
-use Rattle.book_history.specs.Versions.{VersionState}
 use Rattle.book_history.specs.History.{live_of, left_in}
 use Rattle.book_history.specs.Weights.{told}
 use Rattle.federation_book.proofs.Counting.{told_more, left_kept}

@@ -1,4 +1,4 @@
-use Rattle.std.proofs.Common.{◌≡◌, None, length, sym, ap, ◌∙◌}
+use Rattle.std.proofs.Common.{length, sym, ap, ◌∙◌}
 use Rattle.book_history.specs.Versions.{live_in}
 use Rattle.book_history.specs.Projects.{with_change}
 use Rattle.book_history.specs.History.{state_of, left_in}

@@ -1,6 +1,5 @@
 use Rattle.std.proofs.Common.{subst, sym}
 use Rattle.bucket_grid.specs.Grids.{GridValue}
-use Rattle.bucket_check.specs.Sets.{SetValue}
 use Rattle.clash_publish.specs.Merged.{AreSetsOf}
 use Rattle.federation_book.proofs.Grids.{sets_are}
 use Rattle.federation_book.proofs.version.KeptVersion.clashes.Goals as goal

@@ -1,4 +1,4 @@
-use Rattle.std.proofs.Common.{◌≡◌, subst, sym, ap, ◌∙◌}
+use Rattle.std.proofs.Common.{subst, sym, ap, ◌∙◌}
 use Rattle.bucket_grid.specs.Cells.{IsBucket}
 use Rattle.bucket_grid.specs.Grids.{GridValue}
 use Rattle.bucket_check.specs.declared.work.BucketWork.{BucketWork}
