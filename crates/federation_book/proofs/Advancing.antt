@@ -66,12 +66,6 @@ left_next p s v content k is some =
     ∙ drop-append-le cut ps (v ∷ []) low in
     sym (ap left_in all ∙ left_snoc (drop cut ps) v)
 
--- refusals behind two others
-pub two_some : (a b : Option BookFault) (rest : List (Option BookFault)) (f : BookFault) → first_of (a ∷ b ∷ []) ≡ Some f → first_of (a ∷ b ∷ rest) ≡ Some f
-two_some None None rest f e = cc
-two_some None (Some g) rest f e = e
-two_some (Some g) b rest f e = e
-
 pub two_none : (a b : Option BookFault) (rest : List (Option BookFault)) → first_of (a ∷ b ∷ []) ≡ None → first_of (a ∷ b ∷ rest) ≡ first_of rest
 two_none None None rest e = refl
 two_none None (Some g) rest e = cc

@@ -74,9 +74,6 @@ any_cell [] c h = absurd (omega (arith, h.1))
 any_cell (s ∷ ss) c h = cell_by s ss c h.0 h.1 h.2 (λ r. any_cell ss c r)
 
 module _ (g : GridValue) (h : HasParts g) (slots : List Slot) (is : IsOf g slots) where
-  cells_are : cells_of slots ≡ buckets_of g.version
-  cells_are = is.buckets ∙ grid_cells g h
-
   pub rises : AllPairs Below (cells_of slots)
   rises = subst (λ l. AllPairs Below l) (sym (is.buckets ∙ table_cells g.boxes g.buckets h.near h.table)) (buckets_listed g.boxes h.near).rising
 

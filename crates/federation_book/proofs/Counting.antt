@@ -41,24 +41,3 @@ if_other j number x n ne = elim (eqb_tells n number) [ inl is ↦ absurd (ne is.
 
 pub told_under : (x limit : ℕ) → x ≤ limit → limit ≤ 4000000 → told x ≡ x
 told_under x limit h k = omega arith
-
-tested : (a b : ℕ) → a < b → nat_lt a b ≡ true
-tested a b h = grind (arith, nat_tests)
-
-untested : (a b : ℕ) → b ≤ a → nat_lt a b ≡ false
-untested a b h = grind (arith, nat_tests)
-
--- a count that was told is above a limit where the number is
-pub above : (f : ℕ → BookFault) (limit count real : ℕ) → count ≡ told real → limit < count → Some (f count) ≡ (if nat_lt limit real then Some (f (told real)) else None)
-above f limit count real is lt =
-    let over : limit < real = omega (arith, is, lt) in
-    ap (λ n. Some (f n)) is ∙ sym (ap (λ (b : Bool). (if b then Some (f (told real)) else None)) (tested limit real over))
-
-pub within : (f : ℕ → BookFault) (limit count real : ℕ) → count ≡ told real → count ≤ limit → limit ≤ 4000000000 → None ≡ (if nat_lt limit real then Some (f (told real)) else None)
-within f limit count real is le small =
-    let few : real ≤ limit = omega (arith, is, le, small) in
-    sym (ap (λ (b : Bool). (if b then Some (f (told real)) else None)) (untested limit real few))
-
--- a count of three parts, told one by one
-pub told_three : (a b c x y : ℕ) → x ≡ told (a + told b) → y ≡ told (x + c) → y ≡ told (a + b + c)
-told_three a b c x y e f = omega (arith, e, f)

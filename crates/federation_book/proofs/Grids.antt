@@ -18,18 +18,6 @@ use Rattle.clash_delta.specs.Slots.{IsSetOf}
 use Rattle.clash_publish.specs.Merged as merged
 use Rattle.book_history.proofs.Alone.{HasParts}
 
--- what is known of a grid, by what its calls lend
-pub has_parts : (g : GridValue) (models : List NamedModel) (places : List Member) (boxes : List Extent) (buckets : List Bucket)
-    → models ≡ g.version.models → IsSnapshot models → places ≡ g.places → AllZip (IsPlace g.version.models) (subjects_of g.version.models) places
-    → boxes ≡ g.boxes → All IsGridBox boxes → AreBoxes (subjects_of g.version.models) boxes → buckets ≡ g.buckets → IsTable g.boxes buckets → HasParts g
-has_parts g models places boxes buckets m snap p placed x near boxed b table = record {
-  snapshot = subst IsSnapshot m snap;
-  placed = subst (λ l. AllZip (IsPlace g.version.models) (subjects_of g.version.models) l) p placed;
-  boxed = subst (λ l. AreBoxes (subjects_of g.version.models) l) x boxed;
-  near = subst (λ l. All IsGridBox l) x near;
-  table = subst (λ l. IsTable g.boxes l) b table;
-}
-
 no_boxes : (boxes : List Extent) → AreBoxes [] boxes → boxes ≡ []
 no_boxes [] h = refl
 no_boxes (b ∷ bs) h = absurd h
@@ -51,10 +39,6 @@ no_buckets g h e = none_buckets g.buckets (subst (λ xs. All (λ (b : Bucket). I
 -- nor has it memberships
 pub no_memberships : (v : Version) (count : ℕ) → v.models ≡ [] → HasMemberships v count → count ≡ 0
 no_memberships v count e h = h.counted ∙ ap memberships (of_none v h.boxes e h.boxed)
-
-pub no_items : {A : Type 0} (xs : List A) → length xs ≡ 0 → xs ≡ []
-no_items [] e = refl
-no_items (x ∷ xs) e = absurd (omega (arith, e))
 
 -- sets that are right are sets of their buckets
 pub sets_are : (g : GridValue) (bs : List Bucket) (ss : List SetValue) → AllZip (λ (b : Bucket) (s : SetValue). IsSetOf g b.cell s) bs ss → AllZip (λ (b : Bucket) (s : SetValue). merged.IsSetOf g b.cell s) bs ss

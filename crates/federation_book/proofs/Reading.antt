@@ -18,44 +18,6 @@ use Rattle.federation_book.specs.Kept.{KeepsProject}
 pub newest_is : (p : Project) (s : ProjectState) → KeepsProject p s → newest s ≡ p.newest
 newest_is p s k = let n = k.newest in omega (arith, n)
 
-tested : (a b : ℕ) → a < b → nat_lt a b ≡ true
-tested a b h = grind (arith, nat_tests)
-
-untested : (a b : ℕ) → b ≤ a → nat_lt a b ≡ false
-untested a b h = grind (arith, nat_tests)
-
-tested_le : (a b : ℕ) → a ≤ b → leb a b ≡ true
-tested_le a b h = grind (arith, nat_tests)
-
-untested_le : (a b : ℕ) → b < a → leb a b ≡ false
-untested_le a b h = grind (arith, nat_tests)
-
--- a number above the newest, and one that isn't
-pub is_above : (p : Project) (s : ProjectState) (number : ℕ) → KeepsProject p s → p.newest < number → not_yet s number ≡ Some (fault.NoVersion p.newest)
-is_above p s number k lt =
-    let is = newest_is p s k in
-    subst (λ n. (if nat_lt n number then Some (fault.NoVersion n) else None) ≡ Some (fault.NoVersion p.newest)) (sym is)
-    (ap (λ (b : Bool). (if b then Some (fault.NoVersion p.newest) else None)) (tested p.newest number lt))
-
-pub is_made : (p : Project) (s : ProjectState) (number : ℕ) → KeepsProject p s → number ≤ p.newest → not_yet s number ≡ None
-is_made p s number k le =
-    let is = newest_is p s k in
-    subst (λ n. (if nat_lt n number then Some (fault.NoVersion n) else None) ≡ None) (sym is)
-    (ap (λ (b : Bool). (if b then Some (fault.NoVersion p.newest) else None)) (untested p.newest number le))
-
--- one that was dropped, and one that is live
-pub is_gone : (p : Project) (s : ProjectState) (number : ℕ) → KeepsProject p s → number + 16 ≤ p.newest → dropped s number ≡ Some (fault.VersionDropped number p.newest)
-is_gone p s number k le =
-    let is = newest_is p s k in
-    subst (λ n. (if leb (number + 16) n then Some (fault.VersionDropped number n) else None) ≡ Some (fault.VersionDropped number p.newest)) (sym is)
-    (ap (λ (b : Bool). (if b then Some (fault.VersionDropped number p.newest) else None)) (tested_le (number + 16) p.newest le))
-
-pub is_live : (p : Project) (s : ProjectState) (number : ℕ) → KeepsProject p s → p.newest < number + 16 → dropped s number ≡ None
-is_live p s number k lt =
-    let is = newest_is p s k in
-    subst (λ n. (if leb (number + 16) n then Some (fault.VersionDropped number n) else None) ≡ None) (sym is)
-    (ap (λ (b : Bool). (if b then Some (fault.VersionDropped number p.newest) else None)) (untested_le (number + 16) p.newest lt))
-
 -- what is not refused is made and live
 pub not_refused : (p : Project) (s : ProjectState) (number : ℕ) → KeepsProject p s → first_of (not_yet s number ∷ dropped s number ∷ []) ≡ None → (number ≤ p.newest) × (p.newest < number + 16)
 not_refused p s number k e = (made (nat_lt (newest s) number) refl, live (leb (number + 16) (newest s)) refl)
@@ -107,13 +69,6 @@ placed p s number place k made live at =
 -- versions enough to keep, and few
 pub newest_small : (p : Project) (n : ℕ) (j : List Entry) → KeepsProject p (state_of n j) → length j < 2 ^ 63 → p.newest < 2 ^ 63
 newest_small p n j k few = let w = (within n j).versions_in in let e = k.newest in omega (arith, w, e, few)
-
-pub some_live : (p : Project) (n : ℕ) (j : List Entry) → KeepsProject p (state_of n j) → 0 < length p.live.items
-some_live p n j k =
-    let w = (within n j).some in
-    let count = ap length k.live in
-    let all = live_length (state_of n j).versions in
-    omega (arith, w, count, all)
 
 -- one that isn't dropped is live, and has a place
 pub not_dropped : (p : Project) (s : ProjectState) (number : ℕ) → KeepsProject p s → None ≡ dropped s number → p.newest < number + 16

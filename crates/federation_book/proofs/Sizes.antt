@@ -54,22 +54,8 @@ not_spread limits v count h le =
     let few : memberships_of v ≤ limits.memberships = subst (λ n. n ≤ limits.memberships) is le in
     ap (λ (b : Bool). (if b then Some (fault.TooSpread (memberships_of v) limits.memberships) else None)) (untested limits.memberships (memberships_of v) few)
 
-above_told : (a limit : ℕ) → limit < told a → limit < a
-above_told a limit h = omega arith
-
 within_told : (a limit : ℕ) → told a ≤ limit → limit ≤ 100000 → a ≤ limit
 within_told a limit h k = omega arith
-
-pub too_many : (limits : Limits) (v : Version) (count : ℕ) → count ≡ told (elements_in v.models) → limits.elements < count → elements_full limits (Some v) ≡ Some (fault.ElementsFull count limits.elements)
-too_many limits v count is lt =
-    let more = above_told (elements_in v.models) limits.elements (subst (λ n. limits.elements < n) is lt) in
-    ap (λ (b : Bool). (if b then Some (fault.ElementsFull (told (elements_in v.models)) limits.elements) else None)) (tested limits.elements (elements_in v.models) more)
-    ∙ ap (λ n. Some (fault.ElementsFull n limits.elements)) (sym is)
-
-pub not_many : (limits : Limits) (v : Version) (count : ℕ) → count ≡ told (elements_in v.models) → count ≤ limits.elements → limits.elements ≤ 100000 → elements_full limits (Some v) ≡ None
-not_many limits v count is le small =
-    let few = within_told (elements_in v.models) limits.elements (subst (λ n. n ≤ limits.elements) is le) small in
-    ap (λ (b : Bool). (if b then Some (fault.ElementsFull (told (elements_in v.models)) limits.elements) else None)) (untested limits.elements (elements_in v.models) few)
 
 -- so few elements get a grid
 pub few_subjects : (limits : Limits) (v : Version) (count : ℕ) → count ≡ told (elements_in v.models) → count ≤ limits.elements → limits.elements ≤ 100000 → length (subjects_of v.models) ≤ 1000000
@@ -77,17 +63,6 @@ few_subjects limits v count is le small =
     let few = within_told (elements_in v.models) limits.elements (subst (λ n. n ≤ limits.elements) is le) small in
     let all = subjects_length v.models in
     omega (arith, few, all, small)
-
--- the first of two refusals
-pub first_some : (a b : Option BookFault) (f : BookFault) → a ≡ Some f → first_of (a ∷ b ∷ []) ≡ Some f
-first_some a b f e = ap (λ o. first_of (o ∷ b ∷ [])) e
-
-pub second_is : (a b r : Option BookFault) → a ≡ None → b ≡ r → first_of (a ∷ b ∷ []) ≡ r
-second_is a b r e f = ap (λ o. first_of (o ∷ b ∷ [])) e ∙ ap (λ o. first_of (o ∷ [])) f ∙ alone r
-  where
-    alone : (o : Option BookFault) → first_of (o ∷ []) ≡ o
-    alone None = refl
-    alone (Some f) = refl
 
 -- .. or of three, where the first two aren't
 pub third_is : (a b c r : Option BookFault) → a ≡ None → b ≡ None → r ≡ c → r ≡ first_of (a ∷ b ∷ c ∷ [])
