@@ -242,7 +242,14 @@ fn too_much_is_stored(rt: &impl Abort, alloc: Global) -> Result<(), Fail> {
         limit: 61,
     };
     let rules = to_set_rules(alloc, 50)?;
-    second(rt, alloc, limits, rules, to_post(alloc, id_of(1, 0), "Pipe")?, fault)
+    second(
+        rt,
+        alloc,
+        limits,
+        rules,
+        to_post(alloc, id_of(1, 0), "Pipe")?,
+        fault,
+    )
 }
 
 // Two entries, and one with two buckets that are to be checked.

@@ -155,11 +155,7 @@ pub fn is_finished(rt: &impl Abort, body: &ReplyBody, wanted: u64) -> Result<(),
 }
 
 // A version was made.
-fn is_changed(
-    rt: &impl Abort,
-    body: &ReplyBody,
-    wanted: (u64, u64, u64, u64),
-) -> Result<(), Fail> {
+fn is_changed(rt: &impl Abort, body: &ReplyBody, wanted: (u64, u64, u64, u64)) -> Result<(), Fail> {
     match body {
         ReplyBody::Changed {
             version,

@@ -111,11 +111,7 @@ pub fn thousand_beams(alloc: Global) -> Result<Shared<Model>, Fail> {
 }
 
 /// A model is put in its place.
-pub fn to_upload(
-    alloc: Global,
-    name: &str,
-    model: Shared<Model>,
-) -> Result<BookRequest, AllocError>
+pub fn to_upload(alloc: Global, name: &str, model: Shared<Model>) -> Result<BookRequest, AllocError>
     ensures { IfOk result IsFree }
 {
     Ok(BookRequest::Upload {
