@@ -1,5 +1,5 @@
 //! Versions and their clashes, turn by turn.
-ghost use Rattle.std.specs.Prelude.{IfOk, OnOk};
+ghost use Rattle.std.specs.Prelude.{◌≡◌, ◌<◌, IfOk, OnOk};
 ghost use Rattle.book_history.specs.History.{IsBefore};
 ghost use Rattle.book_history.specs.Legal.{IsGiven};
 ghost use Rattle.book_history.specs.Settings.{IsWithinStated};
@@ -98,29 +98,56 @@ fn carried<L: Ledger>(
     change(rt, book, 14, to_set_rules(alloc, 49)?, (5, 5, 5, 2))
 }
 
+// What changed is checked, and what didn't isn't.
+fn what_changed<L: Ledger>(rt: &impl Abort, alloc: Global, blank: Blank) -> Result<(), Fail>
+    requires name { blank.name ≡ L.name }
+    requires parts { blank.parts ≡ L.parts }
+    requires some { 0 < blank.parts }
+{
+    let mut steps = Steps::<L>::new(blank);
+    let mut book = Book::new(alloc, 1, Limits::stated())?;
+    two_buckets(rt, alloc, &mut book, &mut steps)?;
+    moved(rt, alloc, &mut book, &mut steps)
+}
+
 #[test]
 fn checks_what_changed(rt: HostRuntime) -> Result<(), Fail> {
-    let mut steps = Steps::<Brand>::new(Blank::new(1));
-    let mut book = Book::new(rt.alloc(), 1, Limits::stated())?;
-    two_buckets(&rt, rt.alloc(), &mut book, &mut steps)?;
-    moved(&rt, rt.alloc(), &mut book, &mut steps)
+    what_changed::<Brand>(&rt, rt.alloc(), Blank::new(1))
+}
+
+// What stays is carried.
+fn what_stays<L: Ledger>(rt: &impl Abort, alloc: Global, blank: Blank) -> Result<(), Fail>
+    requires name { blank.name ≡ L.name }
+    requires parts { blank.parts ≡ L.parts }
+    requires some { 0 < blank.parts }
+{
+    let mut steps = Steps::<L>::new(blank);
+    let mut book = Book::new(alloc, 1, Limits::stated())?;
+    two_buckets(rt, alloc, &mut book, &mut steps)?;
+    carried(rt, alloc, &mut book, &mut steps)
 }
 
 #[test]
 fn carries_what_stays(rt: HostRuntime) -> Result<(), Fail> {
-    let mut steps = Steps::<Brand>::new(Blank::new(1));
-    let mut book = Book::new(rt.alloc(), 1, Limits::stated())?;
-    two_buckets(&rt, rt.alloc(), &mut book, &mut steps)?;
-    carried(&rt, rt.alloc(), &mut book, &mut steps)
+    what_stays::<Brand>(&rt, rt.alloc(), Blank::new(1))
+}
+
+// Each bucket is checked, and once.
+fn each_bucket<L: Ledger>(rt: &impl Abort, alloc: Global, blank: Blank) -> Result<(), Fail>
+    requires name { blank.name ≡ L.name }
+    requires parts { blank.parts ≡ L.parts }
+    requires some { 0 < blank.parts }
+{
+    let mut steps = Steps::<L>::new(blank);
+    let mut book = Book::new(alloc, 1, Limits::stated())?;
+    across(rt, alloc, &mut book, &mut steps)?;
+    let mut book = Book::new(alloc, 1, Limits::stated())?;
+    late(rt, alloc, &mut book, &mut steps)
 }
 
 #[test]
 fn checks_each_bucket(rt: HostRuntime) -> Result<(), Fail> {
-    let mut steps = Steps::<Brand>::new(Blank::new(1));
-    let mut book = Book::new(rt.alloc(), 1, Limits::stated())?;
-    across(&rt, rt.alloc(), &mut book, &mut steps)?;
-    let mut book = Book::new(rt.alloc(), 1, Limits::stated())?;
-    late(&rt, rt.alloc(), &mut book, &mut steps)
+    each_bucket::<Brand>(&rt, rt.alloc(), Blank::new(1))
 }
 
 // Rules are set seventeen times.
@@ -304,17 +331,25 @@ fn gives_often(rt: &impl Abort, book: &mut Book) -> Result<BucketWork, Fail>
     take(rt, book, 10_002, 0, 2, cell)
 }
 
-#[test]
-fn gives_work_out_without_testing(rt: HostRuntime) -> Result<(), Fail> {
-    let alloc = rt.alloc();
-    let mut steps = Steps::<Brand>::new(Blank::new(1));
+// A thousand beams, whose pairs are tested once at last.
+fn without_testing<L: Ledger>(rt: &impl Abort, alloc: Global, blank: Blank) -> Result<(), Fail>
+    requires name { blank.name ≡ L.name }
+    requires parts { blank.parts ≡ L.parts }
+    requires some { 0 < blank.parts }
+{
+    let mut steps = Steps::<L>::new(blank);
     let mut book = Book::new(alloc, 1, Limits::stated())?;
-    change(&rt, &mut book, 1, to_set_rules(alloc, 0)?, (1, 0, 0, 0))?;
+    change(rt, &mut book, 1, to_set_rules(alloc, 0)?, (1, 0, 0, 0))?;
     let model = to_upload(alloc, "m", thousand_beams(alloc)?)?;
-    change(&rt, &mut book, 2, model, (2, 1000, 1000, 8))?;
-    let work = gives_often(&rt, &mut book)?;
+    change(rt, &mut book, 2, model, (2, 1000, 1000, 8))?;
+    let work = gives_often(rt, &mut book)?;
     assert_eq!(rt; work.grid.get().members(work.cell).len(), 1000);
     let set = check(alloc, work, &mut Room::new(alloc), &mut steps)?;
     assert_eq!(rt; set.pairs().len(), 0);
     Ok(())
+}
+
+#[test]
+fn gives_work_out_without_testing(rt: HostRuntime) -> Result<(), Fail> {
+    without_testing::<Brand>(&rt, rt.alloc(), Blank::new(1))
 }

@@ -7,10 +7,10 @@ use Rattle.federation_book.proofs.desk.take.Goals as goal
 
 pub returns-clause-given : goal.returns-clause-given
 returns-clause-given g c =
-    given_after c.args.book.now c.act.new.self _ c.in_ok-act.ensures.settings c.in_ok-act.ensures.added c.into_work-work.result
+    given_after c.args.book.now c.act.new.self _ c.in_ok-body.ensures.settings c.in_ok-body.ensures.added c.into_work-work.result
     (given_out c.args.book.now.settings c.args.book.now.journal c.args.seat c.into_work-work.result
-    (sym (ap (λ (r : BookReply). r.body) c.in_ok-act.ensures.reply) ∙ c.in-Work.is ∙ ap reply.Work (sym c.into_work-work.ensures.order))
+    (sym (ap (λ (r : BookReply). r.body) c.in_ok-body.ensures.reply) ∙ c.in-Work.is ∙ ap reply.Work (sym c.into_work-work.ensures.order))
     c.into_work-work.ensures.bucket)
 
 pub returns-clause-stays : goal.returns-clause-stays
-returns-clause-stays g c = given_after c.args.book.now c.act.new.self _ c.in_ok-act.ensures.settings c.in_ok-act.ensures.added
+returns-clause-stays g c = given_after c.args.book.now c.act.new.self _ c.in_ok-body.ensures.settings c.in_ok-body.ensures.added
