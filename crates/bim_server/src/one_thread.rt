@@ -19,7 +19,7 @@ use bucket_check::{BucketSet, Room, check};
 use federation_book::Book;
 use std::alloc::{AllocError, Global};
 use std::marker::{Brand, Model};
-use std::sync::ledger::Blank;
+use std::sync::ledger::{Blank, Ledger};
 
 /// A book, how many turns were taken of it, and room for the work on its buckets.
 #[derive(Drop)]
@@ -58,11 +58,19 @@ fn stated_limits() -> Limits
 }
 
 // What is found for the bucket of an order.
-fn set_of(alloc: Global, room: &mut Room, order: WorkOrder) -> Result<Shared<BucketSet>, AllocError>
+fn set_of<L: Ledger>(
+    alloc: Global,
+    blank: Blank,
+    room: &mut Room,
+    order: WorkOrder,
+) -> Result<Shared<BucketSet>, AllocError>
+    requires name { blank.name ≡ L.name }
+    requires parts { blank.parts ≡ L.parts }
+    requires some { 0 < blank.parts }
     ensures set { IfOk result (IsSetOf order) }
     ensures bucket { IfOk result (λ set. IsBucket set.work.grid.boxes set.work.cell) }
 {
-    let mut steps = Steps::<Brand>::new(Blank::new(1));
+    let mut steps = Steps::<L>::new(blank);
     let set = check(alloc, order.into_work(), room, &mut steps)?;
     Shared::new(alloc, set)
 }
@@ -115,13 +123,14 @@ impl OneThread {
         requires { 0 < left_of self.old }
         ensures ok { OnOk result (WorksBucket self.old self.new) }
         ensures err { OnErr result (WorksPart self.old self.new) }
+        ensures before { IsBefore (self.new.turns + 1) self.new.history }
         ensures settings { self.new.settings ≡ self.old.settings }
     {
         let receipt = self.call(BookRequest::TakeWork { seat: 0 })?;
         let ReplyBody::Work(order) = receipt.reply.body else {
             unreachable!()
         };
-        let set = set_of(alloc, &mut self.room, order)?;
+        let set = set_of::<Brand>(alloc, Blank::new(1), &mut self.room, order)?;
         let _receipt = self.call(BookRequest::Finish { set })?;
         Ok(())
     }
@@ -130,8 +139,10 @@ impl OneThread {
     fn work_up_to(&mut self, alloc: Global, most: u64) -> Result<(), AllocError>
         ensures ok { OnOk result (WorksUpTo most self.old self.new) }
         ensures err { OnErr result (WorksLess most self.old self.new) }
+        ensures before { IsBefore (self.new.turns + 1) self.new.history }
         ensures settings { self.new.settings ≡ self.old.settings }
     {
+        let _book = &self.book;
         for _done in 0..most {
             if self.left_all() == 0 {
                 return Ok(());

@@ -1,9 +1,11 @@
-use Rattle.std.proofs.Common.{◌≡◌}
+use Rattle.std.proofs.Common.{◌≡◌, ◌+◌}
+use Rattle.book_history.specs.History.{IsBefore}
 use Rattle.bim_server.specs.Working.{WorksTimes}
 use Rattle.bim_server.proofs.one_thread.OneThread.work_up_to.Given as goal
 
-abbrev pub invariant-loop-_done : goal.invariant-loop-_done
-invariant-loop-_done l = record {
+abbrev pub invariant-loop-done : goal.invariant-loop-done
+invariant-loop-done l = record {
   worked : WorksTimes l.initial.self l._done l.self;
+  before : IsBefore (l.self.turns + 1) l.self.history;
   settings : l.self.settings ≡ l.initial.self.settings;
 }
