@@ -11,14 +11,17 @@ use Rattle.book_history.specs.declared.changes.Change.{Change}
 use Rattle.book_history.specs.declared.changes.Change.TheVariants as change
 use Rattle.book_history.specs.declared.faults.BookFault.{BookFault}
 use Rattle.book_history.specs.declared.replies.ReplyBody.{ReplyBody}
+use Rattle.book_history.specs.declared.replies.ReplyBody.TheVariants as reply
+use Rattle.book_history.specs.declared.requests.Wanted.{Wanted}
 use Rattle.book_history.specs.declared.replies.BookReply.{BookReply}
 use Rattle.book_history.specs.declared.requests.BookRequest.{BookRequest}
 use Rattle.book_history.specs.declared.requests.BookRequest.TheVariants.{ListTopics, PostTopic, Upload, Remove, SetRules, ReadVersion, ReadClashes, TakeWork, Finish}
 use Rattle.book_history.specs.Orders.{OrderValue}
-use Rattle.book_history.specs.Projects.{ProjectState, with_change}
+use Rattle.book_history.specs.Versions.{VersionState, version_at}
+use Rattle.book_history.specs.Projects.{ProjectState, newest, with_change}
 use Rattle.book_history.specs.History.{state_of, at_turn, IsBefore}
-use Rattle.book_history.specs.Refusals.{project_of}
-use Rattle.book_history.specs.Requests.{Outcome, Refusal, Answer, Accepted, unless, in_project, order_for, all_orders, outcome_of, reply_to, body_of, entry_by, reply_of, added_by}
+use Rattle.book_history.specs.Refusals.{project_of, wanted_in, not_yet, dropped, pending}
+use Rattle.book_history.specs.Requests.{Outcome, Refusal, Answer, Accepted, unless, in_project, order_for, all_orders, version_read, clashes_read, outcome_of, reply_to, body_of, entry_by, reply_of, added_by}
 use Rattle.book_history.specs.Runs.{Step, IsRun, IsOneThread}
 use Rattle.book_history.proofs.Histories.{AreOf, added_of, above_of, at_turn-new, of_turn-new, Runs_push, follows_one, one_push}
 use Rattle.bcf_http.specs.declared.answers.Answer.TheVariants as answer
@@ -85,6 +88,19 @@ idle_order : (h : List Entry) (orders : List OrderValue) (seat : ℕ) → IsIdle
 idle_order h [] seat = tt
 idle_order h (o ∷ os) seat = tt
 
+version_idle : (h : List Entry) (wanted : Wanted) (n : ℕ) → IsIdle (version_read h wanted n)
+version_idle h wanted n =
+    let project : ProjectState = state_of n h in
+    let v : ℕ = wanted_in project wanted in
+    idle_unless (not_yet project v ∷ dropped project v ∷ []) (reply.Version v (newest project) (version_at project.versions v).content)
+
+clashes_idle : (h : List Entry) (wanted : Wanted) (first count n : ℕ) → IsIdle (clashes_read h wanted first count n)
+clashes_idle h wanted first count n =
+    let project : ProjectState = state_of n h in
+    let v : ℕ = wanted_in project wanted in
+    let version : VersionState = version_at project.versions v in
+    idle_unless (not_yet project v ∷ dropped project v ∷ pending v version ∷ []) (reply.Clashes v version.content first count)
+
 -- a call that asks for no change
 reads_idle : (settings : Settings) (h : List Entry) (call : BookRequest) → asks_change call ≡ false → IsIdle (outcome_of settings h call)
 reads_idle settings h (ListTopics id) reads = idle_in (project_of settings.projects id) _ (λ n. tt)
@@ -92,8 +108,9 @@ reads_idle settings h (PostTopic id body author weight) reads = cc
 reads_idle settings h (Upload id name model) reads = cc
 reads_idle settings h (Remove id name) reads = cc
 reads_idle settings h (SetRules id rules weight) reads = cc
-reads_idle settings h (ReadVersion id wanted) reads = idle_in (project_of settings.projects id) _ (λ n. idle_unless _ _)
-reads_idle settings h (ReadClashes id wanted first count) reads = idle_in (project_of settings.projects id) _ (λ n. idle_unless _ _)
+reads_idle settings h (ReadVersion id wanted) reads = idle_in (project_of settings.projects id) (version_read h wanted) (λ n. version_idle h wanted n)
+reads_idle settings h (ReadClashes id wanted first count) reads =
+    idle_in (project_of settings.projects id) (clashes_read h wanted first count) (λ n. clashes_idle h wanted first count n)
 reads_idle settings h (TakeWork seat) reads = idle_order h (all_orders settings.projects h) seat
 reads_idle settings h (Finish set) reads = cc
 

@@ -54,7 +54,10 @@ stands_behind buckets w a old new server mid later so asked bytes x =
 last_is : (buckets : Option ℕ) (w a : Outside) (old new : TalkState) (server mid : ServerState) (so : SoFar buckets w a old server) (asked bytes : List ℕ)
     (x : Replied buckets w a old new server mid so asked bytes) → last_turn (last_turn 0 so.steps) x.own ≡ mid.turns
 last_is buckets w a old new server mid so asked bytes x =
-    sym (last_turn-append 0 so.steps x.own) ∙ run_last mid.settings [] [] (so.steps ++ x.own) mid.history x.run ∙ x.count
+    let last : last_turn 0 (so.steps ++ x.own) ≡ 0 + length (so.steps ++ x.own) = run_last mid.settings [] [] (so.steps ++ x.own) mid.history x.run in
+    let parts : last_turn 0 (so.steps ++ x.own) ≡ last_turn (last_turn 0 so.steps) x.own = last_turn-append 0 so.steps x.own in
+    let count : length (so.steps ++ x.own) ≡ mid.turns = x.count in
+    omega (arith, last, parts, count)
 
 -- the answer stays one after later steps
 answers_later : (buckets : Option ℕ) (w a : Outside) (old new : TalkState) (server mid later : ServerState) (so : SoFar buckets w a old server) (asked bytes : List ℕ) (steps : List Step)

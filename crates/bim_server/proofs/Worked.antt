@@ -10,7 +10,7 @@ use Rattle.book_history.specs.Orders.{OrderValue}
 use Rattle.book_history.specs.History.{at_turn, left_all, IsBefore}
 use Rattle.book_history.specs.Requests.{reply_of, added_by}
 use Rattle.book_history.specs.Runs.{Step, IsRun, IsOneThread}
-use Rattle.book_history.proofs.Histories.{AreOf, AreAbove, added_of, above_of, at_turn-new, Runs_push, follows_one, one_push}
+use Rattle.book_history.proofs.Histories.{AreOf, AreAbove, added_of, above_of, at_turn-new, at_turn-grown, Runs_push, follows_one, one_push}
 use Rattle.bim_session.specs.Works.{Standing, Gives, WorksOne, WorksOn, WorksShort, IsSetOf, left_behind}
 use Rattle.bim_session.proofs.Sessions.{gives_grown, on_grown}
 use Rattle.bim_server.specs.Loop.{ServerState, with_turn, stamp_of, left_of}
@@ -167,20 +167,33 @@ gives_here s mid order some given before =
 -- a bucket is worked
 one_here : (s : Standing) (mid new : ServerState) (works : WorksBucket mid new) → 0 < left_of mid → IsBefore (mid.turns + 1) mid.history
     → WorksOne (at_server s new) mid.turns (bucket_steps mid new works)
-unfolding gives_here gives_grown
+unfolding gives_here
 one_here s mid new works some before =
     let first : ServerState = with_turn (TakeWork 0) mid in
     let second : ServerState = with_turn (Finish works.set) first in
     let one = extends_one mid (TakeWork 0) in
-    let two = extends_one first (Finish works.set) in
+    let more : List Entry = added_by first.settings first.history (stamp_of (first.turns + 1)) (Finish works.set) in
+    let above : AreAbove first.turns more =
+    above_of (first.turns + 1) first.turns more (omega arith) (added_of first.settings first.history (stamp_of (first.turns + 1)) (Finish works.set)) in
     let after : IsBefore (first.turns + 1) first.history = one.earlier before in
+    let here = gives_here s mid works.order some works.given before in
+    let grown : Gives (at_server s second) mid.turns (step_of mid (TakeWork 0)) =
+    gives_grown (at_server s first) more second.turns mid.turns (step_of mid (TakeWork 0)) here (let le : first.turns ≤ first.turns + 1 = omega arith in le) above in
     let whole : WorksOne (at_server s second) mid.turns (bucket_steps mid new works) = record {
       first = step_of mid (TakeWork 0);
       second = step_of first (Finish works.set);
       set = works.set;
       two = refl;
-      gives = gives_grown (at_server s first) two.more second.turns mid.turns (step_of mid (TakeWork 0)) (gives_here s mid works.order some works.given before)
-          (let le : first.turns ≤ first.turns + 1 = omega arith in le) two.above;
+      gives = record {
+        order = works.order;
+        some = grown.some;
+        turn = grown.turn;
+        request = grown.request;
+        taken = grown.taken;
+        given = ap (λ es. (reply_of mid.settings es (stamp_of (mid.turns + 1)) (TakeWork 0)).body)
+            (at_turn-grown (mid.turns + 1) first.turns first.history more (let le : mid.turns + 1 ≤ mid.turns + 1 = omega arith in le) above)
+            ∙ here.given;
+      };
       found = works.found;
       turn = (let e : mid.turns + 1 + 1 ≡ mid.turns + 2 = omega arith in e);
       request = refl;
