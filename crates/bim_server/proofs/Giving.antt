@@ -75,29 +75,7 @@ gives_some s some =
 
 -- ---- a set
 
--- the set that was found for the work of an order, shared
-pub set_found : (order : OrderValue) (work : BucketWork) (set : SetValue) (r : Result SetValue AllocError) → order_of work ≡ order → set.work ≡ work
-    → set.pairs ≡ own_places work.grid work.cell → IfOk r (λ s. s ≡ set) → IfOk r (IsSetOf order)
-set_found order work set (Ok s) is own pairs same =
-    let work_is : s.work ≡ work = ap (λ (x : SetValue). x.work) same ∙ own in
-    record {
-      order_is = ap order_of work_is ∙ is;
-      pairs_are = ap (λ (x : SetValue). x.pairs) same ∙ pairs ∙ ap (λ (w : BucketWork). own_places w.grid w.cell) (sym work_is);
-    }
-set_found order work set (Err e) is own pairs same = tt
-
--- .. is of a bucket of the work's grid
-pub set_bucket : (work : BucketWork) (set : SetValue) (r : Result SetValue AllocError) → IsBucket work.grid.boxes work.cell → set.work ≡ work → IfOk r (λ s. s ≡ set)
-    → IfOk r (λ s. IsBucket s.work.grid.boxes s.work.cell)
-set_bucket work set (Ok s) bucket own same = subst (λ (w : BucketWork). IsBucket w.grid.boxes w.cell) (sym (ap (λ (x : SetValue). x.work) same ∙ own)) bucket
-set_bucket work set (Err e) bucket own same = tt
-
 -- ---- the two calls
-
--- what a call that was answered leaves, and its reply
-pub called_ok : (call : BookRequest) (old new : ServerState) (receipt : BookReceipt) → Calls call old (Ok receipt) new
-    → (receipt.reply.body ≡ (reply_of old.settings old.history (stamp_of (old.turns + 1)) call).body) × (new ≡ with_turn call old)
-called_ok call old new receipt calls = (ap (λ (r : BookReply). r.body) calls.1, calls.2)
 
 -- .. and how it takes the next turn
 pub calls_ok : (call : BookRequest) (old : ServerState) (settings : Settings) (history : List Entry) (turn : ℕ) (reply : BookReply) → turn ≡ old.turns + 1
@@ -109,9 +87,6 @@ calls_ok call old settings history turn reply next is grown same =
     grown ∙ ap (λ n. old.history ++ added_by old.settings old.history (stamp_of n) call) next in
     (next, here, λ i. record { settings = same i; history = there i; turns = next i })
 
-pub same_body : (a b : OrderValue) (body : ReplyBody) → body ≡ Work a → body ≡ Work b → a ≡ b
-same_body a b body e d = cc
-
 -- the set of an order that was given out may be brought at the next turn
 pub set_legal : (s : ServerState) (order : OrderValue) (set : SetValue) → GivesOut s order → IsSetOf order set → IsBucket set.work.grid.boxes set.work.cell
     → IsLegal s.settings (with_turn (TakeWork 0) s).history (Finish set)
@@ -119,8 +94,3 @@ set_legal s order set given found bucket =
     let work : GivesOut s (order_of set.work) = subst (λ o. GivesOut s o) (sym found.order_is) given in
     given_later s.settings s.history (added_by s.settings s.history (stamp_of (s.turns + 1)) (TakeWork 0)) set.work
     (given_out s.settings s.history 0 set.work work bucket)
-
-pub times_more : (old mid new : ServerState) (count : ℕ) → WorksTimes old count mid → 0 < left_of mid → WorksBucket mid new → WorksTimes old (count + 1) new
-times_more old mid new count works some bucket =
-    let whole : WorksTimes old (suc count) new = (mid, works, some, bucket) in
-    subst (λ n. WorksTimes old n new) (let e : suc count ≡ count + 1 = omega arith in e) whole
