@@ -1,3 +1,0 @@
-pub mod Topics
-pub mod Comments
-pub mod Discussions
