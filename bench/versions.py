@@ -8,24 +8,19 @@ Each figure is the least of RUNS (5) runs of `replay`, less that of the same ses
   a ratio to the first's;
 - pages: 1,415 boxes that all clash make a million pairs: the first and the last page of them.
 """
+import pathlib
 import random
 import subprocess
 import sys
 import time
 
+sys.path.insert(0, str(pathlib.Path(__file__).resolve().parent.parent / "cases"))
+from http_reference import SMALL_FILE  # noqa: E402
+
 PROJECT = "/coord/1/projects/00000001-0000-8000-8000-000000000000"
 RULES = '{"rules":[{"a":"*","b":"*","distance":50}]}'
-HEAD = """ISO-10303-21;
-HEADER;
-FILE_DESCRIPTION((''),'2;1');
-FILE_NAME('a.ifc','2024-05-01T12:00:00',(''),(''),'','','');
-FILE_SCHEMA(('IFC4'));
-ENDSEC;
-DATA;
-#1=IFCPROJECT('0000000000000000000001',$,'P',$,$,$,$,(),#2);
-#2=IFCUNITASSIGNMENT((#3));
-#3=IFCSIUNIT(*,.LENGTHUNIT.,.MILLI.,.METRE.);
-"""
+# a file up to the project and its unit of length
+HEAD = SMALL_FILE[: SMALL_FILE.index(b"#4=")].decode()
 SIDES = "((1,3,2),(1,4,3),(5,6,7),(5,7,8),(1,2,6),(1,6,5),(2,3,7),(2,7,6),(3,4,8),(3,8,7),(4,1,5),(4,5,8))"
 TAIL = "ENDSEC;\nEND-ISO-10303-21;\n"
 
