@@ -3,9 +3,8 @@ use Rattle.std.specs.Prelude.{◌≡◌, ◌⊎◌, ◌≤◌, ◌++◌, ℕ, Li
 use Rattle.bim_io.specs.Causes.{ComesOfFault, WithinMost}
 use Rattle.bim_io.specs.Seen.{Outside, EndsEmpty, Exchanges}
 use Rattle.http_frame.specs.Events.{Event, IsRest, IsTold}
-use Rattle.book_history.specs.declared.limits.Limits.{Limits}
 use Rattle.book_history.specs.declared.limits.Settings.{Settings}
-use Rattle.book_history.specs.declared.limits.TheConstants.{MOST_VERSION_ELEMENTS, MOST_VERSION_MEMBERSHIPS, MOST_STORED_TRIANGLES, MOST_TEXT, MOST_ENTRIES, MOST_TOPICS, MOST_COMMENTS, MOST_VIEWPOINTS}
+use Rattle.book_history.specs.Settings.{stated_limits}
 use Rattle.book_history.specs.declared.changes.Entry.{Entry}
 use Rattle.book_history.specs.declared.faults.BookFault.TheVariants.{Pending}
 use Rattle.book_history.specs.declared.replies.ReplyBody.{ReplyBody}
@@ -26,19 +25,6 @@ IsReadFault end = (n : ℕ) × (end ≡ ReadFault n)
 -- it ends by a failed write
 abbrev pub IsWriteFault : SessionEnd → Type 0
 IsWriteFault end = (n : ℕ) × (end ≡ WriteFault n)
-
--- how much a book of the program may hold
-abbrev pub stated_limits : Limits
-stated_limits = record {
-  elements = MOST_VERSION_ELEMENTS;
-  memberships = MOST_VERSION_MEMBERSHIPS;
-  triangles = MOST_STORED_TRIANGLES;
-  text = MOST_TEXT;
-  journal = MOST_ENTRIES;
-  topics = MOST_TOPICS;
-  comments = MOST_COMMENTS;
-  viewpoints = MOST_VIEWPOINTS;
-}
 
 -- a book of the program with so many projects
 abbrev pub stated_settings : ℕ → Settings

@@ -7,8 +7,6 @@ use Rattle.http_frame.specs.declared.types.HttpRequest.{HttpRequest}
 use Rattle.http_frame.specs.declared.types.FrameFault.{FrameFault}
 use Rattle.http_frame.specs.Events.{Begins, Asks, Event, IsRest, IsTold, Spells}
 use Rattle.http_frame.specs.Events as frame
-use Rattle.book_history.specs.declared.limits.Settings.{Settings}
-use Rattle.book_history.specs.declared.changes.Entry.{Entry}
 use Rattle.book_history.specs.declared.requests.BookRequest.{BookRequest}
 use Rattle.book_history.specs.declared.requests.BookRequest.TheVariants.{Upload}
 use Rattle.book_history.specs.History.{at_turn, of_turn}

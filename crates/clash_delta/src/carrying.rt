@@ -5,9 +5,9 @@ ghost use Rattle.bucket_grid.specs.declared.cell.Cell.{Cell};
 ghost use Rattle.bucket_grid.specs.declared.table.Bucket.{Bucket};
 ghost use Rattle.bucket_grid.specs.Cells.{cell_cmp, members};
 ghost use Rattle.bucket_check.specs.declared.work.BucketWork.{BucketWork};
-ghost use Rattle.bucket_check.specs.Sets.{IsUnmoved};
+ghost use Rattle.bucket_check.specs.Sets.{IsUnmoved, IsSetOf};
 ghost use Rattle.clash_delta.specs.Numbers.{subjects, AreNumbersBefore, AreFrom};
-ghost use Rattle.clash_delta.specs.Slots.{IsDone, IsOf, IsSetOf};
+ghost use Rattle.clash_delta.specs.Slots.{IsDone, IsOf};
 ghost use Rattle.clash_delta.specs.Carried.{IsCarried, IsMoved, IsCarriedTo, IsUnmovedAt, IsReachedCell};
 ghost use Rattle.clash_delta.specs.declared.slot.Slot.{Slot};
 
