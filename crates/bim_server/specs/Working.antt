@@ -80,7 +80,8 @@ WorksAfter buckets served talk server Again progress server' =
     ⊎ ((served < talk.served) × WorksBehind buckets talk server progress server')
 
 -- a step of a session, and the work behind it
-pub record StepsAndWorks (buckets : Option ℕ) (before after : Outside) (talk : TalkState) (server : ServerState)
+pub record StepsAndWorks (buckets : Option ℕ) (before after : Outside) (talk : TalkState)
+    (server : ServerState)
     (progress : Progress) (talk' : TalkState) (server' : ServerState) : Type 0 where
   pub stepped : Progress
   pub mid : ServerState

@@ -83,7 +83,8 @@ pub record ReadsAsNeeded (most : Option ℕ) (input : List ℕ) (events : List E
 -- n-th read fails shows that all events of what the reads before it gave were answered before it, and a sink
 -- whose n-th write fails shows that no read came between an event and its answer; where the source gives a
 -- byte at a time, not a byte more was taken.
-pub record Replays (settings : Settings) (buckets : Option ℕ) (before after : Outside) (end : SessionEnd) : Type 0 where
+pub record Replays (settings : Settings) (buckets : Option ℕ) (before after : Outside)
+    (end : SessionEnd) : Type 0 where
   pub input : List ℕ
   pub moments : List ℕ
   pub output : List ℕ
@@ -118,10 +119,12 @@ IsPending body = (version : ℕ) × (left : ℕ) × (body ≡ Refused (Pending v
 
 -- the reply to a step at the entries below its turn
 abbrev pub reply_at : Settings → List Entry → Step → ReplyBody
-reply_at settings history step = (reply_of settings (at_turn step.stamp.turn history) step.stamp step.request).body
+reply_at settings history step =
+    (reply_of settings (at_turn step.stamp.turn history) step.stamp step.request).body
 
 -- where all buckets are worked behind each answer, no step of the session is answered so
 abbrev pub NoneIsPending : Type 0
 NoneIsPending =
-    (settings : Settings) (before after : Outside) (end : SessionEnd) (replays : Replays settings None before after end)
+    (settings : Settings) (before after : Outside) (end : SessionEnd)
+    (replays : Replays settings None before after end)
     → All (λ (step : Step). IsPending (reply_at settings replays.history step) → ⊥) replays.steps

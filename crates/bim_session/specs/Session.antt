@@ -200,7 +200,8 @@ Answered s [] moments out steps printed =
     (moments ≡ []) × (out ≡ []) × (steps ≡ []) × (printed ≡ s.printed)
 Answered s (event ∷ events) moments out steps printed =
     (first : AnswersFirst s event events moments out steps)
-    × Answered (past s event (first.own ++ first.work) first.printed) events first.after first.later first.others
+    × Answered (past s event (first.own
+    ++ first.work) first.printed) events first.after first.later first.others
     printed
 
 -- the response to a fault of the bytes, which closes the connection

@@ -49,7 +49,8 @@ pub record Gives (s : Standing) (last : ℕ) (step : Step) : Type 0 where
   pub turn : step.stamp.turn ≡ last + 1
   pub request : step.request ≡ TakeWork 0
   pub taken : IsTaken s step
-  pub given : (reply_of s.settings (at_turn step.stamp.turn s.history) step.stamp step.request).body ≡ Work order
+  pub given : (reply_of s.settings (at_turn step.stamp.turn s.history) step.stamp step.request).body
+      ≡ Work order
 
 -- a bucket is worked: it is given out, and its set is brought at the turn behind that
 pub record WorksOne (s : Standing) (last : ℕ) (steps : List Step) : Type 0 where

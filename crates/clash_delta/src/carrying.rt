@@ -23,7 +23,8 @@ use std::alloc::{AllocError, Global};
 // From `place` on, the first bucket whose cell isn't before this one.
 fn first_not_before(buckets: &[Bucket], place: usize, cell: Cell) -> usize
     requires within { place ≤ length buckets.now }
-    requires below { (k : ℕ) (d : Bucket) → k < place → cell_cmp (slice_index_or buckets.now k d).cell cell ≡ Less }
+    requires below { (k : ℕ) (d : Bucket) → k < place
+        → cell_cmp (slice_index_or buckets.now k d).cell cell ≡ Less }
     ensures { IsReachedCell buckets.now cell result }
 {
     let mut place = place;

@@ -187,7 +187,8 @@ impl Progress {
 // Adds the set of a bucket.
 fn add_set(slot: &Slot, sets: &mut Vec<Shared<BucketSet>>) -> Result<(), AllocError>
     requires { IsSome slot.now.set }
-    ensures { OnOk result ((d : SetValue) → sets.new.items ≡ sets.old.items ++ unwrap_or slot.now.set d ∷ []) }
+    ensures { OnOk result ((d : SetValue)
+        → sets.new.items ≡ sets.old.items ++ unwrap_or slot.now.set d ∷ []) }
 {
     match &slot.set {
         Some(set) => {
