@@ -1,5 +1,5 @@
 -- What the code notes of each corner that remains.
-use Rattle.std.specs.Prelude.{ℕ, ◌≡◌, ◌-◌, ◌<◌, ◌≤◌, ◌==◌, nat_lt, if◌then◌else◌, List, length, slice_index_or, remove, Bool, true, false, Option, Some, None}
+use Rattle.std.specs.Prelude.{ℕ, ◌≡◌, ◌-◌, ◌<◌, ◌≤◌, ◌==◌, nat_lt, if◌then◌else◌, List, length, slice_index_or, remove, Bool, true, false, not, ◌&&◌, Option, Some, None}
 use Rattle.ear_cut.specs.declared.views.View.{View}
 use Rattle.ear_cut.specs.declared.corners.Corner.{Corner}
 use Rattle.ear_cut.specs.declared.corners.Turn.{Turn}
@@ -10,15 +10,19 @@ use Rattle.ear_cut.specs.Corners.{nobody, turn_at, angle_of, AreInGrid}
 use Rattle.ear_cut.specs.Removal.{is_free, choice}
 
 abbrev pub blank : Note
-blank = record { angle = Straight; clear = 0 }
+blank = record { angle = Straight; clear = 0; held = false }
 
 -- the note of a corner whose triangle has not been searched
 abbrev pub fresh : Option View → List Corner → ℕ → Note
-fresh view left i = record { angle = angle_of view (turn_at left i); clear = 0 }
+fresh view left i = record { angle = angle_of view (turn_at left i); clear = 0; held = false }
 
 -- a note with the i-th corner taken out of the list
 abbrev pub shifted : ℕ → Note → Note
-shifted i note = record { angle = note.angle; clear = (if nat_lt i note.clear then (note.clear - 1) else note.clear) }
+shifted i note = record {
+  angle = note.angle;
+  clear = (if nat_lt i note.clear then (note.clear - 1) else note.clear);
+  held = note.held && not (i == note.clear);
+}
 
 -- the place, among n corners, that is behind the i-th once that is taken out
 abbrev pub place_behind : ℕ → ℕ → ℕ
@@ -43,10 +47,16 @@ pub record IsClearTo (view : Option View) (left : List Corner) (t : Turn) (n : �
   pub within : n ≤ length left
   pub free : (j : ℕ) → j < n → is_free view t (slice_index_or left j nobody) ≡ true
 
+-- the n-th corner that remains is in the triangle t
+pub record IsHeldAt (view : Option View) (left : List Corner) (t : Turn) (n : ℕ) : Type 0 where
+  pub within : n < length left
+  pub held : is_free view t (slice_index_or left n nobody) ≡ false
+
 -- the note of the i-th corner is true
 pub record IsTrueOf (view : Option View) (left : List Corner) (i : ℕ) (note : Note) : Type 0 where
   pub angle : note.angle ≡ angle_of view (turn_at left i)
   pub clear : IsClearTo view left (turn_at left i) note.clear
+  pub held : note.held ≡ true → IsHeldAt view left (turn_at left i) note.clear
 
 -- each note is true, of as many corners as remain
 pub record IsNoted (view : Option View) (left : List Corner) (notes : List Note) : Type 0 where

@@ -1,8 +1,9 @@
 // What is noted of each corner that remains, so that a removal has only its neighbours judged anew.
 ghost use Rattle.std.specs.Prelude.{◌≡◌, ◌≤◌, ◌<◌, ◌==◌, length, IfOk, IfSome, MatchOption, None, slice_index_or, slice_set, map, remove, false, Some};
+ghost use Rattle.ear_cut.specs.declared.corners.Angle.TheVariants.{Convex};
 ghost use Rattle.ear_cut.specs.Corners.{turn_at, angle_of, is_straight, nobody, InGrid, AreInGrid};
 ghost use Rattle.ear_cut.specs.Removal.{is_free, is_ear, choice};
-ghost use Rattle.ear_cut.specs.Notes.{blank, fresh, shifted, tells_ear, place_behind, IsClearTo, IsNoted, IsTaken, IsRemoval, IsFirst};
+ghost use Rattle.ear_cut.specs.Notes.{blank, fresh, shifted, tells_ear, place_behind, IsClearTo, IsTrueOf, IsNoted, IsTaken, IsRemoval, IsFirst};
 
 use crate::coordinates::Shape;
 use crate::corners::{Angle, Corner, Turn, angle_of, previous, turn_at};
@@ -15,6 +16,8 @@ pub struct Note {
     pub angle: Angle,
     /// So many corners that remain, from the first on, are not in its triangle.
     pub clear: usize,
+    /// Whether the corner behind those is known to be in its triangle.
+    pub held: bool,
 }
 
 /// The note of a corner whose triangle has not been searched.
@@ -26,6 +29,7 @@ fn fresh(view: Option<View>, left: &[Corner], i: usize) -> Note
     Note {
         angle: angle_of(view, turn_at(left, i)),
         clear: 0,
+        held: false,
     }
 }
 
@@ -84,21 +88,36 @@ fn clear_to(view: View, t: Turn, left: &[Corner], from: usize) -> usize
     left.len()
 }
 
+/// The note of a convex corner, with its triangle searched; a corner that is known to hold another isn't searched.
+fn searched_anew(view: View, left: &[Corner], i: usize, note: Note) -> Note
+    requires i_in { i < length left.now }
+    requires left_in { AreInGrid left.now }
+    requires known { IsTrueOf (Some view) left.now i note }
+    requires convex { note.angle ≡ Convex }
+    ensures known { IsTrueOf (Some view) left.now i result }
+    ensures tells { tells_ear result (length left.now) ≡ is_ear (Some view) left.now (turn_at left.now i) }
+{
+    if note.held {
+        return note;
+    }
+    let clear = clear_to(view, turn_at(left, i), left, note.clear);
+    Note {
+        angle: note.angle,
+        clear,
+        held: clear < left.len(),
+    }
+}
+
 /// The note of a corner, with its triangle searched if its area is positive.
 fn searched(view: View, left: &[Corner], i: usize, note: Note) -> Note
     requires i_in { i < length left.now }
     requires left_in { AreInGrid left.now }
-    requires angle { note.angle ≡ angle_of (Some view) (turn_at left.now i) }
-    requires clear { IsClearTo (Some view) left.now (turn_at left.now i) note.clear }
-    ensures angle { result.angle ≡ note.angle }
-    ensures clear { IsClearTo (Some view) left.now (turn_at left.now i) result.clear }
+    requires known { IsTrueOf (Some view) left.now i note }
+    ensures known { IsTrueOf (Some view) left.now i result }
     ensures tells { tells_ear result (length left.now) ≡ is_ear (Some view) left.now (turn_at left.now i) }
 {
     match note.angle {
-        Angle::Convex => Note {
-            angle: note.angle,
-            clear: clear_to(view, turn_at(left, i), left, note.clear),
-        },
+        Angle::Convex => searched_anew(view, left, i, note),
         _ => note,
     }
 }
@@ -162,12 +181,16 @@ fn shifted(note: Note, i: usize) -> Note
     ensures { result ≡ shifted i note }
 {
     if i < note.clear {
-        Note {
+        return Note {
             angle: note.angle,
             clear: note.clear - 1,
-        }
-    } else {
-        note
+            held: note.held,
+        };
+    }
+    Note {
+        angle: note.angle,
+        clear: note.clear,
+        held: note.held && i != note.clear,
     }
 }
 
