@@ -1,6 +1,6 @@
 -- The first number that passes a test, and the corners that a triangle is free of.
-use Rattle.std.proofs.Common.{◌≡◌, ◌∙◌, ap, sym, refl, ℕ, zero, suc, ◌+◌, ◌<◌, ◌≤◌, Bool, true, false, not, cond, List, [], ◌∷◌, ◌&&◌, length, Option, Some, None, inl, inr, arith}
-use Rattle.std.specs.Prelude.{slice_index_or, ◌==◌, IfSome}
+use Rattle.std.proofs.Common.{◌≡◌, ◌∙◌, ap, sym, refl, ℕ, zero, suc, ◌+◌, ◌<◌, ◌≤◌, Bool, true, false, cond, List, [], ◌∷◌, ◌&&◌, length, Option, Some, None, inl, inr, arith}
+use Rattle.std.specs.Prelude.{slice_index_or, ◌==◌}
 use Rattle.std.specs.List.{list_all}
 use Rattle.std.proofs.lemmas.Bool.{cases_lt}
 use Rattle.std.proofs.lemmas.Bool.Decides.{nat_tests}
@@ -8,7 +8,6 @@ use Rattle.std.proofs.lemmas.List.Folds.{list_all_at}
 use Rattle.ear_cut.specs.declared.views.View.{View}
 use Rattle.ear_cut.specs.declared.corners.Corner.{Corner}
 use Rattle.ear_cut.specs.declared.corners.Turn.{Turn}
-use Rattle.ear_cut.specs.Views.{Spot, seen, holds}
 use Rattle.ear_cut.specs.declared.corners.Angle.TheVariants.{Straight, Reflex}
 use Rattle.exact_arith.specs.Space.{is_nowhere, cross_of}
 use Rattle.bim_model.specs.Points.{step}

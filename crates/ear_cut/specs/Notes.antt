@@ -6,8 +6,10 @@ use Rattle.ear_cut.specs.declared.corners.Turn.{Turn}
 use Rattle.ear_cut.specs.declared.corners.Angle.{Angle}
 use Rattle.ear_cut.specs.declared.corners.Angle.TheVariants.{Straight, Convex, Reflex}
 use Rattle.ear_cut.specs.declared.notes.Note.{Note}
+use Rattle.ear_cut.specs.declared.frames.Frames.{Frames}
 use Rattle.ear_cut.specs.Corners.{nobody, turn_at, angle_of, AreInGrid}
 use Rattle.ear_cut.specs.Removal.{is_free, choice}
+use Rattle.ear_cut.specs.Frames.{AreFramesIn}
 
 abbrev pub blank : Note
 blank = record { angle = Straight; clear = 0; held = false }
@@ -74,11 +76,12 @@ pub record IsTaken (view : Option View) (left : List Corner) (notes : List Note)
   pub notes_is : notes ≡ remove told i
 
 -- the corner that goes next is taken out: between its neighbours it was t
-pub record IsRemoval (view : Option View) (from : List Corner) (t : Turn) (left : List Corner) (notes : List Note) : Type 0 where
+pub record IsRemoval (view : Option View) (from : List Corner) (t : Turn) (left : List Corner) (frames : Frames) (notes : List Note) : Type 0 where
   pub i : ℕ
   pub chosen : choice view from ≡ Some i
   pub turn : t ≡ turn_at from i
   pub i_in : i < length from
   pub left_is : left ≡ remove from i
   pub in_grid : AreInGrid left
+  pub framed : AreFramesIn view left frames
   pub noted : IsNoted view left notes
