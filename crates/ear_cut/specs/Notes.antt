@@ -12,23 +12,33 @@ use Rattle.ear_cut.specs.Removal.{is_free, choice}
 use Rattle.ear_cut.specs.Frames.{AreFramesIn}
 
 abbrev pub blank : Note
-blank = record { angle = Straight; clear = 0; held = false }
+blank = record { angle = Straight; held = false; clear = 0 }
 
 -- the note of a corner whose triangle has not been searched
 abbrev pub fresh : Option View → List Corner → ℕ → Note
-fresh view left i = record { angle = angle_of view (turn_at left i); clear = 0; held = false }
+fresh view left i = record { angle = angle_of view (turn_at left i); held = false; clear = 0 }
+
+-- how many corners, from the first on, a triangle is clear of with the i-th taken out of the list
+abbrev pub clear_without : ℕ → ℕ → ℕ
+clear_without i n = if nat_lt i n then (n - 1) else n
 
 -- a note with the i-th corner taken out of the list
 abbrev pub shifted : ℕ → Note → Note
 shifted i note = record {
   angle = note.angle;
-  clear = (if nat_lt i note.clear then (note.clear - 1) else note.clear);
   held = note.held && not (i == note.clear);
+  clear = clear_without i note.clear;
 }
 
 -- the place, among n corners, that is behind the i-th once that is taken out
 abbrev pub place_behind : ℕ → ℕ → ℕ
 place_behind n i = if i == n then 0 else i
+
+-- the note of a corner tells without a search that it is no ear
+abbrev pub settles : Angle → Bool → Bool
+settles Convex held = held
+settles Straight held = true
+settles Reflex held = true
 
 -- the note of a corner, with its triangle searched, tells that it is an ear of n corners
 abbrev pub tells_at : Angle → Bool → Bool

@@ -6,7 +6,7 @@ ghost use Rattle.ear_cut.specs.Removal.{is_free, is_ear, choice};
 ghost use Rattle.ear_cut.specs.Registers.{as_spot};
 ghost use Rattle.ear_cut.specs.Views.{seen};
 ghost use Rattle.ear_cut.specs.Frames.{AreFrames, AreFramesIn};
-ghost use Rattle.ear_cut.specs.Notes.{blank, fresh, shifted, tells_ear, place_behind, IsClearTo, IsTrueOf, IsNoted, IsTaken, IsRemoval, IsFirst};
+ghost use Rattle.ear_cut.specs.Notes.{blank, fresh, clear_without, shifted, settles, tells_ear, place_behind, IsClearTo, IsTrueOf, IsNoted, IsTaken, IsRemoval, IsFirst};
 
 use crate::coordinates::Shape;
 use crate::corners::{Angle, Corner, Turn, angle_of, previous, turn_at};
@@ -18,10 +18,10 @@ use std::alloc::{AllocError, Global};
 #[derive(Clone, Copy)]
 pub struct Note {
     pub angle: Angle,
+    /// Whether the corner behind those that are clear is known to be in its triangle.
+    pub held: bool,
     /// So many corners that remain, from the first on, are not in its triangle.
     pub clear: usize,
-    /// Whether the corner behind those is known to be in its triangle.
-    pub held: bool,
 }
 
 /// The note of a corner whose triangle has not been searched.
@@ -32,8 +32,8 @@ fn fresh(view: Option<View>, left: &[Corner], i: usize) -> Note
 {
     Note {
         angle: angle_of(view, turn_at(left, i)),
-        clear: 0,
         held: false,
+        clear: 0,
     }
 }
 
@@ -130,39 +130,33 @@ fn clear_to(view: View, t: Turn, left: &[Corner], frames: &Frames, from: usize) 
     left.len()
 }
 
-/// The note of a convex corner, with its triangle searched; a corner that is known to hold another isn't searched.
-fn searched_anew(view: View, left: &[Corner], frames: &Frames, i: usize, note: Note) -> Note
-    requires i_in { i < length left.now }
-    requires left_in { AreInGrid left.now }
-    requires framed { AreFrames view left.now frames.now }
-    requires known { IsTrueOf (Some view) left.now i note }
-    requires convex { note.angle ≡ Convex }
-    ensures known { IsTrueOf (Some view) left.now i result }
-    ensures tells { tells_ear result (length left.now) ≡ is_ear (Some view) left.now (turn_at left.now i) }
+/// Whether the note of a corner tells without a search that it is no ear: it isn't convex, or its triangle is known to
+/// hold a corner.
+#[inline(always)]
+fn is_settled(angle: Angle, held: bool) -> bool
+    ensures { result ≡ settles angle held }
 {
-    if note.held {
-        return note;
-    }
-    let clear = clear_to(view, turn_at(left, i), left, frames, note.clear);
-    Note {
-        angle: note.angle,
-        clear,
-        held: clear < left.len(),
+    match angle {
+        Angle::Convex => held,
+        _ => true,
     }
 }
 
-/// The note of a corner, with its triangle searched if its area is positive.
+/// The note of a corner with its triangle searched.
 fn searched(view: View, left: &[Corner], frames: &Frames, i: usize, note: Note) -> Note
     requires i_in { i < length left.now }
     requires left_in { AreInGrid left.now }
     requires framed { AreFrames view left.now frames.now }
     requires known { IsTrueOf (Some view) left.now i note }
+    requires open { settles note.angle note.held ≡ false }
     ensures known { IsTrueOf (Some view) left.now i result }
     ensures tells { tells_ear result (length left.now) ≡ is_ear (Some view) left.now (turn_at left.now i) }
 {
-    match note.angle {
-        Angle::Convex => searched_anew(view, left, frames, i, note),
-        _ => note,
+    let clear = clear_to(view, turn_at(left, i), left, frames, note.clear);
+    Note {
+        angle: note.angle,
+        held: clear < left.len(),
+        clear,
     }
 }
 
@@ -185,6 +179,9 @@ fn first_ear(view: View, left: &[Corner], frames: &Frames, notes: &mut [Note]) -
     ensures noted { IsNoted (Some view) left.now notes.new }
 {
     for i in 0..left.len() {
+        if is_settled(notes[i].angle, notes[i].held) {
+            continue;
+        }
         let note = searched(view, left, frames, i, notes[i]);
         notes[i] = note;
         if tells_ear(note, left.len()) {
@@ -233,30 +230,30 @@ fn choice(
     }
 }
 
-/// A note with the i-th corner taken out of the list.
-fn shifted(note: Note, i: usize) -> Note
-    ensures { result ≡ shifted i note }
+/// How many corners are clear with the i-th taken out of the list.
+#[inline(always)]
+fn clear_without(clear: usize, i: usize) -> usize
+    ensures { result ≡ clear_without i clear }
 {
-    if i < note.clear {
-        return Note {
-            angle: note.angle,
-            clear: note.clear - 1,
-            held: note.held,
-        };
-    }
-    Note {
-        angle: note.angle,
-        clear: note.clear,
-        held: note.held && i != note.clear,
-    }
+    if i < clear { clear - 1 } else { clear }
 }
 
-/// The notes with the i-th corner taken out of the list.
+/// Moves a note where the i-th corner was taken out of the list.
+#[inline(always)]
+fn shift_note(note: &mut Note, i: usize)
+    ensures { note.new ≡ shifted i note.old }
+{
+    let clear = note.clear;
+    note.held = note.held && i != clear;
+    note.clear = clear_without(clear, i);
+}
+
+/// Moves the notes where the i-th corner was taken out of the list.
 fn shift(notes: &mut [Note], i: usize)
     ensures { notes.new ≡ map (shifted i) notes.old }
 {
     for note in notes.iter_mut() {
-        *note = shifted(*note, i);
+        shift_note(note, i);
     }
 }
 
