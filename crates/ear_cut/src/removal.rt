@@ -10,6 +10,7 @@ ghost use Rattle.ear_cut.specs.Areas.{area_of_ears};
 use crate::corners::{Angle, Corner, angle_of, corners_of, turn_at};
 use crate::ears::{Ear, ear_of};
 use crate::fans::fan_seen;
+use crate::frames::frames_of;
 use crate::normals::normal_of;
 use crate::notes::{notes_of, take_next};
 use crate::views::{View, view_of};
@@ -49,10 +50,11 @@ fn clipped(
     ensures { IfOk result (λ found. MatchOption found (cut_by view (length left.items - 3) left.items ≡ None) (λ ears. cut_by view (length left.items - 3) left.items ≡ Some ears.items)) }
 {
     let mut notes = notes_of(alloc, view, &left)?;
+    let mut frames = frames_of(alloc, view, &left)?;
     let n = left.len();
     let mut ears = Vec::with_capacity(alloc, n - 2)?;
     for step in 3..n {
-        match take_next(view, &mut left, &mut notes) {
+        match take_next(view, &mut left, &mut frames, &mut notes) {
             None => return Ok(None),
             Some(t) => ears.push(ear_of(t))?,
         }
