@@ -12,6 +12,7 @@ use Rattle.ear_cut.specs.Corners.{nobody}
 abbrev pub run : ℕ
 run = RUN
 
+-- the frame of the point at zero
 abbrev pub point_frame : Frame
 point_frame = record { low_u = pos 0; high_u = pos 0; low_v = pos 0; high_v = pos 0 }
 
@@ -24,17 +25,20 @@ pub record IsIn (f : Frame) (p : Spot) : Type 0 where
 
 -- one of the frames ends before the other begins, so no spot lies in both
 abbrev pub is_apart : Frame → Frame → Bool
-is_apart f g = int_lt f.high_u g.low_u || (int_lt g.high_u f.low_u || (int_lt f.high_v g.low_v || int_lt g.high_v f.low_v))
+is_apart f g = int_lt f.high_u g.low_u
+    || (int_lt g.high_u f.low_u || (int_lt f.high_v g.low_v || int_lt g.high_v f.low_v))
 
 -- the frame is round the corners from the i-th up to below the j-th, as far as there are such
 abbrev pub IsRound : View → List Corner → Frame → ℕ → ℕ → Type 0
-IsRound view left f i j = (k : ℕ) → i ≤ k → k < j → k < length left → IsIn f (seen view.axis (slice_index_or left k nobody).point)
+IsRound view left f i j = (k : ℕ) → i ≤ k → k < j → k < length left
+    → IsIn f (seen view.axis (slice_index_or left k nobody).point)
 
 -- frame b was round the runs b and b + 1 before the last `gone` corners were taken out: what is left of these runs
 -- has moved down by `gone` places at most
 pub record AreRound (view : View) (left : List Corner) (runs : List Frame) (gone : ℕ) : Type 0 where
   pub count : length left ≤ run * length runs
-  pub each : (b k : ℕ) → run * b ≤ k → k + gone < run * b + (run + run) → k < length left → IsIn (slice_index_or runs b point_frame) (seen view.axis (slice_index_or left k nobody).point)
+  pub each : (b k : ℕ) → run * b ≤ k → k + gone < run * b + (run + run) → k < length left
+      → IsIn (slice_index_or runs b point_frame) (seen view.axis (slice_index_or left k nobody).point)
 
 -- so few corners were taken out that frame b still is round the run b
 pub record AreFrames (view : View) (left : List Corner) (frames : Frames) : Type 0 where

@@ -11,6 +11,7 @@ use Rattle.ear_cut.specs.Corners.{nobody, turn_at, angle_of, AreInGrid}
 use Rattle.ear_cut.specs.Removal.{is_free, choice}
 use Rattle.ear_cut.specs.Frames.{AreFramesIn}
 
+-- the note of a corner of which nothing is known
 abbrev pub blank : Note
 blank = record { angle = Straight; held = false; clear = 0 }
 
@@ -46,6 +47,7 @@ tells_at Convex whole = whole
 tells_at Straight whole = false
 tells_at Reflex whole = false
 
+-- a note tells that its corner is an ear
 abbrev pub tells_ear : Note → ℕ → Bool
 tells_ear note n = tells_at note.angle (note.clear == n)
 
@@ -86,7 +88,8 @@ pub record IsTaken (view : Option View) (left : List Corner) (notes : List Note)
   pub notes_is : notes ≡ remove told i
 
 -- the corner that goes next is taken out: between its neighbours it was t
-pub record IsRemoval (view : Option View) (from : List Corner) (t : Turn) (left : List Corner) (frames : Frames) (notes : List Note) : Type 0 where
+pub record IsRemoval (view : Option View) (from : List Corner) (t : Turn) (left : List Corner)
+    (frames : Frames) (notes : List Note) : Type 0 where
   pub i : ℕ
   pub chosen : choice view from ≡ Some i
   pub turn : t ≡ turn_at from i

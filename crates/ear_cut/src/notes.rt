@@ -78,7 +78,8 @@ fn clear_in(view: View, t: Turn, left: &[Corner], start: usize, end: usize) -> u
     requires order { start ≤ end }
     requires end_in { end ≤ length left.now }
     ensures within { result ≤ end }
-    ensures clear { (k : ℕ) → start ≤ k → k < result → is_free (Some view) t (slice_index_or left.now k nobody) ≡ true }
+    ensures clear { (k : ℕ) → start ≤ k → k < result
+        → is_free (Some view) t (slice_index_or left.now k nobody) ≡ true }
     ensures stop { result < end → is_free (Some view) t (slice_index_or left.now result nobody) ≡ false }
 {
     let shape = shape_of(view, t);
@@ -114,7 +115,8 @@ fn clear_to(view: View, t: Turn, left: &[Corner], frames: &Frames, from: usize) 
     requires framed { AreFrames view left.now frames.now }
     requires known { IsClearTo (Some view) left.now t from }
     ensures clear { IsClearTo (Some view) left.now t result }
-    ensures stop { result < length left.now → is_free (Some view) t (slice_index_or left.now result nobody) ≡ false }
+    ensures stop { result < length left.now
+        → is_free (Some view) t (slice_index_or left.now result nobody) ≡ false }
 {
     let around = frame_of(shape_of(view, t));
     for b in from / RUN..runs_of(left.len()) {
@@ -211,12 +213,7 @@ fn first_seen_ear(
 }
 
 /// The corner that goes next.
-fn choice(
-    view: Option<View>,
-    left: &[Corner],
-    frames: &Frames,
-    notes: &mut [Note],
-) -> Option<usize>
+fn choice(view: Option<View>, left: &[Corner], frames: &Frames, notes: &mut [Note]) -> Option<usize>
     requires left_in { AreInGrid left.now }
     requires framed { AreFramesIn view left.now frames.now }
     requires noted { IsNoted view left.now notes.old }
@@ -313,7 +310,8 @@ pub fn take_next(
     requires left_in { AreInGrid left.old.items }
     requires framed { AreFramesIn view left.old.items frames.old }
     requires noted { IsNoted view left.old.items notes.old.items }
-    ensures { MatchOption result (choice view left.old.items ≡ None) (λ t. IsRemoval view left.old.items t left.new.items frames.new notes.new.items) }
+    ensures { MatchOption result (choice view left.old.items ≡ None)
+        (λ t. IsRemoval view left.old.items t left.new.items frames.new notes.new.items) }
 {
     match choice(view, left, frames, notes) {
         None => None,

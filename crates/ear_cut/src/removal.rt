@@ -47,7 +47,8 @@ fn clipped(
 ) -> Result<Option<Vec<Ear>>, AllocError>
     requires many { 2 < length left.items }
     requires left_in { AreInGrid left.items }
-    ensures { IfOk result (λ found. MatchOption found (cut_by view (length left.items - 3) left.items ≡ None) (λ ears. cut_by view (length left.items - 3) left.items ≡ Some ears.items)) }
+    ensures { IfOk result (λ found. MatchOption found (cut_by view (length left.items - 3) left.items ≡ None)
+        (λ ears. cut_by view (length left.items - 3) left.items ≡ Some ears.items)) }
 {
     let mut notes = notes_of(alloc, view, &left)?;
     let mut frames = frames_of(alloc, view, &left)?;
@@ -72,7 +73,8 @@ fn triangles_of(alloc: Global, corners: &[Point]) -> Result<Option<Vec<Ear>>, Al
     requires three { 3 ≤ length corners.now }
     requires few { length corners.now ≤ most_corners }
     requires in_grid { All IsGridPoint corners.now }
-    ensures { IfOk result (λ found. MatchOption found (cut_of corners.now ≡ None) (λ ears. cut_of corners.now ≡ Some ears.items)) }
+    ensures { IfOk result (λ found. MatchOption found (cut_of corners.now ≡ None)
+        (λ ears. cut_of corners.now ≡ Some ears.items)) }
 {
     let view = view_of(normal_of(corners));
     let left = corners_of(alloc, corners)?;
