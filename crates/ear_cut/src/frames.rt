@@ -119,11 +119,7 @@ pub fn end_of(n: usize, start: usize, count: usize) -> usize
     ensures most { result ≤ start + count }
     ensures all { (k : ℕ) → k < n → k < start + count → k < result }
 {
-    if n - start < count {
-        n
-    } else {
-        start + count
-    }
+    if n - start < count { n } else { start + count }
 }
 
 /// The frame round a run and the one behind it.

@@ -211,12 +211,7 @@ fn first_seen_ear(
 }
 
 /// The corner that goes next.
-fn choice(
-    view: Option<View>,
-    left: &[Corner],
-    frames: &Frames,
-    notes: &mut [Note],
-) -> Option<usize>
+fn choice(view: Option<View>, left: &[Corner], frames: &Frames, notes: &mut [Note]) -> Option<usize>
     requires left_in { AreInGrid left.now }
     requires framed { AreFramesIn view left.now frames.now }
     requires noted { IsNoted view left.now notes.old }
