@@ -5,3 +5,4 @@ pub mod Following
 pub mod Listing
 pub mod Apart
 pub mod Rows
+pub mod Wholes
