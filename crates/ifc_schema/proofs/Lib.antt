@@ -6,3 +6,4 @@ pub mod Listing
 pub mod Apart
 pub mod Rows
 pub mod Wholes
+pub mod OneFlaw

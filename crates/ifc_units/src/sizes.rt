@@ -55,15 +55,15 @@ fn round_few(count: u64, parts: u64, mode: Mode) -> Option<u64>
     ensures exact { IfNone result (mode ≡ Mode.Exact) }
 {
     let whole = count / parts;
-    let below = count % parts;
-    let above = parts - below;
+    let under = count % parts;
+    let over = parts - under;
     match mode {
-        Mode::Snap => Some(if below < above { whole } else { whole + 1 }),
+        Mode::Snap => Some(if under < over { whole } else { whole + 1 }),
         Mode::Exact => {
             let tolerance = (FEW_UNITS * parts + 999) / 1000;
-            if below < tolerance {
+            if under < tolerance {
                 Some(whole)
-            } else if above < tolerance {
+            } else if over < tolerance {
                 Some(whole + 1)
             } else {
                 None
