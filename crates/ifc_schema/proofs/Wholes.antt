@@ -15,8 +15,11 @@ as_whole b m (pos k) w above h = ap (λ (x : ℤ). x *ℤ pos (denominator w)) (
 as_whole b m (negsuc k) w above h = absurd (omega (arith, ints, above))
 
 pub is_whole : (bytes : List ℕ) (d : Decimal) → Reads bytes d → pos 0 ≤ℤ d.exp → IsWhole bytes
-is_whole bytes d reads above = (numerator (record { number = signed d.negative d.digits; power = d.exp }), record {
-  spelling = reads.spelling;
-  read = reads.read;
-  value = as_whole d.negative d.digits d.exp (written reads.spelling) above reads.value;
-})
+is_whole bytes d reads above = (
+  numerator (record { number = signed d.negative d.digits; power = d.exp }),
+  record {
+    spelling = reads.spelling;
+    read = reads.read;
+    value = as_whole d.negative d.digits d.exp (written reads.spelling) above reads.value;
+  },
+)

@@ -9,7 +9,7 @@ ghost use Rattle.model_build.specs.Profile.{FileFault};
 
 /// The instances of a file make one model at most, and have one first fault at most. It isn't said that two lists of instances that the
 /// same bytes spell, which say the same value by value, have one answer.
-pub fn one_answer()
+pub fn instances_have_one_answer()
     ensures model { (world : List Instance) (mode : Mode) (a b : List Element) → IsModelOf world mode a → IsModelOf world mode b → a ≡ b }
     ensures fault { (world : List Instance) (mode : Mode) (f g : UploadFault) → FileFault world mode f → FileFault world mode g → f ≡ g }
 {}
