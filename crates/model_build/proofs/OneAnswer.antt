@@ -1,5 +1,5 @@
--- Instances have one first fault at most, and make one model at most.
-use Rattle.std.proofs.Common.{◌≡◌, ℕ, zero, suc, ◌<◌, ◌⊎◌, inl, inr, List, [], ◌∷◌, get_or, Contains, IsPermutation, Option, Some, None, refl, sym, ap, ◌∙◌, subst, arith}
+-- Instances have one first fault at most, and make one model at most; bytes have one answer.
+use Rattle.std.proofs.Common.{◌≡◌, ℕ, zero, suc, ◌<◌, ◌⊎◌, inl, inr, List, [], ◌∷◌, get_or, Contains, IsPermutation, Option, Some, None, Result, Ok, Err, refl, sym, ap, ◌∙◌, subst, arith}
 use Rattle.std.specs.Bool.{IsTrue}
 use Rattle.std.specs.List.{AllPairs, AllZip}
 use Rattle.std.specs.Ordering.{nat_cmp, is_lt, ordering_reverse}
@@ -14,6 +14,7 @@ use Rattle.bim_model.specs.declared.guid.Guid.{Guid}
 use Rattle.bim_model.specs.declared.element.Element.{Element}
 use Rattle.bim_model.specs.Models.{is_below}
 use Rattle.p21_reader.specs.declared.value.Instance.{Instance}
+use Rattle.p21_reader.proofs.OneAnswer.{one_exchange, refused, one_fault}
 use Rattle.ifc_schema.specs.StageFive.{StageFive, IsModelElement}
 use Rattle.ifc_schema.specs.Used.{Used}
 use Rattle.ifc_schema.proofs.OneFlaw.{one_survey_fault}
@@ -37,7 +38,7 @@ use Rattle.model_build.specs.PointTables.{LengthFault, told_of}
 use Rattle.model_build.specs.Storeys.{IsStoreyName}
 use Rattle.model_build.specs.Surfaces.{IsSurface}
 use Rattle.model_build.specs.Elements.{IsElement, IsModelOf}
-use Rattle.model_build.specs.Profile.{LoopFault, ReachFault, InUnit, stages_in, stages, FileFault}
+use Rattle.model_build.specs.Profile.{LoopFault, ReachFault, InUnit, stages_in, FileFault, Profile}
 use Rattle.model_build.proofs.OneSurface.{one_surface}
 use Rattle.model_build.proofs.Staged.{same_lists}
 
@@ -215,3 +216,22 @@ one_model world mode a b h k =
     one_order (λ (e f : Element). IsTrue (is_below e.guid.chars f.guid.chars)) (λ e f. guids_strict e.guid.chars f.guid.chars) a b h.rising k.rising
     (λ n c. Contains-permutation h.made b n q (Contains-permutation a h.made n (IsPermutation-sym h.made a h.order) c))
     (λ n c. Contains-permutation h.made a n h.order (Contains-permutation b h.made n (IsPermutation-sym h.made b q) c))
+
+-- The bytes.
+
+pub one_answer : (bytes : List ℕ) (mode : Mode) (a b : Result (List Element) UploadFault) → Profile bytes mode a → Profile bytes mode b → a ≡ b
+unfolding Profile
+one_answer bytes mode (Ok a) (Ok b) h k =
+    let same = one_exchange bytes h.0 k.0 h.1 k.1 in
+    ap Ok (one_model k.0 mode a b (subst (λ (w : List Instance). IsModelOf w mode a) same h.3) k.3)
+one_answer bytes mode (Ok a) (Err g) h (inl k) = absurd (refused bytes g h.0 k h.1)
+one_answer bytes mode (Ok a) (Err g) h (inr k) =
+    absurd (h.2 g (subst (λ (w : List Instance). FileFault w mode g) (one_exchange bytes k.0 h.0 k.1 h.1) k.2))
+one_answer bytes mode (Err f) (Ok b) (inl h) k = absurd (refused bytes f k.0 h k.1)
+one_answer bytes mode (Err f) (Ok b) (inr h) k =
+    absurd (k.2 f (subst (λ (w : List Instance). FileFault w mode f) (one_exchange bytes h.0 k.0 h.1 k.1) h.2))
+one_answer bytes mode (Err f) (Err g) (inl h) (inl k) = ap Err (one_fault bytes f g h k)
+one_answer bytes mode (Err f) (Err g) (inl h) (inr k) = absurd (refused bytes f k.0 h k.1)
+one_answer bytes mode (Err f) (Err g) (inr h) (inl k) = absurd (refused bytes g h.0 k h.1)
+one_answer bytes mode (Err f) (Err g) (inr h) (inr k) =
+    ap Err (one_file_fault k.0 mode f g (subst (λ (w : List Instance). FileFault w mode f) (one_exchange bytes h.0 k.0 h.1 k.1) h.2) k.2)

@@ -26,5 +26,5 @@ mod tests;
 mod texts;
 mod unsupported;
 
-pub use laws::instances_have_one_answer;
+pub use laws::{instances_have_one_answer, profile_has_one_answer};
 pub use stages::{build, build_owned};
