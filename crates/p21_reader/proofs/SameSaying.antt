@@ -9,8 +9,8 @@ use Rattle.p21_reader.specs.Saying.{Content, Contents, Absent, Derived, Number, 
 
 -- The value that says that.
 
-mutual
-  abbrev value_back : Content → Value21
+abbrev mutual
+  value_back : Content → Value21
   value_back Absent = roll-Value21 layer.Absent
   value_back Derived = roll-Value21 layer.Derived
   value_back (Number bs) = roll-Value21 (layer.Number bs)
@@ -21,7 +21,7 @@ mutual
   value_back (Listed vs) = roll-Value21 (layer.List (values_back vs))
   value_back (Typed w v) = roll-Value21 (layer.Typed w (value_back v))
 
-  abbrev values_back : Contents → List Value21
+  values_back : Contents → List Value21
   values_back nothing = []
   values_back (and v vs) = value_back v ∷ values_back vs
 
@@ -59,9 +59,9 @@ same_list vs ws e = sym (all_back vs) ∙ ap values_back e ∙ all_back ws
 
 same_instance : (i j : Instance) → saying i ≡ saying j → i ≡ j
 same_instance i j e =
-    let id : i.id ≡ j.id = ap (λ s. s.0) e in
-    let keyword : i.keyword ≡ j.keyword = ap (λ s. s.1) e in
-    let values = same_list i.values j.values (ap (λ s. s.2) e) in
+    let id : i.id ≡ j.id = ap (λ (s : ℕ × Option (List ℕ) × Contents). s.0) e in
+    let keyword : i.keyword ≡ j.keyword = ap (λ (s : ℕ × Option (List ℕ) × Contents). s.1) e in
+    let values = same_list i.values j.values (ap (λ (s : ℕ × Option (List ℕ) × Contents). s.2) e) in
     let r : record { id = i.id; keyword = i.keyword; values = i.values } ≡ j = rw (id, keyword, values) refl in
     r
 
