@@ -63,8 +63,8 @@ fn faces_triangles(
 
 /// The triangles of a face set in its own coordinates, in the order of its rows or faces, each face cut once (IFC4 ADD2 TC1,
 /// IfcTriangulatedFaceSet, IfcPolygonalFaceSet). The points are those of its list. None exactly where it has no triangles: a row isn't
-/// three indexes of points; or a face has too few corners or too many, has an index that names no point, or can't be cut. An index of
-/// another attribute that names nothing doesn't matter. None of a sound set comes where a face can't be cut.
+/// three indexes of points; or a face has too few corners or too many, has an index that names no point, or can't be cut. A number of
+/// its PnIndex that no index counts doesn't matter. None of a sound set comes where a face can't be cut.
 pub fn set_triangles(
     alloc: Global,
     exchange: &Exchange,
