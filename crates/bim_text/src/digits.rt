@@ -115,17 +115,17 @@ impl Few {
         ensures zeros { result.zeros ≤ self.zeros + 1 }
     {
         let all = self.all * 10 + (digit - b'0') as u64;
-        if digit == b'0' {
-            Few {
-                all,
-                significand: self.significand,
-                zeros: self.zeros + 1,
-            }
-        } else {
+        if digit != b'0' {
             Few {
                 all,
                 significand: all,
                 zeros: 0,
+            }
+        } else {
+            Few {
+                all,
+                significand: self.significand,
+                zeros: self.zeros + 1,
             }
         }
     }
