@@ -1,8 +1,9 @@
 -- Values that say the same are one value, and so are instances.
 use Rattle.std.proofs.Common.{◌≡◌, ℕ, List, [], ◌∷◌, map, Option, refl, sym, ap, subst, ◌∙◌}
-use Rattle.p21_reader.specs.declared.value.Value21.{Value21, roll-Value21}
+use Rattle.p21_reader.specs.declared.value.Value21.{Value21}
 use Rattle.p21_reader.specs.declared.value.Value21.TheOpen.{Value21-F}
 use Rattle.p21_reader.specs.declared.value.Value21.TheOpen as layer
+use Rattle.p21_reader.specs.declared.value.Value21.TheViews.{roll-Value21}
 use Rattle.p21_reader.specs.declared.value.Value21.TheFolds.{fold-roll-Value21, ind-Value21, map-Value21}
 use Rattle.p21_reader.specs.declared.value.Instance.{Instance}
 use Rattle.p21_reader.specs.Saying.{Content, Contents, Absent, Derived, Number, Words, Enumeration, Bits, Reference, Listed, Typed, nothing, and, content, content_step, contents, saying}
