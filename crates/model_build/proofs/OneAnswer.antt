@@ -15,16 +15,14 @@ use Rattle.bim_model.specs.declared.element.Element.{Element}
 use Rattle.bim_model.specs.Models.{is_below}
 use Rattle.p21_reader.specs.declared.value.Instance.{Instance}
 use Rattle.p21_reader.proofs.OneAnswer.{one_exchange, refused, one_fault}
-use Rattle.ifc_schema.specs.StageFive.{StageFive, IsModelElement}
+use Rattle.ifc_schema.specs.StageFive.{IsModelElement}
 use Rattle.ifc_schema.specs.Used.{Used}
 use Rattle.ifc_schema.proofs.OneFlaw.{one_survey_fault}
 use Rattle.ifc_units.specs.declared.scale.Scale.{Scale}
 use Rattle.ifc_units.specs.declared.fault.GridFault.{GridFault}
-use Rattle.ifc_units.specs.Units.{IsLengthUnit, LengthUnitFault}
 use Rattle.ifc_units.specs.Lengths.{InstanceRefused}
 use Rattle.ifc_units.proofs.UnitFacts.{one_unit, one_unit_fault}
 use Rattle.ifc_units.proofs.InstanceFacts.{one_instance_fault}
-use Rattle.spatial_tree.specs.Trees.{StageSeven, StoreyOf}
 use Rattle.spatial_tree.proofs.OneStorey.{one_storey, one_tree_fault}
 use Rattle.ifc_instances.specs.declared.entity.Entity.TheVariants.{FaceWithVoids}
 use Rattle.model_build.specs.Stages.{Stage, Then, first_or, first_fault, LeastFault}
@@ -33,12 +31,11 @@ use Rattle.model_build.specs.Texts.{GuidFault, name_at}
 use Rattle.model_build.specs.Named.{IsNamed}
 use Rattle.model_build.specs.Unsupported.{IsUnsupported}
 use Rattle.model_build.specs.Faces.{IsStuckFace}
-use Rattle.model_build.specs.Least.{IsBadSet, IsOblique}
 use Rattle.model_build.specs.PointTables.{LengthFault, told_of}
 use Rattle.model_build.specs.Storeys.{IsStoreyName}
 use Rattle.model_build.specs.Surfaces.{IsSurface}
 use Rattle.model_build.specs.Elements.{IsElement, IsModelOf}
-use Rattle.model_build.specs.Profile.{LoopFault, ReachFault, InUnit, stages_in, FileFault, Profile}
+use Rattle.model_build.specs.Profile.{LoopFault, ReachFault, InUnit, stages_in, stages, FileFault, Profile}
 use Rattle.model_build.proofs.OneSurface.{one_surface}
 use Rattle.model_build.proofs.Staged.{same_lists}
 
@@ -62,8 +59,9 @@ or_one S [] s all = s
 or_one S (T ∷ rest) s all = then_one S (first_or T rest) s (or_one T rest all.0 all.1)
 
 -- stages in their order have one first fault at most
-first_one : (S : Stage) (rest : List Stage) → AllOne (S ∷ rest) → One (first_fault (S ∷ rest))
-first_one S rest all f g h k = or_one S rest all.0 all.1 f g h k
+first_one : (stages : List Stage) → AllOne stages → One (first_fault stages)
+first_one [] all f g h k = absurd h
+first_one (S ∷ rest) all f g h k = or_one S rest all.0 all.1 f g h k
 
 which : (a b : ℕ) → (a < b) ⊎ ((a ≡ b) ⊎ (b < a))
 which a b = grind arith
@@ -105,12 +103,11 @@ scaled_one world scale mode = (
 )
 
 scaled_first : (world : List Instance) (mode : Mode) (scale : Scale) → One (first_fault (stages_in world scale mode))
-scaled_first world mode scale f g h k = let all = scaled_one world scale mode in or_one _ _ all.0 all.1 f g h k
+scaled_first world mode scale = first_one (stages_in world scale mode) (scaled_one world scale mode)
 
 pub one_file_fault : (world : List Instance) (mode : Mode) (f g : UploadFault) → FileFault world mode f → FileFault world mode g → f ≡ g
-one_file_fault world mode f g h k =
-    first_one (StageFive world) (LengthUnitFault world ∷ InUnit world (λ scale. first_fault (stages_in world scale mode)) ∷ [])
-    (one_survey_fault world, one_unit_fault world, unit_one world (λ scale. first_fault (stages_in world scale mode)) (scaled_first world mode), tt) f g h k
+one_file_fault world mode =
+    first_one (stages world mode) (one_survey_fault world, one_unit_fault world, unit_one world (λ scale. first_fault (stages_in world scale mode)) (scaled_first world mode), tt)
 
 -- A number has one element at most.
 
