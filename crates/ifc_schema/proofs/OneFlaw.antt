@@ -6,6 +6,7 @@ use Rattle.std.specs.List.{slice_get}
 use Rattle.bim_model.specs.declared.upload.UploadFault.{UploadFault}
 use Rattle.p21_reader.specs.declared.value.Value21.{Value21}
 use Rattle.p21_reader.specs.declared.value.Instance.{Instance}
+use Rattle.p21_reader.proofs.Strict.{trichotomy}
 use Rattle.ifc_instances.specs.Values.{number_of, words_of, reference_of, items_of, is_enumeration}
 use Rattle.ifc_instances.specs.Looking.{some_passes}
 use Rattle.ifc_schema.specs.declared.flaw.Flaw.{Flaw}
@@ -64,12 +65,9 @@ leaf_one world leaf.Anything v = told None
 
 -- Lists.
 
-which : (a b : ℕ) → (a < b) ⊎ ((a ≡ b) ⊎ (b < a))
-which a b = grind arith
-
 first_one : {X : Type 0} (F : X → Option Flaw → Type 0) → ((x : X) → Apart (F x)) → ((x : X) → One (F x)) → (xs : List X) → One (FirstFlaw F xs)
 first_one F apart one [] f g h k = absurd (let l = h.within in omega arith)
-first_one F apart one (x ∷ xs) f g h k = elim (which h.place k.place) [
+first_one F apart one (x ∷ xs) f g h k = elim (trichotomy h.place k.place) [
   | inl before ↦ absurd (apart (get_or (x ∷ xs) h.place x) f (k.before h.place before x) (h.here x))
   | inr rest ↦ elim rest [
     | inl same ↦ one (get_or (x ∷ xs) k.place x) f g (subst (λ (p : ℕ). F (get_or (x ∷ xs) p x) (Some f)) same (h.here x)) (k.here x)
@@ -113,7 +111,7 @@ used_one world id f g h k =
 -- Files.
 
 pub one_survey_fault : (world : List Instance) (f g : UploadFault) → StageFive world f → StageFive world g → f ≡ g
-one_survey_fault world f g h k = elim (which h.id k.id) [
+one_survey_fault world f g h k = elim (trichotomy h.id k.id) [
   | inl below ↦ absurd (used_apart world h.id h.flaw (k.least h.id below h.used) h.flawed)
   | inr rest ↦ elim rest [
     | inl same ↦ (let one = used_one world k.id h.flaw k.flaw (subst (λ (id : ℕ). UsedFlaw world id (Some h.flaw)) same h.flawed) k.flawed in

@@ -10,11 +10,13 @@ use Rattle.std.proofs.lemmas.Cmp.{nat_list_cmp_total}
 use Rattle.std.proofs.lemmas.List.Sorted.{IsPermutation-sym, Contains-permutation}
 use Rattle.bim_model.specs.declared.upload.Mode.{Mode}
 use Rattle.bim_model.specs.declared.upload.UploadFault.{UploadFault}
+use Rattle.bim_model.specs.declared.upload.UploadFault.TheVariants as faults
 use Rattle.bim_model.specs.declared.guid.Guid.{Guid}
 use Rattle.bim_model.specs.declared.element.Element.{Element}
 use Rattle.bim_model.specs.Models.{is_below}
 use Rattle.p21_reader.specs.declared.value.Instance.{Instance}
 use Rattle.p21_reader.proofs.OneAnswer.{one_exchange, refused, one_fault}
+use Rattle.p21_reader.proofs.Strict.{trichotomy}
 use Rattle.ifc_schema.specs.StageFive.{IsModelElement}
 use Rattle.ifc_schema.specs.Used.{Used}
 use Rattle.ifc_schema.proofs.OneFlaw.{one_survey_fault}
@@ -29,6 +31,7 @@ use Rattle.model_build.specs.Stages.{Stage, Then, first_or, first_fault, LeastFa
 use Rattle.model_build.specs.Finding.{IsUsed}
 use Rattle.model_build.specs.Texts.{GuidFault, name_at}
 use Rattle.model_build.specs.Named.{IsNamed}
+use Rattle.model_build.specs.Least.{IsBadSet, IsOblique}
 use Rattle.model_build.specs.Unsupported.{IsUnsupported}
 use Rattle.model_build.specs.Faces.{IsStuckFace}
 use Rattle.model_build.specs.PointTables.{LengthFault, told_of}
@@ -63,12 +66,9 @@ first_one : (stages : List Stage) → AllOne stages → One (first_fault stages)
 first_one [] all f g h k = absurd h
 first_one (S ∷ rest) all f g h k = or_one S rest all.0 all.1 f g h k
 
-which : (a b : ℕ) → (a < b) ⊎ ((a ≡ b) ⊎ (b < a))
-which a b = grind arith
-
 -- a stage has one least fault at most
 pub least_one : (Of : ℕ → Type 0) (FaultOf : ℕ → UploadFault → Type 0) → ((id : ℕ) (f g : UploadFault) → FaultOf id f → FaultOf id g → f ≡ g) → One (LeastFault Of FaultOf)
-least_one Of FaultOf one f g h k = elim (which h.id k.id) [
+least_one Of FaultOf one f g h k = elim (trichotomy h.id k.id) [
   | inl below ↦ absurd (k.lower h.id below h.of f h.here)
   | inr rest ↦ elim rest [
     | inl same ↦ one k.id f g (subst (λ (id : ℕ). FaultOf id f) same h.here) k.here
@@ -90,13 +90,13 @@ scaled_one world scale mode = (
   one_tree_fault world,
   least_one (IsModelElement world) (GuidFault world (IsModelElement world)) (λ id f g h k. h.0 ∙ sym k.0),
   least_one (IsNamed world (IsModelElement world)) (LoopFault world) (λ id f g h k. h.0 ∙ sym k.0),
-  least_one (Used world) _ (λ id f g h k. h.0 ∙ sym k.0),
-  least_one (IsUnsupported world scale mode) _ (λ id f g h k. h ∙ sym k),
-  least_one (IsUsed FaceWithVoids world) _ (λ id f g h k. h ∙ sym k),
-  least_one (Used world) _ (λ id f g h k. h.0 ∙ sym k.0),
+  least_one (Used world) (λ id fault. (fault ≡ faults.Oblique id) × IsOblique world id) (λ id f g h k. h.0 ∙ sym k.0),
+  least_one (IsUnsupported world scale mode) (λ id fault. fault ≡ faults.UnsupportedItem id) (λ id f g h k. h ∙ sym k),
+  least_one (IsUsed FaceWithVoids world) (λ id fault. fault ≡ faults.VoidedFace id) (λ id f g h k. h ∙ sym k),
+  least_one (Used world) (λ id fault. (fault ≡ faults.BadIndex id) × IsBadSet world id) (λ id f g h k. h.0 ∙ sym k.0),
   least_one (Used world) (LengthFault world scale mode) (length_one world scale mode),
   (λ f g h k. h.0 ∙ sym k.0),
-  least_one (IsStuckFace world scale mode) _ (λ id f g h k. h ∙ sym k),
+  least_one (IsStuckFace world scale mode) (λ id fault. fault ≡ faults.FaceStuck id) (λ id f g h k. h ∙ sym k),
   (λ f g h k. h.0 ∙ sym k.0),
   least_one (IsModelElement world) (ReachFault world scale mode) (λ id f g h k. h.0 ∙ sym k.0),
   tt,

@@ -58,13 +58,15 @@ all_back (v ∷ vs) = ap (λ z. z ∷ values_back (contents (map content vs))) (
 same_list : (vs ws : List Value21) → contents (map content vs) ≡ contents (map content ws) → vs ≡ ws
 same_list vs ws e = sym (all_back vs) ∙ ap values_back e ∙ all_back ws
 
+abbrev made : ℕ → Option (List ℕ) → List Value21 → Instance
+made id keyword values = record { id = id; keyword = keyword; values = values }
+
 same_instance : (i j : Instance) → saying i ≡ saying j → i ≡ j
 same_instance i j e =
     let id : i.id ≡ j.id = ap (λ (s : ℕ × Option (List ℕ) × Contents). s.0) e in
     let keyword : i.keyword ≡ j.keyword = ap (λ (s : ℕ × Option (List ℕ) × Contents). s.1) e in
     let values = same_list i.values j.values (ap (λ (s : ℕ × Option (List ℕ) × Contents). s.2) e) in
-    let r : record { id = i.id; keyword = i.keyword; values = i.values } ≡ j = rw (id, keyword, values) refl in
-    r
+    ap (λ (x : ℕ). made x i.keyword i.values) id ∙ ap (λ (x : Option (List ℕ)). made j.id x i.values) keyword ∙ ap (λ (x : List Value21). made j.id j.keyword x) values
 
 pub same_instances : (a b : List Instance) → map saying a ≡ map saying b → a ≡ b
 same_instances [] [] h = refl

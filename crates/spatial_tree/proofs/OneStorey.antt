@@ -3,6 +3,7 @@ use Rattle.std.proofs.Common.{◌≡◌, ℕ, ◌<◌, ◌⊎◌, inl, inr, List
 use Rattle.bim_model.specs.declared.upload.UploadFault.{UploadFault}
 use Rattle.bim_model.specs.declared.upload.UploadFault.TheVariants as faults
 use Rattle.p21_reader.specs.declared.value.Instance.{Instance}
+use Rattle.p21_reader.proofs.Strict.{trichotomy}
 use Rattle.spatial_tree.specs.Relations.{HasContainer, HasWhole, IsStorey}
 use Rattle.spatial_tree.specs.Climbing.{IsNext, IsFirstStorey}
 use Rattle.spatial_tree.specs.Climbing as climbing
@@ -32,11 +33,8 @@ one_first N S one _ _ t (climbing.beyond o v s n other f) k = elim (split N S o 
 pub one_storey : (world : List Instance) (o s t : ℕ) → StoreyOf world o s → StoreyOf world o t → s ≡ t
 one_storey world o s t h k = one_first (Next world) (IsStorey world) (one_next (HasContainer world) (HasWhole world)) o s t h k
 
-which : (a b : ℕ) → (a < b) ⊎ ((a ≡ b) ⊎ (b < a))
-which a b = grind arith
-
 pub one_tree_fault : (world : List Instance) (f g : UploadFault) → StageSeven world f → StageSeven world g → f ≡ g
-one_tree_fault world f g h k = elim (which h.id k.id) [
+one_tree_fault world f g h k = elim (trichotomy h.id k.id) [
   | inl below ↦ absurd (k.least h.id below h.flawed)
   | inr rest ↦ elim rest [
     | inl same ↦ h.told ∙ ap faults.TreeFault same ∙ sym k.told
