@@ -5,5 +5,3 @@ pub mod Following
 pub mod Listing
 pub mod Apart
 pub mod Rows
-pub mod Wholes
-pub mod OneFlaw

@@ -7,7 +7,6 @@ mod checks;
 mod flaw;
 mod follow;
 mod form;
-mod laws;
 mod outcome;
 mod table;
 #[cfg(test)]
@@ -21,7 +20,6 @@ mod work;
 
 pub use body::is_body;
 pub use checks::survey;
-pub use laws::one_survey_fault;
 pub use outcome::Survey;
 pub use views::{
     AxisView, ElementView, FaceView, FacesetView, MappedView, OperatorView, PlacementView,

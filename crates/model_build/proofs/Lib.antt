@@ -41,4 +41,3 @@ pub mod Thens
 pub mod Clears
 pub mod Modelling
 pub mod Profiled
-pub mod OneAnswer

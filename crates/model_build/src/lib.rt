@@ -8,7 +8,6 @@ mod faces;
 mod guids;
 mod items;
 mod lack;
-mod laws;
 mod least;
 mod mapping;
 mod named;
@@ -26,5 +25,4 @@ mod tests;
 mod texts;
 mod unsupported;
 
-pub use laws::{instances_have_one_answer, profile_has_one_answer};
 pub use stages::{build, build_owned};

@@ -9,4 +9,3 @@ pub mod Trees
 pub mod World
 pub mod Making
 pub mod Listing
-pub mod OneStorey

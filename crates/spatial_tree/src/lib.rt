@@ -3,7 +3,6 @@
 #![tactic(auto)]
 
 mod build;
-mod laws;
 mod link;
 mod mark;
 mod only;
@@ -13,5 +12,4 @@ mod storeys;
 mod tests;
 
 pub use build::tree;
-pub use laws::one_storey;
 pub use storeys::{Placed, Tree};
