@@ -16,4 +16,3 @@ pub mod Statements
 pub mod Steps
 pub mod Strict
 pub mod Viable
-pub mod SameSaying
