@@ -2,6 +2,7 @@
 use Rattle.std.specs.Prelude.{ℕ, ◌+◌, ◌-◌, ◌*◌, ◌^◌, ◌==◌, nat_lt, if◌then◌else◌, List, [], ◌∷◌, length, drop, Option, Some, None, option_and_then}
 use Rattle.bim_text.specs.declared.limits.TheConstants.{MOST_DIGITS}
 use Rattle.bim_text.specs.declared.digits.Digits.{Digits}
+use Rattle.bim_text.specs.declared.digits.Few.{Few}
 use Rattle.bim_text.specs.Numbers.{Sign, Unsigned, Plus, Minus, Exponent, Spelling, sign_bytes, fraction_bytes}
 use Rattle.p21_lexer.specs.Spelling.{is_digit}
 
@@ -45,6 +46,10 @@ parts bs = record {
   fraction = fraction_at (behind_front (unsigned bs));
   exponent = exponent_at (behind_fraction (behind_front (unsigned bs)));
 }
+
+-- what is kept of few digits, as of any
+abbrev pub wide : Few → Digits
+wide few = record { all = few.all; significand = few.significand; zeros = few.zeros }
 
 -- One more digit: a zero is counted and, where there is room, put behind the others; another digit needs room.
 abbrev pub kept_zero : Digits → Digits

@@ -8,6 +8,10 @@ pub record Scaled : Type 0 where
   pub number : ℤ
   pub power : ℤ
 
+-- a whole number as such a value
+abbrev pub whole : ℤ → Scaled
+whole n = record { number = n; power = pos 0 }
+
 -- n, or its negative
 abbrev pub signed : Bool → ℕ → ℤ
 signed false n = pos n
