@@ -12,7 +12,7 @@ struct Case {
     ears: &'static [[u32; 3]],
 }
 
-static CASES: [Case; 32] = [
+static CASES: [Case; 33] = [
     // An L with a corner that is not convex, in each view; then from behind.
     Case {
         corners: &[
@@ -372,6 +372,18 @@ static CASES: [Case; 32] = [
             [-18, 8, 0],
         ],
         ears: &[[0, 1, 2], [6, 0, 2], [6, 2, 3], [6, 3, 4], [4, 5, 6]],
+    },
+    // An outline that winds round twice and has no reflex corner: convex corners lie in triangles all the same.
+    Case {
+        corners: &[
+            [28, 9, 0],
+            [3, 14, 0],
+            [4, -3, 0],
+            [9, 3, 0],
+            [-1, -6, 0],
+            [18, -17, 0],
+        ],
+        ears: &[[1, 2, 3], [0, 1, 3], [5, 0, 3], [3, 4, 5]],
     },
 ];
 

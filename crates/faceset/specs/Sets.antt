@@ -135,6 +135,7 @@ IsOutlined face = (2 < length (outline face)) × (length (outline face) ≤ most
 
 -- a face cut into triangles
 pub record IsCut (numbers : Option (List Value21)) (points : List Point) (face : Instance) (triangles : List Triangle) : Type 0 where
+  pub outlined : IsOutlined face
   pub corners : List Point
   pub are_corners : AreCorners numbers points (outline face) corners
   pub ears : List Ear

@@ -18,7 +18,7 @@ reference_in (layer.Reference n) = Some n
 reference_in _ = None
 
 abbrev pub items_in : Value21-F Value21 → Option (List Value21)
-items_in (layer.List vs) = Some vs.value.items
+items_in (layer.List vs) = Some vs
 items_in _ = None
 
 abbrev pub enumeration_in : Value21-F Value21 → Bool

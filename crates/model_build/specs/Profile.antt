@@ -1,5 +1,5 @@
 -- Which files make which model, and the first fault of the others.
-use Rattle.std.specs.Prelude.{◌≡◌, ℕ, ◌⊎◌, List, Result, Ok, Err}
+use Rattle.std.specs.Prelude.{◌≡◌, ℕ, ◌⊎◌, List, [], ◌∷◌, drop, Result, Ok, Err}
 use Rattle.bim_model.specs.declared.upload.Mode.{Mode}
 use Rattle.bim_model.specs.declared.upload.UploadFault.{UploadFault}
 use Rattle.bim_model.specs.declared.upload.UploadFault.TheVariants as faults
@@ -15,7 +15,7 @@ use Rattle.ifc_units.specs.declared.scale.Scale.{Scale}
 use Rattle.ifc_units.specs.Units.{IsLengthUnit, LengthUnitFault}
 use Rattle.spatial_tree.specs.Trees.{StageSeven}
 use Rattle.placement.specs.Chains.{NeverEnds}
-use Rattle.model_build.specs.Stages.{Stage, IsClear, Then, LeastFault}
+use Rattle.model_build.specs.Stages.{Stage, IsClear, first_fault, LeastFault}
 use Rattle.model_build.specs.Finding.{Finds, IsUsed}
 use Rattle.model_build.specs.Texts.{GuidFault}
 use Rattle.model_build.specs.Items.{TrianglesStage}
@@ -54,38 +54,80 @@ ReachFault world scale mode id fault = (fault ≡ faults.TooFar id) × Finds wor
 abbrev pub ReachStage : List Instance → Scale → Mode → Stage
 ReachStage world scale mode = LeastFault (IsModelElement world) (ReachFault world scale mode)
 
--- Their order. The lengths are in a unit of that scale.
+abbrev pub TwiceStage : List Instance → Stage
+TwiceStage world = LeastFault (IsModelElement world) (GuidFault world (IsModelElement world))
 
-abbrev pub AfterCorners : List Instance → Scale → Mode → Stage
-AfterCorners world scale mode = Then (StuckStage world scale mode) (Then (TrianglesStage world) (ReachStage world scale mode))
+abbrev pub LoopStage : List Instance → Stage
+LoopStage world = LeastFault (IsNamed world (IsModelElement world)) (LoopFault world)
 
-abbrev pub AfterLengths : List Instance → Scale → Mode → Stage
-AfterLengths world scale mode = Then (CornersStage world) (AfterCorners world scale mode)
+abbrev pub LengthStage : List Instance → Scale → Mode → Stage
+LengthStage world scale mode = LeastFault (Used world) (LengthFault world scale mode)
 
-abbrev pub AfterIndexes : List Instance → Scale → Mode → Stage
-AfterIndexes world scale mode = Then (LeastFault (Used world) (LengthFault world scale mode)) (AfterLengths world scale mode)
+-- a stage that reads lengths has that fault in the unit of the file
+abbrev pub InUnit : List Instance → (Scale → Stage) → Stage
+InUnit world S fault = (scale : Scale) × IsLengthUnit world scale × S scale fault
 
-abbrev pub AfterItems : List Instance → Scale → Mode → Stage
-AfterItems world scale mode = Then (VoidStage world) (Then (IndexStage world) (AfterIndexes world scale mode))
+-- The stages in the order of the table of faults, once the lengths are in a unit of that scale.
+abbrev pub stages_in : List Instance → Scale → Mode → List Stage
+stages_in world scale mode =
+    -- an object with two containers or two wholes, or on a way up that comes back to it
+    StageSeven world ∷
+    -- an element with the global identifier of one of lower number
+    TwiceStage world ∷
+    -- a placement, named by an element, whose chain never ends
+    LoopStage world ∷
+    -- an axis placement or an operator without axes along the grid's
+    ObliqueStage world ∷
+    -- an item that isn't read, or is mapped in a way that isn't
+    ItemStage world scale mode ∷
+    -- a face with voids
+    VoidStage world ∷
+    -- a set of which an index counts nothing
+    IndexStage world ∷
+    -- a point or a list of points with a number between two of the grid, or too far
+    LengthStage world scale mode ∷
+    -- a face with too many corners
+    CornersStage world ∷
+    -- a face that can't be cut
+    StuckStage world scale mode ∷
+    -- too many triangles
+    TrianglesStage world ∷
+    -- an element with a corner too far from zero in the building
+    ReachStage world scale mode ∷ []
 
-abbrev pub AfterChains : List Instance → Scale → Mode → Stage
-AfterChains world scale mode = Then (ObliqueStage world) (Then (ItemStage world scale mode) (AfterItems world scale mode))
-
-abbrev pub AfterTree : List Instance → Scale → Mode → Stage
-AfterTree world scale mode =
-    Then (LeastFault (IsModelElement world) (GuidFault world (IsModelElement world)))
-    (Then (LeastFault (IsNamed world (IsModelElement world)) (LoopFault world))
-    (AfterChains world scale mode))
-
-abbrev pub AfterUnit : List Instance → Scale → Mode → Stage
-AfterUnit world scale mode = Then (StageSeven world) (AfterTree world scale mode)
+-- All stages of the instances in their order.
+abbrev pub stages : List Instance → Mode → List Stage
+stages world mode =
+    -- a reference that leads nowhere, or an attribute without its form
+    StageFive world ∷
+    -- not exactly one project with exactly one length unit
+    LengthUnitFault world ∷
+    -- what is wrong with a file that has a unit
+    InUnit world (λ scale. first_fault (stages_in world scale mode)) ∷ []
 
 -- the fault of the file's instances
 abbrev pub FileFault : List Instance → Mode → Stage
-FileFault world mode =
-    Then (StageFive world)
-    (Then (LengthUnitFault world)
-    (λ fault. (scale : Scale) × IsLengthUnit world scale × AfterUnit world scale mode fault))
+FileFault world mode = first_fault (stages world mode)
+
+-- The first faults of what is left of the list, as the code comes to them.
+
+abbrev pub AfterUnit : List Instance → Scale → Mode → Stage
+AfterUnit world scale mode = first_fault (stages_in world scale mode)
+
+abbrev pub AfterTree : List Instance → Scale → Mode → Stage
+AfterTree world scale mode = first_fault (drop 1 (stages_in world scale mode))
+
+abbrev pub AfterChains : List Instance → Scale → Mode → Stage
+AfterChains world scale mode = first_fault (drop 3 (stages_in world scale mode))
+
+abbrev pub AfterItems : List Instance → Scale → Mode → Stage
+AfterItems world scale mode = first_fault (drop 5 (stages_in world scale mode))
+
+abbrev pub AfterIndexes : List Instance → Scale → Mode → Stage
+AfterIndexes world scale mode = first_fault (drop 7 (stages_in world scale mode))
+
+abbrev pub AfterCorners : List Instance → Scale → Mode → Stage
+AfterCorners world scale mode = first_fault (drop 9 (stages_in world scale mode))
 
 -- The bytes make the model; or they have that fault, as a spelled file or by its instances.
 unfoldable pub Profile : List ℕ → Mode → Result (List Element) UploadFault → Type 0

@@ -4,7 +4,7 @@ use Rattle.std.specs.Prelude.{◌≡◌, ℕ, ◌⊎◌, false, true, ℤ, pos, 
 use Rattle.std.specs.List.{AllZip, slice_get}
 use Rattle.bim_model.specs.declared.upload.Mode.{Mode}
 use Rattle.bim_text.specs.declared.decimal.Decimal.{Decimal}
-use Rattle.bim_text.specs.Decimals.{Reads}
+use Rattle.bim_text.specs.Decimals.{Reads, WritesWhole}
 use Rattle.p21_reader.specs.declared.value.Value21.{Value21}
 use Rattle.p21_reader.specs.declared.value.Instance.{Instance}
 use Rattle.ifc_instances.specs.declared.entity.Entity.TheVariants.{Operator}
@@ -18,7 +18,6 @@ use Rattle.ifc_units.specs.Lengths.{units}
 use Rattle.placement.specs.declared.axes.Axes.{Axes}
 use Rattle.placement.specs.Directions.{HasAxes}
 use Rattle.ifc_instances.specs.Attributes.{referred_at, value_at, reference_at}
-use Rattle.faceset.specs.Indexes.{Writes}
 use Rattle.model_build.specs.Finding.{Finds}
 use Rattle.model_build.specs.Items.{spelled_items, is_item, is_mapped_item}
 
@@ -46,7 +45,7 @@ ListsNested world from id = IsMapped world from × ListsItem world from id × Fi
 pub record IsNotOne (v : Value21) : Type 0 where
   pub bytes : List ℕ
   pub number : number_of v ≡ Some bytes
-  pub other : Writes bytes (pos 1) → ⊥
+  pub other : WritesWhole bytes (pos 1) → ⊥
 
 -- it is no operator, or one with a scale other than 1
 abbrev pub IsNoTarget : Instance → Type 0

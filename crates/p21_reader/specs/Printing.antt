@@ -23,8 +23,8 @@ print_step (layer.Words bs) = WordsOf bs ∷ []
 print_step (layer.Enumeration bs) = EnumerationOf bs ∷ []
 print_step (layer.Bits bs) = BitsOf bs ∷ []
 print_step (layer.Reference n) = ReferenceTo n ∷ []
-print_step (layer.List vs) = Opening ∷ (joined vs.value.items ++ Closing ∷ [])
-print_step (layer.Typed word v) = KeywordOf word.value ∷ Opening ∷ (v.value ++ Closing ∷ [])
+print_step (layer.List vs) = Opening ∷ (joined vs ++ Closing ∷ [])
+print_step (layer.Typed word v) = KeywordOf word ∷ Opening ∷ (v ++ Closing ∷ [])
 
 -- the tokens that spell a value
 abbrev pub print : Value21 → List Lexeme

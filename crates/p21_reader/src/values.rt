@@ -8,6 +8,7 @@ use crate::fault::ReadFault;
 use crate::piece::{Kind, Piece, expect, refused, take};
 use crate::simple::{keyword_of, simple};
 use crate::value::Value21;
+use sqlite_items::{Boxed, Items};
 use std::alloc::Global;
 
 /// Reads a value of one token.
@@ -34,7 +35,7 @@ fn split(alloc: Global, stack: &mut Vec<Value21>, start: usize) -> Result<(), Re
     ensures fault { IfErr result (λ fault. fault ≡ ReadFault.Memory) }
 {
     let values = stack.split_off(start)?;
-    stack.push(Value21::List(Box::new(alloc, values)?))?;
+    stack.push(Value21::List(Boxed::new(alloc, Items::from_vec(values))?))?;
     Ok(())
 }
 
@@ -49,7 +50,7 @@ fn wrap(alloc: Global, bytes: &[u8], word: Piece, stack: &mut Vec<Value21>) -> R
 {
     let keyword = keyword_of(alloc, bytes, word)?;
     let inner = stack.pop().unwrap();
-    let value = Value21::Typed(Box::new(alloc, keyword)?, Box::new(alloc, inner)?);
+    let value = Value21::Typed(Boxed::new(alloc, keyword)?, Boxed::new(alloc, inner)?);
     stack.push(value)?;
     Ok(())
 }
