@@ -24,7 +24,11 @@ fraction_at (b ∷ bs) = if b == 46 then Some (front bs) else None
 -- all bytes as an exponent
 abbrev pub exponent_at : List ℕ → Option Exponent
 exponent_at [] = None
-exponent_at (b ∷ bs) = Some (record { mark = b; sign = sign_at bs; digits = drop (length (sign_bytes (sign_at bs))) bs })
+exponent_at (b ∷ bs) = Some (record {
+  mark = b;
+  sign = sign_at bs;
+  digits = drop (length (sign_bytes (sign_at bs))) bs;
+})
 
 -- what follows the sign
 abbrev pub unsigned : List ℕ → List ℕ
@@ -63,7 +67,8 @@ abbrev pub kept_digit : Digits → ℕ → Digits
 kept_digit k b = record { all = k.all * 10 + (b - 48); significand = k.all * 10 + (b - 48); zeros = 0 }
 
 abbrev pub kept_step : Digits → ℕ → Option Digits
-kept_step k b = if b == 48 then Some (kept_zero k) else (if nat_lt k.all (10 ^ (MOST_DIGITS - 1)) then Some (kept_digit k b) else None)
+kept_step k b = if b == 48 then Some (kept_zero k)
+    else (if nat_lt k.all (10 ^ (MOST_DIGITS - 1)) then Some (kept_digit k b) else None)
 
 abbrev pub kept_after : Digits → List ℕ → Option Digits
 kept_after k [] = Some k

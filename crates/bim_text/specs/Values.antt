@@ -43,4 +43,5 @@ raised s shift = record { number = s.number; power = s.power +ℤ shift }
 
 -- the order of the two values without their signs
 abbrev pub size_order : Scaled → Scaled → Ordering
-size_order s t = nat_cmp (unsigned_abs (numerator s) * denominator t) (unsigned_abs (numerator t) * denominator s)
+size_order s t = nat_cmp (unsigned_abs (numerator s) * denominator t)
+    (unsigned_abs (numerator t) * denominator s)

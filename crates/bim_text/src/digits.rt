@@ -137,8 +137,10 @@ fn scan_few(text: &[u8], from: usize, before: Few) -> FewScanned
     requires place { from ≤ length text.now }
     requires short { length text.now ≤ MOST_UPLOAD }
     requires zeros { before.zeros ≤ from }
-    ensures kept { kept_after (wide before) (front (drop from text.now)) ≡ kept_after (wide result.digits) (front (drop result.end text.now)) }
-    ensures end { from + length (front (drop from text.now)) ≡ result.end + length (front (drop result.end text.now)) }
+    ensures kept { kept_after (wide before) (front (drop from text.now))
+        ≡ kept_after (wide result.digits) (front (drop result.end text.now)) }
+    ensures end { from + length (front (drop from text.now))
+        ≡ result.end + length (front (drop result.end text.now)) }
     ensures within { result.end ≤ length text.now }
     ensures zeros { result.digits.zeros ≤ result.end }
 {
@@ -206,7 +208,8 @@ pub fn exponent_size(digits: &[u8]) -> Option<u32>
     ensures some { IfSome result (λ n. (0 < length digits.now) × AreDigits digits.now) }
     ensures value { IfSome result (λ n. n ≡ value_after 0 digits.now) }
     ensures small { IfSome result (λ n. n ≤ MOST_EXPONENT) }
-    ensures none { IfNone result (0 < length digits.now → AreDigits digits.now → value_after 0 digits.now ≤ MOST_EXPONENT → ⊥) }
+    ensures none { IfNone result (0 < length digits.now → AreDigits digits.now
+        → value_after 0 digits.now ≤ MOST_EXPONENT → ⊥) }
 {
     if digits.is_empty() {
         return None;

@@ -23,8 +23,13 @@ fn face_triangles(
     value: &Value21,
 ) -> Result<Option<Vec<Triangle>>, AllocError>
     requires { All IsGridPoint points.now }
-    ensures triangles { IfOk result (λ made. MatchOption made (Any (IsLoose (option_copied numbers.entry) points.now) (led_to exchange.now (value.now ∷ []))) (λ triangles. Joined (IsCut (option_copied numbers.entry) points.now) (led_to exchange.now (value.now ∷ [])) triangles.items)) }
-    ensures count { IfOk result (λ made. IfSome made (λ triangles. length triangles.items ≡ sum_by face_count (led_to exchange.now (value.now ∷ [])))) }
+    ensures triangles { IfOk result
+        (λ made. MatchOption made (Any (IsLoose (option_copied numbers.entry) points.now)
+        (led_to exchange.now (value.now ∷ [])))
+        (λ triangles. Joined (IsCut (option_copied numbers.entry) points.now)
+        (led_to exchange.now (value.now ∷ [])) triangles.items)) }
+    ensures count { IfOk result (λ made. IfSome made
+        (λ triangles. length triangles.items ≡ sum_by face_count (led_to exchange.now (value.now ∷ [])))) }
 {
     let Some(id) = reference_of(value) else {
         return Ok(Some(Vec::new(alloc)));
@@ -48,8 +53,13 @@ fn faces_triangles(
     values: &[Value21],
 ) -> Result<Option<Vec<Triangle>>, AllocError>
     requires { All IsGridPoint points.now }
-    ensures triangles { IfOk result (λ made. MatchOption made (Any (IsLoose (option_copied numbers.entry) points.now) (led_to exchange.now values.now)) (λ triangles. Joined (IsCut (option_copied numbers.entry) points.now) (led_to exchange.now values.now) triangles.items)) }
-    ensures count { IfOk result (λ made. IfSome made (λ triangles. length triangles.items ≡ sum_by face_count (led_to exchange.now values.now))) }
+    ensures triangles { IfOk result
+        (λ made. MatchOption made (Any (IsLoose (option_copied numbers.entry) points.now)
+        (led_to exchange.now values.now))
+        (λ triangles. Joined (IsCut (option_copied numbers.entry) points.now)
+        (led_to exchange.now values.now) triangles.items)) }
+    ensures count { IfOk result (λ made. IfSome made
+        (λ triangles. length triangles.items ≡ sum_by face_count (led_to exchange.now values.now))) }
 {
     let mut made = Vec::new(alloc);
     for value in values {
@@ -72,9 +82,14 @@ pub fn set_triangles(
     set: &Instance,
 ) -> Result<Option<Vec<Triangle>>, AllocError>
     requires { All IsGridPoint points.now }
-    ensures triangles { IfOk result (λ made. MatchOption made (IsSound exchange.now points.now set.now → (id : ℕ) × HasStuck exchange.now points.now set.now id) (λ triangles. SetTriangles exchange.now points.now set.now triangles.items)) }
-    ensures none { IfOk result (λ made. IfNone made ((triangles : List Triangle) → SetTriangles exchange.now points.now set.now triangles → ⊥)) }
-    ensures count { IfOk result (λ made. IfSome made (λ triangles. length triangles.items ≡ triangle_count exchange.now set.now)) }
+    ensures triangles { IfOk result
+        (λ made. MatchOption made (IsSound exchange.now points.now set.now
+        → (id : ℕ) × HasStuck exchange.now points.now set.now id)
+        (λ triangles. SetTriangles exchange.now points.now set.now triangles.items)) }
+    ensures none { IfOk result (λ made. IfNone made
+        ((triangles : List Triangle) → SetTriangles exchange.now points.now set.now triangles → ⊥)) }
+    ensures count { IfOk result (λ made. IfSome made
+        (λ triangles. length triangles.items ≡ triangle_count exchange.now set.now)) }
 {
     let numbers = numbering(set);
     if is_polygonal(set) {

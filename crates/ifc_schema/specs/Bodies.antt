@@ -27,7 +27,8 @@ lists_body world = list_any (target_passes world is_body_representation)
 
 -- a shape has a representation that is a body
 unfoldable pub is_body_shape : List Instance → Instance → Bool
-is_body_shape world i = is_a ProductShape i && some_passes (lists_body world) (option_and_then items_of (slice_get i.values 2))
+is_body_shape world i = is_a ProductShape i
+    && some_passes (lists_body world) (option_and_then items_of (slice_get i.values 2))
 
 -- place by place, whether a shape stands there that has one
 abbrev pub body_shapes : List Instance → List Bool

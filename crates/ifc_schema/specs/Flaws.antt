@@ -101,7 +101,8 @@ PlaceFlaw world a v f = MatchOption v (f ≡ bad_unless (allows_missing a.need))
 
 -- Of an attribute of the instance; whether the instance is mapped is given.
 abbrev pub AttributeFlaw : List Instance → Bool → Instance → Attribute → Option Flaw → Type 0
-AttributeFlaw world mapped i a f = MatchBool (applies world mapped i a.when) (PlaceFlaw world a (slice_get i.values a.at) f) (f ≡ None)
+AttributeFlaw world mapped i a f =
+    MatchBool (applies world mapped i a.when) (PlaceFlaw world a (slice_get i.values a.at) f) (f ≡ None)
 
 -- Of the instance: the flaw of its first attribute that has one. None where the instance has the form of its row.
 abbrev pub InstanceFlaw : List Instance → Bool → Instance → Option Flaw → Type 0

@@ -55,7 +55,8 @@ pub record SoundAt (world : List Instance) (at : ℕ) (mark : Mark) : Type 0 whe
 pub record Grows (world : List Instance) (old new : Work) : Type 0 where
   pub size : length new.marks.items ≡ length old.marks.items
   pub sound : ((at : ℕ) → SoundAt world at (mark_at old at)) → (at : ℕ) → SoundAt world at (mark_at new at)
-  pub stacked : ((at : ℕ) → Contains old.stack.items at → 0 < rank_at old at) → (at : ℕ) → Contains new.stack.items at → 0 < rank_at new at
+  pub stacked : ((at : ℕ) → Contains old.stack.items at → 0 < rank_at old at) → (at : ℕ)
+      → Contains new.stack.items at → 0 < rank_at new at
   pub rises : (at : ℕ) → rank_at old at ≤ rank_at new at
   pub pending : (at : ℕ) → (mark_at new at ≡ mark_at old at) ⊎ Contains new.stack.items at
   pub keeps : (at : ℕ) → Contains old.stack.items at → Contains new.stack.items at
@@ -71,7 +72,8 @@ pub record IsFollowed (world : List Instance) (work : Work) (mapped : Bool) (i :
   pub maps : (to : ℕ) → Maps world i to → IsMarked world work 1 to
 
 abbrev pub FollowedAt : List Instance → Work → Bool → ℕ → Type 0
-FollowedAt world work mapped at = (i : Instance) → slice_get world at ≡ Some i → IsFollowed world work mapped i
+FollowedAt world work mapped at =
+    (i : Instance) → slice_get world at ≡ Some i → IsFollowed world work mapped i
 
 -- an instance that is used wherever it stands
 pub record IsRootAt (world : List Instance) (at : ℕ) : Type 0 where
@@ -86,7 +88,8 @@ pub record Going (world : List Instance) (work : Work) : Type 0 where
   pub size : length work.marks.items ≡ length world
   pub sound : (at : ℕ) → SoundAt world at (mark_at work at)
   pub stacked : (at : ℕ) → Contains work.stack.items at → 0 < rank_at work at
-  pub pending : (at : ℕ) → 0 < rank_at work at → Contains work.stack.items at ⊎ FollowedAt world work (is_mapped (mark_at work at)) at
+  pub pending : (at : ℕ) → 0 < rank_at work at
+      → Contains work.stack.items at ⊎ FollowedAt world work (is_mapped (mark_at work at)) at
 
 -- the marks tell which instances are used and which are mapped
 pub record Known (world : List Instance) (work : Work) : Type 0 where

@@ -45,7 +45,8 @@ row_of entity.Subject =
     attribute 6 Always OrAbsent shape.One (leaf.Reference (targets.One entity.ProductShape)) ∷
     attribute 7 Always Must shape.One leaf.Anything ∷ []
 row_of entity.ProductShape =
-    attribute 2 Always Must (shape.List (AtLeast 0)) (leaf.AnyReference (targets.One entity.Representation)) ∷ []
+    attribute 2 Always Must (shape.List (AtLeast 0))
+    (leaf.AnyReference (targets.One entity.Representation)) ∷ []
 row_of entity.Representation =
     attribute 1 Always OrAbsent shape.One leaf.Text ∷
     attribute 3 WithItems Must (shape.List (AtLeast 1)) (leaf.AnyReference targets.Items) ∷ []

@@ -24,7 +24,8 @@ abbrev pub NoneFormed : List Instance → Bool → Entity → ℕ → Type 0
 NoneFormed world mapped entity id = (i : Instance) → HasForm world mapped id i → entity_at i ≡ Some entity → ⊥
 
 -- the fields are the attributes of the instance of that entity with that number, which has the form of its row
-pub record Views (world : List Instance) (mapped : Bool) (entity : Entity) (id : ℕ) (Fields : Instance → Type 0) : Type 0 where
+pub record Views (world : List Instance) (mapped : Bool) (entity : Entity) (id : ℕ)
+    (Fields : Instance → Type 0) : Type 0 where
   pub instance : Instance
   pub formed : HasForm world mapped id instance
   pub kind : entity_at instance ≡ Some entity

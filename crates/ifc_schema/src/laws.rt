@@ -7,6 +7,8 @@ ghost use Rattle.ifc_schema.specs.StageFive.{StageFive, Surveyed};
 
 /// Instances have one fault of a survey at most, and none where there is a survey.
 pub fn one_survey_fault()
-    ensures fault { (world : List Instance) (f g : UploadFault) → StageFive world f → StageFive world g → f ≡ g }
-    ensures apart { (world : List Instance) (survey : Survey) (f : UploadFault) → Surveyed world survey → StageFive world f → ⊥ }
+    ensures fault { (world : List Instance) (f g : UploadFault) → StageFive world f → StageFive world g
+        → f ≡ g }
+    ensures apart { (world : List Instance) (survey : Survey) (f : UploadFault) → Surveyed world survey
+        → StageFive world f → ⊥ }
 {}

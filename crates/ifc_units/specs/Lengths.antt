@@ -57,7 +57,8 @@ HasLength scale mode v = (g : ℤ) × IsLength scale mode v g
 -- Of things in a row: the first that isn't good has the fault.
 abbrev pub FirstRefused : {X : Type 0} → (X → Type 0) → (X → GridFault → Type 0) → List X → GridFault → Type 0
 FirstRefused IsGood IsRefused [] fault = ⊥
-FirstRefused IsGood IsRefused (x ∷ xs) fault = IsRefused x fault ⊎ (IsGood x × FirstRefused IsGood IsRefused xs fault)
+FirstRefused IsGood IsRefused (x ∷ xs) fault =
+    IsRefused x fault ⊎ (IsGood x × FirstRefused IsGood IsRefused xs fault)
 
 -- Of three numbers.
 
@@ -112,5 +113,7 @@ ListRefused scale mode v fault = MatchOption (items_of v) ⊥ (λ vs. PointsRefu
 -- An instance is a point, and its attribute 0 has that fault; or it is a list of points, and that attribute's points have it.
 abbrev pub InstanceRefused : Scale → Mode → Instance → GridFault → Type 0
 InstanceRefused scale mode i fault =
-    ((is_a entity.Point i ≡ true) × MatchOption (slice_get i.values 0) ⊥ (λ v. PointRefused scale mode v fault))
-    ⊎ ((is_a entity.PointList i ≡ true) × MatchOption (slice_get i.values 0) ⊥ (λ v. ListRefused scale mode v fault))
+    ((is_a entity.Point i ≡ true) × MatchOption (slice_get i.values 0) ⊥
+    (λ v. PointRefused scale mode v fault))
+    ⊎ ((is_a entity.PointList i ≡ true)
+    × MatchOption (slice_get i.values 0) ⊥ (λ v. ListRefused scale mode v fault))

@@ -28,7 +28,8 @@ enumeration_of v = enumeration_in (out-Value21 v)
 
 -- an attribute is the enumeration of those letters
 abbrev pub says : List ℕ → Instance → ℕ → Bool
-says word i at = some_passes (λ letters. bytes_eq letters word) (option_and_then enumeration_of (slice_get i.values at))
+says word i at = some_passes (λ letters. bytes_eq letters word)
+    (option_and_then enumeration_of (slice_get i.values at))
 
 -- Of a unit.
 

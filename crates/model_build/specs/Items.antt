@@ -64,7 +64,8 @@ mapped_sets world item = led_to world (spelled_sets world item)
 -- How many triangles there are.
 
 abbrev pub item_count : List Instance → Instance → ℕ
-item_count world item = if is_mapped_item item then sum_by (triangle_count world) (mapped_sets world item) else triangle_count world item
+item_count world item = if is_mapped_item item
+    then sum_by (triangle_count world) (mapped_sets world item) else triangle_count world item
 
 abbrev pub counted : List Instance → Option Instance → ℕ
 counted world None = 0
@@ -85,4 +86,5 @@ abbrev pub most_triangles : ℕ
 most_triangles = MOST_TRIANGLES
 
 abbrev pub TrianglesStage : List Instance → Stage
-TrianglesStage world fault = (fault ≡ faults.TooMany many.Triangles) × (count : ℕ) × HasTriangles world count × (most_triangles < count)
+TrianglesStage world fault = (fault ≡ faults.TooMany many.Triangles) × (count : ℕ) × HasTriangles world count
+    × (most_triangles < count)

@@ -11,7 +11,8 @@ name_in entries id = lookup (is_at (nat_cmp id)) entries
 
 -- what stands there by a number is the name of its instance; a storey may lack
 abbrev pub AreNames : List Instance → List (ℕ × List ℕ) → Type 0
-AreNames world entries = (id : ℕ) (name : List ℕ) → name_in entries id ≡ Some name → name_at world id ≡ Some name
+AreNames world entries = (id : ℕ) (name : List ℕ) → name_in entries id ≡ Some name
+    → name_at world id ≡ Some name
 
 -- the name of one storey more
 pub record PutsName (old new : ℕ → Option (List ℕ)) (id : ℕ) (name : List ℕ) : Type 0 where

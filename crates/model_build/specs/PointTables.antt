@@ -51,4 +51,5 @@ told_of id OffGrid = faults.OffGrid id
 told_of id TooFar = faults.TooFar id
 
 abbrev pub LengthFault : List Instance → Scale → Mode → ℕ → UploadFault → Type 0
-LengthFault world scale mode id fault = (refused : GridFault) × (fault ≡ told_of id refused) × Refuses world scale mode id refused
+LengthFault world scale mode id fault =
+    (refused : GridFault) × (fault ≡ told_of id refused) × Refuses world scale mode id refused

@@ -37,7 +37,8 @@ abbrev pub ObliqueStage : List Instance → Stage
 ObliqueStage world = LeastFault (Used world) (λ id fault. (fault ≡ faults.Oblique id) × IsOblique world id)
 
 abbrev pub ItemStage : List Instance → Scale → Mode → Stage
-ItemStage world scale mode = LeastFault (IsUnsupported world scale mode) (λ id fault. fault ≡ faults.UnsupportedItem id)
+ItemStage world scale mode = LeastFault (IsUnsupported world scale mode)
+    (λ id fault. fault ≡ faults.UnsupportedItem id)
 
 abbrev pub VoidStage : List Instance → Stage
 VoidStage world = LeastFault (IsUsed FaceWithVoids world) (λ id fault. fault ≡ faults.VoidedFace id)
@@ -46,7 +47,8 @@ abbrev pub IndexStage : List Instance → Stage
 IndexStage world = LeastFault (Used world) (λ id fault. (fault ≡ faults.BadIndex id) × IsBadSet world id)
 
 abbrev pub StuckStage : List Instance → Scale → Mode → Stage
-StuckStage world scale mode = LeastFault (IsStuckFace world scale mode) (λ id fault. fault ≡ faults.FaceStuck id)
+StuckStage world scale mode = LeastFault (IsStuckFace world scale mode)
+    (λ id fault. fault ≡ faults.FaceStuck id)
 
 abbrev pub ReachFault : List Instance → Scale → Mode → ℕ → UploadFault → Type 0
 ReachFault world scale mode id fault = (fault ≡ faults.TooFar id) × Finds world id (IsBeyond world scale mode)
@@ -131,8 +133,11 @@ AfterCorners world scale mode = first_fault (drop 9 (stages_in world scale mode)
 
 -- The bytes make the model; or they have that fault, as a spelled file or by its instances.
 unfoldable pub Profile : List ℕ → Mode → Result (List Element) UploadFault → Type 0
-Profile bytes mode (Ok elements) = (world : List Instance) × SpellsExchange bytes world × IsClear (FileFault world mode) × IsModelOf world mode elements
-Profile bytes mode (Err fault) = HasFault bytes fault ⊎ ((world : List Instance) × SpellsExchange bytes world × FileFault world mode fault)
+Profile bytes mode (Ok elements) =
+    (world : List Instance) × SpellsExchange bytes world × IsClear (FileFault world mode)
+    × IsModelOf world mode elements
+Profile bytes mode (Err fault) =
+    HasFault bytes fault ⊎ ((world : List Instance) × SpellsExchange bytes world × FileFault world mode fault)
 
 -- why there is no model; want of memory is free
 abbrev pub IsCause : List ℕ → Mode → BuildError → Type 0

@@ -25,7 +25,8 @@ first_fault [] fault = ⊥
 first_fault (S ∷ rest) fault = first_or S rest fault
 
 -- of the numbers of which Of holds, the least one that has a fault, and its fault
-pub record LeastFault (Of : ℕ → Type 0) (FaultOf : ℕ → UploadFault → Type 0) (fault : UploadFault) : Type 0 where
+pub record LeastFault (Of : ℕ → Type 0) (FaultOf : ℕ → UploadFault → Type 0)
+    (fault : UploadFault) : Type 0 where
   pub id : ℕ
   pub of : Of id
   pub here : FaultOf id fault

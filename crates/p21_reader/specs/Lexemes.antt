@@ -70,7 +70,8 @@ class_of _ = Simple
 -- tokens that say this are cut one after another, from this place on up to that one
 abbrev pub Cuts : List ℕ → ℕ → List Lexeme → ℕ → Type 0
 Cuts bytes at [] end = at ≡ end
-Cuts bytes at (l ∷ ls) end = (t : Token) × CutsFrom bytes at (Ok (Some t)) × (lexeme_of bytes t ≡ l) × Cuts bytes t.end ls end
+Cuts bytes at (l ∷ ls) end = (t : Token) × CutsFrom bytes at (Ok (Some t)) × (lexeme_of bytes t ≡ l)
+    × Cuts bytes t.end ls end
 
 abbrev pub classes : List Lexeme → List Class
 classes ls = map class_of ls

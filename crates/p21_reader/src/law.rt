@@ -16,13 +16,17 @@ pub fn table_is_grammar()
 
 /// Bytes have one reading: two readings have the same statements in the header, and the same instances.
 pub fn files_have_one_reading()
-    ensures statements { (bytes : List ℕ) (s t : List Statement) (a b : List Instance) → HoldsFile bytes s a → HoldsFile bytes t b → s ≡ t }
-    ensures one { (bytes : List ℕ) (s t : List Statement) (a b : List Instance) → HoldsFile bytes s a → HoldsFile bytes t b → a ≡ b }
+    ensures statements { (bytes : List ℕ) (s t : List Statement) (a b : List Instance) → HoldsFile bytes s a
+        → HoldsFile bytes t b → s ≡ t }
+    ensures one { (bytes : List ℕ) (s t : List Statement) (a b : List Instance) → HoldsFile bytes s a
+        → HoldsFile bytes t b → a ≡ b }
 {}
 
 /// Bytes have one answer: they spell one exchange at most, none where they have a fault, and they have one fault at most.
 pub fn uploads_have_one_answer()
-    ensures one { (bytes : List ℕ) (a b : List Instance) → SpellsExchange bytes a → SpellsExchange bytes b → a ≡ b }
-    ensures refused { (bytes : List ℕ) (fault : UploadFault) (a : List Instance) → HasFault bytes fault → SpellsExchange bytes a → ⊥ }
+    ensures one { (bytes : List ℕ) (a b : List Instance) → SpellsExchange bytes a → SpellsExchange bytes b
+        → a ≡ b }
+    ensures refused { (bytes : List ℕ) (fault : UploadFault) (a : List Instance) → HasFault bytes fault
+        → SpellsExchange bytes a → ⊥ }
     ensures fault { (bytes : List ℕ) (f g : UploadFault) → HasFault bytes f → HasFault bytes g → f ≡ g }
 {}

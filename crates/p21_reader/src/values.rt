@@ -20,7 +20,8 @@ fn plain(
 ) -> Result<usize, ReadFault>
     requires piece { IsPiece bytes.now piece }
     requires plain { IsPlain piece.kind }
-    ensures made { PushesMade [] (lexeme_of bytes.now piece.token) bytes.now piece.token.end stack.old.items stack.new.items result }
+    ensures made { PushesMade []
+        (lexeme_of bytes.now piece.token) bytes.now piece.token.end stack.old.items stack.new.items result }
     ensures end { IfOk result (λ end. end ≡ piece.token.end) }
 {
     let made = simple(alloc, bytes, piece)?;
@@ -98,7 +99,8 @@ fn list(
     stack: &mut Vec<Value21>,
 ) -> Result<usize, ReadFault>
     requires { at ≤ length bytes.now }
-    ensures made { PushesMade (Inside (Some depth) ∷ []) Opening bytes.now at stack.old.items stack.new.items result }
+    ensures made { PushesMade (Inside (Some depth) ∷
+        []) Opening bytes.now at stack.old.items stack.new.items result }
     ensures on { IfOk result (λ end. at ≤ end) }
     ensures within { IfOk result (λ end. end ≤ length bytes.now) }
 {
@@ -120,7 +122,8 @@ fn typed(
 ) -> Result<usize, ReadFault>
     requires piece { IsPiece bytes.now word }
     requires word { word.kind ≡ Kind.Word }
-    ensures made { PushesMade (T Open ∷ Value (Some depth) ∷ T Close ∷ []) (lexeme_of bytes.now word.token) bytes.now word.token.end
+    ensures made { PushesMade (T Open ∷ Value (Some depth) ∷ T Close ∷ [])
+        (lexeme_of bytes.now word.token) bytes.now word.token.end
         stack.old.items stack.new.items result }
     ensures on { IfOk result (λ end. word.token.end ≤ end) }
     ensures within { IfOk result (λ end. end ≤ length bytes.now) }

@@ -101,7 +101,11 @@ without axis v = record {
 }
 
 abbrev pub cross : Vector → Vector → Vector
-cross v w = record { x = v.y *ℤ w.z -ℤ v.z *ℤ w.y; y = v.z *ℤ w.x -ℤ v.x *ℤ w.z; z = v.x *ℤ w.y -ℤ v.y *ℤ w.x }
+cross v w = record {
+  x = v.y *ℤ w.z -ℤ v.z *ℤ w.y;
+  y = v.z *ℤ w.x -ℤ v.x *ℤ w.z;
+  z = v.x *ℤ w.y -ℤ v.y *ℤ w.x;
+}
 
 -- an absent first direction is that of z
 abbrev pub first_direction : Option Direction → Vector
@@ -110,7 +114,8 @@ first_direction (Some d) = cleaned d
 
 -- An absent second direction is that of x, or that of y where the z axis lies along x.
 abbrev pub second_direction : Axis → Option Direction → Vector
-second_direction z None = if z.direction == 0 then record { x = pos 0; y = pos 1; z = pos 0 } else record { x = pos 1; y = pos 0; z = pos 0 }
+second_direction z None = if z.direction == 0
+    then record { x = pos 0; y = pos 1; z = pos 0 } else record { x = pos 1; y = pos 0; z = pos 0 }
 second_direction z (Some d) = cleaned d
 
 -- Two directions, which may be absent, give these axes: z lies along the first, x along what the second has across z, and y is z × x.

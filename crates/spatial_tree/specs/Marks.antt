@@ -65,7 +65,8 @@ pub record IsWay (steps : List Step) (way : List ℕ) : Type 0 where
 
 -- the place that the way leads to is no longer unseen
 abbrev pub EndsSeen : List Step → List Mark → List ℕ → Type 0
-EndsSeen steps marks way = (k up : ℕ) → k + 1 ≡ length way → Goes steps (slice_index way k) up → mark_at marks up ≢ Unseen
+EndsSeen steps marks way = (k up : ℕ) → k + 1 ≡ length way → Goes steps (slice_index way k) up
+    → mark_at marks up ≢ Unseen
 
 -- A way was followed as far as it was unseen.
 pub record Climbed (steps : List Step) (old new : List Mark) (way : List ℕ) : Type 0 where

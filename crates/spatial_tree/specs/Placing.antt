@@ -17,5 +17,7 @@ pub record Tells (objects : List ℕ) (marks : List Mark) (count object storey :
 
 -- a list of exactly the objects whose marks tell a storey, among the first ones
 pub record ArePlaced (objects : List ℕ) (marks : List Mark) (count : ℕ) (list : List Placed) : Type 0 where
-  pub sound : (object storey : ℕ) → Contains list (placed object storey) → Tells objects marks count object storey
-  pub all : (object storey : ℕ) → Tells objects marks count object storey → Contains list (placed object storey)
+  pub sound : (object storey : ℕ) → Contains list (placed object storey)
+      → Tells objects marks count object storey
+  pub all : (object storey : ℕ) → Tells objects marks count object storey
+      → Contains list (placed object storey)
