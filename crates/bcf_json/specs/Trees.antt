@@ -30,7 +30,8 @@ topic_tree user date guid serial title =
 abbrev pub IsTopicTree : ℕ → Topic → Data → Type 0
 IsTopicTree project topic tree =
     (date : List ℕ) × IsDateText topic.created.moment date
-    × (tree ≡ topic_tree topic.created.user date (identifier_text project topic.serial) (decimal topic.serial) topic.body.title)
+    × (tree ≡ topic_tree topic.created.user date (identifier_text project topic.serial)
+    (decimal topic.serial) topic.body.title)
 
 -- topics of a project, one after another
 abbrev pub AreTopicTrees : ℕ → List Topic → Items → Type 0

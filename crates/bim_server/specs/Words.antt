@@ -53,7 +53,8 @@ pub record IsPlainCommand (command : App) : Type 0 where
 -- a parse finds the values of exactly the words that the command takes
 abbrev pub IsParse : App → List (List ℕ) → Option ArgMatches → Type 0
 IsParse command words None = takes command words ≡ false
-IsParse command words (Some found) = (takes command words ≡ true) × (rows_of (found_of found) ≡ matches_of command words)
+IsParse command words (Some found) =
+    (takes command words ≡ true) × (rows_of (found_of found) ≡ matches_of command words)
 
 -- a moment stands in place of the clock
 abbrev pub time_said : Option (List ℕ) → Option Time
@@ -84,7 +85,8 @@ replay_said rows =
 -- what the words behind `replay` say: nothing where they are outside its grammar, which are those that the command doesn't
 -- take, and those with a value of another form
 unfoldable pub replay_words : List (List ℕ) → Option ReplayWords
-replay_words words = if takes replay_command words then replay_said (matches_of replay_command words) else None
+replay_words words = if takes replay_command words then replay_said
+    (matches_of replay_command words) else None
 
 abbrev pub usage_line : List ℕ
 usage_line = codes "usage: bim_server replay|check|generate|serve\n"

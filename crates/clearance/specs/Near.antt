@@ -15,7 +15,9 @@ use Rattle.bim_model.specs.declared.element.Element.{Element}
 unfoldable pub FacesNear : Face → Face → ℕ → Type 0
 FacesNear t s d =
     (i : ℕ) × (j : ℕ) × (k : ℕ) × (l : ℕ) × (m : ℕ) × (n : ℕ) × (0 < i + j + k) × (0 < l + m + n)
-    × IsWithin d ((i + j + k) * (l + m + n)) (minus (times (pos (l + m + n)) (mix3 t (pos i) (pos j) (pos k))) (times (pos (i + j + k)) (mix3 s (pos l) (pos m) (pos n))))
+    × IsWithin d ((i + j + k) * (l + m + n))
+    (minus (times (pos (l + m + n)) (mix3 t (pos i) (pos j) (pos k)))
+    (times (pos (i + j + k)) (mix3 s (pos l) (pos m) (pos n))))
 
 -- two triangles are near
 abbrev pub Near : Triangle → Triangle → ℕ → Type 0

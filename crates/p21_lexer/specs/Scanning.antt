@@ -13,7 +13,8 @@ one p (b ∷ bs) = if p b then 1 else 0
 abbrev pub comment_span : List ℕ → Option ℕ
 comment_span [] = None
 comment_span (b ∷ []) = None
-comment_span (b ∷ c ∷ bs) = if (b == 42) && (c == 47) then Some 2 else option_map (λ n. n + 1) (comment_span (c ∷ bs))
+comment_span (b ∷ c ∷ bs) = if (b == 42) && (c == 47) then Some 2 else option_map (λ n. n + 1)
+    (comment_span (c ∷ bs))
 
 abbrev pub plain_word_span : List ℕ → Option ℕ
 plain_word_span [] = None
@@ -43,7 +44,8 @@ fraction_span bs = if one is_point bs == 1 then run is_digit (drop 1 bs) + 1 els
 
 -- of a sign and digits
 unfoldable pub signed_span : List ℕ → Option ℕ
-signed_span bs = if nat_lt 0 (run is_digit (drop (one is_sign bs) bs)) then Some (one is_sign bs + run is_digit (drop (one is_sign bs) bs)) else None
+signed_span bs = if nat_lt 0 (run is_digit (drop (one is_sign bs) bs)) then Some
+    (one is_sign bs + run is_digit (drop (one is_sign bs) bs)) else None
 
 abbrev pub or_zero : Option ℕ → ℕ
 or_zero None = 0
@@ -64,7 +66,8 @@ number_span bs = option_map (λ n. with_exponent bs (with_fraction bs n)) (signe
 -- how many digits keep the value small enough, after those that spell v
 abbrev pub name_run : ℕ → List ℕ → ℕ
 name_run v [] = 0
-name_run v (b ∷ bs) = if is_digit b && nat_le (v * 10 + (b - 48)) GREATEST_NAME then name_run (v * 10 + (b - 48)) bs + 1 else 0
+name_run v (b ∷ bs) = if is_digit b && nat_le (v * 10 + (b - 48)) GREATEST_NAME then name_run
+    (v * 10 + (b - 48)) bs + 1 else 0
 
 -- two apostrophes may close after the first, where nothing closes later
 abbrev pub or_first : Option ℕ → Option ℕ
@@ -75,7 +78,8 @@ or_first (Some n) = Some (n + 2)
 abbrev pub text_span : List ℕ → Option ℕ
 text_span [] = None
 text_span (b ∷ []) = if b == 39 then Some 1 else None
-text_span (b ∷ c ∷ bs) = if b == 39 then (if c == 39 then or_first (text_span bs) else Some 1) else option_map (λ n. n + 1) (text_span (c ∷ bs))
+text_span (b ∷ c ∷ bs) = if b == 39 then
+    (if c == 39 then or_first (text_span bs) else Some 1) else option_map (λ n. n + 1) (text_span (c ∷ bs))
 
 abbrev pub name_span : List ℕ → Option ℕ
 name_span bs = if nat_lt 0 (name_run 0 bs) then Some (name_run 0 bs) else None

@@ -1,0 +1,13 @@
+//! The bounds of topics and comments. That of a title stands in `bim_model`.
+
+/// The most bytes of a topic's type, status, priority, assignee, stage and description.
+pub const MOST_WORDS: usize = 4_096;
+
+/// The most labels of a topic.
+pub const MOST_LABELS: usize = 20;
+
+/// The most bytes of a label.
+pub const MOST_LABEL: usize = 256;
+
+/// The most bytes of a comment. It has at least one.
+pub const MOST_COMMENT: usize = 8_192;
