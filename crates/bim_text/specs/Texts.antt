@@ -85,8 +85,9 @@ groups zero width bs at = []
 groups (suc n) width bs at = encode_utf8 (character (group width bs at)) ++ groups n width bs (at + width)
 
 unfoldable pub wide_row : ℕ → List ℕ → Row
-wide_row width bs = let digits = run is_hexadecimal
-    (drop 4 bs) in record { gives = groups (digits / width) width bs 4; size = digits + 8 }
+wide_row width bs =
+    let digits = run is_hexadecimal (drop 4 bs) in
+    record { gives = groups (digits / width) width bs 4; size = digits + 8 }
 
 -- the row of a backslash; where none fits, it is itself
 unfoldable pub escape_row : List ℕ → Row
