@@ -87,19 +87,19 @@ unit_one world S one f g h k = one k.0 f g (subst (λ (s : Scale). S s f) (one_u
 
 scaled_one : (world : List Instance) (scale : Scale) (mode : Mode) → AllOne (stages_in world scale mode)
 scaled_one world scale mode = (
-  one_tree_fault world,
-  least_one (IsModelElement world) (GuidFault world (IsModelElement world)) (λ id f g h k. h.0 ∙ sym k.0),
-  least_one (IsNamed world (IsModelElement world)) (LoopFault world) (λ id f g h k. h.0 ∙ sym k.0),
-  least_one (Used world) (λ id fault. (fault ≡ faults.Oblique id) × IsOblique world id) (λ id f g h k. h.0 ∙ sym k.0),
-  least_one (IsUnsupported world scale mode) (λ id fault. fault ≡ faults.UnsupportedItem id) (λ id f g h k. h ∙ sym k),
-  least_one (IsUsed FaceWithVoids world) (λ id fault. fault ≡ faults.VoidedFace id) (λ id f g h k. h ∙ sym k),
-  least_one (Used world) (λ id fault. (fault ≡ faults.BadIndex id) × IsBadSet world id) (λ id f g h k. h.0 ∙ sym k.0),
-  least_one (Used world) (LengthFault world scale mode) (length_one world scale mode),
-  (λ f g h k. h.0 ∙ sym k.0),
-  least_one (IsStuckFace world scale mode) (λ id fault. fault ≡ faults.FaceStuck id) (λ id f g h k. h ∙ sym k),
-  (λ f g h k. h.0 ∙ sym k.0),
+  one_tree_fault world, (
+  least_one (IsModelElement world) (GuidFault world (IsModelElement world)) (λ id f g h k. h.0 ∙ sym k.0), (
+  least_one (IsNamed world (IsModelElement world)) (LoopFault world) (λ id f g h k. h.0 ∙ sym k.0), (
+  least_one (Used world) (λ id fault. (fault ≡ faults.Oblique id) × IsOblique world id) (λ id f g h k. h.0 ∙ sym k.0), (
+  least_one (IsUnsupported world scale mode) (λ id fault. fault ≡ faults.UnsupportedItem id) (λ id f g h k. h ∙ sym k), (
+  least_one (IsUsed FaceWithVoids world) (λ id fault. fault ≡ faults.VoidedFace id) (λ id f g h k. h ∙ sym k), (
+  least_one (Used world) (λ id fault. (fault ≡ faults.BadIndex id) × IsBadSet world id) (λ id f g h k. h.0 ∙ sym k.0), (
+  least_one (Used world) (LengthFault world scale mode) (length_one world scale mode), (
+  (λ f g h k. h.0 ∙ sym k.0), (
+  least_one (IsStuckFace world scale mode) (λ id fault. fault ≡ faults.FaceStuck id) (λ id f g h k. h ∙ sym k), (
+  (λ f g h k. h.0 ∙ sym k.0), (
   least_one (IsModelElement world) (ReachFault world scale mode) (λ id f g h k. h.0 ∙ sym k.0),
-  tt,
+  tt)))))))))))
 )
 
 scaled_first : (world : List Instance) (mode : Mode) (scale : Scale) → One (first_fault (stages_in world scale mode))
@@ -107,7 +107,7 @@ scaled_first world mode scale = first_one (stages_in world scale mode) (scaled_o
 
 pub one_file_fault : (world : List Instance) (mode : Mode) (f g : UploadFault) → FileFault world mode f → FileFault world mode g → f ≡ g
 one_file_fault world mode =
-    first_one (stages world mode) (one_survey_fault world, one_unit_fault world, unit_one world (λ scale. first_fault (stages_in world scale mode)) (scaled_first world mode), tt)
+    first_one (stages world mode) (one_survey_fault world, (one_unit_fault world, (unit_one world (λ scale. first_fault (stages_in world scale mode)) (scaled_first world mode), tt)))
 
 -- A number has one element at most.
 
