@@ -63,13 +63,16 @@ kept_zero k = record {
   zeros = k.zeros + 1;
 }
 
+-- the digits kept so far with one more that isn't zero
 abbrev pub kept_digit : Digits → ℕ → Digits
 kept_digit k b = record { all = k.all * 10 + (b - 48); significand = k.all * 10 + (b - 48); zeros = 0 }
 
+-- the digits kept so far with one more, or none where they become too many
 abbrev pub kept_step : Digits → ℕ → Option Digits
 kept_step k b = if b == 48 then Some (kept_zero k)
     else (if nat_lt k.all (10 ^ (MOST_DIGITS - 1)) then Some (kept_digit k b) else None)
 
+-- the digits kept so far with all of these
 abbrev pub kept_after : Digits → List ℕ → Option Digits
 kept_after k [] = Some k
 kept_after k (b ∷ bs) = option_and_then (λ (next : Digits). kept_after next bs) (kept_step k b)

@@ -8,19 +8,23 @@ use Rattle.p21_lexer.specs.Spelling.{run}
 
 -- Two apostrophes in a row, paired from the left, stand for one; then control bytes go.
 
+-- a text with one apostrophe for two
 abbrev pub unpaired : List ℕ → List ℕ
 unpaired [] = []
 unpaired (b ∷ []) = b ∷ []
 unpaired (b ∷ c ∷ bs) = if b == 39 && c == 39 then 39 ∷ unpaired bs else b ∷ unpaired (c ∷ bs)
 
+-- a byte that isn't a control character
 abbrev pub is_kept : ℕ → Bool
 is_kept b = nat_le 32 b
 
+-- a text with one apostrophe for two and without control characters
 unfoldable pub cleaned : List ℕ → List ℕ
 cleaned spelled = filter is_kept (unpaired spelled)
 
 -- Hexadecimal digits, of either case.
 
+-- a hexadecimal digit
 abbrev pub is_hexadecimal : ℕ → Bool
 is_hexadecimal b = nat_lt (digit_value b) 16
 
@@ -32,9 +36,11 @@ nibble b = if nat_lt (digit_value b) 16 then digit_value b else 0
 abbrev pub two : List ℕ → ℕ → ℕ
 two bs at = nibble (slice_index bs at) * 16 + nibble (slice_index bs (at + 1))
 
+-- the number of four hexadecimal digits at a place
 abbrev pub four : List ℕ → ℕ → ℕ
 four bs at = two bs at * 256 + two bs (at + 2)
 
+-- the number of eight hexadecimal digits at a place
 abbrev pub eight : List ℕ → ℕ → ℕ
 eight bs at = four bs at * 65536 + four bs (at + 4)
 
@@ -45,6 +51,7 @@ group width bs at = if width == 4 then four bs at else eight bs at
 -- What may stand at the front of cleaned bytes: the characters that it means, in UTF-8, and how many bytes it is. A place past the
 -- end holds 0.
 
+-- what an escape gives, and how many bytes it takes
 pub record Row : Type 0 where
   pub gives : List ℕ
   pub size : ℕ
@@ -84,6 +91,7 @@ abbrev pub groups : ℕ → ℕ → List ℕ → ℕ → List ℕ
 groups zero width bs at = []
 groups (suc n) width bs at = encode_utf8 (character (group width bs at)) ++ groups n width bs (at + width)
 
+-- what characters of four or eight hexadecimal digits each give
 unfoldable pub wide_row : ℕ → List ℕ → Row
 wide_row width bs =
     let digits = run is_hexadecimal (drop 4 bs) in

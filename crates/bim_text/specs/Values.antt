@@ -22,6 +22,7 @@ abbrev pub above : ℤ → ℕ
 above (pos n) = n
 above (negsuc n) = 0
 
+-- how far a whole number lies below zero
 abbrev pub below : ℤ → ℕ
 below (pos n) = 0
 below (negsuc n) = suc n
@@ -30,6 +31,7 @@ below (negsuc n) = suc n
 abbrev pub numerator : Scaled → ℤ
 numerator s = s.number *ℤ pos (10 ^ above s.power)
 
+-- the power of ten by which a number is divided
 abbrev pub denominator : Scaled → ℕ
 denominator s = 10 ^ below s.power
 

@@ -64,6 +64,7 @@ subjects =
     codes "IFCOUTLET" ∷
     codes "IFCSANITARYTERMINAL" ∷ []
 
+-- the keywords of an entity and of its kinds
 abbrev pub keywords_of : Entity → List (List ℕ)
 keywords_of Project = codes "IFCPROJECT" ∷ []
 keywords_of UnitAssignment = codes "IFCUNITASSIGNMENT" ∷ []

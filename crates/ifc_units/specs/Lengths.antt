@@ -51,6 +51,7 @@ pub record LengthRefused (scale : Scale) (mode : Mode) (v : Value21) (fault : Gr
   pub read : Reads bytes decimal
   pub refused : HasFault mode (length_of decimal scale) fault
 
+-- a value has a length on the grid
 abbrev pub HasLength : Scale → Mode → Value21 → Type 0
 HasLength scale mode v = (g : ℤ) × IsLength scale mode v g
 
@@ -80,6 +81,7 @@ pub record PointRefused (scale : Scale) (mode : Mode) (v : Value21) (fault : Gri
   pub three : items_of v ≡ Some (a ∷ b ∷ c ∷ [])
   pub first : FirstRefused (HasLength scale mode) (LengthRefused scale mode) (a ∷ b ∷ c ∷ []) fault
 
+-- a value has a point on the grid
 abbrev pub HasPoint : Scale → Mode → Value21 → Type 0
 HasPoint scale mode v = (p : Point) × IsPoint scale mode v p
 
@@ -95,6 +97,7 @@ PointsRefused scale mode = FirstRefused (HasPoint scale mode) (PointRefused scal
 
 -- What is neither can't be read.
 
+-- nothing is found and nothing is refused
 pub record IsUnread {A : Type 0} (Is : A → Type 0) (IsRefused : GridFault → Type 0) : Type 0 where
   pub none : (a : A) → Is a → ⊥
   pub unrefused : (fault : GridFault) → IsRefused fault → ⊥

@@ -61,6 +61,7 @@ FaultAt bytes faults.Memory = Unit {0}
 
 -- What the functions answer.
 
+-- what closes a file is read from its first token on: where it ends, or what fails
 abbrev pub ReadsClosing : List ℕ → Token → Result ℕ ReadFault → Type 0
 ReadsClosing bytes t (Ok end) =
     (rest : List Lexeme) × (classes (lexeme_of bytes t ∷ rest)
@@ -68,11 +69,13 @@ ReadsClosing bytes t (Ok end) =
     × Goes (T Semi ∷ T (Word EndIso) ∷ T Semi ∷ []) [] bytes t.end end rest
 ReadsClosing bytes t (Err fault) = FailsAfter Instances bytes t fault
 
+-- a word of this mark is read at a place: where it ends, or what fails
 abbrev pub ReadsWord : Mark → List ℕ → ℕ → Result ℕ ReadFault → Type 0
 ReadsWord m bytes at (Ok end) =
     (l : Lexeme) × (class_of l ≡ Word m) × Goes (T (Word m) ∷ []) [] bytes at end (l ∷ [])
 ReadsWord m bytes at (Err fault) = Fails (T (Word m) ∷ []) bytes at fault
 
+-- instances, and what closes the file, are read at a place: where they end, or what fails
 abbrev pub ReadsSection : List ℕ → ℕ → List Instance → Result ℕ ReadFault → Type 0
 ReadsSection bytes at found (Ok end) =
     (ls closing : List Lexeme) × SpellsAll found ls
@@ -80,6 +83,7 @@ ReadsSection bytes at found (Ok end) =
     × Goes (Instances ∷ []) [] bytes at end (ls ++ closing)
 ReadsSection bytes at found (Err fault) = Fails (Instances ∷ []) bytes at fault
 
+-- what a reader's fault says of an upload
 abbrev pub error_of : ReadFault → BuildError
 error_of (faults.BadToken p) = errors.Fault (uploads.BadToken p)
 error_of (faults.BadStatement p) = errors.Fault (uploads.BadStatement p)

@@ -69,6 +69,7 @@ pub data Derives : List Sign → List Class → Type 0 where
 abbrev pub file : List Sign
 file = T (Word Iso) ∷ T Semi ∷ T (Word Header) ∷ T Semi ∷ Statements ∷ Instances ∷ []
 
+-- the classes are those of a file
 abbrev pub IsFile : List Class → Type 0
 IsFile ts = Derives file ts
 

@@ -31,15 +31,18 @@ SpellsAll (i ∷ more) ls = (front rest : List Lexeme) × SpellsInstance i front
 
 -- What the functions answer.
 
+-- what stands in an instance behind its first lexeme is read at a place, to its end
 abbrev pub ReadsBody : List Sign → Lexeme → List ℕ → ℕ → Option (List ℕ) → List Value21 → ℕ → Type 0
 ReadsBody σ first bytes at keyword values end =
     (rest : List Lexeme) × SpellsBody keyword values (first ∷ rest) × Goes σ [] bytes at end rest
 
+-- an instance of this number is read so, or what fails
 abbrev pub MakesBody : ℕ → List Sign → Lexeme → List ℕ → ℕ → Result Made ReadFault → Type 0
 MakesBody id σ first bytes at (Ok made) =
     (made.instance.id ≡ id) × ReadsBody σ first bytes at made.instance.keyword made.instance.values made.end
 MakesBody id σ first bytes at (Err fault) = Fails σ bytes at fault
 
+-- signs of the grammar are passed over at a place: where they end, or what fails
 abbrev pub Passes : List Sign → List ℕ → ℕ → Result ℕ ReadFault → Type 0
 Passes σ bytes at (Ok end) = (ls : List Lexeme) × Goes σ [] bytes at end ls
 Passes σ bytes at (Err fault) = Fails σ bytes at fault

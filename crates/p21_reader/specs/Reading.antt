@@ -28,6 +28,7 @@ IsRefused s bytes at p = (CutsFrom bytes at (Ok None) × (p ≡ length bytes))
     ⊎ ((t : Token) × CutsFrom bytes at (Ok (Some t)) × (p ≡ t.start)
     × (next s (class_of (lexeme_of bytes t)) ≡ None))
 
+-- why reading doesn't go on at a place: no token begins there, or a sign refuses it, or memory is wanting
 abbrev pub IsStuck : Sign → List ℕ → ℕ → ReadFault → Type 0
 IsStuck s bytes at (faults.BadToken p) = CutsFrom bytes at (Err (lex.BadToken p))
 IsStuck s bytes at (faults.BadStatement p) = IsRefused s bytes at p
@@ -54,6 +55,7 @@ NoToken bytes at (faults.BadToken p) = CutsFrom bytes at (Err (lex.BadToken p))
 NoToken bytes at (faults.BadStatement p) = CutsFrom bytes at (Ok None) × (p ≡ length bytes)
 NoToken bytes at faults.Memory = ⊥
 
+-- the kind of a class
 abbrev pub kind_of : Class → Kind
 kind_of Simple = kinds.Simple
 kind_of Name = kinds.Name
@@ -78,6 +80,7 @@ IsSign kinds.Name = ⊥
 IsSign kinds.Word = ⊥
 IsSign _ = Unit {0}
 
+-- the class of a kind of one byte
 abbrev pub sign_class : Kind → Class
 sign_class kinds.Open = Open
 sign_class kinds.Close = Close
@@ -86,6 +89,7 @@ sign_class kinds.Semicolon = Semi
 sign_class kinds.Equals = Equals
 sign_class _ = Simple
 
+-- what a kind of one byte says
 abbrev pub sign_says : Kind → Lexeme
 sign_says kinds.Open = Opening
 sign_says kinds.Close = Closing
@@ -94,6 +98,7 @@ sign_says kinds.Semicolon = Ending
 sign_says kinds.Equals = Assigning
 sign_says _ = Absence
 
+-- a token of one byte is read at a place: where it ends, or what fails
 abbrev pub Expects : Kind → List ℕ → ℕ → Result ℕ ReadFault → Type 0
 Expects kind bytes at (Ok end) = Goes (T (sign_class kind) ∷ []) [] bytes at end (sign_says kind ∷ [])
 Expects kind bytes at (Err fault) = Fails (T (sign_class kind) ∷ []) bytes at fault
@@ -113,6 +118,7 @@ StopsAfter s bytes t fault = ((fault ≡ faults.BadStatement t.start)
     ⊎ ((wanted : List Sign) × (next s (class_of (lexeme_of bytes t)) ≡ Some wanted)
     × Stops wanted bytes t.end fault)
 
+-- reading fails behind a token
 abbrev pub FailsAfter : Sign → List ℕ → Token → ReadFault → Type 0
 FailsAfter s bytes t (faults.BadToken p) = StopsAfter s bytes t (faults.BadToken p)
 FailsAfter s bytes t (faults.BadStatement p) = StopsAfter s bytes t (faults.BadStatement p)

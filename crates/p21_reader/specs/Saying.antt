@@ -19,6 +19,7 @@ mutual
     nothing : Contents
     and : Content → Contents → Contents
 
+-- what values say, one after the other
 abbrev pub contents : List Content → Contents
 contents [] = nothing
 contents (v ∷ vs) = and v (contents vs)

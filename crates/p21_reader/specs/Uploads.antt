@@ -75,6 +75,7 @@ IsCause bytes errors.Memory = Unit {0}
 
 -- What the functions answer.
 
+-- there are too many instances, or else too many values
 abbrev pub IsTooMany : List Instance → UploadFault → Type 0
 IsTooMany found (faults.TooMany many.Instances) = MOST_INSTANCES < length found
 IsTooMany found (faults.TooMany many.Values) =

@@ -5,6 +5,7 @@ use Rattle.spatial_tree.specs.declared.mark.Mark.{Mark}
 use Rattle.spatial_tree.specs.declared.mark.Mark.TheVariants.{Unseen, OnWay, Looped, Settled}
 use Rattle.spatial_tree.specs.Steps.{Goes, IsRound, Finds}
 
+-- the mark at a place
 abbrev pub mark_at : List Mark → ℕ → Mark
 mark_at marks at = slice_index_or marks at Unseen
 
@@ -28,6 +29,7 @@ pub record IsSettled (steps : List Step) (at : ℕ) (storey : Option ℕ) : Type
   pub single : IsRound steps at → ⊥
   pub answers : Answers steps at storey
 
+-- what a mark says of its place
 abbrev pub Says : List Step → ℕ → Mark → Type 0
 Says steps at Unseen = Unit {0}
 Says steps at OnWay = Unit {0}

@@ -5,6 +5,7 @@ use Rattle.spatial_tree.specs.declared.mark.Mark.TheVariants.{Settled}
 use Rattle.spatial_tree.specs.declared.storeys.Placed.{Placed}
 use Rattle.spatial_tree.specs.Marks.{mark_at}
 
+-- an object with its storey
 abbrev pub placed : ℕ → ℕ → Placed
 placed object storey = record { object = object; storey = storey }
 

@@ -7,9 +7,11 @@ use Rattle.spatial_tree.specs.declared.link.Link.{Link}
 use Rattle.spatial_tree.specs.Climbing.{HasTwo, IsNext, IsAbove}
 use Rattle.spatial_tree.specs.Onlys.{Has}
 
+-- where a step leads up
 abbrev pub up_in : Option Step → Option ℕ
 up_in s = option_and_then (λ (s : Step). s.up) s
 
+-- the storey that a step is
 abbrev pub storey_in : Option Step → Option ℕ
 storey_in s = option_and_then (λ (s : Step). s.storey) s
 
@@ -21,6 +23,7 @@ up_of steps at = up_in (slice_get steps at)
 abbrev pub storey_at : List Step → ℕ → Option ℕ
 storey_at steps at = storey_in (slice_get steps at)
 
+-- the way leads from one place up to another
 abbrev pub Goes : List Step → ℕ → ℕ → Type 0
 Goes steps from to = up_of steps from ≡ Some to
 
