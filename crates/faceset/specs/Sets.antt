@@ -22,6 +22,7 @@ use Rattle.faceset.specs.Indexes.{PointsAt, PointsNowhere}
 unfoldable pub points_of : List Instance → Instance → Option Instance
 points_of world set = target_at world set 0
 
+-- the first list of an instance, where there is one
 abbrev pub listed_in : Option Instance → List Value21
 listed_in None = []
 listed_in (Some i) = listed i 0
@@ -30,6 +31,7 @@ listed_in (Some i) = listed i 0
 abbrev pub spelled_points : List Instance → Instance → List Value21
 spelled_points world set = listed_in (points_of world set)
 
+-- a polygonal set
 abbrev pub is_polygonal : Instance → Bool
 is_polygonal set = is_a PolygonalFaceSet set
 
@@ -129,6 +131,7 @@ AreTriangles numbers points = AllZip (IsTriangle numbers points)
 abbrev pub AreCorners : Option (List Value21) → List Point → List Value21 → List Point → Type 0
 AreCorners numbers points = AllZip (IsCorner numbers points)
 
+-- the triangle of an ear by its corners
 abbrev pub triangle_of : List Point → Ear → Triangle
 triangle_of corners ear = record {
   a = point_at corners ear.a;

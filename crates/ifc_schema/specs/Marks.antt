@@ -9,24 +9,29 @@ use Rattle.ifc_schema.specs.Used.{is_root, Used, IsMapped, Names, Maps}
 use Rattle.ifc_instances.specs.Looking.{look, entity_at}
 use Rattle.ifc_instances.specs.Places.{IsPlaceOf}
 
+-- how far an instance has been followed
 abbrev pub rank : Mark → ℕ
 rank Unseen = 0
 rank Met = 1
 rank Mapped = 2
 
+-- the instance was met
 abbrev pub is_seen : Mark → Bool
 is_seen Unseen = false
 is_seen Met = true
 is_seen Mapped = true
 
+-- the instance was met as one that is mapped
 abbrev pub is_mapped : Mark → Bool
 is_mapped Unseen = false
 is_mapped Met = false
 is_mapped Mapped = true
 
+-- the mark of the instance at a place
 abbrev pub mark_at : Work → ℕ → Mark
 mark_at work at = slice_index_or work.marks.items at Unseen
 
+-- the rank of the instance at a place
 abbrev pub rank_at : Work → ℕ → ℕ
 rank_at work at = rank (mark_at work at)
 
@@ -36,11 +41,13 @@ weight work = sum_by (λ m. 4 - 2 * rank m) work.marks.items + length work.stack
 
 -- An instance is used, or mapped, by its place.
 
+-- the instance at a place is used
 pub record UsedAt (world : List Instance) (at : ℕ) : Type 0 where
   pub id : ℕ
   pub place : IsPlaceOf world id at
   pub used : Used world id
 
+-- the instance at a place is mapped
 pub record MappedAt (world : List Instance) (at : ℕ) : Type 0 where
   pub id : ℕ
   pub place : IsPlaceOf world id at
@@ -71,6 +78,7 @@ pub record IsFollowed (world : List Instance) (work : Work) (mapped : Bool) (i :
   pub names : (to : ℕ) → Names world mapped i to → IsMarked world work 0 to
   pub maps : (to : ℕ) → Maps world i to → IsMarked world work 1 to
 
+-- what the instance at a place names is met too
 abbrev pub FollowedAt : List Instance → Work → Bool → ℕ → Type 0
 FollowedAt world work mapped at =
     (i : Instance) → slice_get world at ≡ Some i → IsFollowed world work mapped i

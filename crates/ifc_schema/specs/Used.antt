@@ -29,6 +29,7 @@ is_root _ = false
 abbrev pub RefersTo : ℕ → Value21 → Type 0
 RefersTo to v = reference_of v ≡ Some to
 
+-- a value of a list is such
 abbrev pub SomeItem : (Value21 → Type 0) → Value21 → Type 0
 SomeItem P v = MatchOption (items_of v) ⊥ (Any P)
 

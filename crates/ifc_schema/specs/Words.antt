@@ -11,6 +11,7 @@ use Rattle.bim_text.specs.Says.{is_guid}
 abbrev pub IsNumber : List ℕ → Type 0
 IsNumber bs = (d : Decimal) × Reads bs d
 
+-- no spelling of a number has these bytes
 abbrev pub IsNoNumber : List ℕ → Type 0
 IsNoNumber bs = (s : Spelling) → IsRead s bs → ⊥
 

@@ -19,9 +19,11 @@ use Rattle.model_build.specs.Finding.{Finds}
 abbrev pub IsUsedSet : List Instance → ℕ → Type 0
 IsUsedSet world id = Used world id × Finds world id (λ i. is_set i ≡ true)
 
+-- a face, with voids or without
 abbrev pub is_face : Instance → Bool
 is_face i = is_a Face i || is_a FaceWithVoids i
 
+-- a face with too many corners
 abbrev pub HasManyCorners : Instance → Type 0
 HasManyCorners i = (is_face i ≡ true) × (most_corners < length (outline i))
 

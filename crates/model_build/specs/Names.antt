@@ -6,6 +6,7 @@ use Rattle.std.specs.BTreeMap.{is_at}
 use Rattle.p21_reader.specs.declared.value.Instance.{Instance}
 use Rattle.model_build.specs.Texts.{name_at}
 
+-- the name that is kept for a number
 abbrev pub name_in : List (ℕ × List ℕ) → ℕ → Option (List ℕ)
 name_in entries id = lookup (is_at (nat_cmp id)) entries
 

@@ -85,10 +85,12 @@ pub record IsNearElement (world : List Instance) (scale : Scale) (mode : Mode) (
   pub near : All IsInReach (corners_of element.triangles)
   pub count : length element.triangles ≡ count_of world id
 
+-- why an element isn't made: it lies too far out, or what it needs isn't ready
 abbrev pub Lacks : List Instance → Scale → Mode → List ℕ → List ℕ → Instance → Lack → Type 0
 Lacks world scale mode placements listed i Beyond = IsBeyond world scale mode i
 Lacks world scale mode placements listed i Unready = IsReady world scale mode placements listed i → ⊥
 
+-- the same of the element of a number
 abbrev pub LacksAt : List Instance → Scale → Mode → List ℕ → List ℕ → ℕ → Lack → Type 0
 LacksAt world scale mode placements listed id Beyond = Finds world id (IsBeyond world scale mode)
 LacksAt world scale mode placements listed id Unready =

@@ -29,6 +29,7 @@ use Rattle.model_build.specs.Elements.{IsModelOf}
 
 -- The stages.
 
+-- the placements from this number on never end
 abbrev pub LoopFault : List Instance → ℕ → UploadFault → Type 0
 LoopFault world id fault = (fault ≡ faults.PlacementLoop id) × NeverEnds world id
 
@@ -36,32 +37,41 @@ LoopFault world id fault = (fault ≡ faults.PlacementLoop id) × NeverEnds worl
 abbrev pub ObliqueStage : List Instance → Stage
 ObliqueStage world = LeastFault (Used world) (λ id fault. (fault ≡ faults.Oblique id) × IsOblique world id)
 
+-- an item that the profile doesn't support
 abbrev pub ItemStage : List Instance → Scale → Mode → Stage
 ItemStage world scale mode = LeastFault (IsUnsupported world scale mode)
     (λ id fault. fault ≡ faults.UnsupportedItem id)
 
+-- a used face with voids
 abbrev pub VoidStage : List Instance → Stage
 VoidStage world = LeastFault (IsUsed FaceWithVoids world) (λ id fault. fault ≡ faults.VoidedFace id)
 
+-- a used set with a bad index
 abbrev pub IndexStage : List Instance → Stage
 IndexStage world = LeastFault (Used world) (λ id fault. (fault ≡ faults.BadIndex id) × IsBadSet world id)
 
+-- a face that can't be cut
 abbrev pub StuckStage : List Instance → Scale → Mode → Stage
 StuckStage world scale mode = LeastFault (IsStuckFace world scale mode)
     (λ id fault. fault ≡ faults.FaceStuck id)
 
+-- the element of this number lies too far out
 abbrev pub ReachFault : List Instance → Scale → Mode → ℕ → UploadFault → Type 0
 ReachFault world scale mode id fault = (fault ≡ faults.TooFar id) × Finds world id (IsBeyond world scale mode)
 
+-- an element that lies too far out
 abbrev pub ReachStage : List Instance → Scale → Mode → Stage
 ReachStage world scale mode = LeastFault (IsModelElement world) (ReachFault world scale mode)
 
+-- an element whose identifier another one has
 abbrev pub TwiceStage : List Instance → Stage
 TwiceStage world = LeastFault (IsModelElement world) (GuidFault world (IsModelElement world))
 
+-- a placement of an element that never ends
 abbrev pub LoopStage : List Instance → Stage
 LoopStage world = LeastFault (IsNamed world (IsModelElement world)) (LoopFault world)
 
+-- a length that is refused
 abbrev pub LengthStage : List Instance → Scale → Mode → Stage
 LengthStage world scale mode = LeastFault (Used world) (LengthFault world scale mode)
 
@@ -113,21 +123,27 @@ FileFault world mode = first_fault (stages world mode)
 
 -- The first faults of what is left of the list, as the code comes to them.
 
+-- the first fault of the stages in the unit
 abbrev pub AfterUnit : List Instance → Scale → Mode → Stage
 AfterUnit world scale mode = first_fault (stages_in world scale mode)
 
+-- the first fault behind the tree of storeys
 abbrev pub AfterTree : List Instance → Scale → Mode → Stage
 AfterTree world scale mode = first_fault (drop 1 (stages_in world scale mode))
 
+-- the first fault behind placements
 abbrev pub AfterChains : List Instance → Scale → Mode → Stage
 AfterChains world scale mode = first_fault (drop 3 (stages_in world scale mode))
 
+-- the first fault behind items
 abbrev pub AfterItems : List Instance → Scale → Mode → Stage
 AfterItems world scale mode = first_fault (drop 5 (stages_in world scale mode))
 
+-- the first fault behind indexes
 abbrev pub AfterIndexes : List Instance → Scale → Mode → Stage
 AfterIndexes world scale mode = first_fault (drop 7 (stages_in world scale mode))
 
+-- the first fault behind corners
 abbrev pub AfterCorners : List Instance → Scale → Mode → Stage
 AfterCorners world scale mode = first_fault (drop 9 (stages_in world scale mode))
 

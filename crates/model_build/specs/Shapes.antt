@@ -8,6 +8,7 @@ use Rattle.model_build.specs.Finding.{Finds}
 use Rattle.model_build.specs.Items.{bodies_of}
 use Rattle.model_build.specs.Counting.{Number}
 
+-- the bodies that are kept for a number
 abbrev pub bodies_in : List (ℕ × List ℕ) → ℕ → Option (List ℕ)
 bodies_in entries id = lookup (is_at (nat_cmp id)) entries
 

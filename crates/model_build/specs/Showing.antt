@@ -31,14 +31,17 @@ HasInner world values id = Contains (filter_map reference_of values) id
 
 -- What a body, a mapped representation and a mapped item show to be unsupported.
 
+-- a body shows something that is no item
 abbrev pub BodyShows : List Instance → ℕ → ℕ → Type 0
 BodyShows world from id = Finds world from
     (λ r. (is_body_representation r ≡ true) × HasOther world (spelled_items r) id)
 
+-- a mapped representation shows something that is no item, or a mapped item
 abbrev pub MapShows : List Instance → ℕ → ℕ → Type 0
 MapShows world from id = Finds world from
     (λ r. HasOther world (spelled_items r) id ⊎ HasInner world (spelled_items r) id)
 
+-- a mapped item has no target, or one that lies elsewhere
 abbrev pub ItemShows : List Instance → Scale → Mode → ℕ → ℕ → Type 0
 ItemShows world scale mode from id =
     HasNoTarget world from id ⊎ ((from ≡ id) × IsShifted world scale mode from)

@@ -34,6 +34,7 @@ pub record IsSoundSet (world : List Instance) (scale : Scale) (mode : Mode) (set
 
 -- The triangles of sets, by the numbers of the sets.
 
+-- the triangles that are kept for a number
 abbrev pub set_in : List (ℕ × List Triangle) → ℕ → Option (List Triangle)
 set_in entries id = lookup (is_at (nat_cmp id)) entries
 
@@ -106,15 +107,18 @@ ReadyBody world scale mode listed r = All (ReadyItem world scale mode listed) (s
 
 -- Surfaces with as many triangles as are counted.
 
+-- the surface of a set, and as many triangles as are counted of it
 abbrev pub KeptSet : List Instance → Scale → Mode → Instance → List Triangle → Type 0
 KeptSet world scale mode set triangles =
     SetSurface world scale mode set triangles × (length triangles ≡ sets.triangle_count world set)
 
+-- the surface of a mapped item, and as many triangles as are counted of it
 abbrev pub KeptMapped : List Instance → Scale → Mode → Instance → List Triangle → Type 0
 KeptMapped world scale mode item triangles =
     MappedSurface world scale mode item triangles
     × (length triangles ≡ sum_by (sets.triangle_count world) (mapped_sets world item))
 
+-- the surface of an item, and as many triangles as are counted of it
 abbrev pub KeptItem : List Instance → Scale → Mode → Instance → List Triangle → Type 0
 KeptItem world scale mode item triangles =
     ItemSurface world scale mode item triangles × (length triangles ≡ item_count world item)

@@ -28,6 +28,7 @@ pub record SetSurface (world : List Instance) (scale : Scale) (mode : Mode) (set
   pub are_points : SetPoints world scale mode set points
   pub are_triangles : SetTriangles world points set triangles
 
+-- a triangle carried by a frame
 abbrev pub moved : Frame → Triangle → Triangle
 moved frame t = record { a = carried frame t.a; b = carried frame t.b; c = carried frame t.c }
 
@@ -54,10 +55,12 @@ IsPlacedBy world scale mode i None = some_passes is_absent (slice_get i.values 5
 IsPlacedBy world scale mode i (Some frame) =
     (placement : ℕ) × (reference_at i 5 ≡ Some placement) × FrameOf world scale mode placement frame
 
+-- a point carried by a frame, where there is one
 abbrev pub carried_by : Option Frame → Point → Point
 carried_by None p = p
 carried_by (Some frame) p = carried frame p
 
+-- a triangle carried by a frame, where there is one
 abbrev pub placed_by : Option Frame → Triangle → Triangle
 placed_by frame t = record { a = carried_by frame t.a; b = carried_by frame t.b; c = carried_by frame t.c }
 

@@ -13,6 +13,7 @@ use Rattle.ifc_instances.specs.Looking.{look}
 abbrev pub named_by : Value21 → Option (Option ℕ)
 named_by v = if is_absent v then Some None else option_map Some (reference_of v)
 
+-- the placement that a placement is relative to: none, or its number, where the value says so
 abbrev pub parent_in : Instance → Option (Option ℕ)
 parent_in i = option_and_then named_by (slice_get i.values 0)
 

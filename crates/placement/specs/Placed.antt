@@ -82,9 +82,11 @@ StandsOn world frames id = (parent_of world id ≡ Some None)
     ⊎ ((parent : ℕ) × (outer : Frame) × (parent_of world id ≡ Some (Some parent))
     × (frames parent ≡ Some outer))
 
+-- each frame has its offset within the bound
 abbrev pub AllWithin : ℕ → (ℕ → Option Frame) → Type 0
 AllWithin bound frames = (id : ℕ) (f : Frame) → frames id ≡ Some f → AreWithin bound f.offset
 
+-- each frame is that of its placement
 abbrev pub AllPlaced : List Instance → Scale → Mode → (ℕ → Option Frame) → Type 0
 AllPlaced world scale mode frames = (id : ℕ) (f : Frame) → frames id ≡ Some f → IsPlaced world scale mode id f
 

@@ -10,6 +10,7 @@ use Rattle.placement.specs.Chains.{parent_of, Ends, ParentsFirst, Reached}
 abbrev pub rank_at : List (Option ℕ) → ℕ → Option ℕ
 rank_at ranks at = slice_index_or ranks at None
 
+-- 1 where a number has no rank yet
 abbrev pub is_new : Option ℕ → ℕ
 is_new None = 1
 is_new (Some rank) = 0
@@ -46,9 +47,11 @@ pub record Climbed (world : List Instance) (met : List ℕ) (start id : ℕ) : T
   pub linked : Linked world met start id
   pub rests : (k : ℕ) → start ≤ k → k < length met → Rests world met start k
 
+-- each number met from a place on rests on one that was met before it
 abbrev pub Rest : List Instance → List ℕ → ℕ → Type 0
 Rest world met start = (k : ℕ) → start ≤ k → k < length met → Rests world met start k
 
+-- what a climb found: the placements that lead up, or that they never end
 abbrev pub Outcome : List Instance → List ℕ → ℕ → ℕ → Bool → Type 0
 Outcome world met start id true = Climbed world met start id
 Outcome world met start id false = Ends world id → ⊥
@@ -81,6 +84,7 @@ pub record Added (world : List Instance) (old new : Walk) (id : ℕ) : Type 0 wh
   pub reached : (named : List ℕ) → Contains named id → AllReached world named old.order.items
       → AllReached world named new.order.items
 
+-- what a visit made: a longer walk, or that the placements never end
 abbrev pub Visited : List Instance → Walk → Walk → ℕ → Bool → Type 0
 Visited world old new id true = Added world old new id
 Visited world old new id false = Ends world id → ⊥
