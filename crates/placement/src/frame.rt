@@ -130,7 +130,8 @@ impl Frame {
         ensures second { axis.direction ≡ 1 → result.direction ≡ self.now.y.direction }
         ensures third { axis.direction ≡ 2 → result.direction ≡ self.now.z.direction }
         ensures value { (k : ℕ) → along result k
-            ≡ along axis 0 *ℤ along self.now.x k +ℤ along axis 1 *ℤ along self.now.y k +ℤ along axis 2 *ℤ along self.now.z k }
+            ≡ along axis 0 *ℤ along self.now.x k +ℤ along axis 1 *ℤ along self.now.y k
+            +ℤ along axis 2 *ℤ along self.now.z k }
     {
         let to = match axis.direction {
             0 => self.x,
