@@ -1,5 +1,6 @@
 -- Instances have one first fault at most, and make one model at most; bytes have one answer.
 use Rattle.std.proofs.Common.{◌≡◌, ℕ, zero, suc, ◌<◌, ◌⊎◌, inl, inr, List, [], ◌∷◌, get_or, Contains, IsPermutation, Option, Some, None, Result, Ok, Err, refl, sym, ap, ◌∙◌, subst, arith}
+use Rattle.std.specs.Prelude.{drop}
 use Rattle.std.specs.Bool.{IsTrue}
 use Rattle.std.specs.List.{AllPairs, AllZip}
 use Rattle.std.specs.Ordering.{nat_cmp, is_lt, ordering_reverse}
@@ -25,7 +26,6 @@ use Rattle.ifc_units.specs.declared.fault.GridFault.{GridFault}
 use Rattle.ifc_units.specs.Lengths.{InstanceRefused}
 use Rattle.ifc_units.proofs.UnitFacts.{one_unit, one_unit_fault}
 use Rattle.ifc_units.proofs.InstanceFacts.{one_instance_fault}
-use Rattle.spatial_tree.specs.Trees.{StageSeven}
 use Rattle.spatial_tree.proofs.OneStorey.{one_storey, one_tree_fault}
 use Rattle.ifc_instances.specs.declared.entity.Entity.TheVariants.{FaceWithVoids}
 use Rattle.model_build.specs.Stages.{Stage, Then, first_or, first_fault, LeastFault}
@@ -34,13 +34,12 @@ use Rattle.model_build.specs.Texts.{GuidFault, name_at}
 use Rattle.model_build.specs.Named.{IsNamed}
 use Rattle.model_build.specs.Least.{IsBadSet, IsOblique}
 use Rattle.model_build.specs.Unsupported.{IsUnsupported}
-use Rattle.model_build.specs.Items.{TrianglesStage}
-use Rattle.model_build.specs.Faces.{CornersStage, IsStuckFace}
+use Rattle.model_build.specs.Faces.{IsStuckFace}
 use Rattle.model_build.specs.PointTables.{LengthFault, told_of}
 use Rattle.model_build.specs.Storeys.{IsStoreyName}
 use Rattle.model_build.specs.Surfaces.{IsSurface}
 use Rattle.model_build.specs.Elements.{IsElement, IsModelOf}
-use Rattle.model_build.specs.Profile.{LoopFault, ReachFault, TwiceStage, LoopStage, ObliqueStage, ItemStage, VoidStage, IndexStage, LengthStage, StuckStage, ReachStage, InUnit, stages_in, stages, FileFault, Profile}
+use Rattle.model_build.specs.Profile.{LoopFault, ReachFault, InUnit, stages_in, stages, FileFault, Profile}
 use Rattle.model_build.proofs.OneSurface.{one_surface}
 use Rattle.model_build.proofs.Staged.{same_lists}
 
@@ -87,24 +86,20 @@ length_one world scale mode id f g h k =
 unit_one : (world : List Instance) (S : Scale → Stage) → ((scale : Scale) → One (S scale)) → One (InUnit world S)
 unit_one world S one f g h k = one k.0 f g (subst (λ (s : Scale). S s f) (one_unit world h.0 k.0 h.1 k.1) h.2) k.2
 
-scaled_one : (world : List Instance) (scale : Scale) (mode : Mode)
-    → One (StageSeven world) × One (TwiceStage world) × One (LoopStage world) × One (ObliqueStage world) × One (ItemStage world scale mode) × One (VoidStage world) × One (IndexStage world)
-    × One (LengthStage world scale mode) × One (CornersStage world) × One (StuckStage world scale mode) × One (TrianglesStage world) × One (ReachStage world scale mode) × Unit {0}
-scaled_one world scale mode = (
-  one_tree_fault world,
-  least_one (IsModelElement world) (GuidFault world (IsModelElement world)) (λ id f g h k. h.0 ∙ sym k.0),
-  least_one (IsNamed world (IsModelElement world)) (LoopFault world) (λ id f g h k. h.0 ∙ sym k.0),
-  least_one (Used world) (λ id fault. (fault ≡ faults.Oblique id) × IsOblique world id) (λ id f g h k. h.0 ∙ sym k.0),
-  least_one (IsUnsupported world scale mode) (λ id fault. fault ≡ faults.UnsupportedItem id) (λ id f g h k. h ∙ sym k),
-  least_one (IsUsed FaceWithVoids world) (λ id fault. fault ≡ faults.VoidedFace id) (λ id f g h k. h ∙ sym k),
-  least_one (Used world) (λ id fault. (fault ≡ faults.BadIndex id) × IsBadSet world id) (λ id f g h k. h.0 ∙ sym k.0),
-  least_one (Used world) (LengthFault world scale mode) (length_one world scale mode),
-  (λ f g h k. h.0 ∙ sym k.0),
-  least_one (IsStuckFace world scale mode) (λ id fault. fault ≡ faults.FaceStuck id) (λ id f g h k. h ∙ sym k),
-  (λ f g h k. h.0 ∙ sym k.0),
-  least_one (IsModelElement world) (ReachFault world scale mode) (λ id f g h k. h.0 ∙ sym k.0),
-  tt,
-)
+scaled_one : (world : List Instance) (scale : Scale) (mode : Mode) → AllOne (stages_in world scale mode)
+scaled_one world scale mode =
+    let reach : AllOne (drop 11 (stages_in world scale mode)) = (least_one (IsModelElement world) (ReachFault world scale mode) (λ id f g h k. h.0 ∙ sym k.0), tt) in
+    let triangles : AllOne (drop 10 (stages_in world scale mode)) = ((λ f g h k. h.0 ∙ sym k.0), reach) in
+    let stuck : AllOne (drop 9 (stages_in world scale mode)) = (least_one (IsStuckFace world scale mode) (λ id fault. fault ≡ faults.FaceStuck id) (λ id f g h k. h ∙ sym k), triangles) in
+    let corners : AllOne (drop 8 (stages_in world scale mode)) = ((λ f g h k. h.0 ∙ sym k.0), stuck) in
+    let lengths : AllOne (drop 7 (stages_in world scale mode)) = (least_one (Used world) (LengthFault world scale mode) (length_one world scale mode), corners) in
+    let indexes : AllOne (drop 6 (stages_in world scale mode)) = (least_one (Used world) (λ id fault. (fault ≡ faults.BadIndex id) × IsBadSet world id) (λ id f g h k. h.0 ∙ sym k.0), lengths) in
+    let voids : AllOne (drop 5 (stages_in world scale mode)) = (least_one (IsUsed FaceWithVoids world) (λ id fault. fault ≡ faults.VoidedFace id) (λ id f g h k. h ∙ sym k), indexes) in
+    let items : AllOne (drop 4 (stages_in world scale mode)) = (least_one (IsUnsupported world scale mode) (λ id fault. fault ≡ faults.UnsupportedItem id) (λ id f g h k. h ∙ sym k), voids) in
+    let axes : AllOne (drop 3 (stages_in world scale mode)) = (least_one (Used world) (λ id fault. (fault ≡ faults.Oblique id) × IsOblique world id) (λ id f g h k. h.0 ∙ sym k.0), items) in
+    let loops : AllOne (drop 2 (stages_in world scale mode)) = (least_one (IsNamed world (IsModelElement world)) (LoopFault world) (λ id f g h k. h.0 ∙ sym k.0), axes) in
+    let guids : AllOne (drop 1 (stages_in world scale mode)) = (least_one (IsModelElement world) (GuidFault world (IsModelElement world)) (λ id f g h k. h.0 ∙ sym k.0), loops) in
+    (one_tree_fault world, guids)
 
 scaled_first : (world : List Instance) (mode : Mode) (scale : Scale) → One (first_fault (stages_in world scale mode))
 scaled_first world mode scale = first_one (stages_in world scale mode) (scaled_one world scale mode)
