@@ -4,13 +4,12 @@ use Rattle.std.proofs.lemmas.Int.{ints}
 use Rattle.bim_text.specs.declared.decimal.Decimal.{Decimal}
 use Rattle.bim_text.specs.Values.{whole, signed, SameValue}
 use Rattle.std.specs.Option.{IfSome, IfNone, unwrap_or}
-use Rattle.bim_text.specs.Numbers.{Spelling, IsRead, written}
+use Rattle.bim_text.specs.Numbers.{written}
 use Rattle.bim_text.specs.Decimals.{value_of, Reads, WritesWhole}
 use Rattle.bim_text.proofs.Parts.{parts_only}
 use Rattle.p21_reader.specs.declared.value.Value21.{Value21}
-use Rattle.std.specs.Prelude.{unsigned_abs}
 use Rattle.ifc_instances.specs.Values.{number_of}
-use Rattle.faceset.specs.Indexes.{PointsAt, PointsNowhere}
+use Rattle.faceset.specs.Indexes.{PointsNowhere}
 use Rattle.faceset.proofs.Values.{none_negative, none_fraction, many_digits, high_power, whole_product, same_trans}
 
 pub by_sign : (b : Bool) (m n : ℕ) (e : ℤ) → b ≡ true → (m ≡ 0 → b ≡ false) → SameValue (record { number = signed b m; power = e }) (whole (pos n)) → ⊥
