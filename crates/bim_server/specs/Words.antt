@@ -40,7 +40,8 @@ bare_command name = on_top (λ s. record s { no_binary_name = true; disable_help
 unfoldable pub replay_command : App
 replay_command =
     with_rule
-    (with_rule (with_rule (bare_command (codes "replay")) (option_of (codes "at"))) (option_of (codes "buckets")))
+    (with_rule (with_rule (bare_command (codes "replay")) (option_of (codes "at")))
+    (option_of (codes "buckets")))
     (option_of (codes "projects"))
 
 -- a command of which it is known what a parse finds: it has no subcommands, no argument that depends on another, and
