@@ -169,7 +169,7 @@ polygonal_none world points set numbers values (Ok None) polygonal same all h = 
 row_named : (numbers : Option (List Value21)) (points : List Point) (row : Value21) (t : Triangle) → IsTriangle numbers points row t → (HasThree row → Any (IsMisnamed numbers (length points)) (items_in row)) → ⊥
 row_named numbers points row t is lacks =
     let items : items_in row ≡ is.a ∷ is.b ∷ is.c ∷ [] = ap (λ (o : Option (List Value21)). unwrap_or o []) is.three in
-    well_cornered numbers points (is.a ∷ is.b ∷ is.c ∷ []) (t.a ∷ t.b ∷ t.c ∷ []) (is.first, is.second, is.third, tt)
+    well_cornered numbers points (is.a ∷ is.b ∷ is.c ∷ []) (t.a ∷ t.b ∷ t.c ∷ []) (is.first, (is.second, (is.third, tt)))
     (subst (Any (IsMisnamed numbers (length points))) items (lacks (is.a, is.b, is.c, is.three)))
 
 never_rows : (numbers : Option (List Value21)) (points : List Point) (rows : List Value21) → Any (λ row. HasThree row → Any (IsMisnamed numbers (length points)) (items_in row)) rows
