@@ -8,7 +8,7 @@ use Rattle.ear_cut.specs.declared.corners.Angle.TheVariants.{Convex}
 use Rattle.ear_cut.specs.Views.{Spot, bend, signed, area}
 use Rattle.ear_cut.specs.Corners.{by_sign}
 
-abbrev bent : Term → Term → Term → Term → Term → Term → Term
+abbrev pub bent : Term → Term → Term → Term → Term → Term → Term
 bent au av bu bv cu cv = (bu ⊖ au) ⊗ (cv ⊖ bv) ⊖ (bv ⊖ av) ⊗ (cu ⊖ bu)
 
 cyclic : (r : Bool) (a b c : Spot) → signed r (bend b c a) ≡ signed r (bend a b c)

@@ -1,6 +1,6 @@
 -- What a removal leaves: the corner k was the corner `lift i k` before the i-th was taken out.
-use Rattle.std.proofs.Common.{◌≡◌, ◌≢◌, ◌∙◌, ap, sym, refl, subst, ℕ, ◌+◌, ◌-◌, ◌<◌, ◌≤◌, cond, inl, inr, List, length, map, set, Option, arith}
-use Rattle.std.specs.Prelude.{slice_index_or, remove, nat_lt}
+use Rattle.std.proofs.Common.{◌≡◌, ◌≢◌, ◌∙◌, ap, sym, refl, subst, ℕ, ◌+◌, ◌-◌, ◌<◌, ◌≤◌, Bool, true, false, not, ◌&&◌, cond, inl, inr, List, length, map, set, Option, arith}
+use Rattle.std.specs.Prelude.{slice_index_or, remove, nat_lt, ◌==◌}
 use Rattle.std.proofs.lemmas.Bool.{cases_lt, cases_eq}
 use Rattle.std.proofs.lemmas.Bool.Decides.{nat_tests}
 use Rattle.std.proofs.lemmas.List.{get_or-map, get_or-set_same, get_or-set_other, length-map, length-set}
@@ -12,7 +12,7 @@ use Rattle.ear_cut.specs.declared.notes.Note.{Note}
 use Rattle.ear_cut.specs.Corners.{previous, next, nobody, turn_at, angle_of, AreInGrid}
 use Rattle.bim_model.specs.Points.{IsGridPoint}
 use Rattle.ear_cut.specs.Removal.{is_free}
-use Rattle.ear_cut.specs.Notes.{blank, fresh, shifted, place_behind, IsClearTo, IsTrueOf, IsNoted, IsTaken}
+use Rattle.ear_cut.specs.Notes.{blank, fresh, shifted, place_behind, IsClearTo, IsHeldAt, IsTrueOf, IsNoted, IsTaken}
 
 abbrev pub lift : ℕ → ℕ → ℕ
 lift i k = cond (nat_lt k i) k (k + 1)
@@ -72,6 +72,23 @@ clear_taken view left t i n h c = record {
   free = λ j l. ap (is_free view t) (taken left i j nobody h) ∙ c.free (lift i j) (one_back i n j l);
 }
 
+-- what holds a triangle is left, unless it was taken out
+lift_back : (i n : ℕ) → i ≢ n → lift i (cond (nat_lt i n) (n - 1) n) ≡ n
+lift_back i n e = grind (arith, nat_tests)
+
+one_within : (i n m : ℕ) → n < m + 1 → i < m + 1 → i ≢ n → cond (nat_lt i n) (n - 1) n < m
+one_within i n m h k e = grind (arith, nat_tests)
+
+still_held : (i n : ℕ) (b : Bool) → b && not (i == n) ≡ true → (b ≡ true) × (i ≢ n)
+still_held i n true h = (refl, λ e. absurd (grind (arith, nat_tests)))
+still_held i n false h = absurd (cc h)
+
+held_taken : (view : Option View) (left : List Corner) (t : Turn) (i n : ℕ) → i < length left → i ≢ n → IsHeldAt view left t n → IsHeldAt view (remove left i) t (cond (nat_lt i n) (n - 1) n)
+held_taken view left t i n h e k = record {
+  within = let l = length-remove left i h in one_within i n (length (remove left i)) (omega (arith, k.within, l)) (omega (arith, h, l)) e;
+  held = ap (is_free view t) (taken left i (cond (nat_lt i n) (n - 1) n) nobody h ∙ ap (λ (j : ℕ). slice_index_or left j nobody) (lift_back i n e)) ∙ k.held;
+}
+
 true_taken : (view : Option View) (left : List Corner) (notes : List Note) (i k : ℕ) → IsNoted view left notes → i < length left → k < length (remove left i) → k ≢ place_behind (length (remove left i)) i → k ≢ previous (length (remove left i)) (place_behind (length (remove left i)) i) → IsTrueOf view (remove left i) k (slice_index_or (map (shifted i) (remove notes i)) k blank)
 true_taken view left notes i k h o l e f =
     let p = length-remove left i o in
@@ -84,10 +101,13 @@ true_taken view left notes i k h o l e f =
     subst (IsTrueOf view (remove left i) k) (sym s) (record {
       angle = told.angle ∙ ap (angle_of view) (sym u);
       clear = subst (λ (t : Turn). IsClearTo view (remove left i) t (shifted i (slice_index_or notes (lift i k) blank)).clear) (sym u) (clear_taken view left (turn_at left (lift i k)) i (slice_index_or notes (lift i k) blank).clear o told.clear);
+      held = λ b.
+          let note = slice_index_or notes (lift i k) blank in let parts = still_held i note.clear note.held b in
+          subst (λ (t : Turn). IsHeldAt view (remove left i) t (shifted i note).clear) (sym u) (held_taken view left (turn_at left (lift i k)) i note.clear o parts.1 (told.held parts.0));
     })
 
 fresh_true : (view : Option View) (left : List Corner) (i : ℕ) → IsTrueOf view left i (fresh view left i)
-fresh_true view left i = record { angle = refl; clear = record { within = omega arith; free = λ j l. absurd (omega (arith, l)) } }
+fresh_true view left i = record { angle = refl; clear = record { within = omega arith; free = λ j l. absurd (omega (arith, l)) }; held = λ e. absurd (cc e) }
 
 module _ (view : Option View) (left : List Corner) (notes : List Note) (a b : ℕ) (count : length notes ≡ length left) (each : (k : ℕ) → k < length left → k ≢ a → k ≢ b → IsTrueOf view left k (slice_index_or notes k blank)) where
   at_one : (xs : List Note) (j : ℕ) → length xs ≡ length left → j < length left → IsTrueOf view left j (slice_index_or (set xs j (fresh view left j)) j blank)

@@ -15,6 +15,7 @@ abbrev pub corners_from : ℕ → List Point → List Corner
 corners_from n [] = []
 corners_from n (p ∷ ps) = record { place = n; point = p } ∷ corners_from (n + 1) ps
 
+-- what stands where there is no corner
 abbrev pub nobody : Corner
 nobody = record { place = 0; point = record { x = pos 0; y = pos 0; z = pos 0 } }
 
@@ -22,6 +23,7 @@ nobody = record { place = 0; point = record { x = pos 0; y = pos 0; z = pos 0 } 
 abbrev pub previous : ℕ → ℕ → ℕ
 previous n i = if i == 0 then n - 1 else (i - 1)
 
+-- the place behind a place, around an outline
 abbrev pub next : ℕ → ℕ → ℕ
 next n i = if i + 1 == n then 0 else (i + 1)
 
@@ -33,6 +35,7 @@ turn_at left i = record {
   after = slice_index_or left (next (length left) i) nobody;
 }
 
+-- the three corners of a turn lie on the grid
 pub record InGrid (t : Turn) : Type 0 where
   pub before_in : IsGridPoint t.before.point
   pub corner_in : IsGridPoint t.corner.point
@@ -42,6 +45,7 @@ pub record InGrid (t : Turn) : Type 0 where
 unfoldable pub AreInGrid : List Corner → Type 0
 AreInGrid left = All (λ (c : Corner). IsGridPoint c.point) left
 
+-- the angle of a corner by the sign of its area
 abbrev pub by_sign : ℤ → Angle
 by_sign (pos zero) = Straight
 by_sign (pos (suc n)) = Convex
@@ -49,9 +53,13 @@ by_sign (negsuc n) = Reflex
 
 -- by the area of the triangle in the view; without a view, whether the three points lie on one line
 unfoldable pub angle_of : Option View → Turn → Angle
-angle_of (Some view) t = by_sign (area view (seen view.axis t.before.point) (seen view.axis t.corner.point) (seen view.axis t.after.point))
-angle_of None t = if is_nowhere (cross_of (step t.before.point t.corner.point) (step t.corner.point t.after.point)) then Straight else Reflex
+angle_of (Some view) t = by_sign
+    (area view (seen view.axis t.before.point) (seen view.axis t.corner.point) (seen view.axis t.after.point))
+angle_of None t = if is_nowhere
+    (cross_of (step t.before.point t.corner.point) (step t.corner.point t.after.point))
+    then Straight else Reflex
 
+-- a corner that doesn't turn
 abbrev pub is_straight : Angle → Bool
 is_straight Straight = true
 is_straight Convex = false

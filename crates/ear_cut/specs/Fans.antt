@@ -9,6 +9,7 @@ use Rattle.ear_cut.specs.Corners.{nobody}
 abbrev pub spot_at : View → List Corner → ℕ → Spot
 spot_at view left i = seen view.axis (slice_index_or left i nobody).point
 
+-- the area of three corners by their places
 abbrev pub area_at : View → List Corner → ℕ → ℕ → ℕ → ℤ
 area_at view left i j k = area view (spot_at view left i) (spot_at view left j) (spot_at view left k)
 

@@ -6,3 +6,4 @@ pub mod Registers
 pub mod Notes
 pub mod Areas
 pub mod Fans
+pub mod Frames

@@ -6,6 +6,7 @@ use Rattle.ear_cut.specs.declared.coordinates.Flat.{Flat}
 use Rattle.exact_arith.specs.Space.{Vector}
 use Rattle.ear_cut.specs.Views.{Spot}
 
+-- a normal as a vector
 abbrev pub as_vector : Normal → Vector
 as_vector n = record { x = n.x; y = n.y; z = n.z }
 
@@ -15,9 +16,11 @@ pub record IsWithin (n : Normal) (m : ℕ) : Type 0 where
   pub y_in : unsigned_abs n.y ≤ m
   pub z_in : unsigned_abs n.z ≤ m
 
+-- a spot in registers as a spot
 abbrev pub as_spot : Flat → Spot
 as_spot f = record { u = f.u; v = f.v }
 
+-- a way in registers as a vector
 abbrev pub as_way : Way → Vector
 as_way a = record { x = a.x; y = a.y; z = a.z }
 

@@ -20,7 +20,9 @@ first_from test i (suc n) = if test i then Some i else first_from test (i + 1) n
 
 -- another corner is not in the closed triangle, or stands where one of its corners does
 abbrev pub is_free : Option View → Turn → Corner → Bool
-is_free (Some view) t other = not (holds view (seen view.axis t.before.point) (seen view.axis t.corner.point) (seen view.axis t.after.point) (seen view.axis other.point))
+is_free (Some view) t other = not
+    (holds view (seen view.axis t.before.point) (seen view.axis t.corner.point)
+    (seen view.axis t.after.point) (seen view.axis other.point))
 is_free None t other = true
 
 -- a corner of positive area whose closed triangle holds no other corner that remains
@@ -29,9 +31,11 @@ is_ear_at view left t Convex = list_all (λ (other : Corner). is_free view t oth
 is_ear_at view left t Straight = false
 is_ear_at view left t Reflex = false
 
+-- the corner of a turn is an ear
 abbrev pub is_ear : Option View → List Corner → Turn → Bool
 is_ear view left t = is_ear_at view left t (angle_of view t)
 
+-- the first place, or else the other
 abbrev pub or_else : Option ℕ → Option ℕ → Option ℕ
 or_else (Some i) other = Some i
 or_else None other = other
@@ -42,6 +46,7 @@ choice view left =
     or_else (first_from (λ i. is_straight (angle_of view (turn_at left i))) 0 (length left))
     (first_from (λ i. is_ear view left (turn_at left i)) 0 (length left))
 
+-- the ear of a turn
 abbrev pub ear_of : Turn → Ear
 ear_of t = record { a = t.before.place; b = t.corner.place; c = t.after.place }
 
@@ -54,9 +59,11 @@ is_turned_over None angle = false
 
 -- the ears of n corners that are removed, one after another, and then the last triangle; none where the rule is stuck
 unfoldable pub cut_by : Option View → ℕ → List Corner → Option (List Ear)
-cut_by view zero left = if is_turned_over view (angle_of view (turn_at left 1)) then None else Some (ear_of (turn_at left 1) ∷ [])
+cut_by view zero left = if is_turned_over view (angle_of view (turn_at left 1))
+    then None else Some (ear_of (turn_at left 1) ∷ [])
 cut_by view (suc n) left =
-    option_and_then (λ i. option_map (λ ears. ear_of (turn_at left i) ∷ ears) (cut_by view n (remove left i))) (choice view left)
+    option_and_then (λ i. option_map (λ ears. ear_of (turn_at left i) ∷ ears)
+    (cut_by view n (remove left i))) (choice view left)
 
 -- the triangles of a polygon, by the places of their corners
 unfoldable pub cut_of : List Point → Option (List Ear)

@@ -13,6 +13,7 @@ axis_of n =
     if nat_le (unsigned_abs n.y) (unsigned_abs n.x) && nat_le (unsigned_abs n.z) (unsigned_abs n.x) then X
     else (if nat_le (unsigned_abs n.z) (unsigned_abs n.y) then Y else Z)
 
+-- the component of a vector along an axis
 abbrev pub component : Axis → Vector → ℤ
 component X n = n.x
 component Y n = n.y
@@ -20,13 +21,15 @@ component Z n = n.z
 
 -- the view along the normal's greatest component, with its sign; none where the normal is zero
 abbrev pub view_of : Vector → Option View
-view_of n = if is_nowhere n then None else Some (record { axis = axis_of n; reversed = int_lt (component (axis_of n) n) (pos 0) })
+view_of n = if is_nowhere n then None
+    else Some (record { axis = axis_of n; reversed = int_lt (component (axis_of n) n) (pos 0) })
 
 -- a point as the view shows it
 pub record Spot : Type 0 where
   pub u : ℤ
   pub v : ℤ
 
+-- a point as it is seen along an axis
 abbrev pub seen : Axis → Point → Spot
 seen X p = record { u = p.y; v = p.z }
 seen Y p = record { u = p.z; v = p.x }
@@ -45,6 +48,7 @@ signed false x = x
 unfoldable pub area : View → Spot → Spot → Spot → ℤ
 area view a b c = signed view.reversed (bend a b c)
 
+-- two spots are one
 abbrev pub same_spot : Spot → Spot → Bool
 same_spot a b = int_eq a.u b.u && int_eq a.v b.v
 
@@ -56,4 +60,5 @@ is_corner a b c p = same_spot p a || (same_spot p b || same_spot p c)
 unfoldable pub holds : View → Spot → Spot → Spot → Spot → Bool
 holds view a b c p =
     not (int_lt (area view a b p) (pos 0))
-    && (not (int_lt (area view b c p) (pos 0)) && (not (int_lt (area view c a p) (pos 0)) && not (is_corner a b c p)))
+    && (not (int_lt (area view b c p) (pos 0))
+    && (not (int_lt (area view c a p) (pos 0)) && not (is_corner a b c p)))

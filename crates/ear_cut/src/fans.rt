@@ -78,7 +78,8 @@ fn is_fan(view: View, left: &[Corner]) -> bool
 fn fan_of(alloc: Global, view: View, left: &[Corner]) -> Result<Option<Vec<Ear>>, AllocError>
     requires many { 2 < length left.now }
     requires left_in { AreInGrid left.now }
-    ensures { IfOk result (λ found. IfSome found (λ ears. cut_by (Some view) (length left.now - 3) left.now ≡ Some ears.items)) }
+    ensures { IfOk result (λ found. IfSome found
+        (λ ears. cut_by (Some view) (length left.now - 3) left.now ≡ Some ears.items)) }
 {
     if !is_fan(view, left) {
         return Ok(None);
@@ -108,7 +109,8 @@ pub fn fan_seen(
 ) -> Result<Option<Vec<Ear>>, AllocError>
     requires many { 2 < length left.now }
     requires left_in { AreInGrid left.now }
-    ensures { IfOk result (λ found. IfSome found (λ ears. cut_by view (length left.now - 3) left.now ≡ Some ears.items)) }
+    ensures { IfOk result (λ found. IfSome found
+        (λ ears. cut_by view (length left.now - 3) left.now ≡ Some ears.items)) }
 {
     match view {
         None => Ok(None),

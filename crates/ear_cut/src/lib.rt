@@ -5,6 +5,7 @@ mod coordinates;
 mod corners;
 mod ears;
 mod fans;
+mod frames;
 mod normals;
 mod notes;
 mod removal;

@@ -10,6 +10,7 @@ ghost use Rattle.ear_cut.specs.Areas.{area_of_ears};
 use crate::corners::{Angle, Corner, angle_of, corners_of, turn_at};
 use crate::ears::{Ear, ear_of};
 use crate::fans::fan_seen;
+use crate::frames::frames_of;
 use crate::normals::normal_of;
 use crate::notes::{notes_of, take_next};
 use crate::views::{View, view_of};
@@ -46,13 +47,15 @@ fn clipped(
 ) -> Result<Option<Vec<Ear>>, AllocError>
     requires many { 2 < length left.items }
     requires left_in { AreInGrid left.items }
-    ensures { IfOk result (λ found. MatchOption found (cut_by view (length left.items - 3) left.items ≡ None) (λ ears. cut_by view (length left.items - 3) left.items ≡ Some ears.items)) }
+    ensures { IfOk result (λ found. MatchOption found (cut_by view (length left.items - 3) left.items ≡ None)
+        (λ ears. cut_by view (length left.items - 3) left.items ≡ Some ears.items)) }
 {
     let mut notes = notes_of(alloc, view, &left)?;
+    let mut frames = frames_of(alloc, view, &left)?;
     let n = left.len();
     let mut ears = Vec::with_capacity(alloc, n - 2)?;
     for step in 3..n {
-        match take_next(view, &mut left, &mut notes) {
+        match take_next(view, &mut left, &mut frames, &mut notes) {
             None => return Ok(None),
             Some(t) => ears.push(ear_of(t))?,
         }
@@ -70,7 +73,8 @@ fn triangles_of(alloc: Global, corners: &[Point]) -> Result<Option<Vec<Ear>>, Al
     requires three { 3 ≤ length corners.now }
     requires few { length corners.now ≤ most_corners }
     requires in_grid { All IsGridPoint corners.now }
-    ensures { IfOk result (λ found. MatchOption found (cut_of corners.now ≡ None) (λ ears. cut_of corners.now ≡ Some ears.items)) }
+    ensures { IfOk result (λ found. MatchOption found (cut_of corners.now ≡ None)
+        (λ ears. cut_of corners.now ≡ Some ears.items)) }
 {
     let view = view_of(normal_of(corners));
     let left = corners_of(alloc, corners)?;

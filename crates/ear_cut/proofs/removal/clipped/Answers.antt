@@ -7,6 +7,7 @@ use Rattle.ear_cut.specs.declared.ears.Ear.{Ear}
 use Rattle.ear_cut.specs.Corners.{InGrid, turn_at, angle_of}
 use Rattle.ear_cut.specs.Removal.{is_turned_over, ear_of, cut_by}
 use Rattle.ear_cut.specs.Notes.{IsNoted, IsRemoval}
+use Rattle.ear_cut.specs.Frames.{AreFramesIn}
 use Rattle.ear_cut.proofs.Closed.{turn_in_grid}
 use Rattle.ear_cut.proofs.Steps.{behind, step_on, step_stuck, last_one, last_stuck, behind_nothing}
 use Rattle.ear_cut.proofs.removal.clipped.Goals as goal
@@ -18,6 +19,7 @@ loop-step-init c =
       count = refl;
       in_grid = c.requires.left_in;
       noted = subst (λ (cs : List Corner). IsNoted c.args.view cs c.in_ok-notes.notes.items) c.deref.ensures.value c.in_ok-notes.ensures;
+      framed = subst (λ (cs : List Corner). AreFramesIn c.args.view cs c.in_ok-frames.frames) c.deref-2.ensures.value c.in_ok-frames.ensures;
       whole = subst (λ (es : List Ear). cut_by c.args.view (length left - 3) left ≡ behind es (cut_by c.args.view (length left - 3) left)) (sym c.in_ok-ears.ensures.items) (behind_nothing (cut_by c.args.view (length left - 3) left));
     }
 
@@ -33,12 +35,13 @@ returns-in-None c =
 pub loop-step-preserved : goal.loop-step-preserved
 loop-step-preserved c =
     let n = length c.args.left.items in let k = c.loop-step.step in let view = c.args.view in
-    let left = c.loop-step.left.items in let r : IsRemoval view left c.in-Some.t c.take_next.new.left.items c.take_next.new.notes.items = c.in-Some.ensures in
+    let left = c.loop-step.left.items in let r : IsRemoval view left c.in-Some.t c.take_next.new.left.items c.take_next.new.frames c.take_next.new.notes.items = c.in-Some.ensures in
     let l = length-remove left r.i r.i_in in
     record {
       count = shorter (length c.take_next.new.left.items) (length (remove left r.i)) (length left) k n (ap length r.left_is) l c.loop-step.invariant.count;
       in_grid = r.in_grid;
       noted = r.noted;
+      framed = r.framed;
       whole =
           subst (λ (es : List Ear). cut_by view (n - 3) c.args.left.items ≡ behind es (cut_by view (n - (k + 1)) c.take_next.new.left.items)) (sym (c.in_ok-push-in-Some.ensures.items ∙ ap (λ (e : Ear). c.loop-step.ears.items ++ e ∷ []) (c.ear_of.ensures ∙ ap ear_of r.turn)))
           (subst (λ (cs : List Corner). cut_by view (n - 3) c.args.left.items ≡ behind (c.loop-step.ears.items ++ ear_of (turn_at left r.i) ∷ []) (cut_by view (n - (k + 1)) cs)) (sym r.left_is)
@@ -58,20 +61,20 @@ no_more n k h = omega (arith, h)
 pub angle_of-requires : goal.angle_of-requires
 angle_of-requires c =
     let left = c.loop-step.left.items in let i = c.loop-step.invariant in
-    subst (λ (t : Turn). InGrid t) (sym (c.turn_at-last.ensures ∙ ap (λ (cs : List Corner). turn_at cs 1) c.deref-2.ensures.value))
+    subst (λ (t : Turn). InGrid t) (sym (c.turn_at-last.ensures ∙ ap (λ (cs : List Corner). turn_at cs 1) c.deref-3.ensures.value))
     (turn_in_grid left 1 i.in_grid (three_left (length left) c.loop-step.step (length c.args.left.items) i.count (omega arith) (omega arith) c.requires.many))
 
 pub returns-then-is_turned_over : goal.returns-then-is_turned_over
 returns-then-is_turned_over c =
     let left = c.loop-step.left.items in let n = length c.args.left.items in let k = c.loop-step.step in let view = c.args.view in
-    let t = c.turn_at-last.ensures ∙ ap (λ (cs : List Corner). turn_at cs 1) c.deref-2.ensures.value in
+    let t = c.turn_at-last.ensures ∙ ap (λ (cs : List Corner). turn_at cs 1) c.deref-3.ensures.value in
     last_stuck view (n - k) left c.loop-step.ears.items (cut_by c.args.view (length c.args.left.items - 3) c.args.left.items) (no_more n k (omega (arith, c.loop-step-test.false)))
     (sym (c.is_turned_over.ensures ∙ ap (is_turned_over view) (c.angle_of.ensures ∙ ap (angle_of view) t)) ∙ c.if-is_turned_over.true) c.loop-step.invariant.whole
 
 pub returns : goal.returns
 returns c =
     let left = c.loop-step.left.items in let n = length c.args.left.items in let k = c.loop-step.step in let view = c.args.view in
-    let t = c.turn_at-last.ensures ∙ ap (λ (cs : List Corner). turn_at cs 1) c.deref-2.ensures.value in
+    let t = c.turn_at-last.ensures ∙ ap (λ (cs : List Corner). turn_at cs 1) c.deref-3.ensures.value in
     last_one view (n - k) left c.loop-step.ears.items (cut_by c.args.view (length c.args.left.items - 3) c.args.left.items) (no_more n k (omega (arith, c.loop-step-test.false)))
     (sym (c.is_turned_over.ensures ∙ ap (is_turned_over view) (c.angle_of.ensures ∙ ap (angle_of view) t)) ∙ c.if-is_turned_over.false) c.loop-step.invariant.whole
     ∙ ap Some (sym (c.in_ok-push.ensures.items ∙ ap (λ (e : Ear). c.loop-step.ears.items ++ e ∷ []) (c.ear_of-2.ensures ∙ ap ear_of t)))
