@@ -12,3 +12,4 @@ pub mod AllRows
 pub mod Unique
 pub mod Keeping
 pub mod Saying
+pub mod FewDigits

@@ -19,7 +19,7 @@ sign_whole (b ∷ bs) = elim (cases_Bool (b == 43)) [
   ])
 ]
 
-front_whole : (bs : List ℕ) → bs ≡ front bs ++ behind_front bs
+pub front_whole : (bs : List ℕ) → bs ≡ front bs ++ behind_front bs
 front_whole [] = refl
 front_whole (b ∷ bs) = elim (cases_Bool (is_digit b)) [
   | inl k ↦ rw k (ap (λ (l : List ℕ). b ∷ l) (front_whole bs))

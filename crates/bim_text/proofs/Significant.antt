@@ -38,7 +38,7 @@ significant_zero ds = elim (first_zero ds) [
   | inr e ↦ rw (e, reverse-append (from_first ds) (48 ∷ [])) refl
 ]
 
-length_first : (ds : List ℕ) → length (from_first ds) ≤ length ds
+pub length_first : (ds : List ℕ) → length (from_first ds) ≤ length ds
 length_first [] = omega arith
 length_first (d ∷ ds) = elim (cases_Bool (d == 48)) [
   | inl k ↦ rw k (omega (arith, length_first ds))

@@ -1,14 +1,14 @@
 -- Bytes are read to one decimal.
-use Rattle.std.proofs.Common.{◌≡◌, ◌≢◌, ℕ, zero, suc, ◌+◌, ◌*◌, ◌^◌, ◌<◌, ◌%◌, ◌/◌, ℤ, pos, negsuc, neg_ℤ, ◌*ℤ◌, Bool, true, false, List, refl, sym, ap, subst, ◌∙◌, arith}
+use Rattle.std.proofs.Common.{◌≡◌, ◌≢◌, ℕ, zero, suc, ◌+◌, ◌*◌, ◌^◌, ◌<◌, ◌%◌, ◌/◌, ℤ, pos, negsuc, neg_ℤ, ◌*ℤ◌, ◌<ℤ◌, Bool, true, false, List, refl, sym, ap, subst, ◌∙◌, arith}
 use Rattle.std.specs.Prelude.{unsigned_abs}
 use Rattle.std.proofs.lemmas.Int.{ints, unsigned_abs-mul}
 use Rattle.std.proofs.lemmas.Nat.{pow-add}
 use Rattle.std.proofs.Math.IntN.{negsuc-*ℤ-pos}
 use Rattle.std.proofs.Math.Nat.{one-le-pow, mul-mod_left, pow-suc, mul-pos, mul-div_cancel}
 use Rattle.bim_text.specs.declared.decimal.Decimal.{Decimal}
-use Rattle.bim_text.specs.Values.{Scaled, signed, above, below, numerator, denominator, SameValue}
+use Rattle.bim_text.specs.Values.{Scaled, whole, signed, above, below, numerator, denominator, SameValue}
 use Rattle.bim_text.specs.Numbers.{Spelling, written}
-use Rattle.bim_text.specs.Decimals.{Reads, value_of}
+use Rattle.bim_text.specs.Decimals.{Reads, WritesWhole, value_of}
 use Rattle.bim_text.proofs.Parts.{parts_only}
 use Rattle.bim_text.proofs.Powers.{signed_times, signed_size}
 
@@ -141,3 +141,25 @@ one_decimal text d e r q =
     let same = sym (parts_only q.spelling text q.read.number) ∙ parts_only r.spelling text r.read.number in
     one_form d.negative e.negative d.digits e.digits d.exp e.exp (written r.spelling) (form_of d) (form_of e) r.value
     (subst (λ (s : Spelling). SameValue (value_of e) (written s)) same q.value)
+
+-- A decimal that ends behind the point isn't whole.
+
+power_above : (b c : Bool) (m n : ℕ) (x : ℤ) (w : Scaled) → IsForm b m x → SameValue (value b m x) w → SameValue (value c n (pos 0)) w → x <ℤ pos 0 → ⊥
+power_above b c m n (pos i) w f h k below = omega (arith, ints, below)
+power_above b c zero n (negsuc i) w f h k below = let z = f.zero_exp refl in omega (arith, ints, z)
+power_above b c (suc m) n (negsuc i) w f h k below =
+    f.stripped (λ z. omega (arith, z)) (ends_in_zero (suc m) n i (one (suc m) ∙ one_size b c (suc m) n (negsuc i) (pos 0) w h k ∙ ap (λ (j : ℕ). n * 10 ^ j) (plain i)))
+  where
+    one : (m : ℕ) → m ≡ m * 10 ^ (0 + 0)
+    one m = omega arith
+
+    plain : (i : ℕ) → 0 + suc i ≡ suc i
+    plain i = omega arith
+
+pub not_whole : (text : List ℕ) (d : Decimal) (n : ℤ) → Reads text d → WritesWhole text n → d.exp <ℤ pos 0 → ⊥
+not_whole text d (pos n) r w below =
+    let same = sym (parts_only w.spelling text w.read.number) ∙ parts_only r.spelling text r.read.number in
+    power_above d.negative false d.digits n d.exp (written r.spelling) (form_of d) r.value (subst (λ (s : Spelling). SameValue (whole (pos n)) (written s)) same w.value) below
+not_whole text d (negsuc n) r w below =
+    let same = sym (parts_only w.spelling text w.read.number) ∙ parts_only r.spelling text r.read.number in
+    power_above d.negative true d.digits (suc n) d.exp (written r.spelling) (form_of d) r.value (subst (λ (s : Spelling). SameValue (whole (negsuc n)) (written s)) same w.value) below

@@ -9,14 +9,17 @@ use Rattle.bim_text.specs.Values.{Scaled, signed}
 
 -- A spelling by its parts.
 
+-- how a number's sign is spelled
 pub data Sign : Type 0 where
   Unsigned Plus Minus : Sign
 
+-- the exponent of a number as it is spelled: its mark, its sign and its digits
 pub record Exponent : Type 0 where
   pub mark : ℕ
   pub sign : Sign
   pub digits : List ℕ
 
+-- a number as it is spelled: sign, digits, fraction and exponent
 pub record Spelling : Type 0 where
   pub sign : Sign
   pub whole : List ℕ
@@ -25,27 +28,33 @@ pub record Spelling : Type 0 where
 
 -- The bytes of a spelling.
 
+-- the bytes of a sign
 abbrev pub sign_bytes : Sign → List ℕ
 sign_bytes Unsigned = []
 sign_bytes Plus = 43 ∷ []
 sign_bytes Minus = 45 ∷ []
 
+-- the bytes of a fraction with its point
 abbrev pub fraction_bytes : Option (List ℕ) → List ℕ
 fraction_bytes None = []
 fraction_bytes (Some digits) = 46 ∷ digits
 
+-- the bytes of an exponent
 abbrev pub exponent_bytes : Option Exponent → List ℕ
 exponent_bytes None = []
 exponent_bytes (Some e) = e.mark ∷ (sign_bytes e.sign ++ e.digits)
 
+-- the bytes of a number
 abbrev pub bytes_of : Spelling → List ℕ
 bytes_of s = sign_bytes s.sign ++ (s.whole ++ (fraction_bytes s.fraction ++ exponent_bytes s.exponent))
 
 -- Which spellings are right: those of digits, of which there is one before the point and one in an exponent.
 
+-- each byte is a digit
 abbrev pub AreDigits : List ℕ → Type 0
 AreDigits bs = list_all is_digit bs ≡ true
 
+-- the digits of a fraction, or none
 abbrev pub fraction_digits : Option (List ℕ) → List ℕ
 fraction_digits None = []
 fraction_digits (Some digits) = digits
@@ -65,11 +74,13 @@ pub record IsNumber (s : Spelling) (text : List ℕ) : Type 0 where
 
 -- What a spelling writes.
 
+-- the sign is a minus
 abbrev pub is_minus : Sign → Bool
 is_minus Minus = true
 is_minus Plus = false
 is_minus Unsigned = false
 
+-- the power of ten that an exponent says
 abbrev pub exponent_of : Option Exponent → ℤ
 exponent_of None = pos 0
 exponent_of (Some e) = signed (is_minus e.sign) (value_after 0 e.digits)

@@ -2,6 +2,7 @@
 use Rattle.std.specs.Prelude.{ℕ, ◌+◌, ◌-◌, ◌*◌, ◌^◌, ◌==◌, nat_lt, if◌then◌else◌, List, [], ◌∷◌, length, drop, Option, Some, None, option_and_then}
 use Rattle.bim_text.specs.declared.limits.TheConstants.{MOST_DIGITS}
 use Rattle.bim_text.specs.declared.digits.Digits.{Digits}
+use Rattle.bim_text.specs.declared.digits.Few.{Few}
 use Rattle.bim_text.specs.Numbers.{Sign, Unsigned, Plus, Minus, Exponent, Spelling, sign_bytes, fraction_bytes}
 use Rattle.p21_lexer.specs.Spelling.{is_digit}
 
@@ -23,7 +24,11 @@ fraction_at (b ∷ bs) = if b == 46 then Some (front bs) else None
 -- all bytes as an exponent
 abbrev pub exponent_at : List ℕ → Option Exponent
 exponent_at [] = None
-exponent_at (b ∷ bs) = Some (record { mark = b; sign = sign_at bs; digits = drop (length (sign_bytes (sign_at bs))) bs })
+exponent_at (b ∷ bs) = Some (record {
+  mark = b;
+  sign = sign_at bs;
+  digits = drop (length (sign_bytes (sign_at bs))) bs;
+})
 
 -- what follows the sign
 abbrev pub unsigned : List ℕ → List ℕ
@@ -46,6 +51,10 @@ parts bs = record {
   exponent = exponent_at (behind_fraction (behind_front (unsigned bs)));
 }
 
+-- what is kept of few digits, as of any
+abbrev pub wide : Few → Digits
+wide few = record { all = few.all; significand = few.significand; zeros = few.zeros }
+
 -- One more digit: a zero is counted and, where there is room, put behind the others; another digit needs room.
 abbrev pub kept_zero : Digits → Digits
 kept_zero k = record {
@@ -54,12 +63,16 @@ kept_zero k = record {
   zeros = k.zeros + 1;
 }
 
+-- the digits kept so far with one more that isn't zero
 abbrev pub kept_digit : Digits → ℕ → Digits
 kept_digit k b = record { all = k.all * 10 + (b - 48); significand = k.all * 10 + (b - 48); zeros = 0 }
 
+-- the digits kept so far with one more, or none where they become too many
 abbrev pub kept_step : Digits → ℕ → Option Digits
-kept_step k b = if b == 48 then Some (kept_zero k) else (if nat_lt k.all (10 ^ (MOST_DIGITS - 1)) then Some (kept_digit k b) else None)
+kept_step k b = if b == 48 then Some (kept_zero k)
+    else (if nat_lt k.all (10 ^ (MOST_DIGITS - 1)) then Some (kept_digit k b) else None)
 
+-- the digits kept so far with all of these
 abbrev pub kept_after : Digits → List ℕ → Option Digits
 kept_after k [] = Some k
 kept_after k (b ∷ bs) = option_and_then (λ (next : Digits). kept_after next bs) (kept_step k b)

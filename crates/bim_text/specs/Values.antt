@@ -8,6 +8,10 @@ pub record Scaled : Type 0 where
   pub number : ℤ
   pub power : ℤ
 
+-- a whole number as such a value
+abbrev pub whole : ℤ → Scaled
+whole n = record { number = n; power = pos 0 }
+
 -- n, or its negative
 abbrev pub signed : Bool → ℕ → ℤ
 signed false n = pos n
@@ -18,6 +22,7 @@ abbrev pub above : ℤ → ℕ
 above (pos n) = n
 above (negsuc n) = 0
 
+-- how far a whole number lies below zero
 abbrev pub below : ℤ → ℕ
 below (pos n) = 0
 below (negsuc n) = suc n
@@ -26,6 +31,7 @@ below (negsuc n) = suc n
 abbrev pub numerator : Scaled → ℤ
 numerator s = s.number *ℤ pos (10 ^ above s.power)
 
+-- the power of ten by which a number is divided
 abbrev pub denominator : Scaled → ℕ
 denominator s = 10 ^ below s.power
 
@@ -39,4 +45,5 @@ raised s shift = record { number = s.number; power = s.power +ℤ shift }
 
 -- the order of the two values without their signs
 abbrev pub size_order : Scaled → Scaled → Ordering
-size_order s t = nat_cmp (unsigned_abs (numerator s) * denominator t) (unsigned_abs (numerator t) * denominator s)
+size_order s t = nat_cmp (unsigned_abs (numerator s) * denominator t)
+    (unsigned_abs (numerator t) * denominator s)

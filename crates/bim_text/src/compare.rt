@@ -24,7 +24,8 @@ pub enum Wanted<'a> {
 /// What is left of a text behind a piece. None where it doesn't begin with it.
 #[tactic(auto, using(crate::proofs::Saying::pieces))]
 fn text_after<'a>(text: &'a [u8], piece: &[u8]) -> Option<&'a [u8]>
-    ensures { MatchOption result (Lacks (is_text text.now) piece.now) (λ left. Leaves (is_text text.now) piece.now (is_text left.now)) }
+    ensures { MatchOption result (Lacks (is_text text.now) piece.now)
+        (λ left. Leaves (is_text text.now) piece.now (is_text left.now)) }
 {
     if text.starts_with(piece) {
         Some(&text[piece.len()..])
@@ -36,7 +37,8 @@ fn text_after<'a>(text: &'a [u8], piece: &[u8]) -> Option<&'a [u8]>
 /// How many characters of an identifier there are with those of a piece. None where it is too long or one of its bytes stands in none.
 #[tactic(auto, using(crate::proofs::Saying::guids))]
 fn guid_after(before: usize, piece: &[u8]) -> Option<usize>
-    ensures { MatchOption result (Lacks (ends_guid before) piece.now) (λ now. Leaves (ends_guid before) piece.now (ends_guid now)) }
+    ensures { MatchOption result (Lacks (ends_guid before) piece.now)
+        (λ now. Leaves (ends_guid before) piece.now (ends_guid now)) }
 {
     if before > 22 || piece.len() > 22 - before {
         return None;
@@ -49,7 +51,8 @@ fn guid_after(before: usize, piece: &[u8]) -> Option<usize>
 
 /// What is wanted behind a piece.
 fn after<'a>(wanted: Wanted<'a>, piece: &[u8]) -> Option<Wanted<'a>>
-    ensures { MatchOption result (Lacks (accepts wanted.entry) piece.now) (λ left. Leaves (accepts wanted.entry) piece.now (accepts left)) }
+    ensures { MatchOption result (Lacks (accepts wanted.entry) piece.now)
+        (λ left. Leaves (accepts wanted.entry) piece.now (accepts left)) }
 {
     match wanted {
         Wanted::Text(text) => match text_after(text, piece) {
@@ -65,7 +68,8 @@ fn after<'a>(wanted: Wanted<'a>, piece: &[u8]) -> Option<Wanted<'a>>
 
 /// What is wanted behind a character.
 fn after_char(wanted: Wanted<'_>, character: char) -> Option<Wanted<'_>>
-    ensures { MatchOption result (Lacks (accepts wanted.entry) (encode_utf8 character)) (λ left. Leaves (accepts wanted.entry) (encode_utf8 character) (accepts left)) }
+    ensures { MatchOption result (Lacks (accepts wanted.entry) (encode_utf8 character))
+        (λ left. Leaves (accepts wanted.entry) (encode_utf8 character) (accepts left)) }
 {
     let mut buffer = [0; 4];
     let piece = character.encode_utf8(&mut buffer);
@@ -97,7 +101,8 @@ fn piece_step<'a>(
     wanted: Wanted<'a>,
     piece: &[u8],
 ) -> Option<Step<'a>>
-    ensures text { MatchOption result (Lacks (accepts wanted.entry) piece.now) (λ s. Leaves (accepts wanted.entry) piece.now (accepts s.wanted)) }
+    ensures text { MatchOption result (Lacks (accepts wanted.entry) piece.now)
+        (λ s. Leaves (accepts wanted.entry) piece.now (accepts s.wanted)) }
     ensures rest { IfSome result (λ s. cleaned s.spelled.now ≡ drop size (cleaned spelled.now)) }
 {
     match after(wanted, piece) {
@@ -116,7 +121,8 @@ fn char_step<'a>(
     wanted: Wanted<'a>,
     character: char,
 ) -> Option<Step<'a>>
-    ensures text { MatchOption result (Lacks (accepts wanted.entry) (encode_utf8 character)) (λ s. Leaves (accepts wanted.entry) (encode_utf8 character) (accepts s.wanted)) }
+    ensures text { MatchOption result (Lacks (accepts wanted.entry) (encode_utf8 character))
+        (λ s. Leaves (accepts wanted.entry) (encode_utf8 character) (accepts s.wanted)) }
     ensures rest { IfSome result (λ s. cleaned s.spelled.now ≡ drop size (cleaned spelled.now)) }
 {
     match after_char(wanted, character) {
@@ -131,7 +137,8 @@ fn char_step<'a>(
 /// What is wanted behind the characters of the groups that follow `\X2\` or `\X4\`.
 fn after_groups<'a>(spelled: &[u8], wanted: Wanted<'a>, width: usize) -> Option<Wanted<'a>>
     requires width { width ≡ 4 ⊎ width ≡ 8 }
-    ensures { MatchOption result (Lacks (accepts wanted.entry) (wide_row width (cleaned spelled.now)).gives) (λ left. Leaves (accepts wanted.entry) (wide_row width (cleaned spelled.now)).gives (accepts left)) }
+    ensures { MatchOption result (Lacks (accepts wanted.entry) (wide_row width (cleaned spelled.now)).gives)
+        (λ left. Leaves (accepts wanted.entry) (wide_row width (cleaned spelled.now)).gives (accepts left)) }
 {
     let digits = wide_digits(spelled);
     let mut rest = wanted;
@@ -152,8 +159,11 @@ fn after_groups<'a>(spelled: &[u8], wanted: Wanted<'a>, width: usize) -> Option<
 #[tactic(auto, unfolding(crate::specs::Texts::wide_row))]
 fn wide_step<'a>(spelled: &'a [u8], wanted: Wanted<'a>, width: usize) -> Option<Step<'a>>
     requires width { width ≡ 4 ⊎ width ≡ 8 }
-    ensures text { MatchOption result (Lacks (accepts wanted.entry) (wide_row width (cleaned spelled.now)).gives) (λ s. Leaves (accepts wanted.entry) (wide_row width (cleaned spelled.now)).gives (accepts s.wanted)) }
-    ensures rest { IfSome result (λ s. cleaned s.spelled.now ≡ drop (wide_row width (cleaned spelled.now)).size (cleaned spelled.now)) }
+    ensures text { MatchOption result
+        (Lacks (accepts wanted.entry) (wide_row width (cleaned spelled.now)).gives)
+        (λ s. Leaves (accepts wanted.entry) (wide_row width (cleaned spelled.now)).gives (accepts s.wanted)) }
+    ensures rest { IfSome result (λ s. cleaned s.spelled.now
+        ≡ drop (wide_row width (cleaned spelled.now)).size (cleaned spelled.now)) }
 {
     match after_groups(spelled, wanted, width) {
         Some(wanted) => Some(Step {
@@ -167,8 +177,10 @@ fn wide_step<'a>(spelled: &'a [u8], wanted: Wanted<'a>, width: usize) -> Option<
 /// The step over the row of a backslash.
 #[tactic(auto, using(crate::proofs::Saying::leaves_none), unfolding(crate::specs::Texts::escape_row))]
 fn escape_step<'a>(spelled: &'a [u8], wanted: Wanted<'a>) -> Option<Step<'a>>
-    ensures text { MatchOption result (Lacks (accepts wanted.entry) (escape_row (cleaned spelled.now)).gives) (λ s. Leaves (accepts wanted.entry) (escape_row (cleaned spelled.now)).gives (accepts s.wanted)) }
-    ensures rest { IfSome result (λ s. cleaned s.spelled.now ≡ drop (escape_row (cleaned spelled.now)).size (cleaned spelled.now)) }
+    ensures text { MatchOption result (Lacks (accepts wanted.entry) (escape_row (cleaned spelled.now)).gives)
+        (λ s. Leaves (accepts wanted.entry) (escape_row (cleaned spelled.now)).gives (accepts s.wanted)) }
+    ensures rest { IfSome result (λ s. cleaned s.spelled.now
+        ≡ drop (escape_row (cleaned spelled.now)).size (cleaned spelled.now)) }
 {
     if kept_at(spelled, 1) == b'\\' {
         return piece_step(spelled, 2, wanted, b"\\");
@@ -197,7 +209,8 @@ fn escape_step<'a>(spelled: &'a [u8], wanted: Wanted<'a>) -> Option<Step<'a>>
 /// The first four bytes that are kept, 0 in place of those that are wanting.
 #[tactic(auto, using(crate::proofs::Keeping::fronts))]
 fn front_of(spelled: &[u8]) -> [u8; 4]
-    ensures { (n : ℕ) → n ≤ 4 → n ≤ length (cleaned spelled.now) → take n result ≡ take n (cleaned spelled.now) }
+    ensures { (n : ℕ) → n ≤ 4 → n ≤ length (cleaned spelled.now)
+        → take n result ≡ take n (cleaned spelled.now) }
 {
     [
         kept_at(spelled, 0),
@@ -211,10 +224,12 @@ fn front_of(spelled: &[u8]) -> [u8; 4]
 #[tactic(auto, using(crate::proofs::RowLemmas::sequences))]
 fn sequence_size(spelled: &[u8]) -> Option<usize>
     requires { 0 < length (cleaned spelled.now) }
-    ensures some { IfSome result (λ n. high_row (cleaned spelled.now) ≡ record { gives = take n (cleaned spelled.now); size = n }) }
+    ensures some { IfSome result (λ n. high_row (cleaned spelled.now)
+        ≡ record { gives = take n (cleaned spelled.now); size = n }) }
     ensures within { IfSome result (λ n. n ≤ length (cleaned spelled.now)) }
     ensures few { IfSome result (λ n. n ≤ 4) }
-    ensures none { IfNone result (high_row (cleaned spelled.now) ≡ record { gives = encode_utf8 (slice_index (cleaned spelled.now) 0); size = 1 }) }
+    ensures none { IfNone result (high_row (cleaned spelled.now)
+        ≡ record { gives = encode_utf8 (slice_index (cleaned spelled.now) 0); size = 1 }) }
 {
     let size = sequence_len(kept_at(spelled, 0));
     if !has_kept(spelled, size - 1) {
@@ -230,8 +245,10 @@ fn sequence_size(spelled: &[u8]) -> Option<usize>
 /// The step over a byte from 128 on, or over the character that it begins.
 fn high_step<'a>(spelled: &'a [u8], wanted: Wanted<'a>) -> Option<Step<'a>>
     requires { 0 < length (cleaned spelled.now) }
-    ensures text { MatchOption result (Lacks (accepts wanted.entry) (high_row (cleaned spelled.now)).gives) (λ s. Leaves (accepts wanted.entry) (high_row (cleaned spelled.now)).gives (accepts s.wanted)) }
-    ensures rest { IfSome result (λ s. cleaned s.spelled.now ≡ drop (high_row (cleaned spelled.now)).size (cleaned spelled.now)) }
+    ensures text { MatchOption result (Lacks (accepts wanted.entry) (high_row (cleaned spelled.now)).gives)
+        (λ s. Leaves (accepts wanted.entry) (high_row (cleaned spelled.now)).gives (accepts s.wanted)) }
+    ensures rest { IfSome result (λ s. cleaned s.spelled.now
+        ≡ drop (high_row (cleaned spelled.now)).size (cleaned spelled.now)) }
 {
     match sequence_size(spelled) {
         Some(size) => {
@@ -246,8 +263,10 @@ fn high_step<'a>(spelled: &'a [u8], wanted: Wanted<'a>) -> Option<Step<'a>>
 #[tactic(auto, unfolding(crate::specs::Texts::row_of))]
 fn row_step<'a>(spelled: &'a [u8], wanted: Wanted<'a>) -> Option<Step<'a>>
     requires some { 0 < length (cleaned spelled.now) }
-    ensures text { MatchOption result (Lacks (accepts wanted.entry) (row_of (cleaned spelled.now)).gives) (λ s. Leaves (accepts wanted.entry) (row_of (cleaned spelled.now)).gives (accepts s.wanted)) }
-    ensures rest { IfSome result (λ s. cleaned s.spelled.now ≡ drop (row_of (cleaned spelled.now)).size (cleaned spelled.now)) }
+    ensures text { MatchOption result (Lacks (accepts wanted.entry) (row_of (cleaned spelled.now)).gives)
+        (λ s. Leaves (accepts wanted.entry) (row_of (cleaned spelled.now)).gives (accepts s.wanted)) }
+    ensures rest { IfSome result (λ s. cleaned s.spelled.now
+        ≡ drop (row_of (cleaned spelled.now)).size (cleaned spelled.now)) }
 {
     let first = kept_at(spelled, 0);
     if first == b'\\' {

@@ -16,7 +16,8 @@ pub struct KeptByte<'a> {
 /// The first byte that is kept. None where none is.
 #[tactic(auto, using(crate::proofs::Cleaning::ends))]
 pub fn first_kept(spelled: &[u8]) -> Option<KeptByte<'_>>
-    ensures front { MatchOption result (cleaned spelled.now ≡ []) (λ f. cleaned spelled.now ≡ f.byte ∷ cleaned f.rest.now) }
+    ensures front { MatchOption result (cleaned spelled.now ≡ [])
+        (λ f. cleaned spelled.now ≡ f.byte ∷ cleaned f.rest.now) }
     ensures shorter { IfSome result (λ f. length f.rest.now < length spelled.now) }
 {
     let mut at = 0;

@@ -80,7 +80,8 @@ impl Decimal {
         requires low { negsuc 99999999 ≤ℤ power }
         requires high { power ≤ℤ pos MOST_EXPONENT }
         requires zeros { digits.zeros ≤ MOST_UPLOAD }
-        ensures { SameValue (value_of result) (record { number = signed negative (digits.significand * 10 ^ digits.zeros); power = power }) }
+        ensures { SameValue (value_of result)
+            (record { number = signed negative (digits.significand * 10 ^ digits.zeros); power = power }) }
     {
         if digits.significand == 0 {
             return Decimal {

@@ -2,7 +2,7 @@
 ghost use Rattle.std.specs.Prelude.{◌≡◌, ◌+◌, ◌-◌, ◌^◌, ◌<◌, ◌≤◌, Some, option_map, IfSome, IfNone, length, drop, ℕ, true};
 ghost use Rattle.bim_text.specs.Numbers.{AreDigits};
 ghost use Rattle.p21_lexer.specs.Spelling.{is_digit, value_after};
-ghost use Rattle.bim_text.specs.Scanning.{front, kept_step, kept_after};
+ghost use Rattle.bim_text.specs.Scanning.{front, kept_step, kept_after, wide};
 ghost use Rattle.bim_model.specs.declared.limits.TheConstants.{MOST_UPLOAD};
 ghost use Rattle.bim_text.specs.declared.limits.TheConstants.{MOST_DIGITS, MOST_EXPONENT};
 
@@ -76,9 +76,113 @@ impl Digits {
     }
 }
 
-/// The digits from a place on, behind others. None where they are too many.
+/// What is kept of digits that fit 64 bits.
+#[derive(Clone, Copy)]
+pub struct Few {
+    pub all: u64,
+    pub significand: u64,
+    pub zeros: u32,
+}
+
+/// From here on digits are put behind one another in 128 bits.
+const MANY: u64 = 1_000_000_000_000_000_000;
+
+/// Few digits, and the place of the next byte.
+#[derive(Clone, Copy)]
+struct FewScanned {
+    digits: Few,
+    end: usize,
+}
+
+impl Few {
+    /// The same in 128 bits.
+    fn wide(self) -> Digits
+        ensures { result ≡ wide self }
+    {
+        Digits {
+            all: self.all as u128,
+            significand: self.significand as u128,
+            zeros: self.zeros,
+        }
+    }
+
+    /// One more digit.
+    fn with(self, digit: u8) -> Few
+        requires digit { is_digit digit ≡ true }
+        requires room { self.zeros + 1 < 2 ^ 32 }
+        requires fits { self.all < 10 ^ 18 }
+        ensures step { kept_step (wide self) digit ≡ Some (wide result) }
+        ensures zeros { result.zeros ≤ self.zeros + 1 }
+    {
+        let all = self.all * 10 + (digit - b'0') as u64;
+        if digit != b'0' {
+            Few {
+                all,
+                significand: all,
+                zeros: 0,
+            }
+        } else {
+            Few {
+                all,
+                significand: self.significand,
+                zeros: self.zeros + 1,
+            }
+        }
+    }
+}
+
+/// The digits from a place on, behind few others, as far as they fit 64 bits.
 #[tactic(auto, using(crate::proofs::Fronts::fronts))]
+fn scan_few(text: &[u8], from: usize, before: Few) -> FewScanned
+    requires place { from ≤ length text.now }
+    requires short { length text.now ≤ MOST_UPLOAD }
+    requires zeros { before.zeros ≤ from }
+    ensures kept { kept_after (wide before) (front (drop from text.now))
+        ≡ kept_after (wide result.digits) (front (drop result.end text.now)) }
+    ensures end { from + length (front (drop from text.now))
+        ≡ result.end + length (front (drop result.end text.now)) }
+    ensures within { result.end ≤ length text.now }
+    ensures zeros { result.digits.zeros ≤ result.end }
+{
+    let mut digits = before;
+    let mut at = from;
+    while at < text.len() && digits.all < MANY && is_digit(text[at]) {
+        digits = digits.with(text[at]);
+        at += 1;
+    }
+    FewScanned { digits, end: at }
+}
+
+/// The digits from a place on, behind others. None where they are too many. As long as they fit, they are put together in 64 bits.
 pub fn scan(text: &[u8], from: usize, before: Digits) -> Option<Scanned>
+    requires place { from ≤ length text.now }
+    requires short { length text.now ≤ MOST_UPLOAD }
+    requires zeros { before.zeros ≤ from }
+    requires fits { before.all < 10 ^ MOST_DIGITS }
+    ensures kept { option_map (λ s. s.digits) result ≡ kept_after before (front (drop from text.now)) }
+    ensures end { IfSome result (λ s. s.end ≡ from + length (front (drop from text.now))) }
+    ensures within { IfSome result (λ s. s.end ≤ length text.now) }
+    ensures fits { IfSome result (λ s. s.digits.all < 10 ^ MOST_DIGITS) }
+    ensures zeros { IfSome result (λ s. s.digits.zeros ≤ s.end) }
+{
+    if before.all >= MANY as u128 || before.significand >= MANY as u128 {
+        return scan_many(text, from, before);
+    }
+    let few = scan_few(
+        text,
+        from,
+        Few {
+            all: before.all as u64,
+            significand: before.significand as u64,
+            zeros: before.zeros,
+        },
+    );
+    scan_many(text, few.end, few.digits.wide())
+}
+
+/// The same in 128 bits.
+#[tactic(auto, using(crate::proofs::Fronts::fronts))]
+fn scan_many(text: &[u8], from: usize, before: Digits) -> Option<Scanned>
     requires place { from ≤ length text.now }
     requires short { length text.now ≤ MOST_UPLOAD }
     requires zeros { before.zeros ≤ from }
@@ -104,7 +208,8 @@ pub fn exponent_size(digits: &[u8]) -> Option<u32>
     ensures some { IfSome result (λ n. (0 < length digits.now) × AreDigits digits.now) }
     ensures value { IfSome result (λ n. n ≡ value_after 0 digits.now) }
     ensures small { IfSome result (λ n. n ≤ MOST_EXPONENT) }
-    ensures none { IfNone result (0 < length digits.now → AreDigits digits.now → value_after 0 digits.now ≤ MOST_EXPONENT → ⊥) }
+    ensures none { IfNone result (0 < length digits.now → AreDigits digits.now
+        → value_after 0 digits.now ≤ MOST_EXPONENT → ⊥) }
 {
     if digits.is_empty() {
         return None;

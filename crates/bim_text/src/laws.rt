@@ -10,7 +10,8 @@ ghost use Rattle.bim_text.specs.Texts.{is_plain, text_of_spelling};
 /// A number has one spelling by its parts, so a decimal that is read is the value that any spelling of its bytes writes.
 pub fn one_value()
     ensures spelling { (text : List ℕ) (s t : Spelling) → IsNumber s text → IsNumber t text → s ≡ t }
-    ensures value { (text : List ℕ) (d : Decimal) (s : Spelling) → Reads text d → IsNumber s text → SameValue (value_of d) (written s) }
+    ensures value { (text : List ℕ) (d : Decimal) (s : Spelling) → Reads text d → IsNumber s text
+        → SameValue (value_of d) (written s) }
 {}
 
 /// A text of ASCII bytes from 32 on without apostrophe and backslash spells itself.
@@ -20,5 +21,6 @@ pub fn plain_texts()
 
 /// Bytes are read to one decimal.
 pub fn one_decimal()
-    ensures { (text : List ℕ) (d e : Decimal) → Reads text d → Reads text e → (d.negative ≡ e.negative) × (d.digits ≡ e.digits) × (d.exp ≡ e.exp) }
+    ensures { (text : List ℕ) (d e : Decimal) → Reads text d → Reads text e
+        → (d.negative ≡ e.negative) × (d.digits ≡ e.digits) × (d.exp ≡ e.exp) }
 {}

@@ -12,6 +12,7 @@ mod limits;
 mod order;
 mod print;
 mod rows;
+mod small;
 mod spelling;
 mod text;
 
@@ -20,6 +21,7 @@ pub use decimal::Decimal;
 pub use laws::{one_decimal, one_value, plain_texts};
 pub use limits::{MOST_DIGITS, MOST_EXPONENT};
 pub use print::print_i64;
+pub use small::small_whole;
 pub use text::text_of;
 
 #[cfg(test)]

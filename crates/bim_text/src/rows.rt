@@ -71,7 +71,8 @@ pub fn character(code: u32) -> char
 fn push_groups(out: &mut String, rest: &[u8], width: usize) -> Result<usize, AllocError>
     requires width { width ≡ 4 ⊎ width ≡ 8 }
     requires short { length rest.now < 2 ^ 63 }
-    ensures bytes { OnOk result (string_bytes out.new ≡ string_bytes out.old ++ (wide_row width rest.now).gives) }
+    ensures bytes { OnOk result (string_bytes out.new
+        ≡ string_bytes out.old ++ (wide_row width rest.now).gives) }
     ensures size { IfOk result (λ n. n ≡ (wide_row width rest.now).size) }
 {
     let digits = count_hexadecimals(rest, 4);
@@ -135,7 +136,8 @@ pub fn sequence_len(first: u8) -> usize
 fn sequence(rest: &[u8]) -> Option<&str>
     requires { 0 < length rest.now }
     ensures some { IfSome result (λ s. high_row rest.now ≡ record { gives = s.now; size = length s.now }) }
-    ensures none { IfNone result (high_row rest.now ≡ record { gives = encode_utf8 (slice_index rest.now 0); size = 1 }) }
+    ensures none { IfNone result (high_row rest.now
+        ≡ record { gives = encode_utf8 (slice_index rest.now 0); size = 1 }) }
 {
     let size = sequence_len(rest[0]);
     if size > rest.len() {

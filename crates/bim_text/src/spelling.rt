@@ -45,9 +45,12 @@ pub fn scan_fraction(text: &[u8], whole: Scanned) -> Option<Fraction>
     requires short { length text.now ≤ MOST_UPLOAD }
     requires zeros { whole.digits.zeros ≤ whole.end }
     requires fits { whole.digits.all < 10 ^ MOST_DIGITS }
-    ensures kept { option_map (λ f. f.digits) result ≡ kept_after whole.digits (fraction_digits (fraction_at (drop whole.end text.now))) }
-    ensures count { IfSome result (λ f. f.count ≡ length (fraction_digits (fraction_at (drop whole.end text.now)))) }
-    ensures end { IfSome result (λ f. f.end ≡ whole.end + length (fraction_bytes (fraction_at (drop whole.end text.now)))) }
+    ensures kept { option_map (λ f. f.digits) result
+        ≡ kept_after whole.digits (fraction_digits (fraction_at (drop whole.end text.now))) }
+    ensures count { IfSome result (λ f. f.count
+        ≡ length (fraction_digits (fraction_at (drop whole.end text.now)))) }
+    ensures end { IfSome result (λ f. f.end
+        ≡ whole.end + length (fraction_bytes (fraction_at (drop whole.end text.now)))) }
     ensures within { IfSome result (λ f. f.end ≤ length text.now) }
     ensures few { IfSome result (λ f. f.count ≤ f.end) }
     ensures zeros { IfSome result (λ f. f.digits.zeros ≤ f.end) }
@@ -78,7 +81,9 @@ pub fn scan_exponent(text: &[u8], from: usize) -> Option<i32>
     ensures value { IfSome result (λ n. n ≡ exponent_of (exponent_at (drop from text.now))) }
     ensures low { IfSome result (λ n. neg_ℤ (pos MOST_EXPONENT) ≤ℤ n) }
     ensures high { IfSome result (λ n. n ≤ℤ pos MOST_EXPONENT) }
-    ensures none { IfNone result (IsExponent (exponent_at (drop from text.now)) → neg_ℤ (pos MOST_EXPONENT) ≤ℤ exponent_of (exponent_at (drop from text.now)) → exponent_of (exponent_at (drop from text.now)) ≤ℤ pos MOST_EXPONENT → ⊥) }
+    ensures none { IfNone result (IsExponent (exponent_at (drop from text.now))
+        → neg_ℤ (pos MOST_EXPONENT) ≤ℤ exponent_of (exponent_at (drop from text.now))
+        → exponent_of (exponent_at (drop from text.now)) ≤ℤ pos MOST_EXPONENT → ⊥) }
 {
     if from == text.len() {
         return Some(0);

@@ -1,4 +1,4 @@
-use crate::{Decimal, print_i64, says, says_guid, text_of};
+use crate::{Decimal, print_i64, says, says_guid, small_whole, text_of};
 use bim_model::Text;
 use std::cmp::Ordering;
 use std::test::Fail;
@@ -305,6 +305,30 @@ const GUIDS: [(&[u8], bool); 6] = [
 fn identifiers(rt: HostRuntime) -> Result<(), Fail> {
     for (spelled, is) in GUIDS {
         assert_eq!(rt; says_guid(spelled), is);
+    }
+    Ok(())
+}
+
+#[test]
+fn reads_small_whole_numbers(rt: HostRuntime) -> Result<(), Fail> {
+    let cases: [(&[u8], Option<u64>); 14] = [
+        (b"0", Some(0)),
+        (b"12", Some(12)),
+        (b"12.", Some(12)),
+        (b"0007", Some(7)),
+        (b"999999999999999", Some(999_999_999_999_999)),
+        (b"1000000000000000", None),
+        (b"0000000000000000000000000000000001", Some(1)),
+        (b"00000000000000000000000000000000001", None),
+        (b"", None),
+        (b".", None),
+        (b"12.0", None),
+        (b"12E", None),
+        (b"+12", None),
+        (b"-12", None),
+    ];
+    for (text, wanted) in cases {
+        assert_eq!(rt; small_whole(text), wanted);
     }
     Ok(())
 }

@@ -40,8 +40,10 @@ fn plain_end(bytes: &[u8], from: usize) -> usize
 #[tactic(auto, using(crate::proofs::Cleaning::cleanings))]
 pub fn next_place(spelled: &[u8], at: usize) -> usize
     requires { at < length spelled.now }
-    ensures kept { 32 ≤ slice_index spelled.now at → cleaned (drop at spelled.now) ≡ slice_index spelled.now at ∷ cleaned (drop result spelled.now) }
-    ensures dropped { slice_index spelled.now at < 32 → cleaned (drop at spelled.now) ≡ cleaned (drop result spelled.now) }
+    ensures kept { 32 ≤ slice_index spelled.now at
+        → cleaned (drop at spelled.now) ≡ slice_index spelled.now at ∷ cleaned (drop result spelled.now) }
+    ensures dropped { slice_index spelled.now at < 32
+        → cleaned (drop at spelled.now) ≡ cleaned (drop result spelled.now) }
     ensures later { at < result }
     ensures within { result ≤ length spelled.now }
 {
@@ -72,7 +74,8 @@ fn clean(alloc: Global, spelled: &[u8]) -> Result<Vec<u8>, AllocError>
 fn push_row_at(out: &mut String, bytes: &[u8], at: usize) -> Result<usize, AllocError>
     requires place { at < length bytes.now }
     requires short { length bytes.now < 2 ^ 63 }
-    ensures bytes { OnOk result (string_bytes out.new ≡ string_bytes out.old ++ (row_of (drop at bytes.now)).gives) }
+    ensures bytes { OnOk result (string_bytes out.new
+        ≡ string_bytes out.old ++ (row_of (drop at bytes.now)).gives) }
     ensures end { IfOk result (λ n. n ≡ at + (row_of (drop at bytes.now)).size) }
 {
     let size = push_row(out, &bytes[at..])?;

@@ -1,9 +1,9 @@
 -- The triangles of a whole set, and why there are none.
-use Rattle.std.proofs.Common.{◌≡◌, ℕ, ◌<◌, Bool, true, false, List, length, map, sum_by, Option, Some, None, Result, Ok, Err, Vec, Global, IfOk, MatchOption, All, Any, Contains, ◌⊎◌, inl, inr, refl, sym, ◌∙◌, ap, subst, arith}
+use Rattle.std.proofs.Common.{◌≡◌, ℕ, zero, suc, ◌<◌, Bool, true, false, List, [], ◌∷◌, length, map, sum_by, Option, Some, None, Result, Ok, Err, Vec, Global, IfOk, MatchOption, All, Any, Contains, ◌⊎◌, inl, inr, refl, sym, ◌∙◌, ap, subst, arith}
 use Rattle.std.proofs.lemmas.Bool.{MatchBool-at_true, MatchBool-at_false}
 use Rattle.std.specs.Prelude.{if◌then◌else◌}
 use Rattle.std.specs.Bool.{MatchBool}
-use Rattle.std.specs.Option.{IfSome}
+use Rattle.std.specs.Option.{IfSome, IfNone, unwrap_or}
 use Rattle.std.proofs.lemmas.List.{length-map, get_or-map}
 use Rattle.std.proofs.lemmas.List.Elements.{All-contains}
 use Rattle.std.proofs.lemmas.Option.{get_or_from_slice_get}
@@ -14,10 +14,11 @@ use Rattle.bim_model.specs.declared.geometry.Triangle.{Triangle}
 use Rattle.ifc_instances.specs.Looking.{look}
 use Rattle.faceset.specs.Indexes.{PointsNowhere}
 use Rattle.ifc_instances.specs.Attributes.{listed, items_in, led_to}
-use Rattle.faceset.specs.Sets.{outline, numbering, spelled_points, spelled_triangles, is_polygonal, faces_of, face_ids, rows_of, counted_by, HasBadNumber, HasBadIndex, IsMisnamed, IsOutlined, HasThree, IsSound, IsCut, IsStuck, HasStuck, IsTriangle, AreTriangles, Joined, SetTriangles, face_count, triangle_count}
+use Rattle.faceset.specs.Sets.{outline, numbering, spelled_points, spelled_triangles, is_polygonal, faces_of, face_ids, rows_of, counted_by, HasBadNumber, HasBadIndex, IsMisnamed, AreCorners, IsOutlined, HasThree, IsSound, IsCut, IsStuck, HasStuck, IsTriangle, AreTriangles, Joined, SetTriangles, face_count, triangle_count}
 use Rattle.faceset.specs.Cuts.{IsLoose}
 use Rattle.faceset.proofs.Zips.{zip_length}
-use Rattle.faceset.proofs.Joins.{gives_one, contains_mapped}
+use Rattle.faceset.proofs.Joins.{gives_one, contains_mapped, joined_at}
+use Rattle.faceset.proofs.Unique.{named_well, cut_unstuck}
 
 -- Bad indexes.
 
@@ -135,3 +136,56 @@ flat_count world points set numbers rows (Err e) flat all h = h
 flat_count world points set numbers rows (Ok None) flat all h = tt
 flat_count world points set numbers rows (Ok (Some ts)) flat all h =
     counted_second (is_polygonal set) (sum_by face_count (faces_of world set)) (length (spelled_triangles set)) (length ts.items) flat (sym (zip_length (IsTriangle numbers points) rows ts.items h) ∙ ap length all)
+
+-- Where nothing is made there is nothing.
+
+-- indexes that are corners name points
+well_cornered : (numbers : Option (List Value21)) (points : List Point) (indexes : List Value21) (cs : List Point) → AreCorners numbers points indexes cs → Any (IsMisnamed numbers (length points)) indexes → ⊥
+well_cornered numbers points [] cs all any = absurd (let lt = any.2 in omega (arith, lt))
+well_cornered numbers points (v ∷ vs) [] all any = absurd all
+well_cornered numbers points (v ∷ vs) (c ∷ cs) all (zero, x, lt, at, m) = named_well numbers (length points) v all.0.place all.0.names (subst (IsMisnamed numbers (length points)) (sym at) m)
+well_cornered numbers points (v ∷ vs) (c ∷ cs) all (suc k, x, lt, at, m) = well_cornered numbers points vs cs all.1 (k, x, omega (arith, lt), at, m)
+
+loose_uncut : (numbers : Option (List Value21)) (points : List Point) (face : Instance) → IsLoose numbers points face → (ts : List Triangle) → IsCut numbers points face ts → ⊥
+loose_uncut numbers points face (inl stuck) ts cut = cut_unstuck numbers points face ts cut stuck
+loose_uncut numbers points face (inr lacks) ts cut = well_cornered numbers points (outline face) cut.corners cut.are_corners (lacks cut.outlined)
+
+never_joined : (numbers : Option (List Value21)) (points : List Point) (faces : List Instance) → Any (IsLoose numbers points) faces → (ts : List Triangle) → Joined (IsCut numbers points) faces ts → ⊥
+never_joined numbers points faces any ts joined =
+    let part = joined_at (IsCut numbers points) faces ts any.0 any.1 any.2 any.3 joined in
+    loose_uncut numbers points any.1 any.4 part.0 part.1
+
+pub polygonal_none : {E : Type 0} (world : List Instance) (points : List Point) (set : Instance) (numbers : Option (List Value21)) (values : List Value21) (r : Result (Option (Vec Triangle Global)) E)
+    → is_polygonal set ≡ true → numbers ≡ numbering set → values ≡ listed set 2
+    → IfOk r (λ made. MatchOption made (Any (IsLoose numbers points) (led_to world values)) (λ ts. Joined (IsCut numbers points) (led_to world values) ts.items))
+    → IfOk r (λ made. IfNone made ((ts : List Triangle) → SetTriangles world points set ts → ⊥))
+polygonal_none world points set numbers values (Err e) polygonal same all h = h
+polygonal_none world points set numbers values (Ok (Some ts)) polygonal same all h = tt
+polygonal_none world points set numbers values (Ok None) polygonal same all h = λ ts made.
+    never_joined (numbering set) points (faces_of world set) (rw (faces_are world set, sym all, sym same) h) ts
+    (MatchBool-at_true (Joined (IsCut (numbering set) points) (faces_of world set) ts) (AreTriangles (numbering set) points (spelled_triangles set) ts) polygonal made)
+
+-- a row that is a triangle is three indexes of points
+row_named : (numbers : Option (List Value21)) (points : List Point) (row : Value21) (t : Triangle) → IsTriangle numbers points row t → (HasThree row → Any (IsMisnamed numbers (length points)) (items_in row)) → ⊥
+row_named numbers points row t is lacks =
+    let items : items_in row ≡ is.a ∷ is.b ∷ is.c ∷ [] = ap (λ (o : Option (List Value21)). unwrap_or o []) is.three in
+    well_cornered numbers points (is.a ∷ is.b ∷ is.c ∷ []) (t.a ∷ t.b ∷ t.c ∷ []) (is.first, (is.second, (is.third, tt)))
+    (subst (Any (IsMisnamed numbers (length points))) items (lacks (is.a, is.b, is.c, is.three)))
+
+never_rows : (numbers : Option (List Value21)) (points : List Point) (rows : List Value21) → Any (λ row. HasThree row → Any (IsMisnamed numbers (length points)) (items_in row)) rows
+    → (ts : List Triangle) → AreTriangles numbers points rows ts → ⊥
+never_rows numbers points [] any ts all = absurd (let lt = any.2 in omega (arith, lt))
+never_rows numbers points (row ∷ rows) any [] all = absurd all
+never_rows numbers points (row ∷ rows) (zero, x, lt, at, lacks) (t ∷ ts) all =
+    row_named numbers points row t all.0 (subst (λ (r : Value21). HasThree r → Any (IsMisnamed numbers (length points)) (items_in r)) (sym at) lacks)
+never_rows numbers points (row ∷ rows) (suc k, x, lt, at, lacks) (t ∷ ts) all = never_rows numbers points rows (k, x, omega (arith, lt), at, lacks) ts all.1
+
+pub flat_none : {E : Type 0} (world : List Instance) (points : List Point) (set : Instance) (numbers : Option (List Value21)) (rows : List Value21) (r : Result (Option (Vec Triangle Global)) E)
+    → is_polygonal set ≡ false → numbers ≡ numbering set → rows ≡ spelled_triangles set
+    → IfOk r (λ made. MatchOption made (Any (λ row. HasThree row → Any (IsMisnamed numbers (length points)) (items_in row)) rows) (λ ts. AreTriangles numbers points rows ts.items))
+    → IfOk r (λ made. IfNone made ((ts : List Triangle) → SetTriangles world points set ts → ⊥))
+flat_none world points set numbers rows (Err e) flat same all h = h
+flat_none world points set numbers rows (Ok (Some ts)) flat same all h = tt
+flat_none world points set numbers rows (Ok None) flat same all h = λ ts made.
+    never_rows (numbering set) points (spelled_triangles set) (rw (sym all, sym same) h) ts
+    (MatchBool-at_false (Joined (IsCut (numbering set) points) (faces_of world set) ts) (AreTriangles (numbering set) points (spelled_triangles set) ts) flat made)

@@ -10,7 +10,8 @@ use Rattle.bim_model.specs.declared.geometry.Point.{Point}
 use Rattle.bim_model.specs.declared.geometry.Triangle.{Triangle}
 use Rattle.ifc_instances.specs.Looking.{look}
 use Rattle.ear_cut.specs.Removal.{cut_of}
-use Rattle.faceset.specs.Indexes.{Writes, PointsAt}
+use Rattle.bim_text.specs.Decimals.{WritesWhole}
+use Rattle.faceset.specs.Indexes.{PointsAt}
 use Rattle.faceset.specs.Sets.{NamesPoint, IsMisnamed, IsCorner, AreCorners, IsTriangle, AreTriangles, triangle_of, outline, IsCut, IsStuck, Joined, SetTriangles, HasStuck, numbering, is_polygonal, faces_of, face_ids, spelled_triangles}
 use Rattle.faceset.proofs.Decimals.{one_number}
 use Rattle.faceset.proofs.Zips.{zip_same}
@@ -19,7 +20,7 @@ use Rattle.faceset.proofs.Joins.{contains_mapped, joined_at, joined_same}
 pub places_same : (count : ℕ) (v : Value21) (k l : ℕ) → PointsAt count v k → PointsAt count v l → k ≡ l
 places_same count v k l p q =
     let bytes : p.bytes ≡ q.bytes = same_Some p.bytes q.bytes (sym p.number ∙ q.number) in
-    let e = one_number q.bytes (suc k) (suc l) (subst (λ (bs : List ℕ). Writes bs (pos (suc k))) bytes p.written) q.written in
+    let e = one_number q.bytes (suc k) (suc l) (subst (λ (bs : List ℕ). WritesWhole bs (pos (suc k))) bytes p.written) q.written in
     omega (arith, e)
 
 -- an index names one point at most

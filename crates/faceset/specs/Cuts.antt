@@ -35,4 +35,5 @@ IsCounted face Unready = ⊤
 
 -- a face is stuck, or isn't ready to be cut
 abbrev pub IsLoose : Option (List Value21) → List Point → Instance → Type 0
-IsLoose numbers points face = IsStuck numbers points face ⊎ (IsOutlined face → HasMisnamed numbers points face)
+IsLoose numbers points face = IsStuck numbers points face
+    ⊎ (IsOutlined face → HasMisnamed numbers points face)

@@ -12,7 +12,8 @@ pub record HaveSame (xs ys : List ℕ) : Type 0 where
   pub from : (id : ℕ) → Contains ys id → Contains xs id
 
 -- the face of that number can't be cut
-pub record IsStuckFace (world : List Instance) (numbers : Option (List Value21)) (points : List Point) (id : ℕ) : Type 0 where
+pub record IsStuckFace (world : List Instance) (numbers : Option (List Value21)) (points : List Point)
+    (id : ℕ) : Type 0 where
   pub face : Instance
   pub found : look world id ≡ Some face
   pub stuck : IsStuck numbers points face

@@ -13,6 +13,7 @@ use Rattle.faceset.specs.Sets.{outline}
 abbrev pub CountsFrom : ℕ → Value21 → Type 0
 CountsFrom reach v = (count : ℕ) → reach ≤ count → PointsNowhere count v → ⊥
 
+-- the reach that is kept for a number
 abbrev pub reach_in : List (ℕ × ℕ) → ℕ → Option ℕ
 reach_in entries id = lookup (is_at (nat_cmp id)) entries
 

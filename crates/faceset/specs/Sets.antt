@@ -22,6 +22,7 @@ use Rattle.faceset.specs.Indexes.{PointsAt, PointsNowhere}
 unfoldable pub points_of : List Instance → Instance → Option Instance
 points_of world set = target_at world set 0
 
+-- the first list of an instance, where there is one
 abbrev pub listed_in : Option Instance → List Value21
 listed_in None = []
 listed_in (Some i) = listed i 0
@@ -30,6 +31,7 @@ listed_in (Some i) = listed i 0
 abbrev pub spelled_points : List Instance → Instance → List Value21
 spelled_points world set = listed_in (points_of world set)
 
+-- a polygonal set
 abbrev pub is_polygonal : Instance → Bool
 is_polygonal set = is_a PolygonalFaceSet set
 
@@ -63,14 +65,17 @@ outline face = listed face 0
 
 -- the indexes of a set, triangle by triangle or face by face
 abbrev pub rows_of : List Instance → Instance → List (List Value21)
-rows_of world set = if is_polygonal set then map outline (faces_of world set) else map items_in (spelled_triangles set)
+rows_of world set = if is_polygonal set
+    then map outline (faces_of world set) else map items_in (spelled_triangles set)
 
 -- Which corner an index names.
 
 -- an index names that one of so many points, counted from 0
 abbrev pub NamesPoint : Option (List Value21) → ℕ → Value21 → ℕ → Type 0
 NamesPoint None count v place = PointsAt count v place
-NamesPoint (Some numbers) count v place = (at : ℕ) × PointsAt (length numbers) v at × (number : Value21) × (slice_get numbers at ≡ Some number) × PointsAt count number place
+NamesPoint (Some numbers) count v place =
+    (at : ℕ) × PointsAt (length numbers) v at × (number : Value21) × (slice_get numbers at ≡ Some number)
+    × PointsAt count number place
 
 -- how many things the indexes of a set count
 abbrev pub counted_by : Option (List Value21) → ℕ → ℕ
@@ -85,17 +90,20 @@ HasBadNumber numbers count = MatchOption numbers ⊥ (Any (PointsNowhere count))
 abbrev pub HasBadIndex : List Instance → Instance → Type 0
 HasBadIndex world set =
     HasBadNumber (numbering set) (length (spelled_points world set))
-    ⊎ Any (Any (PointsNowhere (counted_by (numbering set) (length (spelled_points world set))))) (rows_of world set)
+    ⊎ Any (Any (PointsNowhere (counted_by (numbering set) (length (spelled_points world set)))))
+    (rows_of world set)
 
 -- an index names none of so many points: it counts nothing, or a number that names no point
 abbrev pub IsMisnamed : Option (List Value21) → ℕ → Value21 → Type 0
 IsMisnamed None count v = PointsNowhere count v
 IsMisnamed (Some numbers) count v =
     PointsNowhere (length numbers) v
-    ⊎ ((at : ℕ) × PointsAt (length numbers) v at × (number : Value21) × (slice_get numbers at ≡ Some number) × PointsNowhere count number)
+    ⊎ ((at : ℕ) × PointsAt (length numbers) v at × (number : Value21) × (slice_get numbers at ≡ Some number)
+    × PointsNowhere count number)
 
 -- a value is the index of that corner among the points
-pub record IsCorner (numbers : Option (List Value21)) (points : List Point) (v : Value21) (corner : Point) : Type 0 where
+pub record IsCorner (numbers : Option (List Value21)) (points : List Point) (v : Value21)
+    (corner : Point) : Type 0 where
   pub place : ℕ
   pub names : NamesPoint numbers (length points) v place
   pub there : slice_get points place ≡ Some corner
@@ -103,7 +111,8 @@ pub record IsCorner (numbers : Option (List Value21)) (points : List Point) (v :
 -- The triangles of a triangulated set.
 
 -- a row of three indexes is that triangle
-pub record IsTriangle (numbers : Option (List Value21)) (points : List Point) (row : Value21) (t : Triangle) : Type 0 where
+pub record IsTriangle (numbers : Option (List Value21)) (points : List Point) (row : Value21)
+    (t : Triangle) : Type 0 where
   pub a : Value21
   pub b : Value21
   pub c : Value21
@@ -122,8 +131,13 @@ AreTriangles numbers points = AllZip (IsTriangle numbers points)
 abbrev pub AreCorners : Option (List Value21) → List Point → List Value21 → List Point → Type 0
 AreCorners numbers points = AllZip (IsCorner numbers points)
 
+-- the triangle of an ear by its corners
 abbrev pub triangle_of : List Point → Ear → Triangle
-triangle_of corners ear = record { a = point_at corners ear.a; b = point_at corners ear.b; c = point_at corners ear.c }
+triangle_of corners ear = record {
+  a = point_at corners ear.a;
+  b = point_at corners ear.b;
+  c = point_at corners ear.c;
+}
 
 -- the most corners of a face
 abbrev pub most_corners : ℕ
@@ -134,7 +148,9 @@ abbrev pub IsOutlined : Instance → Type 0
 IsOutlined face = (2 < length (outline face)) × (length (outline face) ≤ most_corners)
 
 -- a face cut into triangles
-pub record IsCut (numbers : Option (List Value21)) (points : List Point) (face : Instance) (triangles : List Triangle) : Type 0 where
+pub record IsCut (numbers : Option (List Value21)) (points : List Point) (face : Instance)
+    (triangles : List Triangle) : Type 0 where
+  pub outlined : IsOutlined face
   pub corners : List Point
   pub are_corners : AreCorners numbers points (outline face) corners
   pub ears : List Ear
@@ -151,7 +167,8 @@ pub record IsStuck (numbers : Option (List Value21)) (points : List Point) (face
 -- each of these gives triangles, and those are all of them, in their order
 abbrev pub Joined : {X : Type 0} → (X → List Triangle → Type 0) → List X → List Triangle → Type 0
 Joined Gives [] triangles = triangles ≡ []
-Joined Gives (x ∷ xs) triangles = (first rest : List Triangle) × Gives x first × Joined Gives xs rest × (triangles ≡ first ++ rest)
+Joined Gives (x ∷ xs) triangles =
+    (first rest : List Triangle) × Gives x first × Joined Gives xs rest × (triangles ≡ first ++ rest)
 
 -- Of a set of either kind, whose list of points these are.
 
@@ -168,7 +185,8 @@ face_count face = length (outline face) - 2
 
 -- how many triangles a set has
 abbrev pub triangle_count : List Instance → Instance → ℕ
-triangle_count world set = if is_polygonal set then sum_by face_count (faces_of world set) else length (spelled_triangles set)
+triangle_count world set = if is_polygonal set
+    then sum_by face_count (faces_of world set) else length (spelled_triangles set)
 
 -- the face of that number is one of the set's, and can't be cut
 pub record HasStuck (world : List Instance) (points : List Point) (set : Instance) (id : ℕ) : Type 0 where
@@ -186,6 +204,7 @@ HasThree row = (a b c : Value21) × (items_of row ≡ Some (a ∷ b ∷ c ∷ []
 
 -- each row or face has as many indexes as it may have, and each of them names a point
 pub record IsSound (world : List Instance) (points : List Point) (set : Instance) : Type 0 where
-  pub rows : MatchBool (is_polygonal set) (All IsOutlined (faces_of world set)) (All HasThree (spelled_triangles set))
+  pub rows : MatchBool (is_polygonal set) (All IsOutlined (faces_of world set))
+      (All HasThree (spelled_triangles set))
   pub indexed : HasBadIndex world set → ⊥
   pub count : length points ≡ length (spelled_points world set)

@@ -16,7 +16,8 @@ use std::alloc::AllocError;
 /// Whether one of the values counts none of so many things.
 fn has_bad_item(values: &[Value21], count: usize) -> bool
     requires { count < 2 ^ 63 }
-    ensures { MatchBool result (Any (PointsNowhere count) values.now) (Any (PointsNowhere count) values.now → ⊥) }
+    ensures { MatchBool result (Any (PointsNowhere count) values.now)
+        (Any (PointsNowhere count) values.now → ⊥) }
 {
     for value in values {
         if place_of(value, count).is_none() {
@@ -29,7 +30,8 @@ fn has_bad_item(values: &[Value21], count: usize) -> bool
 /// Whether an index of the rows counts none of so many things.
 fn has_bad_row(rows: &[Value21], count: usize) -> bool
     requires { count < 2 ^ 63 }
-    ensures { MatchBool result (Any (Any (PointsNowhere count)) (map items_in rows.now)) (Any (Any (PointsNowhere count)) (map items_in rows.now) → ⊥) }
+    ensures { MatchBool result (Any (Any (PointsNowhere count)) (map items_in rows.now))
+        (Any (Any (PointsNowhere count)) (map items_in rows.now) → ⊥) }
 {
     for row in rows {
         if has_bad_item(items_in(row), count) {
@@ -50,7 +52,9 @@ fn is_bad_face(
 ) -> Result<bool, AllocError>
     requires few { count < 2 ^ 63 }
     requires known { AreReaches exchange.now reaches.old }
-    ensures bad { IfOk result (λ bad. MatchBool bad (Any (Any (PointsNowhere count)) (map outline (led_to exchange.now (value.now ∷ [])))) (Any (Any (PointsNowhere count)) (map outline (led_to exchange.now (value.now ∷ []))) → ⊥)) }
+    ensures bad { IfOk result (λ bad. MatchBool bad
+        (Any (Any (PointsNowhere count)) (map outline (led_to exchange.now (value.now ∷ []))))
+        (Any (Any (PointsNowhere count)) (map outline (led_to exchange.now (value.now ∷ []))) → ⊥)) }
     ensures kept { OnOk result (AreReaches exchange.now reaches.new) }
 {
     let Some(id) = reference_of(value) else {
@@ -78,7 +82,9 @@ fn has_bad_face(
 ) -> Result<bool, AllocError>
     requires few { count < 2 ^ 63 }
     requires known { AreReaches exchange.now reaches.old }
-    ensures bad { IfOk result (λ bad. MatchBool bad (Any (Any (PointsNowhere count)) (map outline (led_to exchange.now values.now))) (Any (Any (PointsNowhere count)) (map outline (led_to exchange.now values.now)) → ⊥)) }
+    ensures bad { IfOk result (λ bad. MatchBool bad
+        (Any (Any (PointsNowhere count)) (map outline (led_to exchange.now values.now)))
+        (Any (Any (PointsNowhere count)) (map outline (led_to exchange.now values.now)) → ⊥)) }
     ensures kept { OnOk result (AreReaches exchange.now reaches.new) }
 {
     for value in values {
@@ -99,7 +105,9 @@ fn has_bad_rows(
 ) -> Result<bool, AllocError>
     requires few { count < 2 ^ 63 }
     requires known { AreReaches exchange.now reaches.old }
-    ensures bad { IfOk result (λ bad. MatchBool bad (Any (Any (PointsNowhere count)) (rows_of exchange.now set.now)) (Any (Any (PointsNowhere count)) (rows_of exchange.now set.now) → ⊥)) }
+    ensures bad { IfOk result (λ bad. MatchBool bad
+        (Any (Any (PointsNowhere count)) (rows_of exchange.now set.now))
+        (Any (Any (PointsNowhere count)) (rows_of exchange.now set.now) → ⊥)) }
     ensures kept { OnOk result (AreReaches exchange.now reaches.new) }
 {
     if !is_polygonal(set) {
@@ -111,7 +119,8 @@ fn has_bad_rows(
 /// Whether a number of the set's PnIndex, where it has one, names none of so many points.
 fn has_bad_number(numbers: Option<&[Value21]>, count: usize) -> bool
     requires { count < 2 ^ 63 }
-    ensures { MatchBool result (HasBadNumber (option_copied numbers.entry) count) (HasBadNumber (option_copied numbers.entry) count → ⊥) }
+    ensures { MatchBool result (HasBadNumber (option_copied numbers.entry) count)
+        (HasBadNumber (option_copied numbers.entry) count → ⊥) }
 {
     match numbers {
         Some(numbers) => has_bad_item(numbers, count),
@@ -140,7 +149,8 @@ pub fn has_bad_index(
     set: &Instance,
 ) -> Result<bool, AllocError>
     requires { AreReaches exchange.now reaches.old }
-    ensures bad { IfOk result (λ bad. MatchBool bad (HasBadIndex exchange.now set.now) (HasBadIndex exchange.now set.now → ⊥)) }
+    ensures bad { IfOk result (λ bad. MatchBool bad (HasBadIndex exchange.now set.now)
+        (HasBadIndex exchange.now set.now → ⊥)) }
     ensures kept { OnOk result (AreReaches exchange.now reaches.new) }
 {
     let numbers = numbering(set);

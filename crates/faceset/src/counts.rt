@@ -23,7 +23,8 @@ fn count_face(exchange: &Exchange, value: &Value21) -> u64
 
 /// How many triangles the faces have that values refer to. None where they are more than `most`.
 fn count_faces(exchange: &Exchange, values: &[Value21], most: u64) -> Option<u64>
-    ensures some { IfSome result (λ n. (n ≡ sum_by face_count (led_to exchange.now values.now)) × (n ≤ most)) }
+    ensures some { IfSome result (λ n. (n ≡ sum_by face_count (led_to exchange.now values.now))
+        × (n ≤ most)) }
     ensures none { IfNone result (most < sum_by face_count (led_to exchange.now values.now)) }
 {
     let mut count = 0;

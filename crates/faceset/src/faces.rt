@@ -35,7 +35,10 @@ fn corners_of(
     points: &[Point],
 ) -> Result<Option<Vec<Point>>, AllocError>
     requires { All IsGridPoint points.now }
-    ensures { IfOk result (λ found. MatchOption found (Any (IsMisnamed (option_copied numbers.entry) (length points.now)) indexes.now) (λ made. AreCorners (option_copied numbers.entry) points.now indexes.now made.items × All IsGridPoint made.items)) }
+    ensures { IfOk result (λ found. MatchOption found
+        (Any (IsMisnamed (option_copied numbers.entry) (length points.now)) indexes.now)
+        (λ made. AreCorners (option_copied numbers.entry) points.now indexes.now made.items
+        × All IsGridPoint made.items)) }
 {
     let mut made = Vec::with_capacity(alloc, indexes.len())?;
     for value in indexes {
@@ -82,7 +85,8 @@ fn cut_corners(alloc: Global, corners: &[Point]) -> Result<Option<Vec<Triangle>>
     requires three { 2 < length corners.now }
     requires few { length corners.now ≤ most_corners }
     requires in_grid { All IsGridPoint corners.now }
-    ensures triangles { IfOk result (λ found. MatchOption found (cut_of corners.now ≡ None) (λ made. CutsInto corners.now made.items)) }
+    ensures triangles { IfOk result
+        (λ found. MatchOption found (cut_of corners.now ≡ None) (λ made. CutsInto corners.now made.items)) }
     ensures count { IfOk result (λ found. IfSome found (λ made. length made.items + 2 ≡ length corners.now)) }
 {
     match cut(alloc, corners) {

@@ -1,10 +1,10 @@
 //! The indexes of face sets.
 ghost use Rattle.std.specs.Prelude.{◌<◌, ◌^◌, ℕ, suc, pos, IfSome, IfNone};
-ghost use Rattle.bim_text.specs.Values.{SameValue};
-ghost use Rattle.bim_text.specs.Decimals.{value_of};
-ghost use Rattle.faceset.specs.Indexes.{whole, Writes, PointsAt, PointsNowhere};
+ghost use Rattle.bim_text.specs.Values.{whole, SameValue};
+ghost use Rattle.bim_text.specs.Decimals.{value_of, WritesWhole};
+ghost use Rattle.faceset.specs.Indexes.{PointsAt, PointsNowhere};
 
-use bim_text::Decimal;
+use bim_text::{Decimal, small_whole};
 use ifc_instances::number_of;
 use p21_reader::Value21;
 
@@ -37,8 +37,8 @@ fn small_number(decimal: Decimal) -> Option<u64>
 
 /// The number that spelled bytes write. None where it is none from 0 to below 10^19.
 fn number_written(bytes: &[u8]) -> Option<u64>
-    ensures some { IfSome result (λ n. Writes bytes.now (pos n)) }
-    ensures none { IfNone result ((n : ℕ) → n < 10 ^ 19 → Writes bytes.now (pos n) → ⊥) }
+    ensures some { IfSome result (λ n. WritesWhole bytes.now (pos n)) }
+    ensures none { IfNone result ((n : ℕ) → n < 10 ^ 19 → WritesWhole bytes.now (pos n) → ⊥) }
 {
     match Decimal::read(bytes) {
         Some(decimal) => small_number(decimal),
@@ -46,13 +46,24 @@ fn number_written(bytes: &[u8]) -> Option<u64>
     }
 }
 
+/// The same, in 64 bits where the bytes are few digits.
+fn index_written(bytes: &[u8]) -> Option<u64>
+    ensures some { IfSome result (λ n. WritesWhole bytes.now (pos n)) }
+    ensures none { IfNone result ((n : ℕ) → n < 10 ^ 19 → WritesWhole bytes.now (pos n) → ⊥) }
+{
+    match small_whole(bytes) {
+        Some(number) => Some(number),
+        None => number_written(bytes),
+    }
+}
+
 // Which of so many points the spelled index names, counted from 0.
 fn place_among(bytes: &[u8], count: usize) -> Option<usize>
     requires { count < 2 ^ 63 }
-    ensures some { IfSome result (λ k. (k < count) × Writes bytes.now (pos (suc k))) }
-    ensures none { IfNone result ((k : ℕ) → k < count → Writes bytes.now (pos (suc k)) → ⊥) }
+    ensures some { IfSome result (λ k. (k < count) × WritesWhole bytes.now (pos (suc k))) }
+    ensures none { IfNone result ((k : ℕ) → k < count → WritesWhole bytes.now (pos (suc k)) → ⊥) }
 {
-    match number_written(bytes) {
+    match index_written(bytes) {
         None => None,
         Some(0) => None,
         Some(index) => {

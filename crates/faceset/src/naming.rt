@@ -10,7 +10,8 @@ use p21_reader::Value21;
 /// Which of so many points, counted from 0, an index names by the numbers of the points.
 fn place_numbered(value: &Value21, numbers: &[Value21], count: usize) -> Option<usize>
     requires { count < 2 ^ 63 }
-    ensures { MatchOption result (IsMisnamed (Some numbers.now) count value.now) (NamesPoint (Some numbers.now) count value.now) }
+    ensures { MatchOption result (IsMisnamed (Some numbers.now) count value.now)
+        (NamesPoint (Some numbers.now) count value.now) }
 {
     match place_of(value, numbers.len()) {
         Some(at) => place_of(&numbers[at], count),
@@ -21,7 +22,8 @@ fn place_numbered(value: &Value21, numbers: &[Value21], count: usize) -> Option<
 /// Which of so many points, counted from 0, an index names, directly or by the numbers of the points.
 pub fn place_named(value: &Value21, numbers: Option<&[Value21]>, count: usize) -> Option<usize>
     requires { count < 2 ^ 63 }
-    ensures { MatchOption result (IsMisnamed (option_copied numbers.entry) count value.now) (NamesPoint (option_copied numbers.entry) count value.now) }
+    ensures { MatchOption result (IsMisnamed (option_copied numbers.entry) count value.now)
+        (NamesPoint (option_copied numbers.entry) count value.now) }
 {
     match numbers {
         Some(numbers) => place_numbered(value, numbers, count),
@@ -31,7 +33,8 @@ pub fn place_named(value: &Value21, numbers: Option<&[Value21]>, count: usize) -
 
 /// The corner that an index names.
 pub fn corner(value: &Value21, numbers: Option<&[Value21]>, points: &[Point]) -> Option<Point>
-    ensures { MatchOption result (IsMisnamed (option_copied numbers.entry) (length points.now) value.now) (IsCorner (option_copied numbers.entry) points.now value.now) }
+    ensures { MatchOption result (IsMisnamed (option_copied numbers.entry) (length points.now) value.now)
+        (IsCorner (option_copied numbers.entry) points.now value.now) }
 {
     match place_named(value, numbers, points.len()) {
         Some(place) => Some(points[place]),

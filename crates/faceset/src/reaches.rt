@@ -22,7 +22,8 @@ fn greater(a: usize, b: usize) -> usize
 /// A count from which on each of the values counts something. None where one of them counts none of so many things.
 pub fn reach_of(values: &[Value21], count: usize) -> Option<usize>
     requires { count < 2 ^ 63 }
-    ensures { MatchOption result (Any (PointsNowhere count) values.now) (λ reach. All (CountsFrom reach) values.now × (reach ≤ count)) }
+    ensures { MatchOption result (Any (PointsNowhere count) values.now)
+        (λ reach. All (CountsFrom reach) values.now × (reach ≤ count)) }
 {
     let mut reach = 0;
     for value in values {

@@ -17,7 +17,10 @@ fn triangle_of(
     numbers: Option<&[Value21]>,
     points: &[Point],
 ) -> Option<Triangle>
-    ensures { MatchOption result (Any (IsMisnamed (option_copied numbers.entry) (length points.now)) (a.now ∷ b.now ∷ c.now ∷ [])) (λ t. IsCorner (option_copied numbers.entry) points.now a.now t.a × IsCorner (option_copied numbers.entry) points.now b.now t.b × IsCorner (option_copied numbers.entry) points.now c.now t.c) }
+    ensures { MatchOption result (Any (IsMisnamed (option_copied numbers.entry) (length points.now))
+        (a.now ∷ b.now ∷ c.now ∷ [])) (λ t. IsCorner (option_copied numbers.entry) points.now a.now t.a
+        × IsCorner (option_copied numbers.entry) points.now b.now t.b
+        × IsCorner (option_copied numbers.entry) points.now c.now t.c) }
 {
     let Some(a) = corner(a, numbers, points) else {
         return None;
@@ -33,7 +36,9 @@ fn triangle_of(
 
 /// The triangle of a row. None of one that isn't three indexes of points.
 fn triangle(row: &Value21, numbers: Option<&[Value21]>, points: &[Point]) -> Option<Triangle>
-    ensures { MatchOption result (HasThree row.now → Any (IsMisnamed (option_copied numbers.entry) (length points.now)) (items_in row.now)) (IsTriangle (option_copied numbers.entry) points.now row.now) }
+    ensures { MatchOption result (HasThree row.now
+        → Any (IsMisnamed (option_copied numbers.entry) (length points.now)) (items_in row.now))
+        (IsTriangle (option_copied numbers.entry) points.now row.now) }
 {
     match items_in(row) {
         [a, b, c] => triangle_of(a, b, c, numbers, points),
@@ -48,7 +53,10 @@ pub fn triangles(
     rows: &[Value21],
     points: &[Point],
 ) -> Result<Option<Vec<Triangle>>, AllocError>
-    ensures { IfOk result (λ found. MatchOption found (Any (λ row. HasThree row → Any (IsMisnamed (option_copied numbers.entry) (length points.now)) (items_in row)) rows.now) (λ made. AreTriangles (option_copied numbers.entry) points.now rows.now made.items)) }
+    ensures { IfOk result (λ found. MatchOption found
+        (Any (λ row. HasThree row → Any (IsMisnamed (option_copied numbers.entry) (length points.now))
+        (items_in row)) rows.now) (λ made. AreTriangles
+        (option_copied numbers.entry) points.now rows.now made.items)) }
 {
     let mut made = Vec::with_capacity(alloc, rows.len())?;
     for row in rows {

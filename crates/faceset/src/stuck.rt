@@ -24,7 +24,9 @@ fn is_stuck(
     id: u64,
 ) -> Result<bool, AllocError>
     requires { All IsGridPoint points.now }
-    ensures { IfOk result (λ stuck. MatchBool stuck (IsStuckFace exchange.now (option_copied numbers.entry) points.now id) (IsStuckFace exchange.now (option_copied numbers.entry) points.now id → ⊥)) }
+    ensures { IfOk result (λ stuck. MatchBool stuck
+        (IsStuckFace exchange.now (option_copied numbers.entry) points.now id)
+        (IsStuckFace exchange.now (option_copied numbers.entry) points.now id → ⊥)) }
 {
     let Some(face) = look(exchange, id) else {
         return Ok(false);
@@ -46,7 +48,8 @@ fn first_in(
 ) -> Result<Option<u64>, AllocError>
     requires in_grid { All IsGridPoint points.now }
     requires rises { IsStrictlyIncreasing ids.now }
-    ensures { IfOk result (LeastOf (IsStuckIn exchange.now (option_copied numbers.entry) points.now ids.now)) }
+    ensures { IfOk result (LeastOf
+        (IsStuckIn exchange.now (option_copied numbers.entry) points.now ids.now)) }
 {
     for id in ids {
         let stuck = is_stuck(alloc, exchange, numbers, points, *id)?;
@@ -66,7 +69,10 @@ pub fn least_stuck(
     set: &Instance,
 ) -> Result<Option<u64>, AllocError>
     requires { All IsGridPoint points.now }
-    ensures { IfOk result (λ found. MatchOption found ((id : ℕ) → HasStuck exchange.now points.now set.now id → ⊥) (λ id. HasStuck exchange.now points.now set.now id × ((k : ℕ) → k < id → HasStuck exchange.now points.now set.now k → ⊥))) }
+    ensures { IfOk result (λ found. MatchOption found
+        ((id : ℕ) → HasStuck exchange.now points.now set.now id → ⊥)
+        (λ id. HasStuck exchange.now points.now set.now id
+        × ((k : ℕ) → k < id → HasStuck exchange.now points.now set.now k → ⊥))) }
 {
     if !is_polygonal(set) {
         return Ok(None);

@@ -1,5 +1,6 @@
 //! The triangles of face sets.
-ghost use Rattle.std.specs.Prelude.{◌≡◌, ℕ, ◌∷◌, [], length, sum_by, All, Any, IfOk, IfSome, MatchOption, option_copied};
+ghost use Rattle.std.specs.Prelude.{◌≡◌, ℕ, List, ◌∷◌, [], length, sum_by, All, Any, IfOk, IfSome, IfNone, MatchOption, option_copied};
+ghost use Rattle.bim_model.specs.declared.geometry.Triangle.{Triangle};
 ghost use Rattle.bim_model.specs.Points.{IsGridPoint};
 ghost use Rattle.ifc_instances.specs.Attributes.{led_to};
 ghost use Rattle.faceset.specs.Sets.{Joined, IsCut, SetTriangles, IsSound, HasStuck, face_count, triangle_count};
@@ -22,8 +23,13 @@ fn face_triangles(
     value: &Value21,
 ) -> Result<Option<Vec<Triangle>>, AllocError>
     requires { All IsGridPoint points.now }
-    ensures triangles { IfOk result (λ made. MatchOption made (Any (IsLoose (option_copied numbers.entry) points.now) (led_to exchange.now (value.now ∷ []))) (λ triangles. Joined (IsCut (option_copied numbers.entry) points.now) (led_to exchange.now (value.now ∷ [])) triangles.items)) }
-    ensures count { IfOk result (λ made. IfSome made (λ triangles. length triangles.items ≡ sum_by face_count (led_to exchange.now (value.now ∷ [])))) }
+    ensures triangles { IfOk result
+        (λ made. MatchOption made (Any (IsLoose (option_copied numbers.entry) points.now)
+        (led_to exchange.now (value.now ∷ [])))
+        (λ triangles. Joined (IsCut (option_copied numbers.entry) points.now)
+        (led_to exchange.now (value.now ∷ [])) triangles.items)) }
+    ensures count { IfOk result (λ made. IfSome made
+        (λ triangles. length triangles.items ≡ sum_by face_count (led_to exchange.now (value.now ∷ [])))) }
 {
     let Some(id) = reference_of(value) else {
         return Ok(Some(Vec::new(alloc)));
@@ -47,8 +53,13 @@ fn faces_triangles(
     values: &[Value21],
 ) -> Result<Option<Vec<Triangle>>, AllocError>
     requires { All IsGridPoint points.now }
-    ensures triangles { IfOk result (λ made. MatchOption made (Any (IsLoose (option_copied numbers.entry) points.now) (led_to exchange.now values.now)) (λ triangles. Joined (IsCut (option_copied numbers.entry) points.now) (led_to exchange.now values.now) triangles.items)) }
-    ensures count { IfOk result (λ made. IfSome made (λ triangles. length triangles.items ≡ sum_by face_count (led_to exchange.now values.now))) }
+    ensures triangles { IfOk result
+        (λ made. MatchOption made (Any (IsLoose (option_copied numbers.entry) points.now)
+        (led_to exchange.now values.now))
+        (λ triangles. Joined (IsCut (option_copied numbers.entry) points.now)
+        (led_to exchange.now values.now) triangles.items)) }
+    ensures count { IfOk result (λ made. IfSome made
+        (λ triangles. length triangles.items ≡ sum_by face_count (led_to exchange.now values.now))) }
 {
     let mut made = Vec::new(alloc);
     for value in values {
@@ -61,7 +72,9 @@ fn faces_triangles(
 }
 
 /// The triangles of a face set in its own coordinates, in the order of its rows or faces, each face cut once (IFC4 ADD2 TC1,
-/// IfcTriangulatedFaceSet, IfcPolygonalFaceSet). The points are those of its list. None where it isn't sound, or a face can't be cut.
+/// IfcTriangulatedFaceSet, IfcPolygonalFaceSet). The points are those of its list. None exactly where it has no triangles: a row isn't
+/// three indexes of points; or a face has too few corners or too many, has an index that names no point, or can't be cut. A number of
+/// its PnIndex that no index counts doesn't matter. None of a sound set comes where a face can't be cut.
 pub fn set_triangles(
     alloc: Global,
     exchange: &Exchange,
@@ -69,8 +82,14 @@ pub fn set_triangles(
     set: &Instance,
 ) -> Result<Option<Vec<Triangle>>, AllocError>
     requires { All IsGridPoint points.now }
-    ensures triangles { IfOk result (λ made. MatchOption made (IsSound exchange.now points.now set.now → (id : ℕ) × HasStuck exchange.now points.now set.now id) (λ triangles. SetTriangles exchange.now points.now set.now triangles.items)) }
-    ensures count { IfOk result (λ made. IfSome made (λ triangles. length triangles.items ≡ triangle_count exchange.now set.now)) }
+    ensures triangles { IfOk result
+        (λ made. MatchOption made (IsSound exchange.now points.now set.now
+        → (id : ℕ) × HasStuck exchange.now points.now set.now id)
+        (λ triangles. SetTriangles exchange.now points.now set.now triangles.items)) }
+    ensures none { IfOk result (λ made. IfNone made
+        ((triangles : List Triangle) → SetTriangles exchange.now points.now set.now triangles → ⊥)) }
+    ensures count { IfOk result (λ made. IfSome made
+        (λ triangles. length triangles.items ≡ triangle_count exchange.now set.now)) }
 {
     let numbers = numbering(set);
     if is_polygonal(set) {

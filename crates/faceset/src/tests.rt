@@ -4,6 +4,7 @@ use crate::rows::triangles;
 use crate::{FaceReaches, has_bad_index, place_of, triangle_count};
 use bim_model::{Bytes, Point, Triangle};
 use p21_reader::{Exchange, Value21, read};
+use sqlite_items::{Boxed, Items};
 use std::alloc::{AllocError, Global};
 use std::test::Fail;
 
@@ -12,7 +13,7 @@ fn number(alloc: Global, spelled: &str) -> Result<Value21, AllocError> {
 }
 
 fn list(alloc: Global, numbers: &[&str]) -> Result<Value21, AllocError> {
-    Ok(Value21::List(Box::new(alloc, items(alloc, numbers)?)?))
+    Ok(Value21::List(Boxed::new(alloc, Items::from_vec(items(alloc, numbers)?))?))
 }
 
 fn items(alloc: Global, spelled: &[&str]) -> Result<Vec<Value21>, AllocError> {

@@ -64,6 +64,7 @@ subjects =
     codes "IFCOUTLET" ∷
     codes "IFCSANITARYTERMINAL" ∷ []
 
+-- the keywords of an entity and of its kinds
 abbrev pub keywords_of : Entity → List (List ℕ)
 keywords_of Project = codes "IFCPROJECT" ∷ []
 keywords_of UnitAssignment = codes "IFCUNITASSIGNMENT" ∷ []
@@ -94,7 +95,9 @@ is_of entity keyword = list_any (bytes_eq keyword) (keywords_of entity)
 -- all entities; no two of them share a keyword
 abbrev pub entities : List Entity
 entities =
-    Face ∷ FaceWithVoids ∷ Point ∷ Direction ∷ PointList ∷ TriangulatedFaceSet ∷ PolygonalFaceSet ∷ AxisPlacement ∷ Placement ∷ Representation ∷ ProductShape ∷ MappedItem ∷ RepresentationMap ∷ Operator ∷ Containment ∷ Aggregates ∷ Storey ∷ Project ∷ UnitAssignment ∷ SiUnit ∷ Subject ∷ []
+    Face ∷ FaceWithVoids ∷ Point ∷ Direction ∷ PointList ∷ TriangulatedFaceSet ∷ PolygonalFaceSet
+    ∷ AxisPlacement ∷ Placement ∷ Representation ∷ ProductShape ∷ MappedItem ∷ RepresentationMap ∷ Operator
+    ∷ Containment ∷ Aggregates ∷ Storey ∷ Project ∷ UnitAssignment ∷ SiUnit ∷ Subject ∷ []
 
 -- the entity of a keyword
 unfoldable pub entity_of : List ℕ → Option Entity

@@ -13,6 +13,7 @@ look world id = find (λ (i : Instance). i.id == id) world
 abbrev pub entity_at : Instance → Option Entity
 entity_at i = option_and_then entity_of i.keyword
 
+-- a keyword, where there is one, is of an entity
 abbrev pub is_keyword_of : Entity → Option (List ℕ) → Bool
 is_keyword_of entity None = false
 is_keyword_of entity (Some keyword) = is_of entity keyword

@@ -5,26 +5,32 @@ use Rattle.p21_reader.specs.declared.value.Value21.TheOpen.{Value21-F}
 use Rattle.p21_reader.specs.declared.value.Value21.TheOpen as layer
 use Rattle.p21_reader.specs.declared.value.Value21.TheViews.{out-Value21}
 
+-- the number that a value spells
 abbrev pub number_in : Value21-F Value21 → Option (List ℕ)
 number_in (layer.Number bs) = Some bs
 number_in _ = None
 
+-- the text that a value spells
 abbrev pub words_in : Value21-F Value21 → Option (List ℕ)
 words_in (layer.Words bs) = Some bs
 words_in _ = None
 
+-- the number of the instance that a value refers to
 abbrev pub reference_in : Value21-F Value21 → Option ℕ
 reference_in (layer.Reference n) = Some n
 reference_in _ = None
 
+-- the values of a list
 abbrev pub items_in : Value21-F Value21 → Option (List Value21)
-items_in (layer.List vs) = Some vs.value.items
+items_in (layer.List vs) = Some vs
 items_in _ = None
 
+-- a value of an enumeration
 abbrev pub enumeration_in : Value21-F Value21 → Bool
 enumeration_in (layer.Enumeration bs) = true
 enumeration_in _ = false
 
+-- a value that is left out or derived
 abbrev pub absent_in : Value21-F Value21 → Bool
 absent_in layer.Absent = true
 absent_in layer.Derived = true

@@ -39,7 +39,7 @@ pub fn items_of(value: &Value21) -> Option<&[Value21]>
     ensures { option_copied result ≡ items_of value.now }
 {
     match value {
-        Value21::List(items) => Some(items.as_slice()),
+        Value21::List(items) => Some(items.get().as_slice()),
         _ => None,
     }
 }

@@ -3,8 +3,7 @@ use Rattle.std.proofs.Common.{◌≡◌, inl, inr, Bool, true, false, List, [], 
 use Rattle.std.specs.Bool.{MatchBool}
 use Rattle.std.specs.Option.{MatchOption}
 use Rattle.std.specs.List.{slice_get}
-use Rattle.std.proofs.lemmas.Int.{ints}
-use Rattle.bim_text.proofs.Unique.{one_decimal}
+use Rattle.bim_text.proofs.Unique.{not_whole}
 use Rattle.p21_reader.specs.declared.value.Value21.{Value21}
 use Rattle.p21_reader.specs.declared.value.Instance.{Instance}
 use Rattle.ifc_schema.specs.declared.flaw.Flaw.{Flaw}
@@ -24,7 +23,7 @@ use Rattle.ifc_schema.specs.StageFive.{UsedFlaw}
 use Rattle.ifc_schema.specs.Flaws.{NumberFlaw, WholeFlaw, LeafFlaw, FirstFlaw, ItemsFlaw, ListFlaw, ShapeFlaw, ValueFlaw, PlaceFlaw, AttributeFlaw, InstanceFlaw, absent_stands}
 
 -- A thing that has no flaw has no flaw that is one.
-abbrev Apart : (Option Flaw → Type 0) → Type 0
+abbrev pub Apart : (Option Flaw → Type 0) → Type 0
 Apart P = (flaw : Flaw) → P None → P (Some flaw) → ⊥
 
 -- An equation tells one answer.
@@ -49,14 +48,10 @@ number_apart bs (Dangling to) h k = k
 
 whole_apart : (bs : List ℕ) → Apart (WholeFlaw bs)
 whole_apart bs BadShape h (inl k) = k h.1.spelling h.1.read
-whole_apart bs BadShape h (inr k) =
-    let e = (one_decimal bs h.0 k.0 h.1 k.1).2 in
-    let low = h.2 in
-    let high = k.2 in
-    omega (arith, ints, e, low, high)
+whole_apart bs BadShape h (inr k) = not_whole bs k.0 h.0 k.1 h.1 k.2
 whole_apart bs (Dangling to) h k = k
 
-leaf_apart : (world : List Instance) (l : Leaf) (v : Value21) → Apart (LeafFlaw world l v)
+pub leaf_apart : (world : List Instance) (l : Leaf) (v : Value21) → Apart (LeafFlaw world l v)
 leaf_apart world leaf.Number v = by_option (number_of v) (λ f. f ≡ Some BadShape) NumberFlaw (told (Some BadShape)) number_apart
 leaf_apart world leaf.Whole v = by_option (number_of v) (λ f. f ≡ Some BadShape) WholeFlaw (told (Some BadShape)) whole_apart
 leaf_apart world leaf.Text v = λ flaw h k. cc
@@ -67,11 +62,11 @@ leaf_apart world leaf.Anything v = λ flaw h k. cc
 
 -- Lists.
 
-first_apart : {X : Type 0} (F : X → Option Flaw → Type 0) → ((x : X) → Apart (F x)) → (xs : List X) → Apart (FirstFlaw F xs)
+pub first_apart : {X : Type 0} (F : X → Option Flaw → Type 0) → ((x : X) → Apart (F x)) → (xs : List X) → Apart (FirstFlaw F xs)
 first_apart F apart [] flaw all f = absurd (let l = f.within in omega arith)
 first_apart F apart (x ∷ xs) flaw all f = apart (get_or (x ∷ xs) f.place x) flaw (all f.place x f.within) (f.here x)
 
-list_apart : (count : Count) (F : Value21 → Option Flaw → Type 0) → ((v : Value21) → Apart (F v)) → (v : Value21) → Apart (ListFlaw count F v)
+pub list_apart : (count : Count) (F : Value21 → Option Flaw → Type 0) → ((v : Value21) → Apart (F v)) → (v : Value21) → Apart (ListFlaw count F v)
 list_apart count F apart v =
     by_option (items_of v) (λ f. f ≡ Some BadShape) (ItemsFlaw count F) (told (Some BadShape))
     (λ vs. by_bool (fits count (length vs)) (FirstFlaw F vs) (λ f. f ≡ Some BadShape) (first_apart F apart vs) (told (Some BadShape)))
@@ -91,7 +86,7 @@ place_apart : (world : List Instance) (a : Attribute) (o : Option Value21) → A
 place_apart world a None = λ flaw h k. cc
 place_apart world a (Some v) = value_apart world a v
 
-attribute_apart : (world : List Instance) (m : Bool) (i : Instance) (a : Attribute) → Apart (AttributeFlaw world m i a)
+pub attribute_apart : (world : List Instance) (m : Bool) (i : Instance) (a : Attribute) → Apart (AttributeFlaw world m i a)
 attribute_apart world m i a = by_bool (applies world m i a.when) (PlaceFlaw world a (slice_get i.values a.at)) (λ f. f ≡ None) (place_apart world a (slice_get i.values a.at)) (told None)
 
 instance_apart : (world : List Instance) (m : Bool) (i : Instance) → Apart (InstanceFlaw world m i)
@@ -101,7 +96,7 @@ pub some_flaw : (world : List Instance) (m : Bool) (i : Instance) (flaw : Flaw) 
 some_flaw world m i flaw k h = instance_apart world m i flaw h k
 
 -- two tests of one thing give one answer
-one_test : (a b : Bool) (P : Type 0) → IsTrue a ↔ P → IsTrue b ↔ P → a ≡ b
+pub one_test : (a b : Bool) (P : Type 0) → IsTrue a ↔ P → IsTrue b ↔ P → a ≡ b
 one_test true true P f g = refl
 one_test true false P f g = sym (g.1 (f.0 refl))
 one_test false true P f g = f.1 (g.0 refl)

@@ -5,3 +5,5 @@ pub mod Following
 pub mod Listing
 pub mod Apart
 pub mod Rows
+pub mod Wholes
+pub mod OneFlaw

@@ -15,6 +15,7 @@ use Rattle.ifc_instances.specs.Looking.{look, is_a, some_passes}
 unfoldable pub is_body : Instance → Bool
 is_body i = some_passes says_body (option_and_then words_of (slice_get i.values 1))
 
+-- a shape representation that is a body
 abbrev pub is_body_representation : Instance → Bool
 is_body_representation i = is_a Representation i && is_body i
 
@@ -22,12 +23,14 @@ is_body_representation i = is_a Representation i && is_body i
 abbrev pub target_passes : List Instance → (Instance → Bool) → Value21 → Bool
 target_passes world test v = some_passes test (option_and_then (look world) (reference_of v))
 
+-- one of these values refers to a body
 abbrev pub lists_body : List Instance → List Value21 → Bool
 lists_body world = list_any (target_passes world is_body_representation)
 
 -- a shape has a representation that is a body
 unfoldable pub is_body_shape : List Instance → Instance → Bool
-is_body_shape world i = is_a ProductShape i && some_passes (lists_body world) (option_and_then items_of (slice_get i.values 2))
+is_body_shape world i = is_a ProductShape i
+    && some_passes (lists_body world) (option_and_then items_of (slice_get i.values 2))
 
 -- place by place, whether a shape stands there that has one
 abbrev pub body_shapes : List Instance → List Bool

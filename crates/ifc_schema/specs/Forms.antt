@@ -25,6 +25,7 @@ members (targets.One e) = e ∷ []
 members targets.Faces = entity.Face ∷ entity.FaceWithVoids ∷ []
 members targets.Items = entity.TriangulatedFaceSet ∷ entity.PolygonalFaceSet ∷ entity.MappedItem ∷ []
 
+-- no target at all
 abbrev pub is_nothing : Targets → Bool
 is_nothing targets.Nothing = true
 is_nothing _ = false

@@ -9,24 +9,29 @@ use Rattle.ifc_schema.specs.Used.{is_root, Used, IsMapped, Names, Maps}
 use Rattle.ifc_instances.specs.Looking.{look, entity_at}
 use Rattle.ifc_instances.specs.Places.{IsPlaceOf}
 
+-- how far an instance has been followed
 abbrev pub rank : Mark → ℕ
 rank Unseen = 0
 rank Met = 1
 rank Mapped = 2
 
+-- the instance was met
 abbrev pub is_seen : Mark → Bool
 is_seen Unseen = false
 is_seen Met = true
 is_seen Mapped = true
 
+-- the instance was met as one that is mapped
 abbrev pub is_mapped : Mark → Bool
 is_mapped Unseen = false
 is_mapped Met = false
 is_mapped Mapped = true
 
+-- the mark of the instance at a place
 abbrev pub mark_at : Work → ℕ → Mark
 mark_at work at = slice_index_or work.marks.items at Unseen
 
+-- the rank of the instance at a place
 abbrev pub rank_at : Work → ℕ → ℕ
 rank_at work at = rank (mark_at work at)
 
@@ -36,11 +41,13 @@ weight work = sum_by (λ m. 4 - 2 * rank m) work.marks.items + length work.stack
 
 -- An instance is used, or mapped, by its place.
 
+-- the instance at a place is used
 pub record UsedAt (world : List Instance) (at : ℕ) : Type 0 where
   pub id : ℕ
   pub place : IsPlaceOf world id at
   pub used : Used world id
 
+-- the instance at a place is mapped
 pub record MappedAt (world : List Instance) (at : ℕ) : Type 0 where
   pub id : ℕ
   pub place : IsPlaceOf world id at
@@ -55,7 +62,8 @@ pub record SoundAt (world : List Instance) (at : ℕ) (mark : Mark) : Type 0 whe
 pub record Grows (world : List Instance) (old new : Work) : Type 0 where
   pub size : length new.marks.items ≡ length old.marks.items
   pub sound : ((at : ℕ) → SoundAt world at (mark_at old at)) → (at : ℕ) → SoundAt world at (mark_at new at)
-  pub stacked : ((at : ℕ) → Contains old.stack.items at → 0 < rank_at old at) → (at : ℕ) → Contains new.stack.items at → 0 < rank_at new at
+  pub stacked : ((at : ℕ) → Contains old.stack.items at → 0 < rank_at old at) → (at : ℕ)
+      → Contains new.stack.items at → 0 < rank_at new at
   pub rises : (at : ℕ) → rank_at old at ≤ rank_at new at
   pub pending : (at : ℕ) → (mark_at new at ≡ mark_at old at) ⊎ Contains new.stack.items at
   pub keeps : (at : ℕ) → Contains old.stack.items at → Contains new.stack.items at
@@ -70,8 +78,10 @@ pub record IsFollowed (world : List Instance) (work : Work) (mapped : Bool) (i :
   pub names : (to : ℕ) → Names world mapped i to → IsMarked world work 0 to
   pub maps : (to : ℕ) → Maps world i to → IsMarked world work 1 to
 
+-- what the instance at a place names is met too
 abbrev pub FollowedAt : List Instance → Work → Bool → ℕ → Type 0
-FollowedAt world work mapped at = (i : Instance) → slice_get world at ≡ Some i → IsFollowed world work mapped i
+FollowedAt world work mapped at =
+    (i : Instance) → slice_get world at ≡ Some i → IsFollowed world work mapped i
 
 -- an instance that is used wherever it stands
 pub record IsRootAt (world : List Instance) (at : ℕ) : Type 0 where
@@ -86,7 +96,8 @@ pub record Going (world : List Instance) (work : Work) : Type 0 where
   pub size : length work.marks.items ≡ length world
   pub sound : (at : ℕ) → SoundAt world at (mark_at work at)
   pub stacked : (at : ℕ) → Contains work.stack.items at → 0 < rank_at work at
-  pub pending : (at : ℕ) → 0 < rank_at work at → Contains work.stack.items at ⊎ FollowedAt world work (is_mapped (mark_at work at)) at
+  pub pending : (at : ℕ) → 0 < rank_at work at
+      → Contains work.stack.items at ⊎ FollowedAt world work (is_mapped (mark_at work at)) at
 
 -- the marks tell which instances are used and which are mapped
 pub record Known (world : List Instance) (work : Work) : Type 0 where

@@ -24,6 +24,7 @@ pub record UsedFlaw (world : List Instance) (id : ℕ) (flaw : Option Flaw) : Ty
   pub is_mapped : IsTrue mapped ↔ IsMapped world id
   pub flawed : InstanceFlaw world mapped instance flaw
 
+-- the fault of an instance with this flaw
 abbrev pub fault_of : ℕ → Flaw → UploadFault
 fault_of id (Dangling to) = fault.Dangling id to
 fault_of id BadShape = fault.BadShape id
@@ -37,6 +38,7 @@ pub record StageFive (world : List Instance) (fault : UploadFault) : Type 0 wher
   pub told : fault ≡ fault_of id flaw
   pub least : (lower : ℕ) → lower < id → Used world lower → UsedFlaw world lower None
 
+-- the entity is one that elements have
 abbrev pub is_subject : Option Entity → Bool
 is_subject (Some Subject) = true
 is_subject _ = false
@@ -45,6 +47,7 @@ is_subject _ = false
 abbrev pub is_model_element : List Instance → Instance → Bool
 is_model_element world i = is_subject (entity_at i) && has_body world i
 
+-- an instance of this number is an element of the model
 pub record IsModelElement (world : List Instance) (id : ℕ) : Type 0 where
   pub instance : Instance
   pub found : look world id ≡ Some instance
@@ -56,12 +59,15 @@ pub record Lists (P : ℕ → Type 0) (ids : List ℕ) : Type 0 where
   pub each : (id : ℕ) → Contains ids id → P id
   pub all : (id : ℕ) → P id → Contains ids id
 
+-- the numbers of the used instances of a survey
 abbrev pub used_ids : Survey → List ℕ
 used_ids survey = survey.used.items
 
+-- the numbers of the mapped instances of a survey
 abbrev pub mapped_ids : Survey → List ℕ
 mapped_ids survey = survey.mapped.items
 
+-- the numbers of the elements of a survey
 abbrev pub element_ids : Survey → List ℕ
 element_ids survey = survey.elements.items
 

@@ -16,6 +16,7 @@ pub record FaultAt (world : List Instance) (at : ℕ) (fault : UploadFault) : Ty
   pub flawed : UsedFlaw world id (Some flaw)
   pub told : fault ≡ fault_of id flaw
 
+-- the instance at a place has this fault, or none where it is used
 abbrev pub CheckedAt : List Instance → ℕ → Option UploadFault → Type 0
 CheckedAt world at None = (id : ℕ) → IsPlaceOf world id at → Used world id → UsedFlaw world id None
 CheckedAt world at (Some fault) = FaultAt world at fault

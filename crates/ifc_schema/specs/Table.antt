@@ -17,6 +17,7 @@ use Rattle.ifc_schema.specs.declared.form.Need.TheVariants.{Must, OrAbsent, OrMi
 use Rattle.ifc_schema.specs.declared.form.When.{When}
 use Rattle.ifc_schema.specs.declared.form.When.TheVariants.{Always, WithBody, WithItems}
 
+-- an attribute: its place, when it counts, whether it may be left out, its shape and what stands in it
 abbrev pub attribute : ℕ → When → Need → Shape → Leaf → Attribute
 attribute at when need shape leaf = record { at = at; when = when; need = need; shape = shape; leaf = leaf }
 
@@ -45,7 +46,8 @@ row_of entity.Subject =
     attribute 6 Always OrAbsent shape.One (leaf.Reference (targets.One entity.ProductShape)) ∷
     attribute 7 Always Must shape.One leaf.Anything ∷ []
 row_of entity.ProductShape =
-    attribute 2 Always Must (shape.List (AtLeast 0)) (leaf.AnyReference (targets.One entity.Representation)) ∷ []
+    attribute 2 Always Must (shape.List (AtLeast 0))
+    (leaf.AnyReference (targets.One entity.Representation)) ∷ []
 row_of entity.Representation =
     attribute 1 Always OrAbsent shape.One leaf.Text ∷
     attribute 3 WithItems Must (shape.List (AtLeast 1)) (leaf.AnyReference targets.Items) ∷ []
@@ -88,6 +90,7 @@ row_of entity.Operator =
     attribute 3 Always OrMissing shape.One leaf.Number ∷
     attribute 4 Always OrMissing shape.One (leaf.Reference (targets.One entity.Direction)) ∷ []
 
+-- the attributes of an entity, where there is one
 abbrev pub row_or_none : Option Entity → List Attribute
 row_or_none None = []
 row_or_none (Some entity) = row_of entity

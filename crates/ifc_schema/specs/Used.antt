@@ -29,6 +29,7 @@ is_root _ = false
 abbrev pub RefersTo : ℕ → Value21 → Type 0
 RefersTo to v = reference_of v ≡ Some to
 
+-- a value of a list is such
 abbrev pub SomeItem : (Value21 → Type 0) → Value21 → Type 0
 SomeItem P v = MatchOption (items_of v) ⊥ (Any P)
 
@@ -46,7 +47,8 @@ pub record LeadsTo (world : List Instance) (targets : Targets) (to : ℕ) : Type
   pub meant : holds targets target.keyword ≡ true
 
 -- an attribute of an instance follows that one
-pub record NamesBy (world : List Instance) (mapped : Bool) (i : Instance) (attribute : Attribute) (to : ℕ) : Type 0 where
+pub record NamesBy (world : List Instance) (mapped : Bool) (i : Instance) (attribute : Attribute)
+    (to : ℕ) : Type 0 where
   pub applied : applies world mapped i attribute.when ≡ true
   pub value : Value21
   pub there : slice_get i.values attribute.at ≡ Some value
@@ -71,8 +73,10 @@ pub record Maps (world : List Instance) (i : Instance) (representation : ℕ) : 
 -- is used maps.
 pub data Used (world : List Instance) : ℕ → Type 0 where
   root : (id : ℕ) (i : Instance) → look world id ≡ Some i → is_root (entity_at i) ≡ true → Used world id
-  named : (from to : ℕ) (i : Instance) → Used world from → look world from ≡ Some i → Names world false i to → Used world to
-  mapped : (by from to : ℕ) (m i : Instance) → Used world by → look world by ≡ Some m → Maps world m from → look world from ≡ Some i → Names world true i to → Used world to
+  named : (from to : ℕ) (i : Instance) → Used world from → look world from ≡ Some i → Names world false i to
+      → Used world to
+  mapped : (by from to : ℕ) (m i : Instance) → Used world by → look world by ≡ Some m → Maps world m from
+      → look world from ≡ Some i → Names world true i to → Used world to
 
 -- a representation is mapped: one that is used is a map of it
 pub record IsMapped (world : List Instance) (id : ℕ) : Type 0 where

@@ -24,27 +24,32 @@ abbrev pub NoneFormed : List Instance → Bool → Entity → ℕ → Type 0
 NoneFormed world mapped entity id = (i : Instance) → HasForm world mapped id i → entity_at i ≡ Some entity → ⊥
 
 -- the fields are the attributes of the instance of that entity with that number, which has the form of its row
-pub record Views (world : List Instance) (mapped : Bool) (entity : Entity) (id : ℕ) (Fields : Instance → Type 0) : Type 0 where
+pub record Views (world : List Instance) (mapped : Bool) (entity : Entity) (id : ℕ)
+    (Fields : Instance → Type 0) : Type 0 where
   pub instance : Instance
   pub formed : HasForm world mapped id instance
   pub kind : entity_at instance ≡ Some entity
   pub fields : Fields instance
 
+-- a view of an element shows its values
 pub record ElementFields (v : ElementView) (i : Instance) : Type 0 where
   pub guid : slice_get i.values 0 ≡ Some v.guid.now
   pub name : slice_get i.values 2 ≡ Some v.name.now
   pub placement : slice_get i.values 5 ≡ Some v.placement.now
   pub shape : slice_get i.values 6 ≡ Some v.shape.now
 
+-- a view of a placement shows its values
 pub record PlacementFields (v : PlacementView) (i : Instance) : Type 0 where
   pub parent : slice_get i.values 0 ≡ Some v.parent.now
   pub relative : slice_get i.values 1 ≡ Some v.relative.now
 
+-- a view of an axis placement shows its values
 pub record AxisFields (v : AxisView) (i : Instance) : Type 0 where
   pub location : slice_get i.values 0 ≡ Some v.location.now
   pub axis : slice_get i.values 1 ≡ Some v.axis.now
   pub ref_direction : slice_get i.values 2 ≡ Some v.ref_direction.now
 
+-- a view of an operator shows its values
 pub record OperatorFields (v : OperatorView) (i : Instance) : Type 0 where
   pub axis1 : option_copied v.axis1 ≡ slice_get i.values 0
   pub axis2 : option_copied v.axis2 ≡ slice_get i.values 1
@@ -52,30 +57,36 @@ pub record OperatorFields (v : OperatorView) (i : Instance) : Type 0 where
   pub scale : option_copied v.scale ≡ slice_get i.values 3
   pub axis3 : option_copied v.axis3 ≡ slice_get i.values 4
 
+-- a view of a representation shows its values
 pub record RepresentationFields (v : RepresentationView) (i : Instance) : Type 0 where
   pub identifier : slice_get i.values 1 ≡ Some v.identifier.now
   pub items : option_copied v.items ≡ slice_get i.values 3
 
+-- a view of a triangulated set shows its values
 pub record TriangulatedFields (v : FacesetView) (i : Instance) : Type 0 where
   pub polygonal : v.polygonal ≡ false
   pub points : slice_get i.values 0 ≡ Some v.points.now
   pub faces : slice_get i.values 3 ≡ Some v.faces.now
   pub pn_index : option_copied v.pn_index ≡ slice_get i.values 4
 
+-- a view of a polygonal set shows its values
 pub record PolygonalFields (v : FacesetView) (i : Instance) : Type 0 where
   pub polygonal : v.polygonal ≡ true
   pub points : slice_get i.values 0 ≡ Some v.points.now
   pub faces : slice_get i.values 2 ≡ Some v.faces.now
   pub pn_index : option_copied v.pn_index ≡ slice_get i.values 3
 
+-- a view of a face without voids shows its corners
 pub record FaceFields (v : FaceView) (i : Instance) : Type 0 where
   pub corners : slice_get i.values 0 ≡ Some v.corners.now
   pub voids : option_copied v.voids ≡ None
 
+-- a view of a face with voids shows its corners and its voids
 pub record VoidedFields (v : FaceView) (i : Instance) : Type 0 where
   pub corners : slice_get i.values 0 ≡ Some v.corners.now
   pub voids : option_copied v.voids ≡ slice_get i.values 1
 
+-- a view of a mapped item shows its values
 pub record MappedFields (v : MappedView) (i : Instance) : Type 0 where
   pub source : slice_get i.values 0 ≡ Some v.source.now
   pub target : slice_get i.values 1 ≡ Some v.target.now

@@ -1,9 +1,9 @@
 -- The words on spelled numbers and texts that forms are made of.
-use Rattle.std.specs.Prelude.{◌⊎◌, Bool, ℕ, List, codes, pos, ◌≤ℤ◌, ◌<ℤ◌}
+use Rattle.std.specs.Prelude.{◌⊎◌, Bool, ℕ, List, codes, ℤ, pos, ◌<ℤ◌}
 use Rattle.std.specs.Str.{bytes_eq}
 use Rattle.bim_text.specs.declared.decimal.Decimal.{Decimal}
 use Rattle.bim_text.specs.Numbers.{Spelling, IsRead}
-use Rattle.bim_text.specs.Decimals.{Reads}
+use Rattle.bim_text.specs.Decimals.{Reads, WritesWhole}
 use Rattle.bim_text.specs.Texts.{text_of_spelling}
 use Rattle.bim_text.specs.Says.{is_guid}
 
@@ -11,14 +11,15 @@ use Rattle.bim_text.specs.Says.{is_guid}
 abbrev pub IsNumber : List ℕ → Type 0
 IsNumber bs = (d : Decimal) × Reads bs d
 
+-- no spelling of a number has these bytes
 abbrev pub IsNoNumber : List ℕ → Type 0
 IsNoNumber bs = (s : Spelling) → IsRead s bs → ⊥
 
--- The bytes are a number that is read, and its value is whole: a decimal's digits don't end in 0, so its power of ten isn't negative.
+-- the bytes are a number that is read, and its value is whole
 abbrev pub IsWhole : List ℕ → Type 0
-IsWhole bs = (d : Decimal) × Reads bs d × (pos 0 ≤ℤ d.exp)
+IsWhole bs = (n : ℤ) × WritesWhole bs n
 
--- they are none, or its value isn't whole
+-- They are none, or its value isn't whole: a decimal's digits don't end in 0, so its power of ten is negative.
 abbrev pub IsNotWhole : List ℕ → Type 0
 IsNotWhole bs = IsNoNumber bs ⊎ ((d : Decimal) × Reads bs d × (d.exp <ℤ pos 0))
 

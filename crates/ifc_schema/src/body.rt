@@ -44,7 +44,8 @@ fn body_representations(alloc: Global, exchange: &Exchange) -> Result<Vec<bool>,
 /// Whether the instance that a value refers to passes a test. The test's answers are given, place by place.
 fn target_passes(exchange: &Exchange, answers: &[bool], value: &Value21) -> bool
     requires size { length answers.now ≡ length exchange.now }
-    ensures { (test : Instance → Bool) → answers.now ≡ map test exchange.now → result ≡ target_passes exchange.now test value.now }
+    ensures { (test : Instance → Bool) → answers.now ≡ map test exchange.now
+        → result ≡ target_passes exchange.now test value.now }
 {
     match reference_of(value) {
         Some(id) => match place_of(exchange, id) {
@@ -110,7 +111,8 @@ pub fn has_body(exchange: &Exchange, bodied: &[bool], element: &Instance) -> boo
 
 /// Whether an attribute is followed in this instance; whether it has a body and is mapped is given.
 pub fn applies(bodied: bool, mapped: bool, instance: &Instance, when: When) -> bool
-    ensures { (world : List Instance) → bodied ≡ has_body world instance.now → result ≡ applies world mapped instance.now when }
+    ensures { (world : List Instance) → bodied ≡ has_body world instance.now
+        → result ≡ applies world mapped instance.now when }
 {
     match when {
         When::Always => true,

@@ -21,9 +21,11 @@ fn mark_target(
     work: &mut Work,
 ) -> Result<(), AllocError>
     requires size { length work.old.marks.items ≡ length exchange.now }
-    requires sound { LeadsTo exchange.now targets to → (at : ℕ) → IsPlaceOf exchange.now to at → SoundAt exchange.now at mark }
+    requires sound { LeadsTo exchange.now targets to → (at : ℕ) → IsPlaceOf exchange.now to at
+        → SoundAt exchange.now at mark }
     ensures grows { OnOk result (Grows exchange.now work.old work.new) }
-    ensures marked { OnOk result (LeadsTo exchange.now targets to → (at : ℕ) → IsPlaceOf exchange.now to at → rank mark ≤ rank_at work.new at) }
+    ensures marked { OnOk result (LeadsTo exchange.now targets to → (at : ℕ) → IsPlaceOf exchange.now to at
+        → rank mark ≤ rank_at work.new at) }
 {
     match place_of(exchange, to) {
         Some(at) => {
@@ -44,9 +46,11 @@ fn follow_value(
     work: &mut Work,
 ) -> Result<(), AllocError>
     requires size { length work.old.marks.items ≡ length exchange.now }
-    requires used { (to : ℕ) → RefersTo to value.now → LeadsTo exchange.now targets to → Used exchange.now to }
+    requires used { (to : ℕ) → RefersTo to value.now → LeadsTo exchange.now targets to
+        → Used exchange.now to }
     ensures grows { OnOk result (Grows exchange.now work.old work.new) }
-    ensures marked { OnOk result ((to : ℕ) → RefersTo to value.now → LeadsTo exchange.now targets to → IsMarked exchange.now work.new 0 to) }
+    ensures marked { OnOk result ((to : ℕ) → RefersTo to value.now → LeadsTo exchange.now targets to
+        → IsMarked exchange.now work.new 0 to) }
 {
     match reference_of(value) {
         Some(to) => mark_target(exchange, targets, to, Mark::Used, work),
@@ -61,9 +65,11 @@ fn follow_items(
     work: &mut Work,
 ) -> Result<(), AllocError>
     requires size { length work.old.marks.items ≡ length exchange.now }
-    requires used { (to : ℕ) → Any (RefersTo to) items.now → LeadsTo exchange.now targets to → Used exchange.now to }
+    requires used { (to : ℕ) → Any (RefersTo to) items.now → LeadsTo exchange.now targets to
+        → Used exchange.now to }
     ensures grows { OnOk result (Grows exchange.now work.old work.new) }
-    ensures marked { OnOk result ((to : ℕ) → Any (RefersTo to) items.now → LeadsTo exchange.now targets to → IsMarked exchange.now work.new 0 to) }
+    ensures marked { OnOk result ((to : ℕ) → Any (RefersTo to) items.now → LeadsTo exchange.now targets to
+        → IsMarked exchange.now work.new 0 to) }
 {
     for item in items {
         follow_value(exchange, targets, item, work)?;
@@ -78,9 +84,11 @@ fn follow_list(
     work: &mut Work,
 ) -> Result<(), AllocError>
     requires size { length work.old.marks.items ≡ length exchange.now }
-    requires used { (to : ℕ) → SomeItem (RefersTo to) value.now → LeadsTo exchange.now targets to → Used exchange.now to }
+    requires used { (to : ℕ) → SomeItem (RefersTo to) value.now → LeadsTo exchange.now targets to
+        → Used exchange.now to }
     ensures grows { OnOk result (Grows exchange.now work.old work.new) }
-    ensures marked { OnOk result ((to : ℕ) → SomeItem (RefersTo to) value.now → LeadsTo exchange.now targets to → IsMarked exchange.now work.new 0 to) }
+    ensures marked { OnOk result ((to : ℕ) → SomeItem (RefersTo to) value.now
+        → LeadsTo exchange.now targets to → IsMarked exchange.now work.new 0 to) }
 {
     match items_of(value) {
         Some(items) => follow_items(exchange, targets, items, work),
@@ -95,9 +103,11 @@ fn follow_rows(
     work: &mut Work,
 ) -> Result<(), AllocError>
     requires size { length work.old.marks.items ≡ length exchange.now }
-    requires used { (to : ℕ) → Any (SomeItem (RefersTo to)) rows.now → LeadsTo exchange.now targets to → Used exchange.now to }
+    requires used { (to : ℕ) → Any (SomeItem (RefersTo to)) rows.now → LeadsTo exchange.now targets to
+        → Used exchange.now to }
     ensures grows { OnOk result (Grows exchange.now work.old work.new) }
-    ensures marked { OnOk result ((to : ℕ) → Any (SomeItem (RefersTo to)) rows.now → LeadsTo exchange.now targets to → IsMarked exchange.now work.new 0 to) }
+    ensures marked { OnOk result ((to : ℕ) → Any (SomeItem (RefersTo to)) rows.now
+        → LeadsTo exchange.now targets to → IsMarked exchange.now work.new 0 to) }
 {
     for row in rows {
         follow_list(exchange, targets, row, work)?;
@@ -112,9 +122,11 @@ fn follow_table(
     work: &mut Work,
 ) -> Result<(), AllocError>
     requires size { length work.old.marks.items ≡ length exchange.now }
-    requires used { (to : ℕ) → SomeItem (SomeItem (RefersTo to)) value.now → LeadsTo exchange.now targets to → Used exchange.now to }
+    requires used { (to : ℕ) → SomeItem (SomeItem (RefersTo to)) value.now → LeadsTo exchange.now targets to
+        → Used exchange.now to }
     ensures grows { OnOk result (Grows exchange.now work.old work.new) }
-    ensures marked { OnOk result ((to : ℕ) → SomeItem (SomeItem (RefersTo to)) value.now → LeadsTo exchange.now targets to → IsMarked exchange.now work.new 0 to) }
+    ensures marked { OnOk result ((to : ℕ) → SomeItem (SomeItem (RefersTo to)) value.now
+        → LeadsTo exchange.now targets to → IsMarked exchange.now work.new 0 to) }
 {
     match items_of(value) {
         Some(rows) => follow_rows(exchange, targets, rows, work),
@@ -131,9 +143,11 @@ fn follow_shape(
     work: &mut Work,
 ) -> Result<(), AllocError>
     requires size { length work.old.marks.items ≡ length exchange.now }
-    requires used { (to : ℕ) → StandsIn to shape value.now → LeadsTo exchange.now targets to → Used exchange.now to }
+    requires used { (to : ℕ) → StandsIn to shape value.now → LeadsTo exchange.now targets to
+        → Used exchange.now to }
     ensures grows { OnOk result (Grows exchange.now work.old work.new) }
-    ensures marked { OnOk result ((to : ℕ) → StandsIn to shape value.now → LeadsTo exchange.now targets to → IsMarked exchange.now work.new 0 to) }
+    ensures marked { OnOk result ((to : ℕ) → StandsIn to shape value.now → LeadsTo exchange.now targets to
+        → IsMarked exchange.now work.new 0 to) }
 {
     match shape {
         Shape::One => follow_value(exchange, targets, value, work),
@@ -156,7 +170,8 @@ fn follow_attribute(
     requires bodied { bodied ≡ has_body exchange.now instance.now }
     requires used { (to : ℕ) → NamesBy exchange.now mapped instance.now attribute to → Used exchange.now to }
     ensures grows { OnOk result (Grows exchange.now work.old work.new) }
-    ensures marked { OnOk result ((to : ℕ) → NamesBy exchange.now mapped instance.now attribute to → IsMarked exchange.now work.new 0 to) }
+    ensures marked { OnOk result ((to : ℕ) → NamesBy exchange.now mapped instance.now attribute to
+        → IsMarked exchange.now work.new 0 to) }
 {
     let targets = attribute.leaf.followed();
     if targets.is_nothing() {
@@ -182,9 +197,11 @@ pub fn follow_attributes(
 ) -> Result<(), AllocError>
     requires size { length work.old.marks.items ≡ length exchange.now }
     requires bodied { bodied ≡ has_body exchange.now instance.now }
-    requires used { (to : ℕ) → Any (λ a. NamesBy exchange.now mapped instance.now a to) row.now → Used exchange.now to }
+    requires used { (to : ℕ) → Any (λ a. NamesBy exchange.now mapped instance.now a to) row.now
+        → Used exchange.now to }
     ensures grows { OnOk result (Grows exchange.now work.old work.new) }
-    ensures marked { OnOk result ((to : ℕ) → Any (λ a. NamesBy exchange.now mapped instance.now a to) row.now → IsMarked exchange.now work.new 0 to) }
+    ensures marked { OnOk result ((to : ℕ) → Any (λ a. NamesBy exchange.now mapped instance.now a to) row.now
+        → IsMarked exchange.now work.new 0 to) }
 {
     for attribute in row {
         follow_attribute(exchange, bodied, mapped, instance, *attribute, work)?;
@@ -202,7 +219,8 @@ pub fn follow_map(
     requires used { (to : ℕ) → Maps exchange.now instance.now to → Used exchange.now to }
     requires mapped { (to : ℕ) → Maps exchange.now instance.now to → IsMapped exchange.now to }
     ensures grows { OnOk result (Grows exchange.now work.old work.new) }
-    ensures marked { OnOk result ((to : ℕ) → Maps exchange.now instance.now to → IsMarked exchange.now work.new 1 to) }
+    ensures marked { OnOk result ((to : ℕ) → Maps exchange.now instance.now to
+        → IsMarked exchange.now work.new 1 to) }
 {
     let Some(Entity::RepresentationMap) = entity_at(instance) else {
         return Ok(());

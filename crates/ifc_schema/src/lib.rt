@@ -7,6 +7,7 @@ mod checks;
 mod flaw;
 mod follow;
 mod form;
+mod laws;
 mod outcome;
 mod table;
 #[cfg(test)]
@@ -20,6 +21,7 @@ mod work;
 
 pub use body::is_body;
 pub use checks::survey;
+pub use laws::one_survey_fault;
 pub use outcome::Survey;
 pub use views::{
     AxisView, ElementView, FaceView, FacesetView, MappedView, OperatorView, PlacementView,

@@ -98,7 +98,7 @@ fn code(value: &Value21) -> u64 {
         Value21::Reference(id) => *id,
         Value21::Number(bytes) => bytes.as_slice().len() as u64,
         Value21::Words(bytes) => bytes.as_slice().len() as u64,
-        Value21::List(items) => items.as_slice().len() as u64,
+        Value21::List(items) => items.get().len() as u64,
         _ => 0,
     }
 }

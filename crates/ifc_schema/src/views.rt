@@ -176,7 +176,8 @@ fn has_body(exchange: &Exchange, element: &Instance) -> bool
 /// Whether an instance has the form of its row; whether it is mapped is given.
 #[tactic(auto, using(crate::proofs::Apart::some_flaw))]
 fn has_form(exchange: &Exchange, mapped: bool, instance: &Instance) -> bool
-    ensures { MatchBool result (InstanceFlaw exchange.now mapped instance.now None) (InstanceFlaw exchange.now mapped instance.now None → ⊥) }
+    ensures { MatchBool result (InstanceFlaw exchange.now mapped instance.now None)
+        (InstanceFlaw exchange.now mapped instance.now None → ⊥) }
 {
     let bodied = has_body(exchange, instance);
     match instance_flaw(exchange, bodied, mapped, instance) {
@@ -187,7 +188,8 @@ fn has_form(exchange: &Exchange, mapped: bool, instance: &Instance) -> bool
 
 /// The instance of that number, where it has the form of its row.
 fn formed(exchange: &Exchange, mapped: bool, id: u64) -> Option<&Instance>
-    ensures { MatchOption result ((i : Instance) → HasForm exchange.now mapped id i → ⊥) (λ i. HasForm exchange.now mapped id i.now) }
+    ensures { MatchOption result ((i : Instance) → HasForm exchange.now mapped id i → ⊥)
+        (λ i. HasForm exchange.now mapped id i.now) }
 {
     match look(exchange, id) {
         Some(instance) => {
@@ -212,7 +214,8 @@ fn present(instance: &Instance, at: usize) -> &Value21
 
 /// An element, by its number.
 pub fn element(exchange: &Exchange, id: u64) -> Option<ElementView<'_>>
-    ensures { MatchOption result (NoneFormed exchange.now false Subject id) (λ v. Views exchange.now false Subject id (ElementFields v)) }
+    ensures { MatchOption result (NoneFormed exchange.now false Subject id)
+        (λ v. Views exchange.now false Subject id (ElementFields v)) }
 {
     let instance = formed(exchange, false, id)?;
     let Some(Entity::Subject) = entity_at(instance) else {
@@ -232,7 +235,8 @@ pub fn element(exchange: &Exchange, id: u64) -> Option<ElementView<'_>>
 
 /// A placement, by its number.
 pub fn placement(exchange: &Exchange, id: u64) -> Option<PlacementView<'_>>
-    ensures { MatchOption result (NoneFormed exchange.now false Placement id) (λ v. Views exchange.now false Placement id (PlacementFields v)) }
+    ensures { MatchOption result (NoneFormed exchange.now false Placement id)
+        (λ v. Views exchange.now false Placement id (PlacementFields v)) }
 {
     let instance = formed(exchange, false, id)?;
     let Some(Entity::Placement) = entity_at(instance) else {
@@ -245,7 +249,8 @@ pub fn placement(exchange: &Exchange, id: u64) -> Option<PlacementView<'_>>
 
 /// A point with axes, by its number.
 pub fn axis_placement(exchange: &Exchange, id: u64) -> Option<AxisView<'_>>
-    ensures { MatchOption result (NoneFormed exchange.now false AxisPlacement id) (λ v. Views exchange.now false AxisPlacement id (AxisFields v)) }
+    ensures { MatchOption result (NoneFormed exchange.now false AxisPlacement id)
+        (λ v. Views exchange.now false AxisPlacement id (AxisFields v)) }
 {
     let instance = formed(exchange, false, id)?;
     let Some(Entity::AxisPlacement) = entity_at(instance) else {
@@ -263,7 +268,8 @@ pub fn axis_placement(exchange: &Exchange, id: u64) -> Option<AxisView<'_>>
 
 /// A transformation, by its number.
 pub fn operator(exchange: &Exchange, id: u64) -> Option<OperatorView<'_>>
-    ensures { MatchOption result (NoneFormed exchange.now false Operator id) (λ v. Views exchange.now false Operator id (OperatorFields v)) }
+    ensures { MatchOption result (NoneFormed exchange.now false Operator id)
+        (λ v. Views exchange.now false Operator id (OperatorFields v)) }
 {
     let instance = formed(exchange, false, id)?;
     let Some(Entity::Operator) = entity_at(instance) else {
@@ -285,7 +291,8 @@ pub fn operator(exchange: &Exchange, id: u64) -> Option<OperatorView<'_>>
 
 /// A representation, by its number. Whether it is mapped is given: `Survey::mapped` tells.
 pub fn representation(exchange: &Exchange, mapped: bool, id: u64) -> Option<RepresentationView<'_>>
-    ensures { MatchOption result (NoneFormed exchange.now mapped Representation id) (λ v. Views exchange.now mapped Representation id (RepresentationFields v)) }
+    ensures { MatchOption result (NoneFormed exchange.now mapped Representation id)
+        (λ v. Views exchange.now mapped Representation id (RepresentationFields v)) }
 {
     let instance = formed(exchange, mapped, id)?;
     let Some(Entity::Representation) = entity_at(instance) else {
@@ -298,7 +305,8 @@ pub fn representation(exchange: &Exchange, mapped: bool, id: u64) -> Option<Repr
 
 /// A face set of triangles, by its number.
 fn triangulated(exchange: &Exchange, id: u64) -> Option<FacesetView<'_>>
-    ensures { MatchOption result (NoneFormed exchange.now false TriangulatedFaceSet id) (λ v. Views exchange.now false TriangulatedFaceSet id (TriangulatedFields v)) }
+    ensures { MatchOption result (NoneFormed exchange.now false TriangulatedFaceSet id)
+        (λ v. Views exchange.now false TriangulatedFaceSet id (TriangulatedFields v)) }
 {
     let instance = formed(exchange, false, id)?;
     let Some(Entity::TriangulatedFaceSet) = entity_at(instance) else {
@@ -317,7 +325,8 @@ fn triangulated(exchange: &Exchange, id: u64) -> Option<FacesetView<'_>>
 
 /// A face set of polygons, by its number.
 fn polygonal(exchange: &Exchange, id: u64) -> Option<FacesetView<'_>>
-    ensures { MatchOption result (NoneFormed exchange.now false PolygonalFaceSet id) (λ v. Views exchange.now false PolygonalFaceSet id (PolygonalFields v)) }
+    ensures { MatchOption result (NoneFormed exchange.now false PolygonalFaceSet id)
+        (λ v. Views exchange.now false PolygonalFaceSet id (PolygonalFields v)) }
 {
     let instance = formed(exchange, false, id)?;
     let Some(Entity::PolygonalFaceSet) = entity_at(instance) else {
@@ -336,7 +345,10 @@ fn polygonal(exchange: &Exchange, id: u64) -> Option<FacesetView<'_>>
 
 /// A face set, by its number.
 pub fn faceset(exchange: &Exchange, id: u64) -> Option<FacesetView<'_>>
-    ensures { MatchOption result (NoneFormed exchange.now false TriangulatedFaceSet id × NoneFormed exchange.now false PolygonalFaceSet id) (λ v. Views exchange.now false TriangulatedFaceSet id (TriangulatedFields v) ⊎ Views exchange.now false PolygonalFaceSet id (PolygonalFields v)) }
+    ensures { MatchOption result (NoneFormed exchange.now false TriangulatedFaceSet id
+        × NoneFormed exchange.now false PolygonalFaceSet id)
+        (λ v. Views exchange.now false TriangulatedFaceSet id (TriangulatedFields v)
+        ⊎ Views exchange.now false PolygonalFaceSet id (PolygonalFields v)) }
 {
     match triangulated(exchange, id) {
         Some(view) => Some(view),
@@ -346,7 +358,8 @@ pub fn faceset(exchange: &Exchange, id: u64) -> Option<FacesetView<'_>>
 
 /// A polygonal face without voids, by its number.
 fn face(exchange: &Exchange, id: u64) -> Option<FaceView<'_>>
-    ensures { MatchOption result (NoneFormed exchange.now false Face id) (λ v. Views exchange.now false Face id (FaceFields v)) }
+    ensures { MatchOption result (NoneFormed exchange.now false Face id)
+        (λ v. Views exchange.now false Face id (FaceFields v)) }
 {
     let instance = formed(exchange, false, id)?;
     let Some(Entity::Face) = entity_at(instance) else {
@@ -361,7 +374,8 @@ fn face(exchange: &Exchange, id: u64) -> Option<FaceView<'_>>
 
 /// A polygonal face with voids, by its number.
 fn voided_face(exchange: &Exchange, id: u64) -> Option<FaceView<'_>>
-    ensures { MatchOption result (NoneFormed exchange.now false FaceWithVoids id) (λ v. Views exchange.now false FaceWithVoids id (VoidedFields v)) }
+    ensures { MatchOption result (NoneFormed exchange.now false FaceWithVoids id)
+        (λ v. Views exchange.now false FaceWithVoids id (VoidedFields v)) }
 {
     let instance = formed(exchange, false, id)?;
     let Some(Entity::FaceWithVoids) = entity_at(instance) else {
@@ -374,7 +388,10 @@ fn voided_face(exchange: &Exchange, id: u64) -> Option<FaceView<'_>>
 
 /// A polygonal face, by its number.
 pub fn polygon_face(exchange: &Exchange, id: u64) -> Option<FaceView<'_>>
-    ensures { MatchOption result (NoneFormed exchange.now false Face id × NoneFormed exchange.now false FaceWithVoids id) (λ v. Views exchange.now false Face id (FaceFields v) ⊎ Views exchange.now false FaceWithVoids id (VoidedFields v)) }
+    ensures { MatchOption result (NoneFormed exchange.now false Face id
+        × NoneFormed exchange.now false FaceWithVoids id)
+        (λ v. Views exchange.now false Face id (FaceFields v)
+        ⊎ Views exchange.now false FaceWithVoids id (VoidedFields v)) }
 {
     match face(exchange, id) {
         Some(view) => Some(view),
@@ -384,7 +401,8 @@ pub fn polygon_face(exchange: &Exchange, id: u64) -> Option<FaceView<'_>>
 
 /// A mapped item, by its number.
 pub fn mapped_item(exchange: &Exchange, id: u64) -> Option<MappedView<'_>>
-    ensures { MatchOption result (NoneFormed exchange.now false MappedItem id) (λ v. Views exchange.now false MappedItem id (MappedFields v)) }
+    ensures { MatchOption result (NoneFormed exchange.now false MappedItem id)
+        (λ v. Views exchange.now false MappedItem id (MappedFields v)) }
 {
     let instance = formed(exchange, false, id)?;
     let Some(Entity::MappedItem) = entity_at(instance) else {

@@ -27,7 +27,8 @@ fn follow(
 ) -> Result<(), AllocError>
     requires size { length work.old.marks.items ≡ length exchange.now }
     requires bodied { bodied.now ≡ body_shapes exchange.now }
-    requires names { (to : ℕ) → Any (λ a. NamesBy exchange.now mapped instance.now a to) (row_at instance.now) → Used exchange.now to }
+    requires names { (to : ℕ) → Any (λ a. NamesBy exchange.now mapped instance.now a to)
+        (row_at instance.now) → Used exchange.now to }
     requires used { (to : ℕ) → Maps exchange.now instance.now to → Used exchange.now to }
     requires mapped { (to : ℕ) → Maps exchange.now instance.now to → IsMapped exchange.now to }
     ensures grows { OnOk result (Grows exchange.now work.old work.new) }
@@ -98,7 +99,8 @@ fn mark_roots(exchange: &Exchange, work: &mut Work) -> Result<(), AllocError>
 fn is_first(instances: &[Instance], at: usize) -> bool
     requires within { at < length instances.now }
     requires rises { Rises instances.now }
-    ensures first { OnTrue result ((i : Instance) → IsPlaceOf instances.now (slice_index_or instances.now at i).id at) }
+    ensures first { OnTrue result ((i : Instance)
+        → IsPlaceOf instances.now (slice_index_or instances.now at i).id at) }
     ensures other { OnFalse result ((id : ℕ) → IsPlaceOf instances.now id at → ⊥) }
 {
     at == 0 || instances[at - 1].id != instances[at].id

@@ -3,7 +3,7 @@ ghost use Rattle.std.specs.Prelude.{◌≡◌};
 ghost use Rattle.std.specs.Bool.{MatchBool};
 ghost use Rattle.ifc_schema.specs.Words.{IsNumber, IsNoNumber, IsWhole, IsNotWhole, says_body, says_guid};
 
-use bim_text::{Decimal, says};
+use bim_text::{Decimal, says, small_whole};
 
 /// Whether the bytes are a number that is read.
 pub fn is_number(bytes: &[u8]) -> bool
@@ -17,6 +17,16 @@ pub fn is_number(bytes: &[u8]) -> bool
 
 /// Whether the bytes are a number that is read, and its value is whole.
 pub fn is_whole(bytes: &[u8]) -> bool
+    ensures { MatchBool result (IsWhole bytes.now) (IsNotWhole bytes.now) }
+{
+    match small_whole(bytes) {
+        Some(_number) => true,
+        None => is_whole_decimal(bytes),
+    }
+}
+
+/// The same of any number, in 128 bits.
+fn is_whole_decimal(bytes: &[u8]) -> bool
     ensures { MatchBool result (IsWhole bytes.now) (IsNotWhole bytes.now) }
 {
     match Decimal::read(bytes) {

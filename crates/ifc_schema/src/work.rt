@@ -62,8 +62,12 @@ impl Work {
     /// Raises the mark of a place, and puts the place on the stack where the mark was lower.
     pub fn raise(&mut self, at: usize, mark: Mark) -> Result<(), AllocError>
         requires { at < length self.old.marks.items }
-        ensures marks { OnOk result (self.new.marks.items ≡ (if nat_lt (rank_at self.old at) (rank mark) then slice_set self.old.marks.items at mark else self.old.marks.items)) }
-        ensures stack { OnOk result (self.new.stack.items ≡ (if nat_lt (rank_at self.old at) (rank mark) then self.old.stack.items ++ at ∷ [] else self.old.stack.items)) }
+        ensures marks { OnOk result (self.new.marks.items
+            ≡ (if nat_lt (rank_at self.old at) (rank mark)
+            then slice_set self.old.marks.items at mark else self.old.marks.items)) }
+        ensures stack { OnOk result (self.new.stack.items
+            ≡ (if nat_lt (rank_at self.old at) (rank mark)
+            then self.old.stack.items ++ at ∷ [] else self.old.stack.items)) }
     {
         if self.marks[at].rank() < mark.rank() {
             self.stack.push(at)?;

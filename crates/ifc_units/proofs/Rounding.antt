@@ -52,6 +52,9 @@ pub ruleset roundings = (snap_whole, snap_next, exact_whole, exact_next, exact_n
 pub power_most : (z : ℕ) → z ≤ 37 → 10 ^ z ≤ 10 ^ 37
 power_most z h = pow-le-pow_right {n = 10} (omega arith) {i = z} {j = 37} h
 
+pub power_few : (z : ℕ) → z ≤ 15 → 10 ^ z ≤ 10 ^ 15
+power_few z h = pow-le-pow_right {n = 10} (omega arith) {i = z} {j = 15} h
+
 -- behind so many places nothing is left
 pub far_size : (mode : Mode) (n z : ℕ) → n < 10 ^ 34 → 37 < z → IsSize mode UNITS (UNITS * n) (10 ^ z) 0
 far_size Exact n z small far =
@@ -61,7 +64,7 @@ far_size Snap n z small far =
     let up : 10 ^ 38 ≤ 10 ^ z = pow-le-pow_right {n = 10} (omega arith) {i = 38} {j = z} far in
     record { near = omega (arith, up); away = λ k. absurd (omega (arith, up, k)) }
 
-pub ruleset part_sizes = (power_some, power_most, far_size)
+pub ruleset part_sizes = (power_some, power_most, power_few, far_size)
 
 -- whole sizes
 

@@ -4,6 +4,7 @@ use Rattle.ifc_units.specs.declared.fault.GridFault.{GridFault}
 use Rattle.ifc_units.specs.declared.fault.LengthError.{LengthError}
 use Rattle.ifc_units.specs.declared.fault.LengthError.TheVariants.{Unread, Refused}
 
+-- the fault by which a length is refused
 abbrev pub fault_in : LengthError → Option GridFault
 fault_in Unread = None
 fault_in (Refused fault) = Some fault

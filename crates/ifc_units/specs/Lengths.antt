@@ -51,13 +51,15 @@ pub record LengthRefused (scale : Scale) (mode : Mode) (v : Value21) (fault : Gr
   pub read : Reads bytes decimal
   pub refused : HasFault mode (length_of decimal scale) fault
 
+-- a value has a length on the grid
 abbrev pub HasLength : Scale → Mode → Value21 → Type 0
 HasLength scale mode v = (g : ℤ) × IsLength scale mode v g
 
 -- Of things in a row: the first that isn't good has the fault.
 abbrev pub FirstRefused : {X : Type 0} → (X → Type 0) → (X → GridFault → Type 0) → List X → GridFault → Type 0
 FirstRefused IsGood IsRefused [] fault = ⊥
-FirstRefused IsGood IsRefused (x ∷ xs) fault = IsRefused x fault ⊎ (IsGood x × FirstRefused IsGood IsRefused xs fault)
+FirstRefused IsGood IsRefused (x ∷ xs) fault =
+    IsRefused x fault ⊎ (IsGood x × FirstRefused IsGood IsRefused xs fault)
 
 -- Of three numbers.
 
@@ -79,6 +81,7 @@ pub record PointRefused (scale : Scale) (mode : Mode) (v : Value21) (fault : Gri
   pub three : items_of v ≡ Some (a ∷ b ∷ c ∷ [])
   pub first : FirstRefused (HasLength scale mode) (LengthRefused scale mode) (a ∷ b ∷ c ∷ []) fault
 
+-- a value has a point on the grid
 abbrev pub HasPoint : Scale → Mode → Value21 → Type 0
 HasPoint scale mode v = (p : Point) × IsPoint scale mode v p
 
@@ -94,6 +97,7 @@ PointsRefused scale mode = FirstRefused (HasPoint scale mode) (PointRefused scal
 
 -- What is neither can't be read.
 
+-- nothing is found and nothing is refused
 pub record IsUnread {A : Type 0} (Is : A → Type 0) (IsRefused : GridFault → Type 0) : Type 0 where
   pub none : (a : A) → Is a → ⊥
   pub unrefused : (fault : GridFault) → IsRefused fault → ⊥
@@ -112,5 +116,7 @@ ListRefused scale mode v fault = MatchOption (items_of v) ⊥ (λ vs. PointsRefu
 -- An instance is a point, and its attribute 0 has that fault; or it is a list of points, and that attribute's points have it.
 abbrev pub InstanceRefused : Scale → Mode → Instance → GridFault → Type 0
 InstanceRefused scale mode i fault =
-    ((is_a entity.Point i ≡ true) × MatchOption (slice_get i.values 0) ⊥ (λ v. PointRefused scale mode v fault))
-    ⊎ ((is_a entity.PointList i ≡ true) × MatchOption (slice_get i.values 0) ⊥ (λ v. ListRefused scale mode v fault))
+    ((is_a entity.Point i ≡ true) × MatchOption (slice_get i.values 0) ⊥
+    (λ v. PointRefused scale mode v fault))
+    ⊎ ((is_a entity.PointList i ≡ true)
+    × MatchOption (slice_get i.values 0) ⊥ (λ v. ListRefused scale mode v fault))

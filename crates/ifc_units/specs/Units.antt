@@ -18,6 +18,7 @@ use Rattle.ifc_units.specs.declared.scale.Scale.{Scale}
 
 -- What values say.
 
+-- the word of a value of an enumeration
 abbrev pub enumeration_in : Value21-F Value21 → Option (List ℕ)
 enumeration_in (layer.Enumeration word) = Some word
 enumeration_in _ = None
@@ -28,7 +29,8 @@ enumeration_of v = enumeration_in (out-Value21 v)
 
 -- an attribute is the enumeration of those letters
 abbrev pub says : List ℕ → Instance → ℕ → Bool
-says word i at = some_passes (λ letters. bytes_eq letters word) (option_and_then enumeration_of (slice_get i.values at))
+says word i at = some_passes (λ letters. bytes_eq letters word)
+    (option_and_then enumeration_of (slice_get i.values at))
 
 -- Of a unit.
 
@@ -47,6 +49,7 @@ prefixes =
     (codes "MILLI", pos 0) ∷
     (codes "MICRO", negsuc 2) ∷ []
 
+-- the power of ten that a prefix says
 unfoldable pub prefix_power : List ℕ → Option ℤ
 prefix_power word = option_map (λ p. p.1) (find (λ p. bytes_eq word p.0) prefixes)
 
@@ -61,9 +64,11 @@ unit_power i = if says (codes "METRE") i 3 then power_with (slice_get i.values 2
 
 -- Of a file.
 
+-- the instances that are projects
 abbrev pub projects : List Instance → List Instance
 projects world = filter (is_a entity.Project) world
 
+-- an instance that passes a test
 abbrev pub kept_if : (Instance → Bool) → Option Instance → Option Instance
 kept_if test None = None
 kept_if test (Some i) = if test i then Some i else None

@@ -16,8 +16,10 @@ use bim_text::Decimal;
 pub fn to_grid(number: Decimal, scale: Scale, mode: Mode) -> Result<i32, GridFault>
     ensures ok { IfOk result (λ g. IsGridNumber mode units (length_of number scale) g) }
     ensures within { IfOk result (λ g. unsigned_abs g ≤ reach) }
-    ensures off_grid { result ≡ Err GridFault.OffGrid → (g : ℤ) → IsGridNumber mode units (length_of number scale) g → ⊥ }
-    ensures too_far { result ≡ Err GridFault.TooFar → (g : ℤ) × IsGridNumber mode units (length_of number scale) g × (reach < unsigned_abs g) }
+    ensures off_grid { result ≡ Err GridFault.OffGrid → (g : ℤ)
+        → IsGridNumber mode units (length_of number scale) g → ⊥ }
+    ensures too_far { result ≡ Err GridFault.TooFar
+        → (g : ℤ) × IsGridNumber mode units (length_of number scale) g × (reach < unsigned_abs g) }
 {
     match size_of(number, scale, mode) {
         Ok(size) => Ok(with_sign(number.negative, size)),
@@ -42,8 +44,10 @@ fn size_of(number: Decimal, scale: Scale, mode: Mode) -> Result<u128, GridFault>
     ensures ok { IfOk result (λ g. IsSizeOf mode (number.exp +ℤ scale.power) number.digits g) }
     ensures within { IfOk result (λ g. g ≤ MOST) }
     ensures exact { result ≡ Err GridFault.OffGrid → mode ≡ Mode.Exact }
-    ensures off_grid { result ≡ Err GridFault.OffGrid → (g : ℕ) → IsSizeOf mode (number.exp +ℤ scale.power) number.digits g → ⊥ }
-    ensures too_far { result ≡ Err GridFault.TooFar → (g : ℕ) × IsSizeOf mode (number.exp +ℤ scale.power) number.digits g × (MOST < g) }
+    ensures off_grid { result ≡ Err GridFault.OffGrid → (g : ℕ)
+        → IsSizeOf mode (number.exp +ℤ scale.power) number.digits g → ⊥ }
+    ensures too_far { result ≡ Err GridFault.TooFar
+        → (g : ℕ) × IsSizeOf mode (number.exp +ℤ scale.power) number.digits g × (MOST < g) }
 {
     let power = number.exp as i64 + scale.power as i64;
     let places = power.unsigned_abs();

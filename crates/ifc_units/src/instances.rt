@@ -12,7 +12,8 @@ use p21_reader::{Instance, Value21};
 
 // The fault of a value that is to be a point.
 fn point_fault(value: &Value21, scale: Scale, mode: Mode) -> Option<GridFault>
-    ensures { MatchOption result ((fault : GridFault) → PointRefused scale mode value.now fault → ⊥) (PointRefused scale mode value.now) }
+    ensures { MatchOption result ((fault : GridFault) → PointRefused scale mode value.now fault → ⊥)
+        (PointRefused scale mode value.now) }
 {
     match point(value, scale, mode) {
         Ok(_point) => None,
@@ -22,7 +23,8 @@ fn point_fault(value: &Value21, scale: Scale, mode: Mode) -> Option<GridFault>
 
 // The fault of a value that is to be a list of points.
 fn list_fault(value: &Value21, scale: Scale, mode: Mode) -> Option<GridFault>
-    ensures { MatchOption result ((fault : GridFault) → ListRefused scale mode value.now fault → ⊥) (ListRefused scale mode value.now) }
+    ensures { MatchOption result ((fault : GridFault) → ListRefused scale mode value.now fault → ⊥)
+        (ListRefused scale mode value.now) }
 {
     match items_of(value) {
         Some(items) => points_fault(items, scale, mode),
@@ -33,7 +35,8 @@ fn list_fault(value: &Value21, scale: Scale, mode: Mode) -> Option<GridFault>
 /// Which fault the numbers of an instance have that is an `IFCCARTESIANPOINT` or an `IFCCARTESIANPOINTLIST3D`: that of the first which has
 /// no grid number in reach. None of other instances, and where the first such value isn't a number.
 pub fn fault_of_points(instance: &Instance, scale: Scale, mode: Mode) -> Option<GridFault>
-    ensures { MatchOption result ((fault : GridFault) → InstanceRefused scale mode instance.now fault → ⊥) (InstanceRefused scale mode instance.now) }
+    ensures { MatchOption result ((fault : GridFault) → InstanceRefused scale mode instance.now fault → ⊥)
+        (InstanceRefused scale mode instance.now) }
 {
     let Some(value) = attribute(instance, 0) else {
         return None;

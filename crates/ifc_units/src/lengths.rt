@@ -17,7 +17,8 @@ use std::alloc::{AllocError, Global};
 
 /// The grid number of a value that is a number (IFC4 ADD2 TC1, IfcLengthMeasure). Unread where it isn't one that is read.
 pub fn length(value: &Value21, scale: Scale, mode: Mode) -> Result<i32, LengthError>
-    ensures { MatchResult result (IsLength scale mode value.now) (Fails (IsLength scale mode value.now) (LengthRefused scale mode value.now)) }
+    ensures { MatchResult result (IsLength scale mode value.now)
+        (Fails (IsLength scale mode value.now) (LengthRefused scale mode value.now)) }
 {
     let Some(bytes) = number_of(value) else {
         return Err(LengthError::Unread);
@@ -39,7 +40,9 @@ fn point_of(
     scale: Scale,
     mode: Mode,
 ) -> Result<Point, LengthError>
-    ensures { MatchResult result (λ p. AllZip (IsLength scale mode) (a.now ∷ b.now ∷ c.now ∷ []) (p.x ∷ p.y ∷ p.z ∷ [])) (Fails (AllZip (IsLength scale mode) (a.now ∷ b.now ∷ c.now ∷ [])) (FirstRefused (HasLength scale mode) (LengthRefused scale mode) (a.now ∷ b.now ∷ c.now ∷ []))) }
+    ensures { MatchResult result (λ p. AllZip (IsLength scale mode) (a.now ∷ b.now ∷ c.now ∷ [])
+        (p.x ∷ p.y ∷ p.z ∷ [])) (Fails (AllZip (IsLength scale mode) (a.now ∷ b.now ∷ c.now ∷ []))
+        (FirstRefused (HasLength scale mode) (LengthRefused scale mode) (a.now ∷ b.now ∷ c.now ∷ []))) }
 {
     let x = length(a, scale, mode)?;
     let y = length(b, scale, mode)?;
@@ -50,7 +53,8 @@ fn point_of(
 /// The point of a value that is a list of exactly three numbers (IFC4 ADD2 TC1, IfcCartesianPoint). The first that is no grid number in
 /// reach decides why there is none.
 pub fn point(value: &Value21, scale: Scale, mode: Mode) -> Result<Point, LengthError>
-    ensures { MatchResult result (IsPoint scale mode value.now) (Fails (IsPoint scale mode value.now) (PointRefused scale mode value.now)) }
+    ensures { MatchResult result (IsPoint scale mode value.now)
+        (Fails (IsPoint scale mode value.now) (PointRefused scale mode value.now)) }
 {
     let Some(items) = items_of(value) else {
         return Err(LengthError::Unread);
@@ -69,7 +73,8 @@ pub fn points(
     scale: Scale,
     mode: Mode,
 ) -> Result<Result<Vec<Point>, LengthError>, AllocError>
-    ensures { IfOk result (λ made. MatchResult made (λ points. ArePoints scale mode values.now points.items) (Fails (ArePoints scale mode values.now) (PointsRefused scale mode values.now))) }
+    ensures { IfOk result (λ made. MatchResult made (λ points. ArePoints scale mode values.now points.items)
+        (Fails (ArePoints scale mode values.now) (PointsRefused scale mode values.now))) }
 {
     let mut made = Vec::with_capacity(alloc, values.len())?;
     for value in values {
@@ -83,7 +88,8 @@ pub fn points(
 
 /// Which fault the first value has that is no point. None where there is none, or that value can't be read. Takes no memory.
 pub fn points_fault(values: &[Value21], scale: Scale, mode: Mode) -> Option<GridFault>
-    ensures { MatchOption result ((fault : GridFault) → PointsRefused scale mode values.now fault → ⊥) (PointsRefused scale mode values.now) }
+    ensures { MatchOption result ((fault : GridFault) → PointsRefused scale mode values.now fault → ⊥)
+        (PointsRefused scale mode values.now) }
 {
     for value in values {
         match point(value, scale, mode) {

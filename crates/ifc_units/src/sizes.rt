@@ -4,8 +4,14 @@ ghost use Rattle.ifc_units.specs.Sizes.{IsSize};
 
 use bim_model::{FARTHEST, Mode, PER_MM};
 
+/// The least number of more than 15 digits.
+const FEW: u128 = 1_000_000_000_000_000;
+
 /// Grid numbers in a millimetre.
 pub const UNITS: u128 = PER_MM as u128;
+
+/// The same in 64 bits.
+const FEW_UNITS: u64 = PER_MM as u64;
 
 /// The greatest size of a grid number.
 pub const MOST: u128 = FARTHEST as u128;
@@ -38,6 +44,34 @@ pub fn round(count: u128, parts: u128, mode: Mode) -> Option<u128>
     }
 }
 
+/// The same in 64 bits.
+#[tactic(auto, using(crate::proofs::Rounding::roundings))]
+fn round_few(count: u64, parts: u64, mode: Mode) -> Option<u64>
+    requires some { 0 < parts }
+    requires parts { parts ≤ 10 ^ 15 }
+    requires count { count ≤ 10 ^ 17 }
+    ensures size { IfSome result (λ g. IsSize mode UNITS count parts g) }
+    ensures none { IfNone result ((g : ℕ) → IsSize mode UNITS count parts g → ⊥) }
+    ensures exact { IfNone result (mode ≡ Mode.Exact) }
+{
+    let whole = count / parts;
+    let under = count % parts;
+    let over = parts - under;
+    match mode {
+        Mode::Snap => Some(if under < over { whole } else { whole + 1 }),
+        Mode::Exact => {
+            let tolerance = (FEW_UNITS * parts + 999) / 1000;
+            if under < tolerance {
+                Some(whole)
+            } else if over < tolerance {
+                Some(whole + 1)
+            } else {
+                None
+            }
+        }
+    }
+}
+
 /// The size for so many digits with zeros behind them. None where it is beyond the greatest.
 #[tactic(auto, using(crate::proofs::Rounding::whole_sizes))]
 pub fn whole_size(digits: u128, zeros: u64) -> Option<u128>
@@ -59,6 +93,21 @@ pub fn whole_size(digits: u128, zeros: u64) -> Option<u128>
     if size <= MOST { Some(size) } else { None }
 }
 
+/// The same of at most 15 digits and places, in 64 bits.
+#[tactic(auto, using(crate::proofs::Rounding::part_sizes))]
+fn part_size_few(digits: u64, places: u64, mode: Mode) -> Option<u128>
+    requires digits { digits < 10 ^ 15 }
+    requires places { places ≤ 15 }
+    ensures size { IfSome result (λ g. IsSize mode UNITS (UNITS * digits) (10 ^ places) g) }
+    ensures none { IfNone result ((g : ℕ) → IsSize mode UNITS (UNITS * digits) (10 ^ places) g → ⊥) }
+    ensures exact { IfNone result (mode ≡ Mode.Exact) }
+{
+    match round_few(FEW_UNITS * digits, 10u64.pow(places as u32), mode) {
+        Some(size) => Some(size as u128),
+        None => None,
+    }
+}
+
 /// The size for so many digits of which the last `places` stand behind the point. None where it lies between two grid numbers.
 #[tactic(auto, using(crate::proofs::Rounding::part_sizes))]
 pub fn part_size(digits: u128, places: u64, mode: Mode) -> Option<u128>
@@ -67,6 +116,9 @@ pub fn part_size(digits: u128, places: u64, mode: Mode) -> Option<u128>
     ensures none { IfNone result ((g : ℕ) → IsSize mode UNITS (UNITS * digits) (10 ^ places) g → ⊥) }
     ensures exact { IfNone result (mode ≡ Mode.Exact) }
 {
+    if places <= 15 && digits < FEW {
+        return part_size_few(digits as u64, places, mode);
+    }
     if places > 37 {
         return Some(0);
     }

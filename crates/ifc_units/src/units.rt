@@ -182,7 +182,8 @@ fn first_unit(exchange: &Exchange, items: &[Value21]) -> Option<u64>
 
 // Whether a value refers to a unit of length of another number.
 fn names_other(exchange: &Exchange, value: &Value21, id: u64) -> bool
-    ensures { MatchBool result (RefersToOther exchange.now id value.now) (RefersToOther exchange.now id value.now → ⊥) }
+    ensures { MatchBool result (RefersToOther exchange.now id value.now)
+        (RefersToOther exchange.now id value.now → ⊥) }
 {
     match unit_named(exchange, value) {
         Some(other) => other != id,
@@ -193,7 +194,8 @@ fn names_other(exchange: &Exchange, value: &Value21, id: u64) -> bool
 // Whether a unit of length of another number is among the items.
 #[tactic(auto, using(ifc_instances::proofs::Scans::scans))]
 fn has_other(exchange: &Exchange, items: &[Value21], id: u64) -> bool
-    ensures { MatchBool result (Any (RefersToOther exchange.now id) items.now) (Any (RefersToOther exchange.now id) items.now → ⊥) }
+    ensures { MatchBool result (Any (RefersToOther exchange.now id) items.now)
+        (Any (RefersToOther exchange.now id) items.now → ⊥) }
 {
     for item in items {
         if names_other(exchange, item, id) {

@@ -41,3 +41,4 @@ pub mod Thens
 pub mod Clears
 pub mod Modelling
 pub mod Profiled
+pub mod OneAnswer

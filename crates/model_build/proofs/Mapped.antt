@@ -16,7 +16,8 @@ use Rattle.placement.specs.declared.axes.Axes.{Axes}
 use Rattle.placement.specs.Directions.{HasAxes, HasDirections, Oblique}
 use Rattle.ifc_instances.specs.Attributes.{referred_at}
 use Rattle.placement.proofs.Square.{square}
-use Rattle.faceset.specs.Indexes.{Writes, PointsAt, PointsNowhere}
+use Rattle.bim_text.specs.Decimals.{WritesWhole}
+use Rattle.faceset.specs.Indexes.{PointsAt, PointsNowhere}
 use Rattle.model_build.specs.Items.{is_mapped_item}
 use Rattle.ifc_instances.specs.Least.{LeastOf}
 use Rattle.model_build.specs.Unsupported.{IsNotOne, IsTurned, IsAway, IsOtherOrigin, plain_axes}
@@ -65,7 +66,7 @@ not_one v bytes (Some k) false e t some none = λ h. (
     let f = some.number in
     let g = h.number in
     let same : some.bytes ≡ h.bytes = cc in
-    h.other (subst (λ bs. Writes bs (pos 1)) same (subst (λ n. Writes some.bytes (pos (suc n))) first some.written)))
+    h.other (subst (λ bs. WritesWhole bs (pos 1)) same (subst (λ n. WritesWhole some.bytes (pos (suc n))) first some.written)))
 
 -- Origins.
 

@@ -19,7 +19,7 @@ use Rattle.model_build.specs.Stages.{Stage, IsClear, Then, LeastFault}
 use Rattle.model_build.specs.PointTables.{LengthFault}
 use Rattle.model_build.specs.Elements.{IsModelOf}
 use Rattle.model_build.specs.Outcomes.{IsErrorOf, AreMeasured}
-use Rattle.model_build.specs.Profile.{AfterUnit, FileFault, Profile, IsCause}
+use Rattle.model_build.specs.Profile.{InUnit, AfterUnit, FileFault, Profile, IsCause}
 use Rattle.model_build.proofs.Thens.{then_clear, then_error}
 
 -- The stages of lengths and of the tree.
@@ -36,13 +36,13 @@ tree_clear world h fault s = h s.id s.flawed
 
 -- The file.
 
-abbrev InUnit : List Instance → Mode → Stage
-InUnit world mode fault = (scale : Scale) × IsLengthUnit world scale × AfterUnit world scale mode fault
+abbrev Measured : List Instance → Mode → Stage
+Measured world mode = InUnit world (λ scale. AfterUnit world scale mode)
 
-unit_clear : (world : List Instance) (scale : Scale) (mode : Mode) → IsLengthUnit world scale → IsClear (AfterUnit world scale mode) → IsClear (InUnit world mode)
+unit_clear : (world : List Instance) (scale : Scale) (mode : Mode) → IsLengthUnit world scale → IsClear (AfterUnit world scale mode) → IsClear (Measured world mode)
 unit_clear world scale mode unit clear fault h = clear fault (subst (λ s. AfterUnit world s mode fault) (one_unit world h.0 scale h.1 unit) h.2)
 
-in_unit : (world : List Instance) (scale : Scale) (mode : Mode) (e : BuildError) → IsLengthUnit world scale → IsErrorOf (AfterUnit world scale mode) e → IsErrorOf (InUnit world mode) e
+in_unit : (world : List Instance) (scale : Scale) (mode : Mode) (e : BuildError) → IsLengthUnit world scale → IsErrorOf (AfterUnit world scale mode) e → IsErrorOf (Measured world mode) e
 in_unit world scale mode (errors.Fault fault) unit h = (scale, unit, h)
 in_unit world scale mode errors.Memory unit h = h
 
@@ -55,7 +55,7 @@ pub unit_err : (world : List Instance) (scale : Scale) (mode : Mode) (r : Result
     → IfErr r (IsErrorOf (AfterUnit world scale mode)) → IfErr r (IsErrorOf (FileFault world mode))
 unit_err world scale mode (Ok m) five clear unit h = h
 unit_err world scale mode (Err e) five clear unit h =
-    then_error (StageFive world) (Then (LengthUnitFault world) (InUnit world mode)) e five (then_error (LengthUnitFault world) (InUnit world mode) e clear (in_unit world scale mode e unit h))
+    then_error (StageFive world) (Then (LengthUnitFault world) (Measured world mode)) e five (then_error (LengthUnitFault world) (Measured world mode) e clear (in_unit world scale mode e unit h))
 
 -- The bytes.
 

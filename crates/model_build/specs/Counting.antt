@@ -12,6 +12,7 @@ Number world ids instances = map (look world) ids ≡ map Some instances
 abbrev pub CountsTo : ℕ → Option ℕ → Type 0
 CountsTo count found = MatchOption found (most_triangles < count) (λ n. (n ≡ count) × (n ≤ most_triangles))
 
+-- the triangles of the items of a representation, where there is one
 abbrev pub items_count : List Instance → Option Instance → ℕ
 items_count world None = 0
 items_count world (Some r) = sum_by (item_count world) (items_of world r)

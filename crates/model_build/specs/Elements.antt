@@ -14,7 +14,8 @@ use Rattle.model_build.specs.Storeys.{IsStoreyName}
 use Rattle.model_build.specs.Surfaces.{IsSurface}
 
 -- the element of that number
-pub record IsElement (world : List Instance) (scale : Scale) (mode : Mode) (id : ℕ) (element : Element) : Type 0 where
+pub record IsElement (world : List Instance) (scale : Scale) (mode : Mode) (id : ℕ)
+    (element : Element) : Type 0 where
   pub instance : Instance
   pub found : look world id ≡ Some instance
   pub guid : guid_of instance ≡ Some element.guid.chars

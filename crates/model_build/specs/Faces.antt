@@ -19,15 +19,18 @@ use Rattle.model_build.specs.Finding.{Finds}
 abbrev pub IsUsedSet : List Instance → ℕ → Type 0
 IsUsedSet world id = Used world id × Finds world id (λ i. is_set i ≡ true)
 
+-- a face, with voids or without
 abbrev pub is_face : Instance → Bool
 is_face i = is_a Face i || is_a FaceWithVoids i
 
+-- a face with too many corners
 abbrev pub HasManyCorners : Instance → Type 0
 HasManyCorners i = (is_face i ≡ true) × (most_corners < length (outline i))
 
 -- a face that is used has more than a thousand corners
 abbrev pub CornersStage : List Instance → Stage
-CornersStage world fault = (fault ≡ faults.TooMany many.Corners) × (id : ℕ) × Used world id × Finds world id HasManyCorners
+CornersStage world fault = (fault ≡ faults.TooMany many.Corners) × (id : ℕ) × Used world id
+    × Finds world id HasManyCorners
 
 -- the points of a set on the grid
 abbrev pub SetPoints : List Instance → Scale → Mode → Instance → List Point → Type 0
@@ -35,7 +38,9 @@ SetPoints world scale mode set points = ArePoints scale mode (spelled_points wor
 
 -- the set of that number has that face, which can't be cut
 abbrev pub ShowsStuck : List Instance → Scale → Mode → ℕ → ℕ → Type 0
-ShowsStuck world scale mode set id = Finds world set (λ s. (points : List Point) × SetPoints world scale mode s points × HasStuck world points s id)
+ShowsStuck world scale mode set id =
+    Finds world set (λ s. (points : List Point) × SetPoints world scale mode s points
+    × HasStuck world points s id)
 
 -- a face of a set that is used can't be cut
 abbrev pub IsStuckFace : List Instance → Scale → Mode → ℕ → Type 0

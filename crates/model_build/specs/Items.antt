@@ -13,6 +13,7 @@ use Rattle.ifc_instances.specs.Attributes.{listed, target_at, led_to}
 use Rattle.faceset.specs.Sets.{is_set, triangle_count}
 use Rattle.model_build.specs.Stages.{Stage}
 
+-- the list of an instance at a place, where there is an instance
 abbrev pub listed_by : Option Instance → ℕ → List Value21
 listed_by None at = []
 listed_by (Some i) at = listed i at
@@ -41,6 +42,7 @@ items_of world r = led_to world (spelled_items r)
 abbrev pub body_items : List Instance → Instance → List Instance
 body_items world i = flat_map (items_of world) (bodies world i)
 
+-- a mapped item
 abbrev pub is_mapped_item : Instance → Bool
 is_mapped_item i = is_a MappedItem i
 
@@ -58,14 +60,18 @@ map_of world item = target_at world item 0
 abbrev pub spelled_sets : List Instance → Instance → List Value21
 spelled_sets world item = listed_by (option_and_then (λ m. target_at world m 1) (map_of world item)) 3
 
+-- the sets that a mapped item shows
 abbrev pub mapped_sets : List Instance → Instance → List Instance
 mapped_sets world item = led_to world (spelled_sets world item)
 
 -- How many triangles there are.
 
+-- the triangles of an item
 abbrev pub item_count : List Instance → Instance → ℕ
-item_count world item = if is_mapped_item item then sum_by (triangle_count world) (mapped_sets world item) else triangle_count world item
+item_count world item = if is_mapped_item item
+    then sum_by (triangle_count world) (mapped_sets world item) else triangle_count world item
 
+-- the triangles of an element, where there is one
 abbrev pub counted : List Instance → Option Instance → ℕ
 counted world None = 0
 counted world (Some i) = sum_by (item_count world) (body_items world i)
@@ -84,5 +90,7 @@ pub record HasTriangles (world : List Instance) (count : ℕ) : Type 0 where
 abbrev pub most_triangles : ℕ
 most_triangles = MOST_TRIANGLES
 
+-- there are too many triangles
 abbrev pub TrianglesStage : List Instance → Stage
-TrianglesStage world fault = (fault ≡ faults.TooMany many.Triangles) × (count : ℕ) × HasTriangles world count × (most_triangles < count)
+TrianglesStage world fault = (fault ≡ faults.TooMany many.Triangles) × (count : ℕ) × HasTriangles world count
+    × (most_triangles < count)

@@ -9,6 +9,7 @@ use Rattle.placement.specs.Directions.{HasAxes}
 use Rattle.placement.specs.Operators.{HasOperatorAxes}
 use Rattle.model_build.specs.Finding.{Finds}
 
+-- the least of these numbers that is such
 pub record IsLeastOf (ids : List ℕ) (P : ℕ → Type 0) (id : ℕ) : Type 0 where
   pub listed : Contains ids id
   pub here : P id
@@ -34,9 +35,11 @@ IsBadSet world id = Finds world id (λ i. (is_set i ≡ true) × HasBadIndex wor
 abbrev pub IsVoided : List Instance → ℕ → Type 0
 IsVoided world id = Finds world id (λ i. is_a FaceWithVoids i ≡ true)
 
+-- the number of an axis placement
 abbrev pub IsAxisPlacement : List Instance → ℕ → Type 0
 IsAxisPlacement world id = Finds world id (λ i. is_a AxisPlacement i ≡ true)
 
+-- the number of an operator
 abbrev pub IsOperator : List Instance → ℕ → Type 0
 IsOperator world id = Finds world id (λ i. is_a Operator i ≡ true)
 

@@ -14,6 +14,7 @@ pub record IsNamed (world : List Instance) (Of : ℕ → Type 0) (placement : �
 abbrev pub NamesPlacement : List Instance → ℕ → ℕ → Type 0
 NamesPlacement world element placement = Finds world element (λ i. reference_at i 5 ≡ Some placement)
 
+-- an element that names no placement
 abbrev pub NamesNone : List Instance → ℕ → Type 0
 NamesNone world element = (placement : ℕ) → NamesPlacement world element placement → ⊥
 

@@ -6,12 +6,14 @@ use Rattle.std.specs.BTreeMap.{is_at}
 use Rattle.p21_reader.specs.declared.value.Instance.{Instance}
 use Rattle.model_build.specs.Texts.{name_at}
 
+-- the name that is kept for a number
 abbrev pub name_in : List (ℕ × List ℕ) → ℕ → Option (List ℕ)
 name_in entries id = lookup (is_at (nat_cmp id)) entries
 
 -- what stands there by a number is the name of its instance; a storey may lack
 abbrev pub AreNames : List Instance → List (ℕ × List ℕ) → Type 0
-AreNames world entries = (id : ℕ) (name : List ℕ) → name_in entries id ≡ Some name → name_at world id ≡ Some name
+AreNames world entries = (id : ℕ) (name : List ℕ) → name_in entries id ≡ Some name
+    → name_at world id ≡ Some name
 
 -- the name of one storey more
 pub record PutsName (old new : ℕ → Option (List ℕ)) (id : ℕ) (name : List ℕ) : Type 0 where

@@ -55,7 +55,8 @@ pub record IsStanding (placements : List ℕ) (i : Instance) : Type 0 where
   pub names : (is_absent value ≡ true) ⊎ ((id : ℕ) × (reference_of value ≡ Some id) × Contains placements id)
 
 -- what an element has once the earlier stages have found no fault
-pub record IsReady (world : List Instance) (scale : Scale) (mode : Mode) (placements listed : List ℕ) (i : Instance) : Type 0 where
+pub record IsReady (world : List Instance) (scale : Scale) (mode : Mode) (placements listed : List ℕ)
+    (i : Instance) : Type 0 where
   pub guid : (g : List ℕ) × (guid_of i ≡ Some g) × IsGuid g
   pub class : (keyword : List ℕ) × (i.keyword ≡ Some keyword)
   pub standing : IsStanding placements i
@@ -63,40 +64,49 @@ pub record IsReady (world : List Instance) (scale : Scale) (mode : Mode) (placem
   pub some : 0 < sum_by (item_count world) (body_items world i)
 
 -- the frame carries points as the placement of the element does
-pub record IsFrameOf (world : List Instance) (scale : Scale) (mode : Mode) (i : Instance) (frame : Frame) : Type 0 where
+pub record IsFrameOf (world : List Instance) (scale : Scale) (mode : Mode) (i : Instance)
+    (frame : Frame) : Type 0 where
   pub given : Option Frame
   pub placed : IsPlacedBy world scale mode i given
   pub carries : Carries given frame
 
 -- the triangles of an element in the building, all in reach
-pub record IsNearSurface (world : List Instance) (scale : Scale) (mode : Mode) (i : Instance) (triangles : List Triangle) : Type 0 where
+pub record IsNearSurface (world : List Instance) (scale : Scale) (mode : Mode) (i : Instance)
+    (triangles : List Triangle) : Type 0 where
   pub surface : IsSurface world scale mode i triangles
   pub near : All IsInReach (corners_of triangles)
   pub count : length triangles ≡ sum_by (item_count world) (body_items world i)
 
 -- the element of that number, in reach
-pub record IsNearElement (world : List Instance) (scale : Scale) (mode : Mode) (id : ℕ) (element : Element) : Type 0 where
+pub record IsNearElement (world : List Instance) (scale : Scale) (mode : Mode) (id : ℕ)
+    (element : Element) : Type 0 where
   pub is_element : IsElement world scale mode id element
   pub guid : IsGuid element.guid.chars
   pub near : All IsInReach (corners_of element.triangles)
   pub count : length element.triangles ≡ count_of world id
 
+-- why an element isn't made: it lies too far out, or what it needs isn't ready
 abbrev pub Lacks : List Instance → Scale → Mode → List ℕ → List ℕ → Instance → Lack → Type 0
 Lacks world scale mode placements listed i Beyond = IsBeyond world scale mode i
 Lacks world scale mode placements listed i Unready = IsReady world scale mode placements listed i → ⊥
 
+-- the same of the element of a number
 abbrev pub LacksAt : List Instance → Scale → Mode → List ℕ → List ℕ → ℕ → Lack → Type 0
 LacksAt world scale mode placements listed id Beyond = Finds world id (IsBeyond world scale mode)
-LacksAt world scale mode placements listed id Unready = Finds world id (IsReady world scale mode placements listed) → ⊥
+LacksAt world scale mode placements listed id Unready =
+    Finds world id (IsReady world scale mode placements listed) → ⊥
 
 -- the first of the listed ones that lacks something
-pub record IsFirstLacking (world : List Instance) (scale : Scale) (mode : Mode) (placements listed ids : List ℕ) (found : Lacking) : Type 0 where
+pub record IsFirstLacking (world : List Instance) (scale : Scale) (mode : Mode)
+    (placements listed ids : List ℕ) (found : Lacking) : Type 0 where
   pub here : Contains ids found.id
   pub lacks : LacksAt world scale mode placements listed found.id found.lack
-  pub lower : (k : ℕ) → k < found.id → Contains ids k → (element : Element) × IsNearElement world scale mode k element
+  pub lower : (k : ℕ) → k < found.id → Contains ids k
+      → (element : Element) × IsNearElement world scale mode k element
 
 -- What is known of a file whose checks up to that of the items found no fault.
-pub record IsChecked (world : List Instance) (scale : Scale) (mode : Mode) (survey : Survey) (chains : List ℕ) : Type 0 where
+pub record IsChecked (world : List Instance) (scale : Scale) (mode : Mode) (survey : Survey)
+    (chains : List ℕ) : Type 0 where
   pub surveyed : Surveyed world survey
   pub unit : IsLengthUnit world scale
   pub distinct : NoneRepeats world (element_ids survey)
@@ -110,10 +120,12 @@ HaveFewCorners world used = Any (λ id. Finds world id HasManyCorners) used → 
 
 -- none of the listed instances has a length that isn't on the grid or is beyond the reach
 abbrev pub AreMeasured : List Instance → Scale → Mode → List ℕ → Type 0
-AreMeasured world scale mode used = (id : ℕ) → Contains used id → (fault : UploadFault) → LengthFault world scale mode id fault → ⊥
+AreMeasured world scale mode used =
+    (id : ℕ) → Contains used id → (fault : UploadFault) → LengthFault world scale mode id fault → ⊥
 
 -- What is known once the checks up to that of the corners found no fault.
-pub record IsSettled (world : List Instance) (scale : Scale) (mode : Mode) (survey : Survey) (chains : List ℕ) : Type 0 where
+pub record IsSettled (world : List Instance) (scale : Scale) (mode : Mode) (survey : Survey)
+    (chains : List ℕ) : Type 0 where
   pub checked : IsChecked world scale mode survey chains
   pub solid : NoneOf (used_ids survey) (IsVoided world)
   pub indexed : NoneOf (used_ids survey) (IsBadSet world)
@@ -122,12 +134,17 @@ pub record IsSettled (world : List Instance) (scale : Scale) (mode : Mode) (surv
 
 -- none of the elements of these numbers lacks what is wanted
 abbrev pub AreReady : List Instance → Scale → Mode → List ℕ → List ℕ → List ℕ → Type 0
-AreReady world scale mode placements listed ids = (id : ℕ) → Contains ids id → (Finds world id (IsReady world scale mode placements listed) → ⊥) → ⊥
+AreReady world scale mode placements listed ids =
+    (id : ℕ) → Contains ids id → (Finds world id (IsReady world scale mode placements listed) → ⊥) → ⊥
 
 -- the listed sets are sound
 abbrev pub AreSound : List Instance → Scale → Mode → List ℕ → Type 0
-AreSound world scale mode listed = (id : ℕ) → Contains listed id → (s : Instance) → look world id ≡ Some s → is_set s ≡ true → IsSoundSet world scale mode s
+AreSound world scale mode listed =
+    (id : ℕ) → Contains listed id → (s : Instance) → look world id ≡ Some s → is_set s ≡ true
+    → IsSoundSet world scale mode s
 
 -- the set of that number, whose points are on the grid, has that face, which can't be cut
 abbrev pub ShowsStuckSet : List Instance → Scale → Mode → ℕ → ℕ → Type 0
-ShowsStuckSet world scale mode set id = Finds world set (λ s. (is_set s ≡ true) × (list : ℕ) × (reference_at s 0 ≡ Some list) × (points : List Point) × ListsPoints world scale mode list points × HasStuck world points s id)
+ShowsStuckSet world scale mode set id =
+    Finds world set (λ s. (is_set s ≡ true) × (list : ℕ) × (reference_at s 0 ≡ Some list)
+    × (points : List Point) × ListsPoints world scale mode list points × HasStuck world points s id)

@@ -22,10 +22,12 @@ pub record IsListOf (scale : Scale) (mode : Mode) (i : Instance) (points : List 
 
 -- In a table there is a place for each instance, where the points of a list of points stand.
 
+-- the points of an instance, or none where it has no list of points
 abbrev pub Tabled : Scale → Mode → Instance → Option (List Point) → Type 0
 Tabled scale mode i None = (points : List Point) → IsListOf scale mode i points → ⊥
 Tabled scale mode i (Some points) = IsListOf scale mode i points
 
+-- the table has for each instance its points
 abbrev pub IsTable : List Instance → Scale → Mode → List (Option (List Point)) → Type 0
 IsTable world scale mode table = AllZip (Tabled scale mode) world table
 
@@ -34,6 +36,7 @@ abbrev pub kept_in : Option (Option (List Point)) → Option (List Point)
 kept_in None = None
 kept_in (Some kept) = kept
 
+-- the points at a place of the table
 abbrev pub kept_at : List (Option (List Point)) → ℕ → Option (List Point)
 kept_at table at = kept_in (slice_get table at)
 
@@ -43,12 +46,16 @@ ListsPoints world scale mode id points = Finds world id (λ i. IsListOf scale mo
 
 -- Faults: the first number of a point or of a list of points that isn't on the grid, or is beyond the reach.
 
+-- a length of the instance of this number is refused so
 abbrev pub Refuses : List Instance → Scale → Mode → ℕ → GridFault → Type 0
 Refuses world scale mode id refused = Finds world id (λ i. InstanceRefused scale mode i refused)
 
+-- the fault of an upload for a refused length of an instance
 abbrev pub told_of : ℕ → GridFault → UploadFault
 told_of id OffGrid = faults.OffGrid id
 told_of id TooFar = faults.TooFar id
 
+-- the fault of a refused length of an instance
 abbrev pub LengthFault : List Instance → Scale → Mode → ℕ → UploadFault → Type 0
-LengthFault world scale mode id fault = (refused : GridFault) × (fault ≡ told_of id refused) × Refuses world scale mode id refused
+LengthFault world scale mode id fault =
+    (refused : GridFault) × (fault ≡ told_of id refused) × Refuses world scale mode id refused

@@ -8,12 +8,14 @@ use Rattle.model_build.specs.Finding.{Finds}
 use Rattle.model_build.specs.Items.{bodies_of}
 use Rattle.model_build.specs.Counting.{Number}
 
+-- the bodies that are kept for a number
 abbrev pub bodies_in : List (ℕ × List ℕ) → ℕ → Option (List ℕ)
 bodies_in entries id = lookup (is_at (nat_cmp id)) entries
 
 -- what stands there by the number of a shape are the numbers of its bodies; a shape may lack
 abbrev pub AreShapes : List Instance → List (ℕ × List ℕ) → Type 0
-AreShapes world entries = (id : ℕ) (ids : List ℕ) → bodies_in entries id ≡ Some ids → Finds world id (λ shape. Number world ids (bodies_of world shape))
+AreShapes world entries = (id : ℕ) (ids : List ℕ) → bodies_in entries id ≡ Some ids
+    → Finds world id (λ shape. Number world ids (bodies_of world shape))
 
 -- the bodies of one shape more
 pub record PutsBodies (old new : ℕ → Option (List ℕ)) (id : ℕ) (ids : List ℕ) : Type 0 where

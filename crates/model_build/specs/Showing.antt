@@ -21,22 +21,30 @@ lesser (Some a) (Some b) = if nat_lt a b then Some a else Some b
 
 -- one of the values refers to that instance, which is neither a face set nor a mapped item
 abbrev pub HasOther : List Instance → List Value21 → ℕ → Type 0
-HasOther world values id = Contains (filter_map reference_of values) id × Finds world id (λ i. is_item i ≡ false)
+HasOther world values id = Contains (filter_map reference_of values) id
+    × Finds world id (λ i. is_item i ≡ false)
 
 -- .. which is a mapped item
 abbrev pub HasInner : List Instance → List Value21 → ℕ → Type 0
-HasInner world values id = Contains (filter_map reference_of values) id × Finds world id (λ i. is_mapped_item i ≡ true)
+HasInner world values id = Contains (filter_map reference_of values) id
+    × Finds world id (λ i. is_mapped_item i ≡ true)
 
 -- What a body, a mapped representation and a mapped item show to be unsupported.
 
+-- a body shows something that is no item
 abbrev pub BodyShows : List Instance → ℕ → ℕ → Type 0
-BodyShows world from id = Finds world from (λ r. (is_body_representation r ≡ true) × HasOther world (spelled_items r) id)
+BodyShows world from id = Finds world from
+    (λ r. (is_body_representation r ≡ true) × HasOther world (spelled_items r) id)
 
+-- a mapped representation shows something that is no item, or a mapped item
 abbrev pub MapShows : List Instance → ℕ → ℕ → Type 0
-MapShows world from id = Finds world from (λ r. HasOther world (spelled_items r) id ⊎ HasInner world (spelled_items r) id)
+MapShows world from id = Finds world from
+    (λ r. HasOther world (spelled_items r) id ⊎ HasInner world (spelled_items r) id)
 
+-- a mapped item has no target, or one that lies elsewhere
 abbrev pub ItemShows : List Instance → Scale → Mode → ℕ → ℕ → Type 0
-ItemShows world scale mode from id = HasNoTarget world from id ⊎ ((from ≡ id) × IsShifted world scale mode from)
+ItemShows world scale mode from id =
+    HasNoTarget world from id ⊎ ((from ≡ id) × IsShifted world scale mode from)
 
 -- the item is mapped by that one, which is no operator, or one with a scale other than 1
 abbrev pub NamesNoTarget : List Instance → Instance → ℕ → Type 0

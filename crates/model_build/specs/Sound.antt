@@ -34,18 +34,21 @@ pub record IsSoundSet (world : List Instance) (scale : Scale) (mode : Mode) (set
 
 -- The triangles of sets, by the numbers of the sets.
 
+-- the triangles that are kept for a number
 abbrev pub set_in : List (ℕ × List Triangle) → ℕ → Option (List Triangle)
 set_in entries id = lookup (is_at (nat_cmp id)) entries
 
 -- the triangles that are kept of a set
-pub record IsKept (world : List Instance) (scale : Scale) (mode : Mode) (triangles : List Triangle) (set : Instance) : Type 0 where
+pub record IsKept (world : List Instance) (scale : Scale) (mode : Mode) (triangles : List Triangle)
+    (set : Instance) : Type 0 where
   pub surface : SetSurface world scale mode set triangles
   pub near : All IsInReach (corners_of triangles)
   pub count : length triangles ≡ sets.triangle_count world set
 
 -- all corners that are kept are in reach
 abbrev pub AllNear : List (ℕ × List Triangle) → Type 0
-AllNear entries = (id : ℕ) (triangles : List Triangle) → set_in entries id ≡ Some triangles → All IsInReach (corners_of triangles)
+AllNear entries = (id : ℕ) (triangles : List Triangle) → set_in entries id ≡ Some triangles
+    → All IsInReach (corners_of triangles)
 
 -- the triangles of one set more
 pub record Puts (old new : ℕ → Option (List Triangle)) (id : ℕ) (triangles : List Triangle) : Type 0 where
@@ -53,13 +56,17 @@ pub record Puts (old new : ℕ → Option (List Triangle)) (id : ℕ) (triangles
   pub others : (other : ℕ) → other ≢ id → new other ≡ old other
 
 -- each of the listed sets has its triangles there
-pub record AreSets (world : List Instance) (scale : Scale) (mode : Mode) (listed : List ℕ) (entries : List (ℕ × List Triangle)) : Type 0 where
-  pub sound : (id : ℕ) (triangles : List Triangle) → set_in entries id ≡ Some triangles → Finds world id (IsKept world scale mode triangles)
-  pub all : (id : ℕ) → Contains listed id → Finds world id (λ s. sets.is_set s ≡ true) → (triangles : List Triangle) × (set_in entries id ≡ Some triangles)
+pub record AreSets (world : List Instance) (scale : Scale) (mode : Mode) (listed : List ℕ)
+    (entries : List (ℕ × List Triangle)) : Type 0 where
+  pub sound : (id : ℕ) (triangles : List Triangle) → set_in entries id ≡ Some triangles
+      → Finds world id (IsKept world scale mode triangles)
+  pub all : (id : ℕ) → Contains listed id → Finds world id (λ s. sets.is_set s ≡ true)
+      → (triangles : List Triangle) × (set_in entries id ≡ Some triangles)
 
 -- where a set is sound, one of its faces can't be cut
 abbrev pub IsUncutSet : List Instance → Scale → Mode → Instance → Type 0
-IsUncutSet world scale mode set = (sound : IsSoundSet world scale mode set) → (face : ℕ) × sets.HasStuck world sound.points set face
+IsUncutSet world scale mode set =
+    (sound : IsSoundSet world scale mode set) → (face : ℕ) × sets.HasStuck world sound.points set face
 
 -- the instance of that number is a set like that
 abbrev pub IsUncutAt : List Instance → Scale → Mode → ℕ → Type 0
@@ -75,10 +82,12 @@ pub record IsUncut (world : List Instance) (scale : Scale) (mode : Mode) (listed
 
 -- a value that refers to an instance refers to a listed set
 abbrev pub ReadySet : List Instance → List ℕ → Value21 → Type 0
-ReadySet world listed v = (id : ℕ) → reference_of v ≡ Some id → (s : Instance) → look world id ≡ Some s → (sets.is_set s ≡ true) × Contains listed id
+ReadySet world listed v = (id : ℕ) → reference_of v ≡ Some id → (s : Instance) → look world id ≡ Some s
+    → (sets.is_set s ≡ true) × Contains listed id
 
 -- a mapped item has an operator with a frame, and maps listed sets
-pub record ReadyMapped (world : List Instance) (scale : Scale) (mode : Mode) (listed : List ℕ) (item : Instance) : Type 0 where
+pub record ReadyMapped (world : List Instance) (scale : Scale) (mode : Mode) (listed : List ℕ)
+    (item : Instance) : Type 0 where
   pub operator : ℕ
   pub refers : reference_at item 1 ≡ Some operator
   pub frame : Frame
@@ -89,7 +98,8 @@ pub record ReadyMapped (world : List Instance) (scale : Scale) (mode : Mode) (li
 abbrev pub ReadyItem : List Instance → Scale → Mode → List ℕ → Value21 → Type 0
 ReadyItem world scale mode listed v =
     (id : ℕ) → reference_of v ≡ Some id → (i : Instance) → look world id ≡ Some i
-    → MatchBool (is_mapped_item i) (ReadyMapped world scale mode listed i) ((sets.is_set i ≡ true) × Contains listed id)
+    → MatchBool (is_mapped_item i) (ReadyMapped world scale mode listed i)
+    ((sets.is_set i ≡ true) × Contains listed id)
 
 -- all items of a body are like that
 abbrev pub ReadyBody : List Instance → Scale → Mode → List ℕ → Instance → Type 0
@@ -97,14 +107,21 @@ ReadyBody world scale mode listed r = All (ReadyItem world scale mode listed) (s
 
 -- Surfaces with as many triangles as are counted.
 
+-- the surface of a set, and as many triangles as are counted of it
 abbrev pub KeptSet : List Instance → Scale → Mode → Instance → List Triangle → Type 0
-KeptSet world scale mode set triangles = SetSurface world scale mode set triangles × (length triangles ≡ sets.triangle_count world set)
+KeptSet world scale mode set triangles =
+    SetSurface world scale mode set triangles × (length triangles ≡ sets.triangle_count world set)
 
+-- the surface of a mapped item, and as many triangles as are counted of it
 abbrev pub KeptMapped : List Instance → Scale → Mode → Instance → List Triangle → Type 0
-KeptMapped world scale mode item triangles = MappedSurface world scale mode item triangles × (length triangles ≡ sum_by (sets.triangle_count world) (mapped_sets world item))
+KeptMapped world scale mode item triangles =
+    MappedSurface world scale mode item triangles
+    × (length triangles ≡ sum_by (sets.triangle_count world) (mapped_sets world item))
 
+-- the surface of an item, and as many triangles as are counted of it
 abbrev pub KeptItem : List Instance → Scale → Mode → Instance → List Triangle → Type 0
-KeptItem world scale mode item triangles = ItemSurface world scale mode item triangles × (length triangles ≡ item_count world item)
+KeptItem world scale mode item triangles =
+    ItemSurface world scale mode item triangles × (length triangles ≡ item_count world item)
 
 -- Triangles that are added to others.
 

@@ -1,5 +1,5 @@
 -- Faults by stages: a file has the fault of the first stage that has one.
-use Rattle.std.specs.Prelude.{ℕ, ◌<◌, ◌⊎◌}
+use Rattle.std.specs.Prelude.{ℕ, ◌<◌, ◌⊎◌, List, [], ◌∷◌}
 use Rattle.bim_model.specs.declared.upload.UploadFault.{UploadFault}
 
 -- a stage says which fault it has, if it has one
@@ -14,8 +14,19 @@ IsClear S = (fault : UploadFault) → S fault → ⊥
 abbrev pub Then : Stage → Stage → Stage
 Then S Rest fault = S fault ⊎ (IsClear S × Rest fault)
 
+-- the first fault of a stage and those after it, in their order
+abbrev pub first_or : Stage → List Stage → Stage
+first_or S [] = S
+first_or S (T ∷ rest) = Then S (first_or T rest)
+
+-- the first fault of stages in their order
+abbrev pub first_fault : List Stage → Stage
+first_fault [] fault = ⊥
+first_fault (S ∷ rest) fault = first_or S rest fault
+
 -- of the numbers of which Of holds, the least one that has a fault, and its fault
-pub record LeastFault (Of : ℕ → Type 0) (FaultOf : ℕ → UploadFault → Type 0) (fault : UploadFault) : Type 0 where
+pub record LeastFault (Of : ℕ → Type 0) (FaultOf : ℕ → UploadFault → Type 0)
+    (fault : UploadFault) : Type 0 where
   pub id : ℕ
   pub of : Of id
   pub here : FaultOf id fault

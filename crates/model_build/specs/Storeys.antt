@@ -7,4 +7,5 @@ use Rattle.model_build.specs.Texts.{name_at}
 -- the name of the storey that an object stands in, if it stands in one
 abbrev pub IsStoreyName : List Instance → ℕ → Option (List ℕ) → Type 0
 IsStoreyName world id None = (storey : ℕ) → StoreyOf world id storey → ⊥
-IsStoreyName world id (Some name) = (storey : ℕ) × StoreyOf world id storey × (name_at world storey ≡ Some name)
+IsStoreyName world id (Some name) =
+    (storey : ℕ) × StoreyOf world id storey × (name_at world storey ≡ Some name)

@@ -22,16 +22,19 @@ use Rattle.model_build.specs.Items.{body_items, is_mapped_item, mapped_sets}
 use Rattle.model_build.specs.Faces.{SetPoints}
 
 -- the triangles of a set in its own coordinates
-pub record SetSurface (world : List Instance) (scale : Scale) (mode : Mode) (set : Instance) (triangles : List Triangle) : Type 0 where
+pub record SetSurface (world : List Instance) (scale : Scale) (mode : Mode) (set : Instance)
+    (triangles : List Triangle) : Type 0 where
   pub points : List Point
   pub are_points : SetPoints world scale mode set points
   pub are_triangles : SetTriangles world points set triangles
 
+-- a triangle carried by a frame
 abbrev pub moved : Frame → Triangle → Triangle
 moved frame t = record { a = carried frame t.a; b = carried frame t.b; c = carried frame t.c }
 
 -- the triangles of a mapped item: those of the sets that it maps, carried by its operator
-pub record MappedSurface (world : List Instance) (scale : Scale) (mode : Mode) (item : Instance) (triangles : List Triangle) : Type 0 where
+pub record MappedSurface (world : List Instance) (scale : Scale) (mode : Mode) (item : Instance)
+    (triangles : List Triangle) : Type 0 where
   pub operator : ℕ
   pub refers : reference_at item 1 ≡ Some operator
   pub frame : Frame
@@ -43,22 +46,27 @@ pub record MappedSurface (world : List Instance) (scale : Scale) (mode : Mode) (
 -- the triangles of an item in the coordinates of its element
 abbrev pub ItemSurface : List Instance → Scale → Mode → Instance → List Triangle → Type 0
 ItemSurface world scale mode item triangles =
-    MatchBool (is_mapped_item item) (MappedSurface world scale mode item triangles) (SetSurface world scale mode item triangles)
+    MatchBool (is_mapped_item item) (MappedSurface world scale mode item triangles)
+    (SetSurface world scale mode item triangles)
 
 -- how an element is placed: by a frame, or not at all where it names no placement
 abbrev pub IsPlacedBy : List Instance → Scale → Mode → Instance → Option Frame → Type 0
 IsPlacedBy world scale mode i None = some_passes is_absent (slice_get i.values 5) ≡ true
-IsPlacedBy world scale mode i (Some frame) = (placement : ℕ) × (reference_at i 5 ≡ Some placement) × FrameOf world scale mode placement frame
+IsPlacedBy world scale mode i (Some frame) =
+    (placement : ℕ) × (reference_at i 5 ≡ Some placement) × FrameOf world scale mode placement frame
 
+-- a point carried by a frame, where there is one
 abbrev pub carried_by : Option Frame → Point → Point
 carried_by None p = p
 carried_by (Some frame) p = carried frame p
 
+-- a triangle carried by a frame, where there is one
 abbrev pub placed_by : Option Frame → Triangle → Triangle
 placed_by frame t = record { a = carried_by frame t.a; b = carried_by frame t.b; c = carried_by frame t.c }
 
 -- the triangles of an element in the building
-pub record IsSurface (world : List Instance) (scale : Scale) (mode : Mode) (i : Instance) (triangles : List Triangle) : Type 0 where
+pub record IsSurface (world : List Instance) (scale : Scale) (mode : Mode) (i : Instance)
+    (triangles : List Triangle) : Type 0 where
   pub own : List Triangle
   pub of_items : Joined (ItemSurface world scale mode) (body_items world i) own
   pub frame : Option Frame

@@ -15,6 +15,7 @@ use Rattle.model_build.specs.Finding.{Finds}
 abbrev pub text_at : Instance → ℕ → Option (List ℕ)
 text_at i at = option_map text_of_spelling (option_and_then words_of (slice_get i.values at))
 
+-- a text, or the empty one
 abbrev pub or_empty : Option (List ℕ) → List ℕ
 or_empty None = []
 or_empty (Some text) = text
@@ -41,6 +42,7 @@ IsUnread i = (guid : List ℕ) → guid_of i ≡ Some guid → IsGuid guid → �
 
 -- Global identifiers that stand twice.
 
+-- an instance of this number has this identifier
 abbrev pub HasGuid : List Instance → ℕ → List ℕ → Type 0
 HasGuid world id guid = Finds world id (λ i. guid_of i ≡ Some guid)
 
@@ -57,9 +59,11 @@ pub record RepeatsGuid (world : List Instance) (Of : ℕ → Type 0) (id : ℕ) 
 abbrev pub IsIdentified : List Instance → ℕ → Type 0
 IsIdentified world id = Finds world id (λ i. (guid : List ℕ) × (guid_of i ≡ Some guid) × IsGuid guid)
 
+-- an instance of this number has the identifier
 abbrev pub HasThatGuid : List Instance → ℕ → Guid → Type 0
 HasThatGuid world id guid = HasGuid world id guid.chars
 
+-- no identifier stands at this number
 abbrev pub HasNoGuid : List Instance → ℕ → Type 0
 HasNoGuid world id = IsIdentified world id → ⊥
 
@@ -73,5 +77,6 @@ pub record IsFirstRepeated (world : List Instance) (ids : List ℕ) (id : ℕ) :
   pub repeats : RepeatsGuid world (Contains ids) id
   pub least : (k : ℕ) → k < id → Contains ids k → RepeatsGuid world (Contains ids) k → ⊥
 
+-- the identifier at this number is another element's too
 abbrev pub GuidFault : List Instance → (ℕ → Type 0) → ℕ → UploadFault → Type 0
 GuidFault world Of id fault = (fault ≡ faults.DoubleGuid id) × RepeatsGuid world Of id

@@ -4,7 +4,7 @@ use Rattle.std.specs.Prelude.{◌≡◌, ℕ, ◌⊎◌, false, true, ℤ, pos, 
 use Rattle.std.specs.List.{AllZip, slice_get}
 use Rattle.bim_model.specs.declared.upload.Mode.{Mode}
 use Rattle.bim_text.specs.declared.decimal.Decimal.{Decimal}
-use Rattle.bim_text.specs.Decimals.{Reads}
+use Rattle.bim_text.specs.Decimals.{Reads, WritesWhole}
 use Rattle.p21_reader.specs.declared.value.Value21.{Value21}
 use Rattle.p21_reader.specs.declared.value.Instance.{Instance}
 use Rattle.ifc_instances.specs.declared.entity.Entity.TheVariants.{Operator}
@@ -18,7 +18,6 @@ use Rattle.ifc_units.specs.Lengths.{units}
 use Rattle.placement.specs.declared.axes.Axes.{Axes}
 use Rattle.placement.specs.Directions.{HasAxes}
 use Rattle.ifc_instances.specs.Attributes.{referred_at, value_at, reference_at}
-use Rattle.faceset.specs.Indexes.{Writes}
 use Rattle.model_build.specs.Finding.{Finds}
 use Rattle.model_build.specs.Items.{spelled_items, is_item, is_mapped_item}
 
@@ -26,7 +25,8 @@ use Rattle.model_build.specs.Items.{spelled_items, is_item, is_mapped_item}
 
 -- the representation of that number lists that one among its items
 abbrev pub ListsItem : List Instance → ℕ → ℕ → Type 0
-ListsItem world representation item = Finds world representation (λ r. Contains (filter_map reference_of (spelled_items r)) item)
+ListsItem world representation item =
+    Finds world representation (λ r. Contains (filter_map reference_of (spelled_items r)) item)
 
 -- a representation whose items are read: a body, or one that is mapped
 abbrev pub IsOpened : List Instance → ℕ → Type 0
@@ -34,11 +34,13 @@ IsOpened world id = Finds world id (λ r. is_body_representation r ≡ true) ⊎
 
 -- its items have one that is neither a face set nor a mapped item
 abbrev pub ListsOther : List Instance → ℕ → ℕ → Type 0
-ListsOther world from id = IsOpened world from × ListsItem world from id × Finds world id (λ i. is_item i ≡ false)
+ListsOther world from id = IsOpened world from × ListsItem world from id
+    × Finds world id (λ i. is_item i ≡ false)
 
 -- it is mapped, and its items have a mapped item
 abbrev pub ListsNested : List Instance → ℕ → ℕ → Type 0
-ListsNested world from id = IsMapped world from × ListsItem world from id × Finds world id (λ i. is_mapped_item i ≡ true)
+ListsNested world from id = IsMapped world from × ListsItem world from id
+    × Finds world id (λ i. is_mapped_item i ≡ true)
 
 -- Of mapped items.
 
@@ -46,7 +48,7 @@ ListsNested world from id = IsMapped world from × ListsItem world from id × Fi
 pub record IsNotOne (v : Value21) : Type 0 where
   pub bytes : List ℕ
   pub number : number_of v ≡ Some bytes
-  pub other : Writes bytes (pos 1) → ⊥
+  pub other : WritesWhole bytes (pos 1) → ⊥
 
 -- it is no operator, or one with a scale other than 1
 abbrev pub IsNoTarget : Instance → Type 0
@@ -54,7 +56,8 @@ IsNoTarget t = (is_a Operator t ≡ false) ⊎ ((v : Value21) × (slice_get t.va
 
 -- the mapped item of that number is mapped by that one, which is no operator, or one with a scale other than 1
 abbrev pub HasNoTarget : List Instance → ℕ → ℕ → Type 0
-HasNoTarget world from id = Finds world from (λ i. (is_mapped_item i ≡ true) × (reference_at i 1 ≡ Some id)) × Finds world id IsNoTarget
+HasNoTarget world from id = Finds world from (λ i. (is_mapped_item i ≡ true) × (reference_at i 1 ≡ Some id))
+    × Finds world id IsNoTarget
 
 -- a length has that grid number, however far that is
 pub record HasGridNumber (scale : Scale) (mode : Mode) (v : Value21) (g : ℤ) : Type 0 where
@@ -110,7 +113,8 @@ pub record IsOtherOrigin (world : List Instance) (scale : Scale) (mode : Mode) (
 
 -- it is a mapped item like that
 abbrev pub IsShifted : List Instance → Scale → Mode → ℕ → Type 0
-IsShifted world scale mode id = Finds world id (λ i. is_mapped_item i ≡ true) × IsOtherOrigin world scale mode id
+IsShifted world scale mode id =
+    Finds world id (λ i. is_mapped_item i ≡ true) × IsOtherOrigin world scale mode id
 
 -- What one instance shows to be unsupported: an item that it lists, its mapping target, or itself.
 abbrev pub Shows : List Instance → Scale → Mode → ℕ → ℕ → Type 0

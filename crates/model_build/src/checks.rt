@@ -36,7 +36,8 @@ pub fn guid_fault(
     survey: &Survey,
 ) -> Result<Option<UploadFault>, AllocError>
     requires { Surveyed exchange.now survey.now }
-    ensures { IfOk result (λ found. MatchOption found (NoneRepeats exchange.now (element_ids survey.now)) (LeastFault (IsModelElement exchange.now) (GuidFault exchange.now (IsModelElement exchange.now)))) }
+    ensures { IfOk result (λ found. MatchOption found (NoneRepeats exchange.now (element_ids survey.now))
+        (LeastFault (IsModelElement exchange.now) (GuidFault exchange.now (IsModelElement exchange.now)))) }
 {
     match first_repeated(alloc, exchange, survey.elements())? {
         Some(id) => Ok(Some(UploadFault::DoubleGuid { id })),
@@ -48,7 +49,8 @@ pub fn guid_fault(
 pub fn chains_of(alloc: Global, exchange: &Exchange, survey: &Survey) -> Result<Chains, BuildError>
     requires { Surveyed exchange.now survey.now }
     ensures chains { IfOk result (HasChains exchange.now (element_ids survey.now)) }
-    ensures fault { IfErr result (IsErrorOf (LeastFault (IsNamed exchange.now (IsModelElement exchange.now)) (LoopFault exchange.now))) }
+    ensures fault { IfErr result (IsErrorOf
+        (LeastFault (IsNamed exchange.now (IsModelElement exchange.now)) (LoopFault exchange.now))) }
 {
     let named = placements(alloc, exchange, survey.elements())?;
     Chains::of(alloc, exchange, &named)
@@ -57,7 +59,8 @@ pub fn chains_of(alloc: Global, exchange: &Exchange, survey: &Survey) -> Result<
 /// The fault of an axis placement or an operator that gives no axes along the grid's.
 pub fn oblique_fault(exchange: &Exchange, survey: &Survey) -> Option<UploadFault>
     requires { Surveyed exchange.now survey.now }
-    ensures { MatchOption result (NoneOf (used_ids survey.now) (IsOblique exchange.now)) (ObliqueStage exchange.now) }
+    ensures { MatchOption result (NoneOf (used_ids survey.now) (IsOblique exchange.now))
+        (ObliqueStage exchange.now) }
 {
     match first_oblique(exchange, survey.used()) {
         Some(id) => Some(UploadFault::Oblique { id }),
@@ -73,7 +76,8 @@ pub fn item_fault(
     mode: Mode,
 ) -> Option<UploadFault>
     requires { Surveyed exchange.now survey.now }
-    ensures { MatchOption result ((id : ℕ) → IsUnsupported exchange.now scale mode id → ⊥) (ItemStage exchange.now scale mode) }
+    ensures { MatchOption result ((id : ℕ) → IsUnsupported exchange.now scale mode id → ⊥)
+        (ItemStage exchange.now scale mode) }
 {
     let in_bodies = least_in_bodies(exchange, survey.used());
     let in_mapped = least_in_mapped(exchange, survey.mapped());
@@ -87,7 +91,8 @@ pub fn item_fault(
 /// The fault of a face with voids.
 pub fn void_fault(exchange: &Exchange, survey: &Survey) -> Option<UploadFault>
     requires { Surveyed exchange.now survey.now }
-    ensures { MatchOption result (NoneOf (used_ids survey.now) (IsVoided exchange.now)) (VoidStage exchange.now) }
+    ensures { MatchOption result (NoneOf (used_ids survey.now) (IsVoided exchange.now))
+        (VoidStage exchange.now) }
 {
     match first_voided(exchange, survey.used()) {
         Some(id) => Some(UploadFault::VoidedFace { id }),
@@ -102,7 +107,8 @@ pub fn index_fault(
     survey: &Survey,
 ) -> Result<Option<UploadFault>, AllocError>
     requires { Surveyed exchange.now survey.now }
-    ensures { IfOk result (λ found. MatchOption found (NoneOf (used_ids survey.now) (IsBadSet exchange.now)) (IndexStage exchange.now)) }
+    ensures { IfOk result (λ found. MatchOption found (NoneOf (used_ids survey.now) (IsBadSet exchange.now))
+        (IndexStage exchange.now)) }
 {
     match first_bad_index(alloc, exchange, survey.used())? {
         Some(id) => Ok(Some(UploadFault::BadIndex { id })),
@@ -113,7 +119,8 @@ pub fn index_fault(
 /// The fault of a face with more than a thousand corners.
 pub fn corners_fault(exchange: &Exchange, survey: &Survey) -> Option<UploadFault>
     requires { Surveyed exchange.now survey.now }
-    ensures { MatchOption result (HaveFewCorners exchange.now (used_ids survey.now)) (CornersStage exchange.now) }
+    ensures { MatchOption result (HaveFewCorners exchange.now (used_ids survey.now))
+        (CornersStage exchange.now) }
 {
     if some_has_many_corners(exchange, survey.used()) {
         Some(UploadFault::TooMany {
@@ -135,7 +142,8 @@ pub fn stuck_fault(
 ) -> Result<Option<UploadFault>, AllocError>
     requires surveyed { Surveyed exchange.now survey.now }
     requires table { IsTable exchange.now scale mode table.now }
-    ensures { IfOk result (λ found. MatchOption found ((id : ℕ) → IsStuckFace exchange.now scale mode id → ⊥) (StuckStage exchange.now scale mode)) }
+    ensures { IfOk result (λ found. MatchOption found ((id : ℕ) → IsStuckFace exchange.now scale mode id → ⊥)
+        (StuckStage exchange.now scale mode)) }
 {
     match first_stuck(alloc, exchange, table, survey.used(), scale, mode)? {
         Some(id) => Ok(Some(UploadFault::FaceStuck { id })),
@@ -152,7 +160,9 @@ pub fn triangles_fault(
 ) -> Result<Option<UploadFault>, AllocError>
     requires surveyed { Surveyed exchange.now survey.now }
     requires shapes { AreShapes exchange.now shapes.now }
-    ensures { IfOk result (λ found. MatchOption found (sum_by (count_of exchange.now) (element_ids survey.now) ≤ most_triangles) (TrianglesStage exchange.now)) }
+    ensures { IfOk result (λ found. MatchOption found
+        (sum_by (count_of exchange.now) (element_ids survey.now) ≤ most_triangles)
+        (TrianglesStage exchange.now)) }
 {
     match count_triangles(alloc, exchange, shapes, survey.elements())? {
         Some(_count) => Ok(None),

@@ -26,7 +26,8 @@ fn count_set(exchange: &Exchange, set: &Instance, so_far: u64) -> Option<u64>
 /// .. and of the set that a value refers to.
 fn count_set_of(exchange: &Exchange, value: &Value21, so_far: u64) -> Option<u64>
     requires { so_far ≤ most_triangles }
-    ensures { CountsTo (so_far + sum_by (triangle_count exchange.now) (led_to exchange.now (value.now ∷ []))) result }
+    ensures { CountsTo (so_far + sum_by (triangle_count exchange.now)
+        (led_to exchange.now (value.now ∷ []))) result }
 {
     match target(exchange, value) {
         Some(set) => count_set(exchange, set, so_far),
@@ -37,7 +38,8 @@ fn count_set_of(exchange: &Exchange, value: &Value21, so_far: u64) -> Option<u64
 /// .. and of the sets that values refer to.
 fn count_sets(exchange: &Exchange, values: &[Value21], so_far: u64) -> Option<u64>
     requires { so_far ≤ most_triangles }
-    ensures { CountsTo (so_far + sum_by (triangle_count exchange.now) (led_to exchange.now values.now)) result }
+    ensures { CountsTo (so_far + sum_by (triangle_count exchange.now)
+        (led_to exchange.now values.now)) result }
 {
     let mut count = so_far;
     for value in values {
@@ -64,7 +66,8 @@ fn count_item(exchange: &Exchange, item: &Instance, so_far: u64) -> Option<u64>
 /// .. and of the item that a value refers to.
 fn count_item_of(exchange: &Exchange, value: &Value21, so_far: u64) -> Option<u64>
     requires { so_far ≤ most_triangles }
-    ensures { CountsTo (so_far + sum_by (item_count exchange.now) (led_to exchange.now (value.now ∷ []))) result }
+    ensures { CountsTo (so_far + sum_by (item_count exchange.now)
+        (led_to exchange.now (value.now ∷ []))) result }
 {
     match target(exchange, value) {
         Some(item) => count_item(exchange, item, so_far),

@@ -33,7 +33,10 @@ use std::alloc::{AllocError, Global};
 fn frame_of(frames: &Frames, instance: &Instance) -> Option<Frame>
     requires { AllFramed (frame_in frames.now) }
     ensures framed { IfSome result Framed }
-    ensures placed { (world : List Instance) (scale : Scale) (mode : Mode) (placements : List ℕ) → AreFrames world scale mode placements (frame_in frames.now) → MatchOption result (IsStanding placements instance.now → ⊥) (IsFrameOf world scale mode instance.now) }
+    ensures placed { (world : List Instance) (scale : Scale) (mode : Mode) (placements : List ℕ)
+        → AreFrames world scale mode placements (frame_in frames.now)
+        → MatchOption result (IsStanding placements instance.now → ⊥)
+        (IsFrameOf world scale mode instance.now) }
 {
     let value = instance.values.as_slice().get(5)?;
     if is_absent(value) {
@@ -56,7 +59,12 @@ fn surface_of(
 ) -> Result<Result<Vec<Triangle>, Lack>, AllocError>
     requires framed { AllFramed (frame_in frames.now) }
     requires shapes { AreShapes exchange.now shapes.now }
-    ensures { (placements listed : List ℕ) → AreFrames exchange.now scale mode placements (frame_in frames.now) → AreSets exchange.now scale mode listed sets.now → IfOk result (λ made. MatchResult made (λ triangles. IsNearSurface exchange.now scale mode instance.now triangles.items) (Lacks exchange.now scale mode placements listed instance.now)) }
+    ensures { (placements listed : List ℕ)
+        → AreFrames exchange.now scale mode placements (frame_in frames.now)
+        → AreSets exchange.now scale mode listed sets.now
+        → IfOk result (λ made. MatchResult made
+        (λ triangles. IsNearSurface exchange.now scale mode instance.now triangles.items)
+        (Lacks exchange.now scale mode placements listed instance.now)) }
 {
     let Some(frame) = frame_of(frames, instance) else {
         return Ok(Err(Lack::Unready));
@@ -87,7 +95,11 @@ fn element_of(
     requires names { AreNames exchange.now names.now }
     requires framed { AllFramed (frame_in frames.now) }
     requires shapes { AreShapes exchange.now shapes.now }
-    ensures { (placements listed : List ℕ) → look exchange.now instance.now.id ≡ Some instance.now → AreFrames exchange.now scale mode placements (frame_in frames.now) → AreSets exchange.now scale mode listed sets.now → IfOk result (λ made. MatchResult made (IsNearElement exchange.now scale mode instance.now.id) (Lacks exchange.now scale mode placements listed instance.now)) }
+    ensures { (placements listed : List ℕ) → look exchange.now instance.now.id ≡ Some instance.now
+        → AreFrames exchange.now scale mode placements (frame_in frames.now)
+        → AreSets exchange.now scale mode listed sets.now
+        → IfOk result (λ made. MatchResult made (IsNearElement exchange.now scale mode instance.now.id)
+        (Lacks exchange.now scale mode placements listed instance.now)) }
 {
     let Some(guid) = guid_of(alloc, instance)? else {
         return Ok(Err(Lack::Unready));
@@ -124,7 +136,11 @@ fn element_at(
     requires names { AreNames exchange.now names.now }
     requires framed { AllFramed (frame_in frames.now) }
     requires shapes { AreShapes exchange.now shapes.now }
-    ensures { (placements listed : List ℕ) → AreFrames exchange.now scale mode placements (frame_in frames.now) → AreSets exchange.now scale mode listed sets.now → IfOk result (λ made. MatchResult made (IsNearElement exchange.now scale mode id) (LacksAt exchange.now scale mode placements listed id)) }
+    ensures { (placements listed : List ℕ)
+        → AreFrames exchange.now scale mode placements (frame_in frames.now)
+        → AreSets exchange.now scale mode listed sets.now
+        → IfOk result (λ made. MatchResult made (IsNearElement exchange.now scale mode id)
+        (LacksAt exchange.now scale mode placements listed id)) }
 {
     match look(exchange, id) {
         Some(instance) => element_of(
@@ -152,7 +168,12 @@ pub fn elements_of(
     requires framed { AllFramed (frame_in frames.now) }
     requires shapes { AreShapes exchange.now shapes.now }
     requires rises { IsStrictlyIncreasing ids.now }
-    ensures { (placements listed : List ℕ) → AreFrames exchange.now scale mode placements (frame_in frames.now) → AreSets exchange.now scale mode listed sets.now → IfOk result (λ made. MatchResult made (λ elements. AllZip (IsNearElement exchange.now scale mode) ids.now elements.items) (IsFirstLacking exchange.now scale mode placements listed ids.now)) }
+    ensures { (placements listed : List ℕ)
+        → AreFrames exchange.now scale mode placements (frame_in frames.now)
+        → AreSets exchange.now scale mode listed sets.now
+        → IfOk result (λ made. MatchResult made
+        (λ elements. AllZip (IsNearElement exchange.now scale mode) ids.now elements.items)
+        (IsFirstLacking exchange.now scale mode placements listed ids.now)) }
 {
     let mut made = Vec::with_capacity(alloc, ids.len())?;
     for id in ids {

@@ -24,7 +24,8 @@ fn is_voided(exchange: &Exchange, id: u64) -> bool
 /// The least of these instances that is a face with voids (IFC4 ADD2 TC1, IfcIndexedPolygonalFaceWithVoids).
 pub fn first_voided(exchange: &Exchange, used: &[u64]) -> Option<u64>
     requires { IsStrictlyIncreasing used.now }
-    ensures { MatchOption result (NoneOf used.now (IsVoided exchange.now)) (IsLeastOf used.now (IsVoided exchange.now)) }
+    ensures { MatchOption result (NoneOf used.now (IsVoided exchange.now))
+        (IsLeastOf used.now (IsVoided exchange.now)) }
 {
     for id in used {
         if is_voided(exchange, *id) {
@@ -43,7 +44,8 @@ fn has_many(instance: &Instance) -> bool
 }
 
 fn has_many_corners(exchange: &Exchange, id: u64) -> bool
-    ensures { MatchBool result (Finds exchange.now id HasManyCorners) (Finds exchange.now id HasManyCorners → ⊥) }
+    ensures { MatchBool result (Finds exchange.now id HasManyCorners)
+        (Finds exchange.now id HasManyCorners → ⊥) }
 {
     match look(exchange, id) {
         Some(instance) => has_many(instance),
@@ -53,7 +55,8 @@ fn has_many_corners(exchange: &Exchange, id: u64) -> bool
 
 /// Whether one of these instances is a face of more than a thousand corners.
 pub fn some_has_many_corners(exchange: &Exchange, used: &[u64]) -> bool
-    ensures { MatchBool result (Any (λ id. Finds exchange.now id HasManyCorners) used.now) (Any (λ id. Finds exchange.now id HasManyCorners) used.now → ⊥) }
+    ensures { MatchBool result (Any (λ id. Finds exchange.now id HasManyCorners) used.now)
+        (Any (λ id. Finds exchange.now id HasManyCorners) used.now → ⊥) }
 {
     for id in used {
         if has_many_corners(exchange, *id) {

@@ -12,7 +12,8 @@ use std::collections::BTreeSet;
 
 /// The global identifier of the instance of that number.
 fn identifier(alloc: Global, exchange: &Exchange, id: u64) -> Result<Option<Guid>, AllocError>
-    ensures { IfOk result (λ found. MatchOption found (HasNoGuid exchange.now id) (HasThatGuid exchange.now id)) }
+    ensures { IfOk result (λ found. MatchOption found (HasNoGuid exchange.now id)
+        (HasThatGuid exchange.now id)) }
 {
     match look(exchange, id) {
         Some(instance) => guid_of(alloc, instance),
@@ -29,7 +30,8 @@ pub fn first_repeated(
 ) -> Result<Option<u64>, AllocError>
     requires rise { IsStrictlyIncreasing ids.now }
     requires identified { (id : ℕ) → Contains ids.now id → IsIdentified exchange.now id }
-    ensures { IfOk result (λ found. MatchOption found (NoneRepeats exchange.now ids.now) (IsFirstRepeated exchange.now ids.now)) }
+    ensures { IfOk result (λ found. MatchOption found (NoneRepeats exchange.now ids.now)
+        (IsFirstRepeated exchange.now ids.now)) }
 {
     let mut seen = BTreeSet::new(alloc);
     for id in ids {

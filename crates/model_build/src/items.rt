@@ -54,7 +54,8 @@ pub fn spelled_sets<'a>(exchange: &'a Exchange, item: &Instance) -> &'a [Value21
 
 /// Adds the number of the representation that a value refers to, where it is a body.
 fn add_body(exchange: &Exchange, value: &Value21, found: &mut Vec<u64>) -> Result<(), AllocError>
-    ensures { OnOk result (map (look exchange.now) found.new.items ≡ map (look exchange.now) found.old.items ++ map Some (bodies_among exchange.now (value.now ∷ []))) }
+    ensures { OnOk result (map (look exchange.now) found.new.items
+        ≡ map (look exchange.now) found.old.items ++ map Some (bodies_among exchange.now (value.now ∷ []))) }
 {
     let Some(id) = reference_of(value) else {
         return Ok(());

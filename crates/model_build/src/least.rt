@@ -15,7 +15,8 @@ use std::alloc::{AllocError, Global};
 
 fn is_bad_set(exchange: &Exchange, reaches: &mut FaceReaches, id: u64) -> Result<bool, AllocError>
     requires { AreReaches exchange.now reaches.old }
-    ensures bad { IfOk result (λ bad. MatchBool bad (IsBadSet exchange.now id) (IsBadSet exchange.now id → ⊥)) }
+    ensures bad { IfOk result (λ bad. MatchBool bad (IsBadSet exchange.now id)
+        (IsBadSet exchange.now id → ⊥)) }
     ensures kept { OnOk result (AreReaches exchange.now reaches.new) }
 {
     let Some(set) = look(exchange, id) else {
@@ -35,7 +36,8 @@ pub fn first_bad_index(
     used: &[u64],
 ) -> Result<Option<u64>, AllocError>
     requires { IsStrictlyIncreasing used.now }
-    ensures { IfOk result (λ found. MatchOption found (NoneOf used.now (IsBadSet exchange.now)) (IsLeastOf used.now (IsBadSet exchange.now))) }
+    ensures { IfOk result (λ found. MatchOption found (NoneOf used.now (IsBadSet exchange.now))
+        (IsLeastOf used.now (IsBadSet exchange.now))) }
 {
     let mut reaches = FaceReaches::new(alloc);
     for id in used {
@@ -83,9 +85,12 @@ fn is_oblique(exchange: &Exchange, id: u64) -> bool
 /// can be read.
 pub fn first_oblique(exchange: &Exchange, used: &[u64]) -> Option<u64>
     requires rises { IsStrictlyIncreasing used.now }
-    requires placements { (id : ℕ) → Contains used.now id → IsAxisPlacement exchange.now id → HasDirections exchange.now id }
-    requires operators { (id : ℕ) → Contains used.now id → IsOperator exchange.now id → HasOperatorDirections exchange.now id }
-    ensures { MatchOption result (NoneOf used.now (IsOblique exchange.now)) (IsLeastOf used.now (IsOblique exchange.now)) }
+    requires placements { (id : ℕ) → Contains used.now id → IsAxisPlacement exchange.now id
+        → HasDirections exchange.now id }
+    requires operators { (id : ℕ) → Contains used.now id → IsOperator exchange.now id
+        → HasOperatorDirections exchange.now id }
+    ensures { MatchOption result (NoneOf used.now (IsOblique exchange.now))
+        (IsLeastOf used.now (IsOblique exchange.now)) }
 {
     for id in used {
         if is_oblique(exchange, *id) {

@@ -8,6 +8,7 @@ mod faces;
 mod guids;
 mod items;
 mod lack;
+mod laws;
 mod least;
 mod mapping;
 mod named;
@@ -25,4 +26,5 @@ mod tests;
 mod texts;
 mod unsupported;
 
+pub use laws::{instances_have_one_answer, profile_has_one_answer};
 pub use stages::{build, build_owned};

@@ -61,7 +61,8 @@ fn is_no_target(instance: &Instance) -> bool
 
 /// The number of the instance by which an item is mapped, where that is no operator, or one with a scale other than 1.
 fn other_target(exchange: &Exchange, item: &Instance) -> Option<u64>
-    ensures { MatchOption result ((id : ℕ) → NamesNoTarget exchange.now item.now id → ⊥) (NamesNoTarget exchange.now item.now) }
+    ensures { MatchOption result ((id : ℕ) → NamesNoTarget exchange.now item.now id → ⊥)
+        (NamesNoTarget exchange.now item.now) }
 {
     let id = reference_at(item, 1)?;
     let target = look(exchange, id)?;
@@ -140,7 +141,8 @@ fn is_turned(exchange: &Exchange, id: u64) -> bool
 
 /// Whether the mapping origin of an item isn't the identity.
 fn is_shifted(exchange: &Exchange, id: u64, scale: Scale, mode: Mode) -> bool
-    ensures { MatchBool result (IsOtherOrigin exchange.now scale mode id) (IsOtherOrigin exchange.now scale mode id → ⊥) }
+    ensures { MatchBool result (IsOtherOrigin exchange.now scale mode id)
+        (IsOtherOrigin exchange.now scale mode id → ⊥) }
 {
     let Some(map) = referred_at(exchange, id, 0) else {
         return false;

@@ -66,7 +66,10 @@ pub fn points_at<'a>(
     table: &'a [Option<Items<Point>>],
     id: u64,
 ) -> Option<&'a [Point]>
-    ensures { (scale : Scale) (mode : Mode) → IsTable exchange.now scale mode table.now → MatchOption (option_copied result) ((points : List Point) → ListsPoints exchange.now scale mode id points → ⊥) (ListsPoints exchange.now scale mode id) }
+    ensures { (scale : Scale) (mode : Mode) → IsTable exchange.now scale mode table.now
+        → MatchOption (option_copied result)
+        ((points : List Point) → ListsPoints exchange.now scale mode id points → ⊥)
+        (ListsPoints exchange.now scale mode id) }
 {
     let at = place_of(exchange, id)?;
     kept_at(table, at)
@@ -80,7 +83,8 @@ fn fault_of(
     mode: Mode,
 ) -> Option<GridFault>
     requires { Tabled scale mode instance.now (option_copied kept) }
-    ensures { MatchOption result ((refused : GridFault) → InstanceRefused scale mode instance.now refused → ⊥) (InstanceRefused scale mode instance.now) }
+    ensures { MatchOption result ((refused : GridFault) → InstanceRefused scale mode instance.now refused
+        → ⊥) (InstanceRefused scale mode instance.now) }
 {
     match kept {
         Some(_points) => None,
@@ -97,7 +101,8 @@ fn fault_at(
     mode: Mode,
 ) -> Option<GridFault>
     requires { IsTable exchange.now scale mode table.now }
-    ensures { MatchOption result ((refused : GridFault) → Refuses exchange.now scale mode id refused → ⊥) (Refuses exchange.now scale mode id) }
+    ensures { MatchOption result ((refused : GridFault) → Refuses exchange.now scale mode id refused → ⊥)
+        (Refuses exchange.now scale mode id) }
 {
     let at = place_of(exchange, id)?;
     let instance = &exchange.instances()[at];
@@ -123,7 +128,9 @@ pub fn first_fault(
 ) -> Option<UploadFault>
     requires table { IsTable exchange.now scale mode table.now }
     requires rises { IsStrictlyIncreasing ids.now }
-    ensures { MatchOption result ((id : ℕ) → Contains ids.now id → (fault : UploadFault) → LengthFault exchange.now scale mode id fault → ⊥) (LeastFault (Contains ids.now) (LengthFault exchange.now scale mode)) }
+    ensures { MatchOption result ((id : ℕ) → Contains ids.now id → (fault : UploadFault)
+        → LengthFault exchange.now scale mode id fault → ⊥)
+        (LeastFault (Contains ids.now) (LengthFault exchange.now scale mode)) }
 {
     for id in ids {
         if let Some(refused) = fault_at(exchange, table, *id, scale, mode) {

@@ -45,7 +45,8 @@ fn triangles_of(
     mode: Mode,
 ) -> Result<Option<Vec<Triangle>>, AllocError>
     requires { IsTable exchange.now scale mode table.now }
-    ensures { IfOk result (λ made. MatchOption made (IsUncutSet exchange.now scale mode set.now) (λ triangles. IsKept exchange.now scale mode triangles.items set.now)) }
+    ensures { IfOk result (λ made. MatchOption made (IsUncutSet exchange.now scale mode set.now)
+        (λ triangles. IsKept exchange.now scale mode triangles.items set.now)) }
 {
     let Some(list) = reference_at(set, 0) else {
         return Ok(None);
@@ -79,7 +80,8 @@ impl Sets {
         mode: Mode,
     ) -> Result<Option<Sets>, AllocError>
         requires { IsTable exchange.now scale mode table.now }
-        ensures { IfOk result (λ sets. MatchOption sets (IsUncut exchange.now scale mode listed.now) (AreSets exchange.now scale mode listed.now)) }
+        ensures { IfOk result (λ sets. MatchOption sets (IsUncut exchange.now scale mode listed.now)
+            (AreSets exchange.now scale mode listed.now)) }
     {
         let mut sets = Sets::new(alloc);
         for id in listed {
@@ -110,7 +112,10 @@ impl Sets {
         mode: Mode,
     ) -> Result<bool, AllocError>
         requires { IsTable exchange.now scale mode table.now }
-        ensures { IfOk result (λ done. MatchBool done ((listed : List ℕ) → AreSets exchange.now scale mode listed self.old → AreSets exchange.now scale mode (listed ++ id ∷ []) self.new) (IsUncutAt exchange.now scale mode id)) }
+        ensures { IfOk result (λ done. MatchBool done
+            ((listed : List ℕ) → AreSets exchange.now scale mode listed self.old
+            → AreSets exchange.now scale mode (listed ++ id ∷ []) self.new)
+            (IsUncutAt exchange.now scale mode id)) }
     {
         let Some(set) = look(exchange, id) else {
             return Ok(true);

@@ -58,9 +58,11 @@ fn model_of(
     requires frames { AreFrames exchange.now scale mode chains.now (frame_in frames.now) }
     requires shapes { AreShapes exchange.now shapes.now }
     requires sets { AreSets exchange.now scale mode (used_ids survey.now) sets.now }
-    requires ready { AreReady exchange.now scale mode chains.now (used_ids survey.now) (element_ids survey.now) }
+    requires ready { AreReady exchange.now scale mode chains.now (used_ids survey.now)
+        (element_ids survey.now) }
     requires few { sum_by (count_of exchange.now) (element_ids survey.now) ≤ most_triangles }
-    ensures model { IfOk result (λ model. IsClear (ReachStage exchange.now scale mode) × IsModelOf exchange.now mode model) }
+    ensures model { IfOk result (λ model. IsClear (ReachStage exchange.now scale mode)
+        × IsModelOf exchange.now mode model) }
     ensures fault { IfErr result (IsErrorOf (ReachStage exchange.now scale mode)) }
 {
     match elements_of(
@@ -100,7 +102,8 @@ fn after_cuts(
     requires shapes { AreShapes exchange.now shapes.now }
     requires sets { AreSets exchange.now scale mode (used_ids survey.now) sets.now }
     requires few { sum_by (count_of exchange.now) (element_ids survey.now) ≤ most_triangles }
-    ensures model { IfOk result (λ model. IsClear (ReachStage exchange.now scale mode) × IsModelOf exchange.now mode model) }
+    ensures model { IfOk result (λ model. IsClear (ReachStage exchange.now scale mode)
+        × IsModelOf exchange.now mode model) }
     ensures fault { IfErr result (IsErrorOf (ReachStage exchange.now scale mode)) }
 {
     let Some(frames) = Frames::of(alloc, exchange, chains, scale, mode)? else {
@@ -124,7 +127,8 @@ fn sets_of(
     requires surveyed { Surveyed exchange.now survey.now }
     requires table { IsTable exchange.now scale mode table.items }
     requires sound { AreSound exchange.now scale mode (used_ids survey.now) }
-    ensures { IfOk result (λ cut. MatchResult cut (AreSets exchange.now scale mode (used_ids survey.now)) (StuckStage exchange.now scale mode)) }
+    ensures { IfOk result (λ cut. MatchResult cut (AreSets exchange.now scale mode (used_ids survey.now))
+        (StuckStage exchange.now scale mode)) }
 {
     match Sets::of(alloc, exchange, survey.used(), &table, scale, mode)? {
         Some(sets) => Ok(Ok(sets)),
@@ -152,7 +156,8 @@ fn cut_all(
     requires table { IsTable exchange.now scale mode table.items }
     requires shapes { AreShapes exchange.now shapes.now }
     requires few { sum_by (count_of exchange.now) (element_ids survey.now) ≤ most_triangles }
-    ensures model { IfOk result (λ model. IsClear (AfterCorners exchange.now scale mode) × IsModelOf exchange.now mode model) }
+    ensures model { IfOk result (λ model. IsClear (AfterCorners exchange.now scale mode)
+        × IsModelOf exchange.now mode model) }
     ensures fault { IfErr result (IsErrorOf (AfterCorners exchange.now scale mode)) }
 {
     match sets_of(alloc, exchange, survey, scale, mode, table)? {
@@ -198,7 +203,8 @@ fn after_corners(
     requires settled { IsSettled exchange.now scale mode survey.now chains.now }
     requires storeys { ListsStoreys exchange.now tree.now }
     requires table { IsTable exchange.now scale mode table.items }
-    ensures model { IfOk result (λ model. IsClear (AfterCorners exchange.now scale mode) × IsModelOf exchange.now mode model) }
+    ensures model { IfOk result (λ model. IsClear (AfterCorners exchange.now scale mode)
+        × IsModelOf exchange.now mode model) }
     ensures fault { IfErr result (IsErrorOf (AfterCorners exchange.now scale mode)) }
 {
     let shapes = Shapes::of(alloc, exchange, survey.used())?;
@@ -225,7 +231,8 @@ fn after_indexes(
     requires storeys { ListsStoreys exchange.now tree.now }
     requires solid { NoneOf (used_ids survey.now) (IsVoided exchange.now) }
     requires indexed { NoneOf (used_ids survey.now) (IsBadSet exchange.now) }
-    ensures model { IfOk result (λ model. IsClear (AfterIndexes exchange.now scale mode) × IsModelOf exchange.now mode model) }
+    ensures model { IfOk result (λ model. IsClear (AfterIndexes exchange.now scale mode)
+        × IsModelOf exchange.now mode model) }
     ensures fault { IfErr result (IsErrorOf (AfterIndexes exchange.now scale mode)) }
 {
     let table = table_of(alloc, exchange.instances(), scale, mode)?;
@@ -250,7 +257,8 @@ fn after_items(
 ) -> Result<Model, BuildError>
     requires checked { IsChecked exchange.now scale mode survey.now chains.now }
     requires storeys { ListsStoreys exchange.now tree.now }
-    ensures model { IfOk result (λ model. IsClear (AfterItems exchange.now scale mode) × IsModelOf exchange.now mode model) }
+    ensures model { IfOk result (λ model. IsClear (AfterItems exchange.now scale mode)
+        × IsModelOf exchange.now mode model) }
     ensures fault { IfErr result (IsErrorOf (AfterItems exchange.now scale mode)) }
 {
     if let Some(fault) = void_fault(exchange, survey) {
@@ -277,7 +285,8 @@ fn after_chains(
     requires storeys { ListsStoreys exchange.now tree.now }
     requires distinct { NoneRepeats exchange.now (element_ids survey.now) }
     requires chains { HasChains exchange.now (element_ids survey.now) chains.now }
-    ensures model { IfOk result (λ model. IsClear (AfterChains exchange.now scale mode) × IsModelOf exchange.now mode model) }
+    ensures model { IfOk result (λ model. IsClear (AfterChains exchange.now scale mode)
+        × IsModelOf exchange.now mode model) }
     ensures fault { IfErr result (IsErrorOf (AfterChains exchange.now scale mode)) }
 {
     if let Some(fault) = oblique_fault(exchange, survey) {
@@ -301,7 +310,8 @@ fn after_tree(
     requires surveyed { Surveyed exchange.now survey.now }
     requires unit { IsLengthUnit exchange.now scale }
     requires storeys { ListsStoreys exchange.now tree.now }
-    ensures model { IfOk result (λ model. IsClear (AfterTree exchange.now scale mode) × IsModelOf exchange.now mode model) }
+    ensures model { IfOk result (λ model. IsClear (AfterTree exchange.now scale mode)
+        × IsModelOf exchange.now mode model) }
     ensures fault { IfErr result (IsErrorOf (AfterTree exchange.now scale mode)) }
 {
     if let Some(fault) = guid_fault(alloc, exchange, survey)? {
@@ -323,7 +333,8 @@ fn after_unit(
 ) -> Result<Model, BuildError>
     requires surveyed { Surveyed exchange.now survey.now }
     requires unit { IsLengthUnit exchange.now scale }
-    ensures model { IfOk result (λ model. IsClear (AfterUnit exchange.now scale mode) × IsModelOf exchange.now mode model) }
+    ensures model { IfOk result (λ model. IsClear (AfterUnit exchange.now scale mode)
+        × IsModelOf exchange.now mode model) }
     ensures fault { IfErr result (IsErrorOf (AfterUnit exchange.now scale mode)) }
 {
     let tree = tree(alloc, exchange)?;
@@ -332,7 +343,8 @@ fn after_unit(
 
 /// The model of the instances of a file, or their first fault.
 fn build_file(alloc: Global, exchange: &Exchange, mode: Mode) -> Result<Model, BuildError>
-    ensures model { IfOk result (λ model. IsClear (FileFault exchange.now mode) × IsModelOf exchange.now mode model) }
+    ensures model { IfOk result (λ model. IsClear (FileFault exchange.now mode)
+        × IsModelOf exchange.now mode model) }
     ensures fault { IfErr result (IsErrorOf (FileFault exchange.now mode)) }
 {
     let survey = survey(alloc, exchange)?;
@@ -359,7 +371,9 @@ pub fn build(alloc: Global, bytes: &[u8], mode: Mode) -> Result<Model, BuildErro
 fn read_owned(alloc: Global, bytes: Bytes) -> Result<Exchange, BuildError>
     ensures exchange { IfOk result (λ exchange. SpellsExchange bytes exchange) }
     ensures fault { IfErr result (λ error. uploads.IsCause bytes error) }
-    ensures refused { IfErr result (λ error. error ≡ BuildError.Memory ⊎ ((instances : List Instance) → SpellsExchange bytes instances → ⊥)) }
+    ensures refused { IfErr result
+        (λ error. error ≡ BuildError.Memory
+        ⊎ ((instances : List Instance) → SpellsExchange bytes instances → ⊥)) }
 {
     read(alloc, bytes.as_slice())
 }

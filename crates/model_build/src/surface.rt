@@ -31,8 +31,14 @@ fn add_set(
     value: &Value21,
     out: &mut Vec<Triangle>,
 ) -> Result<bool, AllocError>
-    ensures near { All IsInReach (corners_of out.old.items) → OnOk result (All IsInReach (corners_of out.new.items)) }
-    ensures added { (scale : Scale) (mode : Mode) (listed : List ℕ) → AreSets exchange.now scale mode listed sets.now → IfOk result (λ done. MatchBool done (Adds (Joined (KeptSet exchange.now scale mode) (led_to exchange.now (value.now ∷ []))) out.old.items out.new.items) (ReadySet exchange.now listed value.now → ⊥)) }
+    ensures near { All IsInReach (corners_of out.old.items)
+        → OnOk result (All IsInReach (corners_of out.new.items)) }
+    ensures added { (scale : Scale) (mode : Mode) (listed : List ℕ)
+        → AreSets exchange.now scale mode listed sets.now
+        → IfOk result (λ done. MatchBool done
+        (Adds (Joined (KeptSet exchange.now scale mode)
+        (led_to exchange.now (value.now ∷ []))) out.old.items out.new.items)
+        (ReadySet exchange.now listed value.now → ⊥)) }
 {
     let Some(id) = reference_of(value) else {
         return Ok(true);
@@ -56,8 +62,14 @@ fn add_sets(
     values: &[Value21],
     out: &mut Vec<Triangle>,
 ) -> Result<bool, AllocError>
-    ensures near { All IsInReach (corners_of out.old.items) → OnOk result (All IsInReach (corners_of out.new.items)) }
-    ensures added { (scale : Scale) (mode : Mode) (listed : List ℕ) → AreSets exchange.now scale mode listed sets.now → IfOk result (λ done. MatchBool done (Adds (Joined (KeptSet exchange.now scale mode) (led_to exchange.now values.now)) out.old.items out.new.items) (All (ReadySet exchange.now listed) values.now → ⊥)) }
+    ensures near { All IsInReach (corners_of out.old.items)
+        → OnOk result (All IsInReach (corners_of out.new.items)) }
+    ensures added { (scale : Scale) (mode : Mode) (listed : List ℕ)
+        → AreSets exchange.now scale mode listed sets.now
+        → IfOk result (λ done. MatchBool done
+        (Adds (Joined (KeptSet exchange.now scale mode)
+        (led_to exchange.now values.now)) out.old.items out.new.items)
+        (All (ReadySet exchange.now listed) values.now → ⊥)) }
 {
     for value in values {
         let added = add_set(exchange, sets, value, out)?;
@@ -105,7 +117,10 @@ fn add_mapped(
     mode: Mode,
     out: &mut Vec<Triangle>,
 ) -> Result<bool, AllocError>
-    ensures { (listed : List ℕ) → AreSets exchange.now scale mode listed sets.now → IfOk result (λ done. MatchBool done (Adds (KeptMapped exchange.now scale mode item.now) out.old.items out.new.items) (ReadyMapped exchange.now scale mode listed item.now → ⊥)) }
+    ensures { (listed : List ℕ) → AreSets exchange.now scale mode listed sets.now
+        → IfOk result (λ done. MatchBool done
+        (Adds (KeptMapped exchange.now scale mode item.now) out.old.items out.new.items)
+        (ReadyMapped exchange.now scale mode listed item.now → ⊥)) }
 {
     let Some(operator) = reference_at(item, 1) else {
         return Ok(false);
@@ -132,7 +147,11 @@ fn add_item(
     mode: Mode,
     out: &mut Vec<Triangle>,
 ) -> Result<bool, AllocError>
-    ensures { (listed : List ℕ) → AreSets exchange.now scale mode listed sets.now → IfOk result (λ done. MatchBool done (Adds (Joined (KeptItem exchange.now scale mode) (led_to exchange.now (value.now ∷ []))) out.old.items out.new.items) (ReadyItem exchange.now scale mode listed value.now → ⊥)) }
+    ensures { (listed : List ℕ) → AreSets exchange.now scale mode listed sets.now
+        → IfOk result (λ done. MatchBool done
+        (Adds (Joined (KeptItem exchange.now scale mode)
+        (led_to exchange.now (value.now ∷ []))) out.old.items out.new.items)
+        (ReadyItem exchange.now scale mode listed value.now → ⊥)) }
 {
     let Some(id) = reference_of(value) else {
         return Ok(true);
@@ -158,7 +177,11 @@ fn add_items(
     mode: Mode,
     out: &mut Vec<Triangle>,
 ) -> Result<bool, AllocError>
-    ensures { (listed : List ℕ) → AreSets exchange.now scale mode listed sets.now → IfOk result (λ done. MatchBool done (Adds (Joined (KeptItem exchange.now scale mode) (led_to exchange.now values.now)) out.old.items out.new.items) (All (ReadyItem exchange.now scale mode listed) values.now → ⊥)) }
+    ensures { (listed : List ℕ) → AreSets exchange.now scale mode listed sets.now
+        → IfOk result (λ done. MatchBool done
+        (Adds (Joined (KeptItem exchange.now scale mode)
+        (led_to exchange.now values.now)) out.old.items out.new.items)
+        (All (ReadyItem exchange.now scale mode listed) values.now → ⊥)) }
 {
     for value in values {
         let added = add_item(alloc, exchange, sets, value, scale, mode, out)?;
@@ -178,7 +201,10 @@ fn bodies_triangles(
     scale: Scale,
     mode: Mode,
 ) -> Result<Option<Vec<Triangle>>, AllocError>
-    ensures { (listed : List ℕ) (are : List Instance) → AreSets exchange.now scale mode listed sets.now → Number exchange.now ids.now are → IfOk result (λ made. MatchOption made (All (ReadyBody exchange.now scale mode listed) are → ⊥) (λ own. Joined (KeptItem exchange.now scale mode) (flat_map (items_of exchange.now) are) own.items)) }
+    ensures { (listed : List ℕ) (are : List Instance) → AreSets exchange.now scale mode listed sets.now
+        → Number exchange.now ids.now are
+        → IfOk result (λ made. MatchOption made (All (ReadyBody exchange.now scale mode listed) are → ⊥)
+        (λ own. Joined (KeptItem exchange.now scale mode) (flat_map (items_of exchange.now) are) own.items)) }
 {
     let mut own = Vec::new(alloc);
     for id in ids {
@@ -212,7 +238,11 @@ pub fn own_triangles(
     mode: Mode,
 ) -> Result<Option<Vec<Triangle>>, AllocError>
     requires { AreShapes exchange.now shapes.now }
-    ensures { (listed : List ℕ) → AreSets exchange.now scale mode listed sets.now → IfOk result (λ made. MatchOption made (All (ReadyBody exchange.now scale mode listed) (bodies exchange.now element.now) → ⊥) (λ own. Joined (ItemSurface exchange.now scale mode) (body_items exchange.now element.now) own.items × (length own.items ≡ sum_by (item_count exchange.now) (body_items exchange.now element.now)))) }
+    ensures { (listed : List ℕ) → AreSets exchange.now scale mode listed sets.now
+        → IfOk result (λ made. MatchOption made
+        (All (ReadyBody exchange.now scale mode listed) (bodies exchange.now element.now) → ⊥)
+        (λ own. Joined (ItemSurface exchange.now scale mode) (body_items exchange.now element.now) own.items
+        × (length own.items ≡ sum_by (item_count exchange.now) (body_items exchange.now element.now)))) }
 {
     let found = bodies(alloc, exchange, shapes, element)?;
     bodies_triangles(alloc, exchange, sets, &found, scale, mode)
@@ -222,7 +252,8 @@ pub fn own_triangles(
 fn moved(frame: &Frame, triangle: &Triangle) -> Option<Triangle>
     requires frame { IsFrame frame.now }
     requires near { AreWithin most frame.now.offset }
-    ensures { MatchOption result (Any IsOut (corners_of (moved frame.now triangle.now ∷ []))) (λ there. (there ≡ moved frame.now triangle.now) × All IsInReach (corners_of (there ∷ []))) }
+    ensures { MatchOption result (Any IsOut (corners_of (moved frame.now triangle.now ∷ [])))
+        (λ there. (there ≡ moved frame.now triangle.now) × All IsInReach (corners_of (there ∷ []))) }
 {
     let Some(a) = frame.place(triangle.a) else {
         return None;
@@ -244,7 +275,8 @@ pub fn all_moved(
 ) -> Result<Option<Vec<Triangle>>, AllocError>
     requires frame { IsFrame frame.now }
     requires near { AreWithin most frame.now.offset }
-    ensures { IfOk result (λ made. MatchOption made (Any IsOut (corners_of (map (moved frame.now) own.now))) (λ there. (there.items ≡ map (moved frame.now) own.now) × All IsInReach (corners_of there.items))) }
+    ensures { IfOk result (λ made. MatchOption made (Any IsOut (corners_of (map (moved frame.now) own.now)))
+        (λ there. (there.items ≡ map (moved frame.now) own.now) × All IsInReach (corners_of there.items))) }
 {
     let mut made = Vec::with_capacity(alloc, own.len())?;
     for triangle in own {

@@ -16,3 +16,4 @@ pub mod Statements
 pub mod Steps
 pub mod Strict
 pub mod Viable
+pub mod SameSaying

@@ -20,7 +20,8 @@ use Rattle.p21_reader.specs.Uploads.{BeginsPart21, IsUpload, IsIfc4Upload, IsLea
 use Rattle.p21_reader.proofs.Viable.{run_append, file_iff}
 use Rattle.p21_reader.proofs.Steps.{classes_append}
 use Rattle.p21_reader.proofs.FileLemmas.{one_token, longer, shorter, fronts}
-use Rattle.p21_reader.proofs.OneReading.{one_header, one_reading}
+use Rattle.p21_reader.proofs.OneReading.{one_header, one_saying}
+use Rattle.p21_reader.proofs.SameSaying.{same_instances}
 use Rattle.p21_reader.proofs.Sizes.{sized_all, sizes_are}
 use Rattle.p21_reader.proofs.Strict.{strict_from, same_strict, rises_once, trichotomy}
 use Rattle.p21_reader.proofs.Doubles.{times_cons}
@@ -202,7 +203,7 @@ same_values (i ∷ a) (j ∷ b) h =
     sum_by-cons (λ (x : Instance). sum_by size x.values) i a ∙ ap (λ x. x + values_of a) m ∙ ap (λ x. sum_by size j.values + x) (same_values a b e) ∙ sym (sum_by-cons (λ (x : Instance). sum_by size x.values) j b)
 
 pub one_found : (bytes : List ℕ) (a b : List Instance) → IsIfc4Upload bytes a → IsIfc4Upload bytes b → map saying a ≡ map saying b
-one_found bytes a b h k = one_reading bytes h.0 k.0 a b h.1.1 k.1.1
+one_found bytes a b h k = one_saying bytes h.0 k.0 a b h.1.1 k.1.1
 
 not_named : (bytes : List ℕ) (ss : List Statement) (a b : List Instance) → IsUpload bytes ss a → (NamesIfc4 ss → ⊥) → IsIfc4Upload bytes b → ⊥
 not_named bytes ss a b h n k = n (subst NamesIfc4 (one_header bytes k.0 ss b a k.1.1 h.1) k.2)
@@ -336,10 +337,13 @@ one_fault bytes f g h k = absurd h
 
 -- Bytes spell one exchange, as far as what it says.
 
-pub one_exchange : (bytes : List ℕ) (a b : List Instance) → SpellsExchange bytes a → SpellsExchange bytes b → map saying a ≡ map saying b
-one_exchange bytes a b x y =
+same_exchange : (bytes : List ℕ) (a b : List Instance) → SpellsExchange bytes a → SpellsExchange bytes b → map saying a ≡ map saying b
+same_exchange bytes a b x y =
     let e = one_found bytes x.0 y.0 x.1 y.1 in
     let p = IsPermutation-map saying x.0 a x.2 in
     let q = IsPermutation-map saying y.0 b y.2 in
     let r = IsPermutation-trans (map saying a) (map saying x.0) (map saying b) (IsPermutation-sym (map saying x.0) (map saying a) p) (subst (λ z. IsPermutation z (map saying b)) (sym e) q) in
     same_strict (λ s. s.0) (map saying a) (map saying b) (strict_from a x.5) (strict_from b y.5) r
+
+pub one_exchange : (bytes : List ℕ) (a b : List Instance) → SpellsExchange bytes a → SpellsExchange bytes b → a ≡ b
+one_exchange bytes a b x y = same_instances a b (same_exchange bytes a b x y)

@@ -17,6 +17,7 @@ use Rattle.p21_reader.proofs.Steps.{classes_append}
 use Rattle.p21_reader.specs.Saying.{Content, Contents, Absent, Derived, Number, Words, Enumeration, Bits, Reference, Listed, Typed, nothing, and, content, content_step, contents, saying}
 use Rattle.p21_reader.proofs.Viable.{bind_is, complete, file_iff}
 use Rattle.p21_reader.proofs.FileLemmas.{one_token}
+use Rattle.p21_reader.proofs.SameSaying.{same_instances}
 
 -- A list of tokens that the table leads through to its end ends nowhere else.
 
@@ -96,8 +97,8 @@ layer_is (layer.Words bs) = refl
 layer_is (layer.Enumeration bs) = refl
 layer_is (layer.Bits bs) = refl
 layer_is (layer.Reference n) = refl
-layer_is (layer.List vs) = ap (λ z. Opening ∷ (z ++ Closing ∷ [])) (joined_is vs.value.items)
-layer_is (layer.Typed w v) = ap (λ z. KeywordOf w.value ∷ Opening ∷ (z ++ Closing ∷ [])) v.value.1
+layer_is (layer.List vs) = ap (λ z. Opening ∷ (z ++ Closing ∷ [])) (joined_is vs)
+layer_is (layer.Typed w v) = ap (λ z. KeywordOf w ∷ Opening ∷ (z ++ Closing ∷ [])) v.1
 
 print_is : (v : Value21) → print v ≡ spell (content v)
 print_is = ind-Value21 (λ v. print v ≡ spell (content v)) (λ x y is.
@@ -288,6 +289,9 @@ both bytes s t a b h k =
 pub one_header : (bytes : List ℕ) (s t : List Statement) (a b : List Instance) → HoldsFile bytes s a → HoldsFile bytes t b → s ≡ t
 one_header bytes s t a b h k = (both bytes s t a b h k).0
 
-pub one_reading : (bytes : List ℕ) (s t : List Statement) (a b : List Instance) → HoldsFile bytes s a → HoldsFile bytes t b → map saying a ≡ map saying b
-one_reading bytes s t a b h k =
+pub one_saying : (bytes : List ℕ) (s t : List Statement) (a b : List Instance) → HoldsFile bytes s a → HoldsFile bytes t b → map saying a ≡ map saying b
+one_saying bytes s t a b h k =
     one_data a b h.spells.data_section k.spells.data_section h.spells.closing k.spells.closing (Semi ∷ Word EndIso ∷ Semi ∷ []) h.spells.spelled k.spells.spelled h.spells.is_closing k.spells.is_closing (both bytes s t a b h k).1
+
+pub one_reading : (bytes : List ℕ) (s t : List Statement) (a b : List Instance) → HoldsFile bytes s a → HoldsFile bytes t b → a ≡ b
+one_reading bytes s t a b h k = same_instances a b (one_saying bytes s t a b h k)

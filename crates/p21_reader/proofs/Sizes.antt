@@ -35,8 +35,8 @@ layer_is (layer.Words bs) = refl
 layer_is (layer.Enumeration bs) = refl
 layer_is (layer.Bits bs) = refl
 layer_is (layer.Reference n) = refl
-layer_is (layer.List vs) = ap (λ z. z + 1) (all_sized vs.value.items)
-layer_is (layer.Typed w v) = ap (λ z. z + 1) v.value.1
+layer_is (layer.List vs) = ap (λ z. z + 1) (all_sized vs)
+layer_is (layer.Typed w v) = ap (λ z. z + 1) v.1
 
 pub size_is : (v : Value21) → size v ≡ sized (content v)
 size_is = ind-Value21 (λ v. size v ≡ sized (content v)) (λ x y is.

@@ -9,8 +9,8 @@ use Rattle.p21_reader.specs.declared.value.Instance.{Instance}
 
 -- A value counts one, a list and a typed value beside what they hold.
 abbrev pub size_step : Value21-F ℕ → ℕ
-size_step (layer.List vs) = sum vs.value.items + 1
-size_step (layer.Typed word v) = v.value + 1
+size_step (layer.List vs) = sum vs + 1
+size_step (layer.Typed word v) = v + 1
 size_step _ = 1
 
 -- how many values a value is, itself and those within

@@ -43,7 +43,8 @@ pub data Rule : Sign → List Sign → Type 0 where
   last : (d : Option ℕ) → Rule (After d) (T Close ∷ [])
   more : (d : Option ℕ) → Rule (After d) (T Comma ∷ Value d ∷ After d ∷ [])
   -- header statements, up to and with ENDSEC ; DATA ; where a word ENDSEC may also begin a statement
-  statement : (m : Mark) → IsPlainMark m → Rule Statements (T (Word m) ∷ T Open ∷ Inside None ∷ T Semi ∷ Statements ∷ [])
+  statement : (m : Mark) → IsPlainMark m
+      → Rule Statements (T (Word m) ∷ T Open ∷ Inside None ∷ T Semi ∷ Statements ∷ [])
   ending : Rule Statements (T (Word EndSec) ∷ AfterEnd ∷ [])
   again : Rule AfterEnd (T Open ∷ Inside None ∷ T Semi ∷ Statements ∷ [])
   content : Rule AfterEnd (T Semi ∷ T (Word Data) ∷ T Semi ∷ [])
@@ -61,12 +62,14 @@ pub data Derives : List Sign → List Class → Type 0 where
   done : Derives [] []
   token : {α : List Sign} {ts : List Class} (c : Class) → Derives α ts → Derives (T c ∷ α) (c ∷ ts)
   word : {α : List Sign} {ts : List Class} (m : Mark) → Derives α ts → Derives (AnyWord ∷ α) (Word m ∷ ts)
-  rule : {α : List Sign} {ts : List Class} (s : Sign) (r : List Sign) → Rule s r → Derives (r ++ α) ts → Derives (s ∷ α) ts
+  rule : {α : List Sign} {ts : List Class} (s : Sign) (r : List Sign) → Rule s r → Derives (r ++ α) ts
+      → Derives (s ∷ α) ts
 
 -- the header, up to and with the semicolon behind DATA, and then the instances, up to and with the last semicolon
 abbrev pub file : List Sign
 file = T (Word Iso) ∷ T Semi ∷ T (Word Header) ∷ T Semi ∷ Statements ∷ Instances ∷ []
 
+-- the classes are those of a file
 abbrev pub IsFile : List Class → Type 0
 IsFile ts = Derives file ts
 

@@ -23,6 +23,7 @@ use Rattle.p21_reader.specs.Reading.{Goes, Fails, IsPiece}
 
 -- What the code's words for marks, tokens and what is wanted stand for.
 
+-- what a word's mark says to the grammar
 abbrev pub mark_seen : Mark → grammar.Mark
 mark_seen marks.Iso = grammar.Iso
 mark_seen marks.Header = grammar.Header
@@ -31,6 +32,7 @@ mark_seen marks.EndSec = grammar.EndSec
 mark_seen marks.EndIso = grammar.EndIso
 mark_seen marks.Other = grammar.Other
 
+-- the class of what was seen
 abbrev pub class_seen : Seen → Class
 class_seen seen.Simple = grammar.Simple
 class_seen seen.Name = grammar.Name
@@ -41,6 +43,7 @@ class_seen seen.Comma = grammar.Comma
 class_seen seen.Semicolon = grammar.Semi
 class_seen seen.Equals = grammar.Equals
 
+-- the sign of the grammar for what is wanted
 abbrev pub sign_of : Want → Sign
 sign_of wants.Open = grammar.T grammar.Open
 sign_of wants.Close = grammar.T grammar.Close
@@ -57,8 +60,10 @@ signs_of (w ∷ ws) = signs_of ws ++ sign_of w ∷ []
 abbrev pub Follows : Sign → Class → List Sign → List Sign → Type 0
 Follows s c old new = (σ : List Sign) × (next s c ≡ Some σ) × (new ≡ σ ++ old)
 
+-- memory is wanting, or the token can't follow
 abbrev pub FollowsNot : Sign → List ℕ → Token → ReadFault → Type 0
-FollowsNot s bytes t fault = (fault ≡ faults.Memory) ⊎ ((fault ≡ faults.BadStatement t.start) × (next s (class_of (lexeme_of bytes t)) ≡ None))
+FollowsNot s bytes t fault = (fault ≡ faults.Memory)
+    ⊎ ((fault ≡ faults.BadStatement t.start) × (next s (class_of (lexeme_of bytes t)) ≡ None))
 
 -- what ends a header
 abbrev pub ending : List Class
@@ -68,12 +73,15 @@ ending = grammar.Word grammar.EndSec ∷ grammar.Semi ∷ grammar.Word grammar.D
 abbrev pub OnlyText : List ℕ → ℕ → List ℕ → Type 0
 OnlyText bytes at spelled = (end : ℕ) × Cuts bytes at (Opening ∷ WordsOf spelled ∷ Closing ∷ Closing ∷ []) end
 
+-- one text alone follows, and it names IFC4
 abbrev pub OnlyIfc4 : List ℕ → ℕ → Type 0
 OnlyIfc4 bytes at = (spelled : List ℕ) × OnlyText bytes at spelled × IsIfc4 spelled
 
 -- a statement stands there: its keyword is this token, and its values begin at that place
 abbrev pub IsStatementAt : List ℕ → Token → ℕ → Statement → Type 0
-IsStatementAt bytes t inside s = (lexeme_of bytes t ≡ KeywordOf s.keyword) × Derives (grammar.Inside None ∷ []) (classes s.values) × (close : ℕ) × Cuts bytes inside s.values close
+IsStatementAt bytes t inside s =
+    (lexeme_of bytes t ≡ KeywordOf s.keyword) × Derives (grammar.Inside None ∷ []) (classes s.values)
+    × (close : ℕ) × Cuts bytes inside s.values close
 
 -- what the statements so far say of the schema
 abbrev pub SaysSchema : Schema → List Statement → Type 0
@@ -81,25 +89,41 @@ SaysSchema said.Unnamed before = schemas before ≡ []
 SaysSchema said.Ifc4 before = NamesIfc4 before
 SaysSchema said.Wrong before = (more : List Statement) → NamesIfc4 (before ++ more) → ⊥
 
+-- the beginning of the data is read at a place: where it ends, or what fails
 abbrev pub ReadsData : List ℕ → ℕ → Result ℕ ReadFault → Type 0
-ReadsData bytes at (Ok end) = (ls : List Lexeme) × (classes ls ≡ grammar.Word grammar.Data ∷ grammar.Semi ∷ []) × Goes (T (grammar.Word grammar.Data) ∷ T grammar.Semi ∷ []) [] bytes at end ls
+ReadsData bytes at (Ok end) = (ls : List Lexeme)
+    × (classes ls ≡ grammar.Word grammar.Data ∷ grammar.Semi ∷ [])
+    × Goes (T (grammar.Word grammar.Data) ∷ T grammar.Semi ∷ []) [] bytes at end ls
 ReadsData bytes at (Err fault) = Fails (T (grammar.Word grammar.Data) ∷ T grammar.Semi ∷ []) bytes at fault
 
 -- one statement, or the end of the header
 abbrev pub ReadsPart : List ℕ → ℕ → Result Part ReadFault → Type 0
-ReadsPart bytes at (Ok (parts.Statement word inside end)) = IsPiece bytes word × (word.kind ≡ kinds.Word) × (inside ≤ length bytes) × (end ≤ length bytes) × (at < end)
-    × (s : Statement) × IsStatementAt bytes word.token inside s × (ls : List Lexeme) × SpellsStatement s ls × Goes (grammar.Statements ∷ []) (grammar.Statements ∷ []) bytes at end ls
-ReadsPart bytes at (Ok (parts.Data end)) = (end ≤ length bytes) × (ls : List Lexeme) × (classes ls ≡ ending) × Goes (grammar.Statements ∷ []) [] bytes at end ls
+ReadsPart bytes at (Ok (parts.Statement word inside end)) =
+    IsPiece bytes word × (word.kind ≡ kinds.Word) × (inside ≤ length bytes) × (end ≤ length bytes)
+    × (at < end)
+    × (s : Statement) × IsStatementAt bytes word.token inside s × (ls : List Lexeme) × SpellsStatement s ls
+    × Goes (grammar.Statements ∷ []) (grammar.Statements ∷ []) bytes at end ls
+ReadsPart bytes at (Ok (parts.Data end)) =
+    (end ≤ length bytes) × (ls : List Lexeme) × (classes ls ≡ ending)
+    × Goes (grammar.Statements ∷ []) [] bytes at end ls
 ReadsPart bytes at (Err fault) = Fails (grammar.Statements ∷ []) bytes at fault
 
 -- the statements and the end of the header
 abbrev pub ReadsStatements : List ℕ → ℕ → Result Head ReadFault → Type 0
-ReadsStatements bytes at (Ok head) = (statements : List Statement) × (middle : List Lexeme) × (closing : List Lexeme) × SpellsStatements statements middle × (classes closing ≡ ending)
-    × Goes (grammar.Statements ∷ []) [] bytes at head.end (middle ++ closing) × (IsTrue head.is_ifc4 ↔ NamesIfc4 statements)
+ReadsStatements bytes at (Ok head) =
+    (statements : List Statement) × (middle : List Lexeme) × (closing : List Lexeme)
+    × SpellsStatements statements middle × (classes closing ≡ ending)
+    × Goes (grammar.Statements ∷ []) [] bytes at head.end (middle ++ closing)
+    × (IsTrue head.is_ifc4 ↔ NamesIfc4 statements)
 ReadsStatements bytes at (Err fault) = Fails (grammar.Statements ∷ []) bytes at fault
 
 -- the same behind HEADER and its semicolon
 abbrev pub ReadsHeader : List ℕ → ℕ → Result Head ReadFault → Type 0
-ReadsHeader bytes at (Ok head) = (statements : List Statement) × (front : List Lexeme) × (middle : List Lexeme) × (closing : List Lexeme) × (classes front ≡ grammar.Word grammar.Header ∷ grammar.Semi ∷ []) × SpellsStatements statements middle
-    × (classes closing ≡ ending) × Goes (T (grammar.Word grammar.Header) ∷ T grammar.Semi ∷ grammar.Statements ∷ []) [] bytes at head.end (front ++ (middle ++ closing)) × (IsTrue head.is_ifc4 ↔ NamesIfc4 statements)
-ReadsHeader bytes at (Err fault) = Fails (T (grammar.Word grammar.Header) ∷ T grammar.Semi ∷ grammar.Statements ∷ []) bytes at fault
+ReadsHeader bytes at (Ok head) =
+    (statements : List Statement) × (front : List Lexeme) × (middle : List Lexeme) × (closing : List Lexeme)
+    × (classes front ≡ grammar.Word grammar.Header ∷ grammar.Semi ∷ []) × SpellsStatements statements middle
+    × (classes closing ≡ ending) × Goes
+    (T (grammar.Word grammar.Header) ∷ T grammar.Semi ∷ grammar.Statements ∷ []) [] bytes at head.end
+    (front ++ (middle ++ closing)) × (IsTrue head.is_ifc4 ↔ NamesIfc4 statements)
+ReadsHeader bytes at (Err fault) =
+    Fails (T (grammar.Word grammar.Header) ∷ T grammar.Semi ∷ grammar.Statements ∷ []) bytes at fault

@@ -14,7 +14,8 @@ use Rattle.p21_reader.specs.Reading.{Goes, Fails, FailsAfter, classes}
 -- values in parentheses, of which nothing is kept.
 abbrev pub SpellsBody : Option (List ℕ) → List Value21 → List Lexeme → Type 0
 SpellsBody (Some keyword) values ls = ls ≡ KeywordOf keyword ∷ Opening ∷ (print_all values ++ Closing ∷ [])
-SpellsBody None values ls = (values ≡ []) × (rest : List Lexeme) × (ls ≡ Opening ∷ rest) × Derives (Body ∷ []) (classes ls)
+SpellsBody None values ls = (values ≡ []) × (rest : List Lexeme) × (ls ≡ Opening ∷ rest)
+    × Derives (Body ∷ []) (classes ls)
 
 -- These tokens are an instance, from its name up to and with the semicolon.
 pub record SpellsInstance (instance : Instance) (ls : List Lexeme) : Type 0 where
@@ -25,27 +26,39 @@ pub record SpellsInstance (instance : Instance) (ls : List Lexeme) : Type 0 wher
 -- these tokens are the instances, one after another
 abbrev pub SpellsAll : List Instance → List Lexeme → Type 0
 SpellsAll [] ls = ls ≡ []
-SpellsAll (i ∷ more) ls = (front rest : List Lexeme) × SpellsInstance i front × (ls ≡ front ++ rest) × SpellsAll more rest
+SpellsAll (i ∷ more) ls = (front rest : List Lexeme) × SpellsInstance i front × (ls ≡ front ++ rest)
+    × SpellsAll more rest
 
 -- What the functions answer.
 
+-- what stands in an instance behind its first lexeme is read at a place, to its end
 abbrev pub ReadsBody : List Sign → Lexeme → List ℕ → ℕ → Option (List ℕ) → List Value21 → ℕ → Type 0
-ReadsBody σ first bytes at keyword values end = (rest : List Lexeme) × SpellsBody keyword values (first ∷ rest) × Goes σ [] bytes at end rest
+ReadsBody σ first bytes at keyword values end =
+    (rest : List Lexeme) × SpellsBody keyword values (first ∷ rest) × Goes σ [] bytes at end rest
 
+-- an instance of this number is read so, or what fails
 abbrev pub MakesBody : ℕ → List Sign → Lexeme → List ℕ → ℕ → Result Made ReadFault → Type 0
-MakesBody id σ first bytes at (Ok made) = (made.instance.id ≡ id) × ReadsBody σ first bytes at made.instance.keyword made.instance.values made.end
+MakesBody id σ first bytes at (Ok made) =
+    (made.instance.id ≡ id) × ReadsBody σ first bytes at made.instance.keyword made.instance.values made.end
 MakesBody id σ first bytes at (Err fault) = Fails σ bytes at fault
 
+-- signs of the grammar are passed over at a place: where they end, or what fails
 abbrev pub Passes : List Sign → List ℕ → ℕ → Result ℕ ReadFault → Type 0
 Passes σ bytes at (Ok end) = (ls : List Lexeme) × Goes σ [] bytes at end ls
 Passes σ bytes at (Err fault) = Fails σ bytes at fault
 
 -- what stands between the equals sign and the semicolon, whose first token is given
 abbrev pub StartsBody : ℕ → List ℕ → Token → Result Made ReadFault → Type 0
-StartsBody id bytes t (Ok made) = (made.instance.id ≡ id) × (wanted : List Sign) × (rest : List Lexeme) × (next Body (class_of (lexeme_of bytes t)) ≡ Some wanted) × SpellsBody made.instance.keyword made.instance.values (lexeme_of bytes t ∷ rest) × Goes wanted [] bytes t.end made.end rest
+StartsBody id bytes t (Ok made) =
+    (made.instance.id ≡ id) × (wanted : List Sign) × (rest : List Lexeme)
+    × (next Body (class_of (lexeme_of bytes t)) ≡ Some wanted)
+    × SpellsBody made.instance.keyword made.instance.values (lexeme_of bytes t ∷ rest)
+    × Goes wanted [] bytes t.end made.end rest
 StartsBody id bytes t (Err fault) = FailsAfter Body bytes t fault
 
 -- an instance whose name is given
 abbrev pub MakesInstance : Lexeme → List ℕ → ℕ → Result Made ReadFault → Type 0
-MakesInstance name bytes at (Ok made) = (rest : List Lexeme) × SpellsInstance made.instance (name ∷ rest) × Goes (T Equals ∷ Body ∷ T Semi ∷ []) [] bytes at made.end rest
+MakesInstance name bytes at (Ok made) =
+    (rest : List Lexeme) × SpellsInstance made.instance (name ∷ rest)
+    × Goes (T Equals ∷ Body ∷ T Semi ∷ []) [] bytes at made.end rest
 MakesInstance name bytes at (Err fault) = Fails (T Equals ∷ Body ∷ T Semi ∷ []) bytes at fault

@@ -15,6 +15,7 @@ pub data Lexeme : Type 0 where
   NumberOf WordsOf EnumerationOf BitsOf KeywordOf : List ℕ → Lexeme
   ReferenceTo : ℕ → Lexeme
 
+-- what a token of one byte says
 abbrev pub single_says : ℕ → Lexeme
 single_says b =
     if b == 40 then Opening
@@ -34,6 +35,7 @@ alone (b ∷ bs) = single_says b
 abbrev pub inner : List ℕ → List ℕ
 inner bs = slice_range bs 1 (length bs - 1)
 
+-- what the bytes of a token of some kind say
 abbrev pub says : TokenKind → List ℕ → Lexeme
 says kinds.Word bs = KeywordOf (map to_ascii_uppercase bs)
 says kinds.Name bs = ReferenceTo (value_after 0 (drop 1 bs))
@@ -47,6 +49,7 @@ says kinds.Single bs = alone bs
 abbrev pub lexeme_of : List ℕ → Token → Lexeme
 lexeme_of bytes t = says t.kind (slice_range bytes t.start t.end)
 
+-- which of the file's own words a word is
 unfoldable pub mark_of : List ℕ → Mark
 mark_of word =
     if bytes_eq word (codes "ISO-10303-21") then Iso
@@ -70,7 +73,9 @@ class_of _ = Simple
 -- tokens that say this are cut one after another, from this place on up to that one
 abbrev pub Cuts : List ℕ → ℕ → List Lexeme → ℕ → Type 0
 Cuts bytes at [] end = at ≡ end
-Cuts bytes at (l ∷ ls) end = (t : Token) × CutsFrom bytes at (Ok (Some t)) × (lexeme_of bytes t ≡ l) × Cuts bytes t.end ls end
+Cuts bytes at (l ∷ ls) end = (t : Token) × CutsFrom bytes at (Ok (Some t)) × (lexeme_of bytes t ≡ l)
+    × Cuts bytes t.end ls end
 
+-- the classes of lexemes
 abbrev pub classes : List Lexeme → List Class
 classes ls = map class_of ls

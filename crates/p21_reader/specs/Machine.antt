@@ -4,6 +4,7 @@ use Rattle.p21_reader.specs.Grammar.{Mark, Iso, Header, Data, EndSec, EndIso, Ot
 
 -- What is wanted next, as a table: what the code follows. Public contracts speak of the rules alone.
 
+-- two marks are one
 abbrev pub same_mark : Mark → Mark → Bool
 same_mark Iso Iso = true
 same_mark Header Header = true
@@ -13,6 +14,7 @@ same_mark EndIso EndIso = true
 same_mark Other Other = true
 same_mark _ _ = false
 
+-- two classes are one
 abbrev pub same : Class → Class → Bool
 same Simple Simple = true
 same Name Name = true
@@ -24,10 +26,12 @@ same Equals Equals = true
 same (Word m) (Word n) = same_mark m n
 same _ _ = false
 
+-- what follows, where there is something
 abbrev pub bind : {A B : Type 0} → Option A → (A → Option B) → Option B
 bind None f = None
 bind (Some x) f = f x
 
+-- the signs that an answer leads to, where there is one
 abbrev pub deeper : Option (Option ℕ) → (Option ℕ → List Sign) → Option (List Sign)
 deeper None f = None
 deeper (Some e) f = Some (f e)
@@ -67,6 +71,7 @@ next (After d) Close = Some []
 next (After d) Comma = Some (Value d ∷ After d ∷ [])
 next (After d) _ = None
 
+-- the signs that are left after a class, where it can follow
 abbrev pub step : List Sign → Class → Option (List Sign)
 step [] x = None
 step (s ∷ α) x = option_map (λ r. r ++ α) (next s x)

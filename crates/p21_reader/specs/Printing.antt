@@ -5,6 +5,7 @@ use Rattle.p21_reader.specs.declared.value.Value21.TheOpen.{Value21-F}
 use Rattle.p21_reader.specs.declared.value.Value21.TheOpen as layer
 use Rattle.p21_reader.specs.declared.value.Value21.TheFolds.{fold-Value21}
 
+-- values behind the first one, each behind a separator
 abbrev pub behind : List (List Lexeme) → List Lexeme
 behind [] = []
 behind (v ∷ vs) = Separator ∷ (v ++ behind vs)
@@ -23,8 +24,8 @@ print_step (layer.Words bs) = WordsOf bs ∷ []
 print_step (layer.Enumeration bs) = EnumerationOf bs ∷ []
 print_step (layer.Bits bs) = BitsOf bs ∷ []
 print_step (layer.Reference n) = ReferenceTo n ∷ []
-print_step (layer.List vs) = Opening ∷ (joined vs.value.items ++ Closing ∷ [])
-print_step (layer.Typed word v) = KeywordOf word.value ∷ Opening ∷ (v.value ++ Closing ∷ [])
+print_step (layer.List vs) = Opening ∷ (joined vs ++ Closing ∷ [])
+print_step (layer.Typed word v) = KeywordOf word ∷ Opening ∷ (v ++ Closing ∷ [])
 
 -- the tokens that spell a value
 abbrev pub print : Value21 → List Lexeme

@@ -25,8 +25,10 @@ pub record Goes (σ τ : List Sign) (bytes : List ℕ) (at end : ℕ) (ls : List
 -- the bytes end there, or a token stands there that this sign doesn't begin with
 abbrev pub IsRefused : Sign → List ℕ → ℕ → ℕ → Type 0
 IsRefused s bytes at p = (CutsFrom bytes at (Ok None) × (p ≡ length bytes))
-    ⊎ ((t : Token) × CutsFrom bytes at (Ok (Some t)) × (p ≡ t.start) × (next s (class_of (lexeme_of bytes t)) ≡ None))
+    ⊎ ((t : Token) × CutsFrom bytes at (Ok (Some t)) × (p ≡ t.start)
+    × (next s (class_of (lexeme_of bytes t)) ≡ None))
 
+-- why reading doesn't go on at a place: no token begins there, or a sign refuses it, or memory is wanting
 abbrev pub IsStuck : Sign → List ℕ → ℕ → ReadFault → Type 0
 IsStuck s bytes at (faults.BadToken p) = CutsFrom bytes at (Err (lex.BadToken p))
 IsStuck s bytes at (faults.BadStatement p) = IsRefused s bytes at p
@@ -53,6 +55,7 @@ NoToken bytes at (faults.BadToken p) = CutsFrom bytes at (Err (lex.BadToken p))
 NoToken bytes at (faults.BadStatement p) = CutsFrom bytes at (Ok None) × (p ≡ length bytes)
 NoToken bytes at faults.Memory = ⊥
 
+-- the kind of a class
 abbrev pub kind_of : Class → Kind
 kind_of Simple = kinds.Simple
 kind_of Name = kinds.Name
@@ -77,6 +80,7 @@ IsSign kinds.Name = ⊥
 IsSign kinds.Word = ⊥
 IsSign _ = Unit {0}
 
+-- the class of a kind of one byte
 abbrev pub sign_class : Kind → Class
 sign_class kinds.Open = Open
 sign_class kinds.Close = Close
@@ -85,6 +89,7 @@ sign_class kinds.Semicolon = Semi
 sign_class kinds.Equals = Equals
 sign_class _ = Simple
 
+-- what a kind of one byte says
 abbrev pub sign_says : Kind → Lexeme
 sign_says kinds.Open = Opening
 sign_says kinds.Close = Closing
@@ -93,6 +98,7 @@ sign_says kinds.Semicolon = Ending
 sign_says kinds.Equals = Assigning
 sign_says _ = Absence
 
+-- a token of one byte is read at a place: where it ends, or what fails
 abbrev pub Expects : Kind → List ℕ → ℕ → Result ℕ ReadFault → Type 0
 Expects kind bytes at (Ok end) = Goes (T (sign_class kind) ∷ []) [] bytes at end (sign_says kind ∷ [])
 Expects kind bytes at (Err fault) = Fails (T (sign_class kind) ∷ []) bytes at fault
@@ -107,9 +113,12 @@ pub record ReadsValue (depth : ℕ) (bytes : List ℕ) (t : Token) (end : ℕ) (
 
 -- That token can't stand there, or what follows it can't go on.
 abbrev pub StopsAfter : Sign → List ℕ → Token → ReadFault → Type 0
-StopsAfter s bytes t fault = ((fault ≡ faults.BadStatement t.start) × (next s (class_of (lexeme_of bytes t)) ≡ None))
-    ⊎ ((wanted : List Sign) × (next s (class_of (lexeme_of bytes t)) ≡ Some wanted) × Stops wanted bytes t.end fault)
+StopsAfter s bytes t fault = ((fault ≡ faults.BadStatement t.start)
+    × (next s (class_of (lexeme_of bytes t)) ≡ None))
+    ⊎ ((wanted : List Sign) × (next s (class_of (lexeme_of bytes t)) ≡ Some wanted)
+    × Stops wanted bytes t.end fault)
 
+-- reading fails behind a token
 abbrev pub FailsAfter : Sign → List ℕ → Token → ReadFault → Type 0
 FailsAfter s bytes t (faults.BadToken p) = StopsAfter s bytes t (faults.BadToken p)
 FailsAfter s bytes t (faults.BadStatement p) = StopsAfter s bytes t (faults.BadStatement p)
@@ -117,12 +126,15 @@ FailsAfter s bytes t faults.Memory = Unit {0}
 
 -- a value is read and stands on the stack
 abbrev pub PushesValue : ℕ → List ℕ → Token → List Value21 → List Value21 → Result ℕ ReadFault → Type 0
-PushesValue depth bytes t old new (Ok end) = (v : Value21) × (new ≡ old ++ v ∷ []) × ReadsValue depth bytes t end v
+PushesValue depth bytes t old new (Ok end) =
+    (v : Value21) × (new ≡ old ++ v ∷ []) × ReadsValue depth bytes t end v
 PushesValue depth bytes t old new (Err fault) = FailsAfter (Value (Some depth)) bytes t fault
 
 -- the same of the values behind an opening parenthesis, up to and with the closing one
 abbrev pub PushesInside : ℕ → List ℕ → ℕ → List Value21 → List Value21 → Result ℕ ReadFault → Type 0
-PushesInside depth bytes at old new (Ok end) = (vs : List Value21) × (new ≡ old ++ vs) × Goes (Inside (Some depth) ∷ []) [] bytes at end (print_all vs ++ Closing ∷ [])
+PushesInside depth bytes at old new (Ok end) =
+    (vs : List Value21) × (new ≡ old ++ vs)
+    × Goes (Inside (Some depth) ∷ []) [] bytes at end (print_all vs ++ Closing ∷ [])
 PushesInside depth bytes at old new (Err fault) = Fails (Inside (Some depth) ∷ []) bytes at fault
 
 -- a value of one token
@@ -132,19 +144,26 @@ IsPlain kinds.Name = Unit {0}
 IsPlain _ = ⊥
 
 -- A value is made and stands on the stack: its first token says this, and the others, from that place on, are what was wanted.
-abbrev pub PushesMade : List Sign → Lexeme → List ℕ → ℕ → List Value21 → List Value21 → Result ℕ ReadFault → Type 0
-PushesMade σ first bytes at old new (Ok end) = (v : Value21) × (new ≡ old ++ v ∷ []) × (rest : List Lexeme) × (print v ≡ first ∷ rest) × Goes σ [] bytes at end rest
+abbrev pub PushesMade : List Sign → Lexeme → List ℕ → ℕ → List Value21 → List Value21 → Result ℕ ReadFault
+    → Type 0
+PushesMade σ first bytes at old new (Ok end) =
+    (v : Value21) × (new ≡ old ++ v ∷ []) × (rest : List Lexeme) × (print v ≡ first ∷ rest)
+    × Goes σ [] bytes at end rest
 PushesMade σ first bytes at old new (Err fault) = Fails σ bytes at fault
 
 -- the values of a list behind its first one, up to and with the closing parenthesis
 abbrev pub PushesMore : ℕ → List ℕ → ℕ → List Value21 → List Value21 → Result ℕ ReadFault → Type 0
-PushesMore depth bytes at old new (Ok end) = (vs : List Value21) × (new ≡ old ++ vs) × Goes (After (Some depth) ∷ []) [] bytes at end (behind (map print vs) ++ Closing ∷ [])
+PushesMore depth bytes at old new (Ok end) =
+    (vs : List Value21) × (new ≡ old ++ vs)
+    × Goes (After (Some depth) ∷ []) [] bytes at end (behind (map print vs) ++ Closing ∷ [])
 PushesMore depth bytes at old new (Err fault) = Fails (After (Some depth) ∷ []) bytes at fault
 
 -- the values from a place on become one list
 abbrev pub IsListed : ℕ → List Value21 → List Value21 → Type 0
-IsListed start old new = (v : Value21) × (new ≡ take start old ++ v ∷ []) × (print v ≡ Opening ∷ (print_all (drop start old) ++ Closing ∷ []))
+IsListed start old new = (v : Value21) × (new ≡ take start old ++ v ∷ [])
+    × (print v ≡ Opening ∷ (print_all (drop start old) ++ Closing ∷ []))
 
 -- the last value is put into a typed one
 abbrev pub IsWrapped : Lexeme → List Value21 → List Value21 → Type 0
-IsWrapped word old new = (front : List Value21) (v : Value21) → old ≡ front ++ v ∷ [] → (u : Value21) × (new ≡ front ++ u ∷ []) × (print u ≡ word ∷ Opening ∷ (print v ++ Closing ∷ []))
+IsWrapped word old new = (front : List Value21) (v : Value21) → old ≡ front ++ v ∷ []
+    → (u : Value21) × (new ≡ front ++ u ∷ []) × (print u ≡ word ∷ Opening ∷ (print v ++ Closing ∷ []))

@@ -19,6 +19,7 @@ mutual
     nothing : Contents
     and : Content → Contents → Contents
 
+-- what values say, one after the other
 abbrev pub contents : List Content → Contents
 contents [] = nothing
 contents (v ∷ vs) = and v (contents vs)
@@ -32,8 +33,8 @@ content_step (layer.Words bs) = Words bs
 content_step (layer.Enumeration bs) = Enumeration bs
 content_step (layer.Bits bs) = Bits bs
 content_step (layer.Reference n) = Reference n
-content_step (layer.List vs) = Listed (contents vs.value.items)
-content_step (layer.Typed word v) = Typed word.value v.value
+content_step (layer.List vs) = Listed (contents vs)
+content_step (layer.Typed word v) = Typed word v
 
 -- what a value says
 abbrev pub content : Value21 → Content

@@ -14,12 +14,14 @@ pub record Statement : Type 0 where
 
 -- these tokens are the statement, up to and with its semicolon
 abbrev pub SpellsStatement : Statement → List Lexeme → Type 0
-SpellsStatement s ls = (ls ≡ KeywordOf s.keyword ∷ Opening ∷ (s.values ++ Ending ∷ [])) × Derives (Inside None ∷ []) (classes s.values)
+SpellsStatement s ls = (ls ≡ KeywordOf s.keyword ∷ Opening ∷ (s.values ++ Ending ∷ []))
+    × Derives (Inside None ∷ []) (classes s.values)
 
 -- these tokens are the statements, one after another
 abbrev pub SpellsStatements : List Statement → List Lexeme → Type 0
 SpellsStatements [] ls = ls ≡ []
-SpellsStatements (s ∷ more) ls = (front rest : List Lexeme) × SpellsStatement s front × (ls ≡ front ++ rest) × SpellsStatements more rest
+SpellsStatements (s ∷ more) ls =
+    (front rest : List Lexeme) × SpellsStatement s front × (ls ≡ front ++ rest) × SpellsStatements more rest
 
 -- These tokens are a header with these statements, from the first token of the file up to and with the semicolon behind DATA.
 pub record SpellsHeading (statements : List Statement) (ls : List Lexeme) : Type 0 where
@@ -41,4 +43,5 @@ IsIfc4 spelled = map to_ascii_uppercase (text_of_spelling spelled) ≡ codes "IF
 
 -- FILE_SCHEMA stands exactly once, with one value, a list of one text, which is IFC4
 abbrev pub NamesIfc4 : List Statement → Type 0
-NamesIfc4 statements = (spelled : List ℕ) × (schemas statements ≡ (Opening ∷ WordsOf spelled ∷ Closing ∷ Closing ∷ []) ∷ []) × IsIfc4 spelled
+NamesIfc4 statements = (spelled : List ℕ)
+    × (schemas statements ≡ (Opening ∷ WordsOf spelled ∷ Closing ∷ Closing ∷ []) ∷ []) × IsIfc4 spelled

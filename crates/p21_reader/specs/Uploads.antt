@@ -21,7 +21,8 @@ use Rattle.p21_reader.specs.Files.{HoldsFile, NoneThere, WrongThere}
 
 -- the first two tokens are the word ISO-10303-21 and a semicolon
 abbrev pub BeginsPart21 : List ℕ → Type 0
-BeginsPart21 bytes = (ls : List Lexeme) × (end : ℕ) × Cuts bytes (start_of bytes) ls end × (classes ls ≡ Word Iso ∷ Semi ∷ [])
+BeginsPart21 bytes = (ls : List Lexeme) × (end : ℕ) × Cuts bytes (start_of bytes) ls end
+    × (classes ls ≡ Word Iso ∷ Semi ∷ [])
 
 -- so many bytes at most, and the first tokens are a file with these statements in its header and these instances, in their order
 abbrev pub IsUpload : List ℕ → List Statement → List Instance → Type 0
@@ -29,7 +30,8 @@ IsUpload bytes statements found = (length bytes ≤ MOST_UPLOAD) × HoldsFile by
 
 -- the same, and the header names IFC4
 abbrev pub IsIfc4Upload : List ℕ → List Instance → Type 0
-IsIfc4Upload bytes found = (statements : List Statement) × IsUpload bytes statements found × NamesIfc4 statements
+IsIfc4Upload bytes found = (statements : List Statement) × IsUpload bytes statements found
+    × NamesIfc4 statements
 
 -- two instances have this id, and no lesser one
 abbrev pub IsLeastDouble : ℕ → List Instance → Type 0
@@ -43,19 +45,27 @@ Rises instances = IsStrictlySortedBy nat_cmp (map (λ i. i.id) instances)
 -- names IFC4.
 abbrev pub SpellsExchange : List ℕ → List Instance → Type 0
 SpellsExchange bytes instances =
-    (found : List Instance) × IsIfc4Upload bytes found × IsPermutation found instances × (length instances ≤ MOST_INSTANCES) × (values_of instances ≤ MOST_VALUES) × Rises instances
+    (found : List Instance) × IsIfc4Upload bytes found × IsPermutation found instances
+    × (length instances ≤ MOST_INSTANCES) × (values_of instances ≤ MOST_VALUES) × Rises instances
 
 -- The bytes have this fault, and none of an earlier stage. The faults that aren't a reader's are none of theirs.
 abbrev pub HasFault : List ℕ → UploadFault → Type 0
 HasFault bytes (faults.TooMany many.Bytes) = MOST_UPLOAD < length bytes
 HasFault bytes faults.NotPart21 = (length bytes ≤ MOST_UPLOAD) × (BeginsPart21 bytes → ⊥)
 HasFault bytes (faults.BadToken p) = (length bytes ≤ MOST_UPLOAD) × BeginsPart21 bytes × NoneThere bytes p
-HasFault bytes (faults.BadStatement p) = (length bytes ≤ MOST_UPLOAD) × BeginsPart21 bytes × WrongThere bytes p
-HasFault bytes faults.WrongSchema = (statements : List Statement) × (found : List Instance) × IsUpload bytes statements found × (NamesIfc4 statements → ⊥)
-HasFault bytes (faults.TooMany many.Instances) = (found : List Instance) × IsIfc4Upload bytes found × (MOST_INSTANCES < length found)
-HasFault bytes (faults.TooMany many.Values) = (found : List Instance) × IsIfc4Upload bytes found × (length found ≤ MOST_INSTANCES) × (MOST_VALUES < values_of found)
+HasFault bytes (faults.BadStatement p) =
+    (length bytes ≤ MOST_UPLOAD) × BeginsPart21 bytes × WrongThere bytes p
+HasFault bytes faults.WrongSchema =
+    (statements : List Statement) × (found : List Instance) × IsUpload bytes statements found
+    × (NamesIfc4 statements → ⊥)
+HasFault bytes (faults.TooMany many.Instances) =
+    (found : List Instance) × IsIfc4Upload bytes found × (MOST_INSTANCES < length found)
+HasFault bytes (faults.TooMany many.Values) =
+    (found : List Instance) × IsIfc4Upload bytes found × (length found ≤ MOST_INSTANCES)
+    × (MOST_VALUES < values_of found)
 HasFault bytes (faults.DoubleId id) =
-    (found : List Instance) × IsIfc4Upload bytes found × (length found ≤ MOST_INSTANCES) × (values_of found ≤ MOST_VALUES) × IsLeastDouble id found
+    (found : List Instance) × IsIfc4Upload bytes found × (length found ≤ MOST_INSTANCES)
+    × (values_of found ≤ MOST_VALUES) × IsLeastDouble id found
 HasFault _ _ = ⊥
 
 -- want of memory is free
@@ -65,15 +75,19 @@ IsCause bytes errors.Memory = Unit {0}
 
 -- What the functions answer.
 
+-- there are too many instances, or else too many values
 abbrev pub IsTooMany : List Instance → UploadFault → Type 0
 IsTooMany found (faults.TooMany many.Instances) = MOST_INSTANCES < length found
-IsTooMany found (faults.TooMany many.Values) = (length found ≤ MOST_INSTANCES) × (MOST_VALUES < values_of found)
+IsTooMany found (faults.TooMany many.Values) =
+    (length found ≤ MOST_INSTANCES) × (MOST_VALUES < values_of found)
 IsTooMany _ _ = ⊥
 
 -- a file with these instances, and whether its header names IFC4
 abbrev pub Judges : List ℕ → List Instance → Bool → Type 0
-Judges bytes found is_ifc4 = (statements : List Statement) × HoldsFile bytes statements found × (IsTrue is_ifc4 ↔ NamesIfc4 statements)
+Judges bytes found is_ifc4 = (statements : List Statement) × HoldsFile bytes statements found
+    × (IsTrue is_ifc4 ↔ NamesIfc4 statements)
 
 -- the first two tokens of a file end here
 abbrev pub BeginsAt : List ℕ → ℕ → Type 0
-BeginsAt bytes end = (ls : List Lexeme) × (classes ls ≡ Word Iso ∷ Semi ∷ []) × Goes (T (Word Iso) ∷ T Semi ∷ []) [] bytes (start_of bytes) end ls
+BeginsAt bytes end = (ls : List Lexeme) × (classes ls ≡ Word Iso ∷ Semi ∷ [])
+    × Goes (T (Word Iso) ∷ T Semi ∷ []) [] bytes (start_of bytes) end ls

@@ -30,7 +30,8 @@ pub fn sign_end(bytes: &[u8], at: usize, wanted: Kind) -> Option<usize>
     requires sign { IsSign wanted }
     requires at { at ≤ length bytes.now }
     ensures found { IfSome result (λ end. Cuts bytes.now at (sign_says wanted ∷ []) end) }
-    ensures none { IfNone result ((t : Token) → CutsFrom bytes.now at (Ok (Some t)) → lexeme_of bytes.now t ≡ sign_says wanted → ⊥) }
+    ensures none { IfNone result ((t : Token) → CutsFrom bytes.now at (Ok (Some t))
+        → lexeme_of bytes.now t ≡ sign_says wanted → ⊥) }
     ensures within { IfSome result (λ end. end ≤ length bytes.now) }
 {
     match next_piece(bytes, at) {
@@ -48,8 +49,10 @@ pub fn sign_end(bytes: &[u8], at: usize, wanted: Kind) -> Option<usize>
 /// The end of a word, where it stands next.
 pub fn word_end(bytes: &[u8], at: usize, wanted: Mark) -> Option<usize>
     requires { at ≤ length bytes.now }
-    ensures found { IfSome result (λ end. (t : Token) × CutsFrom bytes.now at (Ok (Some t)) × (class_of (lexeme_of bytes.now t) ≡ Word (mark_seen wanted)) × (t.end ≡ end)) }
-    ensures none { IfNone result ((t : Token) → CutsFrom bytes.now at (Ok (Some t)) → class_of (lexeme_of bytes.now t) ≡ Word (mark_seen wanted) → ⊥) }
+    ensures found { IfSome result (λ end. (t : Token) × CutsFrom bytes.now at (Ok (Some t))
+        × (class_of (lexeme_of bytes.now t) ≡ Word (mark_seen wanted)) × (t.end ≡ end)) }
+    ensures none { IfNone result ((t : Token) → CutsFrom bytes.now at (Ok (Some t))
+        → class_of (lexeme_of bytes.now t) ≡ Word (mark_seen wanted) → ⊥) }
     ensures within { IfSome result (λ end. end ≤ length bytes.now) }
 {
     match next_piece(bytes, at) {
@@ -70,7 +73,8 @@ fn text_token(bytes: &[u8], at: usize) -> Option<Token>
     ensures found { IfSome result (λ t. CutsFrom bytes.now at (Ok (Some t))) }
     ensures text { IfSome result (λ t. t.kind ≡ TokenKind.Words) }
     ensures piece { IfSome result (λ t. IsPiece bytes.now (record { kind = Kind.Simple; token = t })) }
-    ensures none { IfNone result ((t : Token) (spelled : List ℕ) → CutsFrom bytes.now at (Ok (Some t)) → lexeme_of bytes.now t ≡ WordsOf spelled → ⊥) }
+    ensures none { IfNone result ((t : Token) (spelled : List ℕ) → CutsFrom bytes.now at (Ok (Some t))
+        → lexeme_of bytes.now t ≡ WordsOf spelled → ⊥) }
 {
     match next_piece(bytes, at) {
         None => None,

@@ -10,8 +10,8 @@ fn add_value(value: &Value21, so_far: u64) -> u64
 {
     let count = so_far.saturating_add(1);
     match value {
-        Value21::List(values) => add_values(values, count),
-        Value21::Typed(_, inner) => add_value(inner, count),
+        Value21::List(values) => add_values(values.get().as_slice(), count),
+        Value21::Typed(_, inner) => add_value(inner.get(), count),
         _ => count,
     }
 }

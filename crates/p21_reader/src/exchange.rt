@@ -36,7 +36,8 @@ impl Model for Exchange {
 
     ghost view = { λ e. e.instances.items };
 
-    ghost invariant = { λ e. Rises e.instances.items × (length e.instances.items ≤ MOST_INSTANCES) × (values_of e.instances.items ≤ MOST_VALUES) };
+    ghost invariant = { λ e. Rises e.instances.items × (length e.instances.items ≤ MOST_INSTANCES)
+        × (values_of e.instances.items ≤ MOST_VALUES) };
 }
 
 /// The instances, where there aren't too many of them nor of their values.
@@ -63,7 +64,9 @@ fn within_limits(instances: Vec<Instance>) -> Result<Vec<Instance>, UploadFault>
 pub fn read(alloc: Global, bytes: &[u8]) -> Result<Exchange, BuildError>
     ensures exchange { IfOk result (λ exchange. SpellsExchange bytes.now exchange) }
     ensures fault { IfErr result (λ error. IsCause bytes.now error) }
-    ensures refused { IfErr result (λ error. error ≡ BuildError.Memory ⊎ ((instances : List Instance) → SpellsExchange bytes.now instances → ⊥)) }
+    ensures refused { IfErr result
+        (λ error. error ≡ BuildError.Memory
+        ⊎ ((instances : List Instance) → SpellsExchange bytes.now instances → ⊥)) }
 {
     if bytes.len() > MOST_UPLOAD {
         return Err(BuildError::Fault(UploadFault::TooMany { what: Many::Bytes }));

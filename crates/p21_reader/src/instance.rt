@@ -32,7 +32,8 @@ fn plain_body(
     requires piece { IsPiece bytes.now word }
     requires word { word.kind ≡ Kind.Word }
     requires empty { stack.old.items ≡ [] }
-    ensures made { MakesBody id (T Open ∷ Inside (Some (MOST_DEPTH - 1)) ∷ []) (lexeme_of bytes.now word.token) bytes.now word.token.end result }
+    ensures made { MakesBody id (T Open ∷ Inside (Some (MOST_DEPTH - 1)) ∷ [])
+        (lexeme_of bytes.now word.token) bytes.now word.token.end result }
     ensures empty { OnOk result (stack.new.items ≡ []) }
     ensures within { IfOk result (λ made. made.end ≤ length bytes.now) }
 {
@@ -96,7 +97,8 @@ fn complex(
     stack: &mut Vec<Value21>,
 ) -> Result<usize, ReadFault>
     requires { at ≤ length bytes.now }
-    ensures passes { Passes (AnyWord ∷ T Open ∷ Inside (Some (MOST_DEPTH - 2)) ∷ Ones ∷ []) bytes.now at result }
+    ensures passes { Passes (AnyWord ∷ T Open ∷ Inside (Some (MOST_DEPTH - 2)) ∷ Ones ∷
+        []) bytes.now at result }
     ensures empty { OnOk result (stack.new.items ≡ []) }
     ensures within { IfOk result (λ end. end ≤ length bytes.now) }
 {

@@ -25,7 +25,8 @@ pub enum Want {
 
 /// What is wanted after a token where a value is wanted, the last first.
 fn after_value(found: Seen) -> Option<&'static [Want]>
-    ensures { MatchOption result (next (sign_of Want.Value) (class_seen found) ≡ None) (λ wants. next (sign_of Want.Value) (class_seen found) ≡ Some (signs_of wants.now)) }
+    ensures { MatchOption result (next (sign_of Want.Value) (class_seen found) ≡ None)
+        (λ wants. next (sign_of Want.Value) (class_seen found) ≡ Some (signs_of wants.now)) }
 {
     match found {
         Seen::Simple => Some(&[]),
@@ -38,7 +39,8 @@ fn after_value(found: Seen) -> Option<&'static [Want]>
 
 /// The same behind an opening parenthesis.
 fn after_open(found: Seen) -> Option<&'static [Want]>
-    ensures { MatchOption result (next (sign_of Want.Inside) (class_seen found) ≡ None) (λ wants. next (sign_of Want.Inside) (class_seen found) ≡ Some (signs_of wants.now)) }
+    ensures { MatchOption result (next (sign_of Want.Inside) (class_seen found) ≡ None)
+        (λ wants. next (sign_of Want.Inside) (class_seen found) ≡ Some (signs_of wants.now)) }
 {
     match found {
         Seen::Close => Some(&[]),
@@ -59,7 +61,8 @@ fn after_one(is_wanted: bool) -> Option<&'static [Want]>
 
 /// What is wanted after a token in place of what was wanted, the last first.
 fn after(want: Want, found: Seen) -> Option<&'static [Want]>
-    ensures { MatchOption result (next (sign_of want) (class_seen found) ≡ None) (λ wants. next (sign_of want) (class_seen found) ≡ Some (signs_of wants.now)) }
+    ensures { MatchOption result (next (sign_of want) (class_seen found) ≡ None)
+        (λ wants. next (sign_of want) (class_seen found) ≡ Some (signs_of wants.now)) }
 {
     match want {
         Want::Open => after_one(matches!(found, Seen::Open)),
@@ -77,7 +80,8 @@ fn after(want: Want, found: Seen) -> Option<&'static [Want]>
 /// Passes over a token.
 fn follow(bytes: &[u8], piece: Piece, want: Want, wants: &mut Vec<Want>) -> Result<(), ReadFault>
     requires { IsPiece bytes.now piece }
-    ensures follows { OnOk result (Follows (sign_of want) (class_of (lexeme_of bytes.now piece.token)) (signs_of wants.old.items) (signs_of wants.new.items)) }
+    ensures follows { OnOk result (Follows (sign_of want) (class_of (lexeme_of bytes.now piece.token))
+        (signs_of wants.old.items) (signs_of wants.new.items)) }
     ensures fault { IfErr result (λ fault. FollowsNot (sign_of want) bytes.now piece.token fault) }
 {
     match after(want, look(bytes, piece)) {

@@ -51,7 +51,9 @@ pub fn judge(
     requires piece { IsPiece bytes.now word }
     requires word { word.kind ≡ Kind.Word }
     requires inside { inside ≤ length bytes.now }
-    ensures says { IfOk result (λ schema. (before : List Statement) (s : Statement) → IsStatementAt bytes.now word.token inside s → SaysSchema so_far before → SaysSchema schema (before ++ s ∷ [])) }
+    ensures says { IfOk result (λ schema. (before : List Statement) (s : Statement)
+        → IsStatementAt bytes.now word.token inside s → SaysSchema so_far before
+        → SaysSchema schema (before ++ s ∷ [])) }
     ensures fault { IfErr result (λ fault. fault ≡ ReadFault.Memory) }
 {
     if !is_word(&bytes[word.token.start..word.token.end], b"FILE_SCHEMA") {

@@ -374,7 +374,7 @@ fn spelling(value: &Value21) -> &[u8] {
         Value21::Words(bytes) => bytes.as_slice(),
         Value21::Enumeration(text) => text.as_str().as_bytes(),
         Value21::Bits(bytes) => bytes.as_slice(),
-        Value21::Typed(keyword, _) => keyword.as_str().as_bytes(),
+        Value21::Typed(keyword, _) => keyword.get().as_str().as_bytes(),
         _ => b"",
     }
 }

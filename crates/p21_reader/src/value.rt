@@ -1,4 +1,5 @@
 use bim_model::{Bytes, Items, Text};
+use sqlite_items::Boxed;
 
 /// The value of an attribute (ISO 10303-21, section 6 and 10).
 #[derive(Drop)]
@@ -17,10 +18,10 @@ pub enum Value21 {
     Bits(Bytes),
     /// The instance of that name.
     Reference(u64),
-    /// Values in parentheses. They lie in a block of their own, so that a value takes 24 bytes.
-    List(Box<Vec<Value21>>),
+    /// Values in parentheses. They lie in a block of their own, so that a value takes 24 bytes; contracts see it as their list.
+    List(Boxed<sqlite_items::Items<Value21>>),
     /// A keyword, in upper case, and a value in parentheses.
-    Typed(Box<Text>, Box<Value21>),
+    Typed(Boxed<Text>, Boxed<Value21>),
 }
 
 /// An instance: `#id=KEYWORD(values);`.

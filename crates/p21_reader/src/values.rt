@@ -8,6 +8,7 @@ use crate::fault::ReadFault;
 use crate::piece::{Kind, Piece, expect, refused, take};
 use crate::simple::{keyword_of, simple};
 use crate::value::Value21;
+use sqlite_items::{Boxed, Items};
 use std::alloc::Global;
 
 /// Reads a value of one token.
@@ -19,7 +20,8 @@ fn plain(
 ) -> Result<usize, ReadFault>
     requires piece { IsPiece bytes.now piece }
     requires plain { IsPlain piece.kind }
-    ensures made { PushesMade [] (lexeme_of bytes.now piece.token) bytes.now piece.token.end stack.old.items stack.new.items result }
+    ensures made { PushesMade []
+        (lexeme_of bytes.now piece.token) bytes.now piece.token.end stack.old.items stack.new.items result }
     ensures end { IfOk result (λ end. end ≡ piece.token.end) }
 {
     let made = simple(alloc, bytes, piece)?;
@@ -34,7 +36,7 @@ fn split(alloc: Global, stack: &mut Vec<Value21>, start: usize) -> Result<(), Re
     ensures fault { IfErr result (λ fault. fault ≡ ReadFault.Memory) }
 {
     let values = stack.split_off(start)?;
-    stack.push(Value21::List(Box::new(alloc, values)?))?;
+    stack.push(Value21::List(Boxed::new(alloc, Items::from_vec(values))?))?;
     Ok(())
 }
 
@@ -49,7 +51,7 @@ fn wrap(alloc: Global, bytes: &[u8], word: Piece, stack: &mut Vec<Value21>) -> R
 {
     let keyword = keyword_of(alloc, bytes, word)?;
     let inner = stack.pop().unwrap();
-    let value = Value21::Typed(Box::new(alloc, keyword)?, Box::new(alloc, inner)?);
+    let value = Value21::Typed(Boxed::new(alloc, keyword)?, Boxed::new(alloc, inner)?);
     stack.push(value)?;
     Ok(())
 }
@@ -97,7 +99,8 @@ fn list(
     stack: &mut Vec<Value21>,
 ) -> Result<usize, ReadFault>
     requires { at ≤ length bytes.now }
-    ensures made { PushesMade (Inside (Some depth) ∷ []) Opening bytes.now at stack.old.items stack.new.items result }
+    ensures made { PushesMade (Inside (Some depth) ∷
+        []) Opening bytes.now at stack.old.items stack.new.items result }
     ensures on { IfOk result (λ end. at ≤ end) }
     ensures within { IfOk result (λ end. end ≤ length bytes.now) }
 {
@@ -119,7 +122,8 @@ fn typed(
 ) -> Result<usize, ReadFault>
     requires piece { IsPiece bytes.now word }
     requires word { word.kind ≡ Kind.Word }
-    ensures made { PushesMade (T Open ∷ Value (Some depth) ∷ T Close ∷ []) (lexeme_of bytes.now word.token) bytes.now word.token.end
+    ensures made { PushesMade (T Open ∷ Value (Some depth) ∷ T Close ∷ [])
+        (lexeme_of bytes.now word.token) bytes.now word.token.end
         stack.old.items stack.new.items result }
     ensures on { IfOk result (λ end. word.token.end ≤ end) }
     ensures within { IfOk result (λ end. end ≤ length bytes.now) }

@@ -13,6 +13,7 @@ use Rattle.ifc_instances.specs.Looking.{look}
 abbrev pub named_by : Value21 → Option (Option ℕ)
 named_by v = if is_absent v then Some None else option_map Some (reference_of v)
 
+-- the placement that a placement is relative to: none, or its number, where the value says so
 abbrev pub parent_in : Instance → Option (Option ℕ)
 parent_in i = option_and_then named_by (slice_get i.values 0)
 
@@ -37,16 +38,19 @@ pub record IsLeastLoop (world : List Instance) (named : List ℕ) (id : ℕ) : T
 
 -- a placement stands in none, or in one of these
 abbrev pub StandsIn : List Instance → List ℕ → ℕ → Type 0
-StandsIn world others id = (parent_of world id ≡ Some None) ⊎ ((parent : ℕ) × (parent_of world id ≡ Some (Some parent)) × Contains others parent)
+StandsIn world others id = (parent_of world id ≡ Some None)
+    ⊎ ((parent : ℕ) × (parent_of world id ≡ Some (Some parent)) × Contains others parent)
 
 -- each of the placements stands in none, or in one before it
 abbrev pub ParentsFirst : List Instance → List ℕ → Type 0
-ParentsFirst world ids = (k : ℕ) (d : ℕ) → k < length ids → StandsIn world (take k ids) (slice_index_or ids k d)
+ParentsFirst world ids = (k : ℕ) (d : ℕ) → k < length ids
+    → StandsIn world (take k ids) (slice_index_or ids k d)
 
 -- a placement is named, or one that is stands in it, or one that stands in it does, and so on
 pub data Reached (world : List Instance) (named : List ℕ) : ℕ → Type 0 where
   directly : (id : ℕ) → Contains named id → Reached world named id
-  further : (id parent : ℕ) → parent_of world id ≡ Some (Some parent) → Reached world named id → Reached world named parent
+  further : (id parent : ℕ) → parent_of world id ≡ Some (Some parent) → Reached world named id
+      → Reached world named parent
 
 -- All the placements that are named, and those in which they stand, the parents first. Each chain ends.
 pub record AreChains (world : List Instance) (named ids : List ℕ) : Type 0 where

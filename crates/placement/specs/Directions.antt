@@ -23,16 +23,19 @@ pub record Spelled : Type 0 where
   pub y : List ℕ
   pub z : List ℕ
 
+-- three numbers, where all are there
 abbrev pub all_three : Option (List ℕ) → Option (List ℕ) → Option (List ℕ) → Option Spelled
 all_three (Some x) (Some y) (Some z) = Some (record { x = x; y = y; z = z })
 all_three (Some x) (Some y) None = None
 all_three (Some x) None _ = None
 all_three None _ _ = None
 
+-- the numbers of exactly three values
 abbrev pub three_numbers : List Value21 → Option Spelled
 three_numbers (a ∷ b ∷ c ∷ []) = all_three (number_of a) (number_of b) (number_of c)
 three_numbers _ = None
 
+-- the three numbers that an instance's first value lists
 abbrev pub coordinates : Instance → Option Spelled
 coordinates i = option_and_then three_numbers (option_and_then items_of (slice_get i.values 0))
 
@@ -70,6 +73,7 @@ pub record Directions (world : List Instance) (id : ℕ) (axis reference : Optio
 abbrev pub is_dwarfed : Decimal → Decimal → Bool
 is_dwarfed small great = is_lt (size_order (raised (value_of small) (pos 6)) (value_of great))
 
+-- a component is dwarfed by another one of the direction
 abbrev pub is_faint : Direction → Decimal → Bool
 is_faint d component = is_dwarfed component d.x || is_dwarfed component d.y || is_dwarfed component d.z
 
@@ -77,14 +81,17 @@ is_faint d component = is_dwarfed component d.x || is_dwarfed component d.y || i
 abbrev pub sign : Decimal → ℤ
 sign d = if d.digits == 0 then pos 0 else (if d.negative then negsuc 0 else pos 1)
 
+-- the sign of a component, or 0 where it is faint
 abbrev pub cleaned_component : Direction → Decimal → ℤ
 cleaned_component d component = if is_faint d component then pos 0 else sign component
 
+-- a direction by the signs of its components, without faint ones
 abbrev pub cleaned : Direction → Vector
 cleaned d = record { x = cleaned_component d d.x; y = cleaned_component d d.y; z = cleaned_component d d.z }
 
 -- Axes.
 
+-- the vector of length one along an axis
 abbrev pub unit : Axis → Vector
 unit axis = record { x = along axis 0; y = along axis 1; z = along axis 2 }
 
@@ -100,8 +107,13 @@ without axis v = record {
   z = if axis.direction == 2 then pos 0 else v.z;
 }
 
+-- the cross product
 abbrev pub cross : Vector → Vector → Vector
-cross v w = record { x = v.y *ℤ w.z -ℤ v.z *ℤ w.y; y = v.z *ℤ w.x -ℤ v.x *ℤ w.z; z = v.x *ℤ w.y -ℤ v.y *ℤ w.x }
+cross v w = record {
+  x = v.y *ℤ w.z -ℤ v.z *ℤ w.y;
+  y = v.z *ℤ w.x -ℤ v.x *ℤ w.z;
+  z = v.x *ℤ w.y -ℤ v.y *ℤ w.x;
+}
 
 -- an absent first direction is that of z
 abbrev pub first_direction : Option Direction → Vector
@@ -110,7 +122,8 @@ first_direction (Some d) = cleaned d
 
 -- An absent second direction is that of x, or that of y where the z axis lies along x.
 abbrev pub second_direction : Axis → Option Direction → Vector
-second_direction z None = if z.direction == 0 then record { x = pos 0; y = pos 1; z = pos 0 } else record { x = pos 1; y = pos 0; z = pos 0 }
+second_direction z None = if z.direction == 0
+    then record { x = pos 0; y = pos 1; z = pos 0 } else record { x = pos 1; y = pos 0; z = pos 0 }
 second_direction z (Some d) = cleaned d
 
 -- Two directions, which may be absent, give these axes: z lies along the first, x along what the second has across z, and y is z × x.

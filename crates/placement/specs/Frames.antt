@@ -17,11 +17,14 @@ along axis direction = if axis.direction == direction then sign_of axis else pos
 
 -- what the three lengths along the frame's axes make in that direction
 abbrev pub component : Frame → Offset → ℕ → ℤ
-component f lengths direction = lengths.x *ℤ along f.x direction +ℤ lengths.y *ℤ along f.y direction +ℤ lengths.z *ℤ along f.z direction
+component f lengths direction =
+    lengths.x *ℤ along f.x direction +ℤ lengths.y *ℤ along f.y direction +ℤ lengths.z *ℤ along f.z direction
 
+-- a point as an offset
 abbrev pub lengths_of : Point → Offset
 lengths_of p = record { x = p.x; y = p.y; z = p.z }
 
+-- an offset as a point
 abbrev pub point_at : Offset → Point
 point_at at = record { x = at.x; y = at.y; z = at.z }
 

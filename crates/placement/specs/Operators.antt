@@ -26,7 +26,8 @@ MayDirect world None (Some d) = ⊥
 MayDirect world (Some v) d = Directs world v d
 
 -- the operator of that number gives these for its Axis1, its Axis2 and its Axis3
-pub record OperatorDirections (world : List Instance) (id : ℕ) (axis1 axis2 axis3 : Option Direction) : Type 0 where
+pub record OperatorDirections (world : List Instance) (id : ℕ)
+    (axis1 axis2 axis3 : Option Direction) : Type 0 where
   pub instance : Instance
   pub found : look world id ≡ Some instance
   pub first : MayDirect world (slice_get instance.values 0) axis1
@@ -37,7 +38,8 @@ pub record OperatorDirections (world : List Instance) (id : ℕ) (axis1 axis2 ax
 
 -- The second axis of an operator, without its components along z and x. An absent one is that of y, or z × x where z or x lies along y.
 abbrev pub third_direction : Axis → Axis → Option Direction → Vector
-third_direction z x None = if z.direction == 1 || x.direction == 1 then cross (unit z) (unit x) else record { x = pos 0; y = pos 1; z = pos 0 }
+third_direction z x None = if z.direction == 1 || x.direction == 1
+    then cross (unit z) (unit x) else record { x = pos 0; y = pos 1; z = pos 0 }
 third_direction z x (Some d) = without x (without z (cleaned d))
 
 -- Three directions, which may be absent, give these axes: z lies along the third, x along what the first has across z, and y along what the
@@ -81,7 +83,8 @@ pub record IsOrigin (world : List Instance) (scale : Scale) (mode : Mode) (id : 
   pub is_point : IsPoint scale mode value p
 
 -- the frame of the operator of that number: its axes, and its origin for the zero point
-pub record OperatorFrame (world : List Instance) (scale : Scale) (mode : Mode) (id : ℕ) (f : Frame) : Type 0 where
+pub record OperatorFrame (world : List Instance) (scale : Scale) (mode : Mode) (id : ℕ)
+    (f : Frame) : Type 0 where
   pub axes : Axes
   pub has_axes : HasOperatorAxes world id axes
   pub origin : Point

@@ -17,7 +17,8 @@ use Rattle.placement.specs.Directions.{HasAxes}
 use Rattle.placement.specs.Chains.{parent_of}
 
 -- The location of the axis placement of that number: its attribute 0 refers to an instance whose attribute 0 is the point.
-pub record IsLocation (world : List Instance) (scale : Scale) (mode : Mode) (id : ℕ) (p : Point) : Type 0 where
+pub record IsLocation (world : List Instance) (scale : Scale) (mode : Mode) (id : ℕ)
+    (p : Point) : Type 0 where
   pub to : ℕ
   pub refers : referred_at world id 0 ≡ Some to
   pub value : Value21
@@ -44,8 +45,10 @@ IsComposed outer inner f = (p : Point) → carried f p ≡ carried outer (carrie
 
 -- The frame of a placement in the building: its own, then that of its parent, and so on to the placement that stands in none.
 pub data FrameOf (world : List Instance) (scale : Scale) (mode : Mode) : ℕ → Frame → Type 0 where
-  outermost : (id : ℕ) (f : Frame) → parent_of world id ≡ Some None → OwnFrame world scale mode id f → FrameOf world scale mode id f
-  within : (id parent : ℕ) (own outer f : Frame) → parent_of world id ≡ Some (Some parent) → OwnFrame world scale mode id own → FrameOf world scale mode parent outer → IsComposed outer own f
+  outermost : (id : ℕ) (f : Frame) → parent_of world id ≡ Some None → OwnFrame world scale mode id f
+      → FrameOf world scale mode id f
+  within : (id parent : ℕ) (own outer f : Frame) → parent_of world id ≡ Some (Some parent)
+      → OwnFrame world scale mode id own → FrameOf world scale mode parent outer → IsComposed outer own f
       → FrameOf world scale mode id f
 
 -- it is the frame of that placement, and its offset is within 10^15
@@ -55,7 +58,8 @@ pub record IsPlaced (world : List Instance) (scale : Scale) (mode : Mode) (id : 
   pub near : AreWithin most f.offset
 
 -- the frames of exactly these placements
-pub record AreFrames (world : List Instance) (scale : Scale) (mode : Mode) (ids : List ℕ) (frames : ℕ → Option Frame) : Type 0 where
+pub record AreFrames (world : List Instance) (scale : Scale) (mode : Mode) (ids : List ℕ)
+    (frames : ℕ → Option Frame) : Type 0 where
   pub sound : (id : ℕ) (f : Frame) → frames id ≡ Some f → IsPlaced world scale mode id f
   pub listed : (id : ℕ) (f : Frame) → frames id ≡ Some f → Contains ids id
   pub all : (id : ℕ) → Contains ids id → (f : Frame) × (frames id ≡ Some f)
@@ -74,16 +78,21 @@ frame_in entries id = lookup (is_at (nat_cmp id)) entries
 
 -- a placement stands in none, or in one that has a frame already
 abbrev pub StandsOn : List Instance → (ℕ → Option Frame) → ℕ → Type 0
-StandsOn world frames id = (parent_of world id ≡ Some None) ⊎ ((parent : ℕ) × (outer : Frame) × (parent_of world id ≡ Some (Some parent)) × (frames parent ≡ Some outer))
+StandsOn world frames id = (parent_of world id ≡ Some None)
+    ⊎ ((parent : ℕ) × (outer : Frame) × (parent_of world id ≡ Some (Some parent))
+    × (frames parent ≡ Some outer))
 
+-- each frame has its offset within the bound
 abbrev pub AllWithin : ℕ → (ℕ → Option Frame) → Type 0
 AllWithin bound frames = (id : ℕ) (f : Frame) → frames id ≡ Some f → AreWithin bound f.offset
 
+-- each frame is that of its placement
 abbrev pub AllPlaced : List Instance → Scale → Mode → (ℕ → Option Frame) → Type 0
 AllPlaced world scale mode frames = (id : ℕ) (f : Frame) → frames id ≡ Some f → IsPlaced world scale mode id f
 
 -- the placement's frame, in the same frames as before
-pub record Composed (world : List Instance) (scale : Scale) (mode : Mode) (frames : ℕ → Option Frame) (id : ℕ) (f : Frame) : Type 0 where
+pub record Composed (world : List Instance) (scale : Scale) (mode : Mode) (frames : ℕ → Option Frame)
+    (id : ℕ) (f : Frame) : Type 0 where
   pub frame_of : FrameOf world scale mode id f
   pub is_frame : IsFrame f
   pub near : (bound : ℕ) → AllWithin bound frames → AreWithin (bound + reach) f.offset

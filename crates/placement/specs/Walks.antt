@@ -10,6 +10,7 @@ use Rattle.placement.specs.Chains.{parent_of, Ends, ParentsFirst, Reached}
 abbrev pub rank_at : List (Option ℕ) → ℕ → Option ℕ
 rank_at ranks at = slice_index_or ranks at None
 
+-- 1 where a number has no rank yet
 abbrev pub is_new : Option ℕ → ℕ
 is_new None = 1
 is_new (Some rank) = 0
@@ -17,24 +18,28 @@ is_new (Some rank) = 0
 -- the ranks are right, and each instance that was met has one
 pub record Ranked (world : List Instance) (ranks : List (Option ℕ)) (met : List ℕ) : Type 0 where
   pub size : length ranks ≡ length world
-  pub sound : (id at rank : ℕ) → IsPlaceOf world id at → rank_at ranks at ≡ Some rank → (rank < length met) × (slice_index met rank ≡ id)
+  pub sound : (id at rank : ℕ) → IsPlaceOf world id at → rank_at ranks at ≡ Some rank
+      → (rank < length met) × (slice_index met rank ≡ id)
   pub room : sum_by is_new ranks + length met ≤ length world
 
 -- each that was met from the start on stands in the one that was met after it, the last one in the current one
 pub record Climbs (world : List Instance) (met : List ℕ) (start current id : ℕ) : Type 0 where
   pub begun : start ≤ length met
   pub first : slice_index_or met start current ≡ id
-  pub stands : (k : ℕ) → start ≤ k → k < length met → parent_of world (slice_index met k) ≡ Some (Some (slice_index_or met (k + 1) current))
+  pub stands : (k : ℕ) → start ≤ k → k < length met
+      → parent_of world (slice_index met k) ≡ Some (Some (slice_index_or met (k + 1) current))
 
 -- it stands in none, in one that was met before the start, or in the one that was met after it
 abbrev pub Rests : List Instance → List ℕ → ℕ → ℕ → Type 0
 Rests world met start k = (parent_of world (slice_index met k) ≡ Some None)
-    ⊎ ((j : ℕ) × (j < length met) × ((j < start) ⊎ (j ≡ k + 1)) × (parent_of world (slice_index met k) ≡ Some (Some (slice_index met j))))
+    ⊎ ((j : ℕ) × (j < length met) × ((j < start) ⊎ (j ≡ k + 1))
+    × (parent_of world (slice_index met k) ≡ Some (Some (slice_index met j))))
 
 -- those that were met from the start on begin with this one, and each but the last stands in the next
 pub record Linked (world : List Instance) (met : List ℕ) (start id : ℕ) : Type 0 where
   pub first : start < length met → slice_index met start ≡ id
-  pub next : (k : ℕ) → start ≤ k → k + 1 < length met → parent_of world (slice_index met k) ≡ Some (Some (slice_index met (k + 1)))
+  pub next : (k : ℕ) → start ≤ k → k + 1 < length met
+      → parent_of world (slice_index met k) ≡ Some (Some (slice_index met (k + 1)))
 
 -- the whole way up was met
 pub record Climbed (world : List Instance) (met : List ℕ) (start id : ℕ) : Type 0 where
@@ -42,9 +47,11 @@ pub record Climbed (world : List Instance) (met : List ℕ) (start id : ℕ) : T
   pub linked : Linked world met start id
   pub rests : (k : ℕ) → start ≤ k → k < length met → Rests world met start k
 
+-- each number met from a place on rests on one that was met before it
 abbrev pub Rest : List Instance → List ℕ → ℕ → Type 0
 Rest world met start = (k : ℕ) → start ≤ k → k < length met → Rests world met start k
 
+-- what a climb found: the placements that lead up, or that they never end
 abbrev pub Outcome : List Instance → List ℕ → ℕ → ℕ → Bool → Type 0
 Outcome world met start id true = Climbed world met start id
 Outcome world met start id false = Ends world id → ⊥
@@ -74,8 +81,10 @@ pub record Added (world : List Instance) (old new : Walk) (id : ℕ) : Type 0 wh
   pub settled : Settled world new
   pub found : Contains new.order.items id
   pub grows : (other : ℕ) → Contains old.order.items other → Contains new.order.items other
-  pub reached : (named : List ℕ) → Contains named id → AllReached world named old.order.items → AllReached world named new.order.items
+  pub reached : (named : List ℕ) → Contains named id → AllReached world named old.order.items
+      → AllReached world named new.order.items
 
+-- what a visit made: a longer walk, or that the placements never end
 abbrev pub Visited : List Instance → Walk → Walk → ℕ → Bool → Type 0
 Visited world old new id true = Added world old new id
 Visited world old new id false = Ends world id → ⊥

@@ -66,7 +66,8 @@ pub(crate) fn directed(exchange: &Exchange, value: &Value21) -> Option<Option<Di
 
 /// The axes that two directions give.
 fn axes_along(axis: Option<Direction>, reference: Option<Direction>) -> Option<Axes>
-    ensures axes { MatchOption result ((axes : Axes) → GiveAxes axis reference axes → ⊥) (GiveAxes axis reference) }
+    ensures axes { MatchOption result ((axes : Axes) → GiveAxes axis reference axes → ⊥)
+        (GiveAxes axis reference) }
     ensures apart { IfSome result (λ axes. (offset : Offset) → IsFrame (frame_at axes offset)) }
 {
     let z = lies_along(first_direction(axis))?;
@@ -129,7 +130,8 @@ pub(crate) fn lies_along(vector: Vector) -> Option<Axis>
 }
 
 fn signed_axis(direction: u8, sign: i8) -> Option<Axis>
-    ensures { MatchOption result ((axis : Axis) → sign_of axis ≡ sign → ⊥) (λ axis. (axis.direction ≡ direction) × (sign_of axis ≡ sign)) }
+    ensures { MatchOption result ((axis : Axis) → sign_of axis ≡ sign → ⊥)
+        (λ axis. (axis.direction ≡ direction) × (sign_of axis ≡ sign)) }
 {
     if sign == 1 {
         Some(Axis {

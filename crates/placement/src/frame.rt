@@ -57,7 +57,8 @@ impl Frame {
         requires inner_within { AreWithin most inner.now.offset }
         ensures frame { IsFrame result }
         ensures carries { (p : Point) → carried result p ≡ carried self.now (carried inner.now p) }
-        ensures within { (a b : ℕ) → AreWithin a self.now.offset → AreWithin b inner.now.offset → AreWithin (a + b) result.offset }
+        ensures within { (a b : ℕ) → AreWithin a self.now.offset → AreWithin b inner.now.offset
+            → AreWithin (a + b) result.offset }
     {
         Frame {
             x: self.turned(inner.x),
@@ -71,7 +72,8 @@ impl Frame {
     pub fn place(&self, point: Point) -> Option<Point>
         requires frame { IsFrame self.now }
         requires within { AreWithin most self.now.offset }
-        ensures { MatchOption result (IsInReach (carried self.now point) → ⊥) (λ placed. (placed ≡ carried self.now point) × IsInReach placed) }
+        ensures { MatchOption result (IsInReach (carried self.now point) → ⊥)
+            (λ placed. (placed ≡ carried self.now point) × IsInReach placed) }
     {
         in_reach(self.moved(lengths_of(point)))
     }
@@ -94,7 +96,8 @@ impl Frame {
         ensures x { result.x ≡ self.now.offset.x +ℤ component self.now lengths 0 }
         ensures y { result.y ≡ self.now.offset.y +ℤ component self.now lengths 1 }
         ensures z { result.z ≡ self.now.offset.z +ℤ component self.now lengths 2 }
-        ensures within { (a b : ℕ) → AreWithin a self.now.offset → AreWithin b lengths → AreWithin (a + b) result }
+        ensures within { (a b : ℕ) → AreWithin a self.now.offset → AreWithin b lengths
+            → AreWithin (a + b) result }
     {
         Offset {
             x: self.offset.x + self.component(lengths, 0),
@@ -126,7 +129,9 @@ impl Frame {
         ensures first { axis.direction ≡ 0 → result.direction ≡ self.now.x.direction }
         ensures second { axis.direction ≡ 1 → result.direction ≡ self.now.y.direction }
         ensures third { axis.direction ≡ 2 → result.direction ≡ self.now.z.direction }
-        ensures value { (k : ℕ) → along result k ≡ along axis 0 *ℤ along self.now.x k +ℤ along axis 1 *ℤ along self.now.y k +ℤ along axis 2 *ℤ along self.now.z k }
+        ensures value { (k : ℕ) → along result k
+            ≡ along axis 0 *ℤ along self.now.x k +ℤ along axis 1 *ℤ along self.now.y k
+            +ℤ along axis 2 *ℤ along self.now.z k }
     {
         let to = match axis.direction {
             0 => self.x,

@@ -41,7 +41,8 @@ impl Frames {
         mode: Mode,
     ) -> Result<Option<Frames>, AllocError>
         requires first { ParentsFirst exchange.now chains.now }
-        ensures { IfOk result (λ frames. MatchOption frames (LacksFrame exchange.now scale mode chains.now) (λ made. AreFrames exchange.now scale mode chains.now (frame_in made))) }
+        ensures { IfOk result (λ frames. MatchOption frames (LacksFrame exchange.now scale mode chains.now)
+            (λ made. AreFrames exchange.now scale mode chains.now (frame_in made))) }
     {
         let mut frames = Frames::new(alloc);
         for id in chains.ids() {
@@ -79,7 +80,8 @@ impl Frames {
     fn compose(&self, exchange: &Exchange, id: u64, scale: Scale, mode: Mode) -> Option<Frame>
         requires stands { StandsOn exchange.now (frame_in self.now) id }
         requires placed { AllPlaced exchange.now scale mode (frame_in self.now) }
-        ensures { MatchOption result ((f : Frame) → OwnFrame exchange.now scale mode id f → ⊥) (Composed exchange.now scale mode (frame_in self.now) id) }
+        ensures { MatchOption result ((f : Frame) → OwnFrame exchange.now scale mode id f → ⊥)
+            (Composed exchange.now scale mode (frame_in self.now) id) }
     {
         let own = own_frame(exchange, id, scale, mode)?;
         let standing = standing_of(exchange, id)?;

@@ -29,7 +29,8 @@ struct Given {
 /// The frame of the operator of that number: its axes, from its origin (IFC4 ADD2 TC1, IfcCartesianTransformationOperator3D). Its scale
 /// isn't read. None where it has no axes along the grid's or no origin on the grid. Takes no memory.
 pub fn operator_frame(exchange: &Exchange, id: u64, scale: Scale, mode: Mode) -> Option<Frame>
-    ensures frame { MatchOption result ((f : Frame) → OperatorFrame exchange.now scale mode id f → ⊥) (OperatorFrame exchange.now scale mode id) }
+    ensures frame { MatchOption result ((f : Frame) → OperatorFrame exchange.now scale mode id f → ⊥)
+        (OperatorFrame exchange.now scale mode id) }
     ensures is_frame { IfSome result IsFrame }
     ensures near { IfSome result (λ f. AreWithin reach f.offset) }
 {
@@ -46,7 +47,8 @@ pub fn operator_frame(exchange: &Exchange, id: u64, scale: Scale, mode: Mode) ->
 /// The origin of the operator of that number, in grid numbers. None where its three numbers have none within 800 metres, and where it
 /// can't be read.
 fn origin_of(exchange: &Exchange, id: u64, scale: Scale, mode: Mode) -> Option<Point>
-    ensures { MatchOption result ((p : Point) → IsOrigin exchange.now scale mode id p → ⊥) (IsOrigin exchange.now scale mode id) }
+    ensures { MatchOption result ((p : Point) → IsOrigin exchange.now scale mode id p → ⊥)
+        (IsOrigin exchange.now scale mode id) }
 {
     let to = referred_at(exchange, id, 2)?;
     let value = value_at(exchange, to, 0)?;
@@ -84,7 +86,8 @@ fn given_by(exchange: &Exchange, id: u64) -> Option<Given>
 /// The direction that an attribute names; none where it is missing or absent. None where it names none that can be read.
 fn named_at(exchange: &Exchange, operator: &Instance, at: usize) -> Option<Option<Direction>>
     ensures some { IfSome result (MayDirect exchange.now (slice_get operator.now.values at)) }
-    ensures none { IfNone result ((d : Option Direction) → MayDirect exchange.now (slice_get operator.now.values at) d → ⊥) }
+    ensures none { IfNone result ((d : Option Direction)
+        → MayDirect exchange.now (slice_get operator.now.values at) d → ⊥) }
 {
     match attribute(operator, at) {
         Some(value) => directed(exchange, value),
@@ -98,7 +101,8 @@ fn axes_along(
     axis2: Option<Direction>,
     axis3: Option<Direction>,
 ) -> Option<Axes>
-    ensures axes { MatchOption result ((axes : Axes) → GiveOperatorAxes axis1 axis2 axis3 axes → ⊥) (GiveOperatorAxes axis1 axis2 axis3) }
+    ensures axes { MatchOption result ((axes : Axes) → GiveOperatorAxes axis1 axis2 axis3 axes → ⊥)
+        (GiveOperatorAxes axis1 axis2 axis3) }
     ensures apart { IfSome result (λ axes. (offset : Offset) → IsFrame (frame_at axes offset)) }
 {
     let z = lies_along(first_direction(axis3))?;
@@ -113,7 +117,8 @@ fn third_direction(z: Axis, x: Axis, given: Option<Direction>) -> Vector
     requires x { x.direction < 3 }
     requires apart { z.direction ≢ x.direction }
     ensures direction { result ≡ third_direction z x given }
-    ensures apart { (y : Axis) → LiesAlong result y → (y.direction ≢ z.direction) × (y.direction ≢ x.direction) }
+    ensures apart { (y : Axis) → LiesAlong result y
+        → (y.direction ≢ z.direction) × (y.direction ≢ x.direction) }
 {
     match given {
         Some(direction) => without(x, without(z, direction.cleaned())),

@@ -16,7 +16,8 @@ use p21_reader::{Exchange, Value21};
 /// The location of the axis placement of that number (IFC4 ADD2 TC1, IfcPlacement), in grid numbers. None where its three numbers have
 /// none within 800 metres, and where it can't be read. Takes no memory.
 pub fn location_of(exchange: &Exchange, id: u64, scale: Scale, mode: Mode) -> Option<Point>
-    ensures { MatchOption result ((p : Point) → IsLocation exchange.now scale mode id p → ⊥) (IsLocation exchange.now scale mode id) }
+    ensures { MatchOption result ((p : Point) → IsLocation exchange.now scale mode id p → ⊥)
+        (IsLocation exchange.now scale mode id) }
 {
     let to = referred_at(exchange, id, 0)?;
     let value = value_at(exchange, to, 0)?;
@@ -29,7 +30,8 @@ pub fn location_of(exchange: &Exchange, id: u64, scale: Scale, mode: Mode) -> Op
 /// The frame of the axis placement of that number: its axes, from its location (IFC4 ADD2 TC1, IfcAxis2Placement3D). None where it has
 /// no axes along the grid's or no location on the grid. Takes no memory.
 pub fn axis_frame(exchange: &Exchange, id: u64, scale: Scale, mode: Mode) -> Option<Frame>
-    ensures frame { MatchOption result ((f : Frame) → AxisFrame exchange.now scale mode id f → ⊥) (AxisFrame exchange.now scale mode id) }
+    ensures frame { MatchOption result ((f : Frame) → AxisFrame exchange.now scale mode id f → ⊥)
+        (AxisFrame exchange.now scale mode id) }
     ensures is_frame { IfSome result IsFrame }
     ensures near { IfSome result (λ f. AreWithin reach f.offset) }
 {
@@ -45,7 +47,8 @@ pub fn axis_frame(exchange: &Exchange, id: u64, scale: Scale, mode: Mode) -> Opt
 
 /// The frame of the placement of that number in what it stands in (IFC4 ADD2 TC1, IfcLocalPlacement). None where it has none.
 pub fn own_frame(exchange: &Exchange, id: u64, scale: Scale, mode: Mode) -> Option<Frame>
-    ensures frame { MatchOption result ((f : Frame) → OwnFrame exchange.now scale mode id f → ⊥) (OwnFrame exchange.now scale mode id) }
+    ensures frame { MatchOption result ((f : Frame) → OwnFrame exchange.now scale mode id f → ⊥)
+        (OwnFrame exchange.now scale mode id) }
     ensures is_frame { IfSome result IsFrame }
     ensures near { IfSome result (λ f. AreWithin reach f.offset) }
 {

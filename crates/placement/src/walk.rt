@@ -72,7 +72,8 @@ impl Walk {
     fn meet(&mut self, at: usize, id: u64) -> Result<(), AllocError>
         requires within { at < length self.old.ranks.items }
         requires few { length self.old.met.items < 2 ^ 32 }
-        ensures ranks { OnOk result (self.new.ranks.items ≡ slice_set self.old.ranks.items at (Some (length self.old.met.items))) }
+        ensures ranks { OnOk result (self.new.ranks.items
+            ≡ slice_set self.old.ranks.items at (Some (length self.old.met.items))) }
         ensures met { OnOk result (self.new.met.items ≡ self.old.met.items ++ id ∷ []) }
         ensures order { self.new.order.items ≡ self.old.order.items }
     {
@@ -88,8 +89,10 @@ impl Walk {
         ensures ranked { OnOk result (Ranked exchange.now self.new.ranks.items self.new.met.items) }
         ensures order { self.new.order.items ≡ self.old.order.items }
         ensures longer { OnOk result (length self.old.met.items ≤ length self.new.met.items) }
-        ensures kept { OnOk result ((k : ℕ) → k < length self.old.met.items → slice_index self.new.met.items k ≡ slice_index self.old.met.items k) }
-        ensures outcome { IfOk result (Outcome exchange.now self.new.met.items (length self.old.met.items) id) }
+        ensures kept { OnOk result ((k : ℕ) → k < length self.old.met.items
+            → slice_index self.new.met.items k ≡ slice_index self.old.met.items k) }
+        ensures outcome { IfOk result (Outcome exchange.now self.new.met.items
+            (length self.old.met.items) id) }
     {
         let start = self.met.len();
         let mut current = id;
@@ -113,10 +116,15 @@ impl Walk {
         requires within { start ≤ length self.old.met.items }
         ensures ranks { self.new.ranks.items ≡ self.old.ranks.items }
         ensures met { self.new.met.items ≡ self.old.met.items }
-        ensures count { OnOk result (length self.new.order.items + start ≡ length self.old.order.items + length self.old.met.items) }
-        ensures grows { OnOk result ((id : ℕ) → Contains self.old.order.items id → Contains self.new.order.items id) }
-        ensures sound { OnOk result ((id : ℕ) → Contains self.new.order.items id → Contains self.old.order.items id ⊎ IsFrom self.old.met.items start id) }
-        ensures order { OnOk result ((world : List Instance) → Rest world self.old.met.items start → Settling world self.old.order.items self.old.met.items start (length self.old.met.items) → Settling world self.new.order.items self.old.met.items start start) }
+        ensures count { OnOk result (length self.new.order.items + start
+            ≡ length self.old.order.items + length self.old.met.items) }
+        ensures grows { OnOk result ((id : ℕ) → Contains self.old.order.items id
+            → Contains self.new.order.items id) }
+        ensures sound { OnOk result ((id : ℕ) → Contains self.new.order.items id
+            → Contains self.old.order.items id ⊎ IsFrom self.old.met.items start id) }
+        ensures order { OnOk result ((world : List Instance) → Rest world self.old.met.items start
+            → Settling world self.old.order.items self.old.met.items start (length self.old.met.items)
+            → Settling world self.new.order.items self.old.met.items start start) }
     {
         let mut k = self.met.len();
         while k > start {

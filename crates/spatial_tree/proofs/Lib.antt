@@ -9,3 +9,4 @@ pub mod Trees
 pub mod World
 pub mod Making
 pub mod Listing
+pub mod OneStorey

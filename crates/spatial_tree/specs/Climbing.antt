@@ -17,7 +17,9 @@ pub record HasTwo (Has : ℕ → Type 0) : Type 0 where
 -- The next object on the way up is the container where there is one, else the whole. The way ends where there is neither, and where there are
 -- two different ones.
 abbrev pub IsNext : (ℕ → ℕ → Type 0) → (ℕ → ℕ → Type 0) → ℕ → ℕ → Type 0
-IsNext HasContainer HasWhole object above = IsOnly (HasContainer object) above ⊎ (((container : ℕ) → HasContainer object container → ⊥) × IsOnly (HasWhole object) above)
+IsNext HasContainer HasWhole object above =
+    IsOnly (HasContainer object) above
+    ⊎ (((container : ℕ) → HasContainer object container → ⊥) × IsOnly (HasWhole object) above)
 
 -- The second comes on the way up from the first, after one step or more.
 pub data IsAbove (Next : ℕ → ℕ → Type 0) : ℕ → ℕ → Type 0 where
@@ -27,4 +29,5 @@ pub data IsAbove (Next : ℕ → ℕ → Type 0) : ℕ → ℕ → Type 0 where
 -- The first storey on the way up, after the object itself.
 pub data IsFirstStorey (Next : ℕ → ℕ → Type 0) (Storey : ℕ → Type 0) : ℕ → ℕ → Type 0 where
   found : (object storey : ℕ) → Next object storey → Storey storey → IsFirstStorey Next Storey object storey
-  beyond : (object above storey : ℕ) → Next object above → (Storey above → ⊥) → IsFirstStorey Next Storey above storey → IsFirstStorey Next Storey object storey
+  beyond : (object above storey : ℕ) → Next object above → (Storey above → ⊥)
+      → IsFirstStorey Next Storey above storey → IsFirstStorey Next Storey object storey

@@ -15,4 +15,5 @@ pub record IsFaulty (steps : List Step) (marks : List Mark) (at : ℕ) : Type 0 
 -- the first place at which there is a fault
 abbrev pub IsFirstFault : List Step → List Mark → Option ℕ → Type 0
 IsFirstFault steps marks None = (at : ℕ) → IsFaulty steps marks at → ⊥
-IsFirstFault steps marks (Some at) = IsFaulty steps marks at × ((lower : ℕ) → lower < at → IsFaulty steps marks lower → ⊥)
+IsFirstFault steps marks (Some at) =
+    IsFaulty steps marks at × ((lower : ℕ) → lower < at → IsFaulty steps marks lower → ⊥)

@@ -5,6 +5,7 @@ use Rattle.spatial_tree.specs.declared.mark.Mark.{Mark}
 use Rattle.spatial_tree.specs.declared.mark.Mark.TheVariants.{Unseen, OnWay, Looped, Settled}
 use Rattle.spatial_tree.specs.Steps.{Goes, IsRound, Finds}
 
+-- the mark at a place
 abbrev pub mark_at : List Mark → ℕ → Mark
 mark_at marks at = slice_index_or marks at Unseen
 
@@ -28,6 +29,7 @@ pub record IsSettled (steps : List Step) (at : ℕ) (storey : Option ℕ) : Type
   pub single : IsRound steps at → ⊥
   pub answers : Answers steps at storey
 
+-- what a mark says of its place
 abbrev pub Says : List Step → ℕ → Mark → Type 0
 Says steps at Unseen = Unit {0}
 Says steps at OnWay = Unit {0}
@@ -65,7 +67,8 @@ pub record IsWay (steps : List Step) (way : List ℕ) : Type 0 where
 
 -- the place that the way leads to is no longer unseen
 abbrev pub EndsSeen : List Step → List Mark → List ℕ → Type 0
-EndsSeen steps marks way = (k up : ℕ) → k + 1 ≡ length way → Goes steps (slice_index way k) up → mark_at marks up ≢ Unseen
+EndsSeen steps marks way = (k up : ℕ) → k + 1 ≡ length way → Goes steps (slice_index way k) up
+    → mark_at marks up ≢ Unseen
 
 -- A way was followed as far as it was unseen.
 pub record Climbed (steps : List Step) (old new : List Mark) (way : List ℕ) : Type 0 where

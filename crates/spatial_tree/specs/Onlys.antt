@@ -5,6 +5,7 @@ use Rattle.spatial_tree.specs.declared.only.Only.{Only}
 use Rattle.spatial_tree.specs.declared.only.Only.TheVariants.{Nothing, One, Several}
 use Rattle.spatial_tree.specs.Climbing.{IsOnly, HasTwo}
 
+-- an object with what stands above it
 abbrev pub link : ℕ → ℕ → Link
 link object above = record { object = object; above = above }
 
@@ -29,11 +30,13 @@ Counts P Nothing = (number : ℕ) → P number → ⊥
 Counts P (One number) = IsOnly P number
 Counts P Several = HasTwo P
 
+-- the only number, once one more is seen
 abbrev pub with_number : Only → ℕ → Only
 with_number Nothing number = One number
 with_number (One first) number = if first == number then One first else Several
 with_number Several number = Several
 
+-- more than one number was seen
 abbrev pub is_several : Only → Bool
 is_several Several = true
 is_several _ = false

@@ -5,6 +5,7 @@ use Rattle.spatial_tree.specs.declared.mark.Mark.TheVariants.{Settled}
 use Rattle.spatial_tree.specs.declared.storeys.Placed.{Placed}
 use Rattle.spatial_tree.specs.Marks.{mark_at}
 
+-- an object with its storey
 abbrev pub placed : ℕ → ℕ → Placed
 placed object storey = record { object = object; storey = storey }
 
@@ -17,5 +18,7 @@ pub record Tells (objects : List ℕ) (marks : List Mark) (count object storey :
 
 -- a list of exactly the objects whose marks tell a storey, among the first ones
 pub record ArePlaced (objects : List ℕ) (marks : List Mark) (count : ℕ) (list : List Placed) : Type 0 where
-  pub sound : (object storey : ℕ) → Contains list (placed object storey) → Tells objects marks count object storey
-  pub all : (object storey : ℕ) → Tells objects marks count object storey → Contains list (placed object storey)
+  pub sound : (object storey : ℕ) → Contains list (placed object storey)
+      → Tells objects marks count object storey
+  pub all : (object storey : ℕ) → Tells objects marks count object storey
+      → Contains list (placed object storey)

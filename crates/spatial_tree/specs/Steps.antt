@@ -7,9 +7,11 @@ use Rattle.spatial_tree.specs.declared.link.Link.{Link}
 use Rattle.spatial_tree.specs.Climbing.{HasTwo, IsNext, IsAbove}
 use Rattle.spatial_tree.specs.Onlys.{Has}
 
+-- where a step leads up
 abbrev pub up_in : Option Step → Option ℕ
 up_in s = option_and_then (λ (s : Step). s.up) s
 
+-- the storey that a step is
 abbrev pub storey_in : Option Step → Option ℕ
 storey_in s = option_and_then (λ (s : Step). s.storey) s
 
@@ -21,6 +23,7 @@ up_of steps at = up_in (slice_get steps at)
 abbrev pub storey_at : List Step → ℕ → Option ℕ
 storey_at steps at = storey_in (slice_get steps at)
 
+-- the way leads from one place up to another
 abbrev pub Goes : List Step → ℕ → ℕ → Type 0
 Goes steps from to = up_of steps from ≡ Some to
 
@@ -35,7 +38,8 @@ AreWithin steps = (from to : ℕ) → Goes steps from to → to < length steps
 -- the first storey on the way up
 pub data Finds (steps : List Step) : ℕ → ℕ → Type 0 where
   here : (at storey : ℕ) → storey_at steps at ≡ Some storey → Finds steps at storey
-  further : (at up storey : ℕ) → storey_at steps at ≡ None → Goes steps at up → Finds steps up storey → Finds steps at storey
+  further : (at up storey : ℕ) → storey_at steps at ≡ None → Goes steps at up → Finds steps up storey
+      → Finds steps at storey
 
 -- the next object up, by the pairs
 abbrev pub NextIn : List Link → List Link → ℕ → ℕ → Type 0
@@ -51,7 +55,8 @@ abbrev pub TornIn : List Link → List Link → ℕ → Type 0
 TornIn containers wholes object = HasTwo (Has containers object) ⊎ HasTwo (Has wholes object)
 
 -- The step is that of the object, where these are what is next on the way up, what is torn, and the storeys.
-pub record IsStepOf (Next : ℕ → ℕ → Type 0) (Torn : ℕ → Type 0) (Storey : ℕ → Type 0) (objects : List ℕ) (object : ℕ) (step : Step) : Type 0 where
+pub record IsStepOf (Next : ℕ → ℕ → Type 0) (Torn : ℕ → Type 0) (Storey : ℕ → Type 0) (objects : List ℕ)
+    (object : ℕ) (step : Step) : Type 0 where
   pub torn : step.torn ≡ true → Torn object
   pub whole : Torn object → step.torn ≡ true
   pub up : (at : ℕ) → step.up ≡ Some at → (at < length objects) × Next object (slice_index objects at)
@@ -60,18 +65,24 @@ pub record IsStepOf (Next : ℕ → ℕ → Type 0) (Torn : ℕ → Type 0) (Sto
   pub other : step.storey ≡ None → (above : ℕ) → Next object above → Storey above → ⊥
 
 -- the steps are those of the objects, place by place
-pub record AreStepsOf (Next : ℕ → ℕ → Type 0) (Torn : ℕ → Type 0) (Storey : ℕ → Type 0) (objects : List ℕ) (steps : List Step) : Type 0 where
+pub record AreStepsOf (Next : ℕ → ℕ → Type 0) (Torn : ℕ → Type 0) (Storey : ℕ → Type 0) (objects : List ℕ)
+    (steps : List Step) : Type 0 where
   pub size : length steps ≡ length objects
-  pub each : (at : ℕ) (step : Step) → slice_get steps at ≡ Some step → IsStepOf Next Torn Storey objects (slice_index objects at) step
+  pub each : (at : ℕ) (step : Step) → slice_get steps at ≡ Some step
+      → IsStepOf Next Torn Storey objects (slice_index objects at) step
 
 -- the steps of the first objects
-pub record AreFirstStepsOf (Next : ℕ → ℕ → Type 0) (Torn : ℕ → Type 0) (Storey : ℕ → Type 0) (objects : List ℕ) (steps : List Step) (count : ℕ) : Type 0 where
+pub record AreFirstStepsOf (Next : ℕ → ℕ → Type 0) (Torn : ℕ → Type 0) (Storey : ℕ → Type 0)
+    (objects : List ℕ) (steps : List Step) (count : ℕ) : Type 0 where
   pub size : length steps ≡ count
-  pub each : (at : ℕ) (step : Step) → slice_get steps at ≡ Some step → IsStepOf Next Torn Storey objects (slice_index objects at) step
+  pub each : (at : ℕ) (step : Step) → slice_get steps at ≡ Some step
+      → IsStepOf Next Torn Storey objects (slice_index objects at) step
 
 -- the objects that the pairs name first, strictly rising, and their steps
-pub record IsTableOf (containers wholes : List Link) (storeys objects : List ℕ) (steps : List Step) : Type 0 where
+pub record IsTableOf (containers wholes : List Link) (storeys objects : List ℕ)
+    (steps : List Step) : Type 0 where
   pub rises : IsStrictlyIncreasing objects
   pub contents : (object above : ℕ) → Has containers object above → Contains objects object
   pub parts : (object above : ℕ) → Has wholes object above → Contains objects object
-  pub are_steps : AreStepsOf (NextIn containers wholes) (TornIn containers wholes) (Contains storeys) objects steps
+  pub are_steps : AreStepsOf (NextIn containers wholes) (TornIn containers wholes)
+      (Contains storeys) objects steps

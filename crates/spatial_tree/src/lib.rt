@@ -3,6 +3,7 @@
 #![tactic(auto)]
 
 mod build;
+mod laws;
 mod link;
 mod mark;
 mod only;
@@ -12,4 +13,5 @@ mod storeys;
 mod tests;
 
 pub use build::tree;
+pub use laws::one_storey;
 pub use storeys::{Placed, Tree};

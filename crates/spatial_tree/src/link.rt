@@ -27,7 +27,8 @@ fn items_at(instance: &Instance, at: usize) -> Option<&[Value21]>
 
 /// Appends a pair of each reference among the items.
 fn add_items(links: &mut Vec<Link>, items: &[Value21], above: u64) -> Result<(), AllocError>
-    ensures { OnOk result (Adds (λ object up. Any (λ v. (reference_of v ≡ Some object) × (up ≡ above)) items.now) links.old.items links.new.items) }
+    ensures { OnOk result (Adds (λ object up. Any
+        (λ v. (reference_of v ≡ Some object) × (up ≡ above)) items.now) links.old.items links.new.items) }
 {
     for item in items {
         if let Some(object) = reference_of(item) {

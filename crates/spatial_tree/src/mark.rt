@@ -69,7 +69,8 @@ fn set_mark(marks: &mut [Mark], at: usize, mark: Mark)
 
 /// The next place up, where it wasn't seen yet.
 fn unseen_above(steps: &[Step], marks: &[Mark], at: usize) -> Option<usize>
-    ensures { MatchOption result ((up : ℕ) → Goes steps.now at up → mark_at marks.now up ≢ Mark.Unseen) (λ up. Goes steps.now at up × (mark_at marks.now up ≡ Mark.Unseen)) }
+    ensures { MatchOption result ((up : ℕ) → Goes steps.now at up → mark_at marks.now up ≢ Mark.Unseen)
+        (λ up. Goes steps.now at up × (mark_at marks.now up ≡ Mark.Unseen)) }
 {
     let up = up_of(steps, at)?;
     match mark_at(marks, up) {
@@ -80,7 +81,8 @@ fn unseen_above(steps: &[Step], marks: &[Mark], at: usize) -> Option<usize>
 
 /// The next place up, where it isn't known to be on a loop.
 fn unlooped_above(steps: &[Step], marks: &[Mark], at: usize) -> Option<usize>
-    ensures { MatchOption result ((up : ℕ) → Goes steps.now at up → mark_at marks.now up ≡ Mark.Looped) (λ up. Goes steps.now at up × (mark_at marks.now up ≢ Mark.Looped)) }
+    ensures { MatchOption result ((up : ℕ) → Goes steps.now at up → mark_at marks.now up ≡ Mark.Looped)
+        (λ up. Goes steps.now at up × (mark_at marks.now up ≢ Mark.Looped)) }
 {
     let up = up_of(steps, at)?;
     match mark_at(marks, up) {

@@ -28,8 +28,10 @@ pub struct Table {
 }
 
 fn push_objects(objects: &mut Vec<u64>, links: &[Link]) -> Result<(), AllocError>
-    ensures keeps { OnOk result ((object : ℕ) → Contains objects.old.items object → Contains objects.new.items object) }
-    ensures all { OnOk result ((object above : ℕ) → Has links.now object above → Contains objects.new.items object) }
+    ensures keeps { OnOk result ((object : ℕ) → Contains objects.old.items object
+        → Contains objects.new.items object) }
+    ensures all { OnOk result ((object above : ℕ) → Has links.now object above
+        → Contains objects.new.items object) }
 {
     for link in links {
         objects.push(link.object)?;
@@ -40,8 +42,10 @@ fn push_objects(objects: &mut Vec<u64>, links: &[Link]) -> Result<(), AllocError
 /// The objects that have something above them, by rising number.
 fn objects_of(alloc: Global, containers: &[Link], wholes: &[Link]) -> Result<Vec<u64>, AllocError>
     ensures rises { IfOk result (λ objects. IsStrictlyIncreasing objects.items) }
-    ensures contents { IfOk result (λ objects. (object above : ℕ) → Has containers.now object above → Contains objects.items object) }
-    ensures parts { IfOk result (λ objects. (object above : ℕ) → Has wholes.now object above → Contains objects.items object) }
+    ensures contents { IfOk result
+        (λ objects. (object above : ℕ) → Has containers.now object above → Contains objects.items object) }
+    ensures parts { IfOk result (λ objects. (object above : ℕ) → Has wholes.now object above
+        → Contains objects.items object) }
 {
     let mut objects = Vec::new(alloc);
     push_objects(&mut objects, containers)?;
@@ -71,7 +75,8 @@ fn step_of(
     requires parts { IsSortedByKey (λ l. l.object) nat_cmp wholes.now }
     requires storeys { IsNonDecreasing storeys.now }
     requires objects { IsNonDecreasing objects.now }
-    ensures { IsStepOf (NextIn containers.now wholes.now) (TornIn containers.now wholes.now) (Contains storeys.now) objects.now object result }
+    ensures { IsStepOf (NextIn containers.now wholes.now) (TornIn containers.now wholes.now)
+        (Contains storeys.now) objects.now object result }
 {
     let container = count_above(containers, object);
     let whole = count_above(wholes, object);
@@ -105,7 +110,8 @@ fn steps_of(
     requires parts { IsSortedByKey (λ l. l.object) nat_cmp wholes.now }
     requires storeys { IsNonDecreasing storeys.now }
     requires objects { IsNonDecreasing objects.now }
-    ensures { IfOk result (λ steps. AreStepsOf (NextIn containers.now wholes.now) (TornIn containers.now wholes.now) (Contains storeys.now) objects.now steps.items) }
+    ensures { IfOk result (λ steps. AreStepsOf (NextIn containers.now wholes.now)
+        (TornIn containers.now wholes.now) (Contains storeys.now) objects.now steps.items) }
 {
     let mut steps = Vec::with_capacity(alloc, objects.len())?;
     for object in objects {
@@ -124,7 +130,8 @@ pub fn table_of(
     requires contents { IsSortedByKey (λ l. l.object) nat_cmp containers.now }
     requires parts { IsSortedByKey (λ l. l.object) nat_cmp wholes.now }
     requires storeys { IsNonDecreasing storeys.now }
-    ensures { IfOk result (λ table. IsTableOf containers.now wholes.now storeys.now table.objects.items table.steps.items) }
+    ensures { IfOk result
+        (λ table. IsTableOf containers.now wholes.now storeys.now table.objects.items table.steps.items) }
 {
     let objects = objects_of(alloc, containers, wholes)?;
     let steps = steps_of(alloc, containers, wholes, storeys, objects.as_slice())?;

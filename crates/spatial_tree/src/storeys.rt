@@ -46,7 +46,8 @@ impl Tree {
 
     /// The number of the first storey on the way up from the object of that number; none where the way ends without one. Takes no memory.
     pub fn storey_of(&self, id: u64) -> Option<u64>
-        ensures { MatchOption result ((storey : ℕ) → Contains self.now (placed id storey) → ⊥) (λ storey. Contains self.now (placed id storey)) }
+        ensures { MatchOption result ((storey : ℕ) → Contains self.now (placed id storey) → ⊥)
+            (λ storey. Contains self.now (placed id storey)) }
     {
         match self
             .placed

@@ -1,5 +1,5 @@
 use Rattle.std.proofs.Common.{sym, ◌∙◌, option_copied}
-use Rattle.faceset.proofs.SetParts.{polygonal_made, polygonal_count, flat_made, flat_count}
+use Rattle.faceset.proofs.SetParts.{polygonal_made, polygonal_none, polygonal_count, flat_made, flat_none, flat_count}
 use Rattle.faceset.proofs.surface.set_triangles.Goals as goal
 
 pub returns-then-is_polygonal-clause-triangles : goal.returns-then-is_polygonal-clause-triangles
@@ -20,3 +20,13 @@ pub returns-else-is_polygonal-clause-count : goal.returns-else-is_polygonal-clau
 returns-else-is_polygonal-clause-count c =
     flat_count c.args.exchange.now c.args.points.now c.args.set.now (option_copied c.numbering-numbers.result) c.listed-else-is_polygonal.result.now c.triangles.result
     (sym c.is_polygonal.ensures ∙ c.if-is_polygonal.false) c.listed-else-is_polygonal.ensures c.triangles.ensures
+
+pub returns-then-is_polygonal-clause-none : goal.returns-then-is_polygonal-clause-none
+returns-then-is_polygonal-clause-none c =
+    polygonal_none c.args.exchange.now c.args.points.now c.args.set.now (option_copied c.numbering-numbers.result) c.listed.result.now c.faces_triangles.result
+    (sym c.is_polygonal.ensures ∙ c.if-is_polygonal.true) c.numbering-numbers.ensures c.listed.ensures c.faces_triangles.ensures.triangles
+
+pub returns-else-is_polygonal-clause-none : goal.returns-else-is_polygonal-clause-none
+returns-else-is_polygonal-clause-none c =
+    flat_none c.args.exchange.now c.args.points.now c.args.set.now (option_copied c.numbering-numbers.result) c.listed-else-is_polygonal.result.now c.triangles.result
+    (sym c.is_polygonal.ensures ∙ c.if-is_polygonal.false) c.numbering-numbers.ensures c.listed-else-is_polygonal.ensures c.triangles.ensures

@@ -1,7 +1,7 @@
 use Rattle.std.proofs.Common.{◌≡◌, ◌+◌, ◌-◌, ◌^◌, ◌<◌, ◌≤◌, length, drop}
 use Rattle.bim_text.specs.Scanning.{front, kept_after}
 use Rattle.bim_text.specs.declared.limits.TheConstants.{MOST_DIGITS}
-use Rattle.bim_text.proofs.digits.scan.Given as goal
+use Rattle.bim_text.proofs.digits.scan_many.Given as goal
 
 abbrev pub invariant-loop-at : goal.invariant-loop-at
 invariant-loop-at l = record {

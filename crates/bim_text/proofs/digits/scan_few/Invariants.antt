@@ -1,0 +1,14 @@
+use Rattle.std.proofs.Common.{◌≡◌, ◌+◌, ◌-◌, ◌≤◌, length, drop}
+use Rattle.bim_text.specs.Scanning.{front, kept_after, wide}
+use Rattle.bim_text.proofs.digits.scan_few.Given as goal
+
+abbrev pub invariant-loop-at : goal.invariant-loop-at
+invariant-loop-at l = record {
+  within : l.at ≤ length l.text;
+  zeros : l.digits.zeros ≤ l.at;
+  end : l.fn.from + length (front (drop l.fn.from l.text)) ≡ l.at + length (front (drop l.at l.text));
+  kept : kept_after (wide l.fn.before) (front (drop l.fn.from l.text)) ≡ kept_after (wide l.digits) (front (drop l.at l.text));
+}
+
+abbrev pub decreases-loop-at : goal.decreases-loop-at
+decreases-loop-at l = length l.initial.text - l.at

@@ -1,0 +1,23 @@
+//! What callers may rely on beyond one call.
+ghost use Rattle.std.specs.Prelude.{◌≡◌, ℕ, List, Result};
+ghost use Rattle.bim_model.specs.declared.upload.Mode.{Mode};
+ghost use Rattle.bim_model.specs.declared.upload.UploadFault.{UploadFault};
+ghost use Rattle.bim_model.specs.declared.element.Element.{Element};
+ghost use Rattle.p21_reader.specs.declared.value.Instance.{Instance};
+ghost use Rattle.model_build.specs.Elements.{IsModelOf};
+ghost use Rattle.model_build.specs.Profile.{FileFault, Profile};
+
+/// The instances of a file make one model at most, and have one first fault at most.
+pub fn instances_have_one_answer()
+    ensures model { (world : List Instance) (mode : Mode) (a b : List Element) → IsModelOf world mode a
+        → IsModelOf world mode b → a ≡ b }
+    ensures fault { (world : List Instance) (mode : Mode) (f g : UploadFault) → FileFault world mode f
+        → FileFault world mode g → f ≡ g }
+{}
+
+/// Bytes have one answer: they make one model or have one fault, never both. So `build` gives exactly the model that the profile defines,
+/// or exactly the first fault.
+pub fn profile_has_one_answer()
+    ensures { (bytes : List ℕ) (mode : Mode) (a b : Result (List Element) UploadFault) → Profile bytes mode a
+        → Profile bytes mode b → a ≡ b }
+{}
