@@ -1,7 +1,8 @@
 #!/usr/bin/env python3
-"""Times uploads of generated boxes: bench/uploads.py PROGRAM [PLAIN], the least of five runs each, where PROGRAM is the built bim_server and PLAIN
-another reader of IFC files that is called with a file and a distance (its whole run is timed). Prints MB a second from bytes to version, for 1,000 to
-50,000 elements without placements, and for 8,000 and 45,000 in chains of placements."""
+"""Times uploads of generated files: bench/uploads.py PROGRAM [PLAIN [FILE..]], the least of five runs each, where PROGRAM is the built bim_server and
+PLAIN another reader of IFC files that is called with a file and a distance (its whole run is timed). Prints MB a second from bytes to version, for 1,000
+to 50,000 boxes without placements, for 8,000 and 45,000 in chains of placements, for polygonal faces in the shape of combs of 1,000 corners, and for
+each FILE."""
 import os
 import subprocess
 import sys
@@ -43,6 +44,28 @@ def boxes(count, depth):
     return "".join(parts).encode()
 
 
+def comb(count):
+    """The corners of a comb: teeth two corners wide at their ends, and a back."""
+    teeth = [(10 * at, (0, 100000, 100000, 1)[at % 4]) for at in range(count - 2)]
+    return teeth + [(10 * (count - 2), -1000), (0, -1000)]
+
+
+def combs(count, corners):
+    """A file of so many elements, each of one polygonal face that is a comb."""
+    parts = [HEAD, UNIT]
+    points = ",".join(f"({x}.,{y}.,0.)" for x, y in comb(corners))
+    indexes = ",".join(str(at + 1) for at in range(corners))
+    for element in range(count):
+        k = 10 + element * 10
+        parts.append(f"#{k}=IFCCARTESIANPOINTLIST3D(({points}));\n#{k + 5}=IFCINDEXEDPOLYGONALFACE(({indexes}));\n")
+        parts.append(f"#{k + 1}=IFCPOLYGONALFACESET(#{k},$,(#{k + 5}),$);\n")
+        parts.append(f"#{k + 2}=IFCSHAPEREPRESENTATION($,'Body','Tessellation',(#{k + 1}));\n#{k + 3}=IFCPRODUCTDEFINITIONSHAPE($,$,(#{k + 2}));\n")
+        name = f"{element + 1:022d}"
+        parts.append(f"#{k + 4}=IFCBEAM('{name}',$,'{name}',$,$,$,#{k + 3},$,$);\n")
+    parts.append(TAIL)
+    return "".join(parts).encode()
+
+
 def least(words, text, runs=5):
     best = None
     for _ in range(runs):
@@ -53,24 +76,32 @@ def least(words, text, runs=5):
     return best, done.stdout
 
 
+def timed(program, plain, start, file, name, wanted):
+    """Uploads a file, and prints how long that took."""
+    head = f"PUT {PROJECT}/models/m HTTP/1.1\r\nHost: h\r\nContent-Length: {len(file)}\r\n\r\n".encode()
+    spent, output = least([program, "replay", "--buckets", "0", "--at", "0"], head + file)
+    if wanted not in output[-100:]:
+        sys.exit(f"{name}: {output[-200:]!r}")
+    line = f"{name}: {len(file) / 1e6:.1f} MB, {1000 * (spent - start):.0f} ms, {len(file) / 1e6 / (spent - start):.1f} MB/s"
+    if plain:
+        with tempfile.NamedTemporaryFile(suffix=".ifc") as kept:
+            kept.write(file)
+            kept.flush()
+            other, _ = least([os.path.abspath(plain), kept.name, "0"], b"", 3)
+        line += f"; the plain program, its whole run: {1000 * other:.0f} ms"
+    print(line, flush=True)
+
+
 def main():
-    program, plain = sys.argv[1], sys.argv[2:3]
-    start, _ = least([program, "replay", "--at", "0"], b"")
+    program, plain, files = sys.argv[1], (sys.argv[2:3] or [None])[0], sys.argv[3:]
+    start, _ = least([program, "replay", "--buckets", "0", "--at", "0"], b"")
     for count, depth in [(1000, 0), (8000, 0), (20000, 0), (50000, 0), (8000, 1), (8000, 10), (8000, 1000), (8000, 8000), (45000, 10)]:
-        file = boxes(count, depth)
-        head = f"PUT {PROJECT}/models/m HTTP/1.1\r\nHost: h\r\nContent-Length: {len(file)}\r\n\r\n".encode()
-        spent, output = least([program, "replay", "--at", "0"], head + file)
-        wanted = b'{"elements":%d,"left":0,"triangles":%d,"version":1}' % (count, 12 * count)
-        if not output.endswith(wanted):
-            sys.exit(f"{count} boxes, depth {depth}: {output[-200:]!r}")
-        line = f"{count} boxes, chains of {depth}: {len(file) / 1e6:.1f} MB, {1000 * (spent - start):.0f} ms, {len(file) / 1e6 / (spent - start):.1f} MB/s"
-        if plain and not depth:
-            with tempfile.NamedTemporaryFile(suffix=".ifc") as kept:
-                kept.write(file)
-                kept.flush()
-                other, _ = least([os.path.abspath(plain[0]), kept.name, "0"], b"", 3)
-            line += f"; the plain program, its whole run: {1000 * other:.0f} ms"
-        print(line, flush=True)
+        wanted = b'{"elements":%d,"left":' % count
+        timed(program, None if depth else plain, start, boxes(count, depth), f"{count} boxes, chains of {depth}", wanted)
+    timed(program, None, start, combs(200, 1000), "200 combs of 1,000 corners", b'{"elements":200,"left":')
+    for name in files:
+        with open(name, "rb") as file:
+            timed(program, plain, start, file.read(), os.path.basename(name), b'"elements":')
 
 
 if __name__ == "__main__":
