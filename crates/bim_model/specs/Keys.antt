@@ -20,10 +20,6 @@ is_key_below k l = is_lt (key_cmp k l)
 abbrev pub pair_cmp : Pair → Pair → Ordering
 pair_cmp p q = ordering_then (key_cmp p.a q.a) (ordering_then (key_cmp p.b q.b) (nat_cmp p.rule q.rule))
 
--- the first element of a pair stands before the second
-abbrev pub IsPair : Pair → Type 0
-IsPair p = IsTrue (is_key_below p.a p.b)
-
 -- an element of a version, with the place of its model in the version, from 0, and the model's name
 pub record Subject : Type 0 where
   pub model : ℕ

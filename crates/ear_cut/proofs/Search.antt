@@ -9,13 +9,12 @@ use Rattle.ear_cut.specs.declared.views.View.{View}
 use Rattle.ear_cut.specs.declared.corners.Corner.{Corner}
 use Rattle.ear_cut.specs.declared.corners.Turn.{Turn}
 use Rattle.ear_cut.specs.declared.corners.Angle.{Angle}
-use Rattle.ear_cut.specs.declared.notes.Note.{Note}
 use Rattle.ear_cut.specs.declared.corners.Angle.TheVariants.{Straight, Convex, Reflex}
 use Rattle.exact_arith.specs.Space.{is_nowhere, cross_of}
 use Rattle.bim_model.specs.Points.{step}
-use Rattle.ear_cut.specs.Corners.{nobody, turn_at, angle_of}
+use Rattle.ear_cut.specs.Corners.{nobody, angle_of}
 use Rattle.ear_cut.specs.Removal.{first_from, is_free, is_ear, is_ear_at}
-use Rattle.ear_cut.specs.Notes.{IsFirst, IsClearTo, IsHeldAt, IsTrueOf, settles}
+use Rattle.ear_cut.specs.Notes.{IsFirst, IsClearTo, settles}
 
 none_from : (test : ℕ → Bool) (i n : ℕ) → ((k : ℕ) → i ≤ k → k < i + n → test k ≡ false) → first_from test i n ≡ None
 none_from test i zero h = refl
@@ -65,16 +64,6 @@ pub open_convex : (a : Angle) (held : Bool) → settles a held ≡ false → a �
 open_convex Convex held h = refl
 open_convex Straight held h = absurd (cc h)
 open_convex Reflex held h = absurd (cc h)
-
--- a corner that is settled is no ear
-pub settled_no_ear : (view : Option View) (left : List Corner) (i : ℕ) (note : Note) → IsTrueOf view left i note → settles note.angle note.held ≡ true → is_ear view left (turn_at left i) ≡ false
-settled_no_ear view left i note h s =
-    ap (is_ear_at view left (turn_at left i)) (sym h.angle) ∙ by_angle note.angle note.held s h.held
-  where
-    by_angle : (a : Angle) (b : Bool) → settles a b ≡ true → (b ≡ true → IsHeldAt view left (turn_at left i) note.clear) → is_ear_at view left (turn_at left i) a ≡ false
-    by_angle Straight b s k = refl
-    by_angle Reflex b s k = refl
-    by_angle Convex b s k = let e = k s in list_all_at (λ (o : Corner). is_free view (turn_at left i) o) left note.clear nobody e.within e.held
 
 -- without a view no corner is an ear
 pub no_ear : (left : List Corner) (t : Turn) → is_ear None left t ≡ false
