@@ -1,0 +1,5 @@
+pub mod Numbers
+pub mod Cuboids
+pub mod Lines
+pub mod Files
+pub mod Pieces
