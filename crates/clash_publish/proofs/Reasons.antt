@@ -1,0 +1,111 @@
+-- The list of all clashes has exactly the pairs that the definition names.
+use Rattle.std.proofs.Common.{◌≡◌, ℕ, zero, suc, ◌+◌, ◌<◌, Bool, true, false, cond, List, [], ◌∷◌, length, Option, Some, None, refl, sym, ap, subst, arith, ◌∙◌}
+use Rattle.std.specs.List.{Contains}
+use Rattle.std.specs.Str.{bytes_eq}
+use Rattle.bim_model.specs.declared.element.Element.{Element}
+use Rattle.bim_model.specs.declared.rules.Rule.{Rule}
+use Rattle.bim_model.specs.declared.rules.RuleKind.{RuleKind}
+use Rattle.bim_model.specs.declared.rules.RuleKind.TheVariants.{Clash, Ignore}
+use Rattle.bim_model.specs.declared.rules.Found.{Found}
+use Rattle.bim_model.specs.Rules.{fits, decided, rule_from, distance_of}
+use Rattle.bim_model.specs.Snapshots.{Version}
+use Rattle.bim_model.specs.Keys.{Subject, subjects_of}
+use Rattle.clearance.specs.Decided.{is_near}
+use Rattle.clearance.proofs.Decided.{elements_decided}
+use Rattle.bucket_check.specs.declared.pair.SetPair.{SetPair}
+use Rattle.bucket_check.specs.Clashes.{in_grid_numbers, rule_between, clash_by, clash_of, clashes, IsBefore}
+use Rattle.bucket_check.proofs.Lists.{Lists, lists_same, lists_one}
+use Rattle.bucket_check.proofs.Pairs.{once}
+use Rattle.bucket_check.proofs.Owned.{IsClash as IsFound, why, clashes_list}
+use Rattle.clash_publish.specs.Listed.{element_of, distance_at, ClashBy, IsClash}
+use Rattle.clash_publish.specs.Laws.{AreClashes, ClashesAreListed}
+
+abbrev number_in : Option Found → ℕ
+number_in None = 0
+number_in (Some f) = f.rule
+
+abbrev distance_in : Option Found → ℕ
+distance_in None = 0
+distance_in (Some f) = f.distance
+
+-- the found rule stands at a place of the list whose first rule has the number n
+record StandsAt (rules : List Rule) (n : ℕ) (f : Found) : Type 0 where
+  place : ℕ
+  number : f.rule ≡ n + place
+  distance : f.distance ≡ distance_at rules place
+
+first_stands : (kind : RuleKind) (rule : Rule) (rules : List Rule) (n : ℕ) (f : Found) → rule.kind ≡ kind → decided kind n ≡ Some f → StandsAt (rule ∷ rules) n f
+first_stands (Clash d) rule rules n f e h =
+    let is : n ≡ f.rule = ap number_in h in
+    record {
+      place = 0;
+      number = omega arith;
+      distance = sym (ap distance_in h) ∙ sym (ap distance_of e);
+    }
+first_stands Ignore rule rules n f e h = cc
+
+later_stands : (rule : Rule) (rules : List Rule) (n : ℕ) (f : Found) → StandsAt rules (n + 1) f → StandsAt (rule ∷ rules) n f
+later_stands rule rules n f s = record { place = suc s.place; number = omega (arith, s.number); distance = s.distance }
+
+chosen : (b : Bool) (x y : Option Found) (f : Found) (P : Type 0) → cond b x y ≡ Some f → (x ≡ Some f → P) → (y ≡ Some f → P) → P
+chosen true x y f P e g h = g e
+chosen false x y f P e g h = h e
+
+stands : (rules : List Rule) (n : ℕ) (a b : Element) (same : Bool) (f : Found) → rule_from n rules a b same ≡ Some f → StandsAt rules n f
+stands [] n a b same f e = cc
+stands (r ∷ rules) n a b same f e =
+    chosen (fits r a b same) (decided r.kind n) (rule_from (n + 1) rules a b same) f (StandsAt (r ∷ rules) n f) e
+    (λ g. first_stands r.kind r rules n f refl g) (λ g. later_stands r rules n f (stands rules (n + 1) a b same f g))
+
+distance_found : (rules : List Rule) (s t : Subject) (f : Found) → rule_between rules s t ≡ Some f → f.distance ≡ distance_at rules f.rule
+distance_found rules s t f e =
+    let at = stands rules 0 s.element t.element (bytes_eq s.name t.name) f e in
+    let here : at.place ≡ f.rule = omega (arith, at.number) in
+    at.distance ∙ ap (distance_at rules) here
+
+-- why two elements clash
+pub clash_why : (rules : List Rule) (s t : Subject) (r : ℕ) → clash_of rules s t ≡ Some r → ClashBy rules s t r
+clash_why rules s t r e =
+    let w = why (rule_between rules s t) s.element t.element r e in
+    record {
+      found = w.found;
+      decides = w.is;
+      number_is = w.rule;
+      distance_is = distance_found rules s t w.found w.is ∙ ap (distance_at rules) w.rule;
+      near = (elements_decided s.element t.element (in_grid_numbers w.found.distance)).0 w.near;
+    }
+
+near_gives : (b : Bool) (n : ℕ) → b ≡ true → cond b (Some n) None ≡ Some n
+near_gives true n e = refl
+near_gives false n e = cc
+
+pub clash_is : (rules : List Rule) (s t : Subject) (r : ℕ) → ClashBy rules s t r → clash_of rules s t ≡ Some r
+clash_is rules s t r c =
+    ap (λ o. clash_by o s.element t.element) c.decides
+    ∙ near_gives (is_near s.element t.element (in_grid_numbers c.found.distance)) c.found.rule ((elements_decided s.element t.element (in_grid_numbers c.found.distance)).1 c.near)
+    ∙ ap (λ n. Some n) c.number_is
+
+pub is_clash : (version : Version) (p : SetPair) → IsFound version.rules (subjects_of version.models) p → IsClash version p
+is_clash version p f = record {
+  below = f.below;
+  within = f.within;
+  clash = clash_why version.rules (element_of version p.a) (element_of version p.b) p.rule f.decided;
+}
+
+is_found : (version : Version) (p : SetPair) → IsClash version p → IsFound version.rules (subjects_of version.models) p
+is_found version p c = record {
+  below = c.below;
+  within = c.within;
+  decided = clash_is version.rules (element_of version p.a) (element_of version p.b) p.rule c.clash;
+}
+
+pub listed : (version : Version) → Lists IsBefore (IsClash version) (clashes version)
+listed version =
+    lists_same IsBefore (IsFound version.rules (subjects_of version.models)) (IsClash version) (clashes version)
+    (is_clash version) (is_found version) (clashes_list version.rules (subjects_of version.models))
+
+pub clashes_listed : ClashesAreListed
+clashes_listed = record {
+  are = λ version. let l = listed version in record { rising = l.rising; each = l.each; all = l.all };
+  one = λ version pairs a. lists_one IsBefore once (IsClash version) pairs (clashes version) (record { rising = a.rising; each = a.each; all = a.all }) (listed version);
+}

@@ -1,0 +1,4 @@
+pub mod Listed
+pub mod Merged
+pub mod Laws
+pub mod Shelves

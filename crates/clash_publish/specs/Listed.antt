@@ -1,0 +1,59 @@
+-- What stands in the list of all clashes of a version, by numbers and by keys.
+--
+-- An element's number is its place in the list of all elements of the version by rising key.
+use Rattle.std.specs.Prelude.{◌≡◌, ℕ, ◌<◌, zero, suc, List, [], ◌∷◌, length, IsTrue, Contains}
+use Rattle.std.specs.Ordering.{is_lt}
+use Rattle.bim_model.specs.declared.keys.Pair.{Pair}
+use Rattle.bim_model.specs.declared.rules.Rule.{Rule}
+use Rattle.bim_model.specs.declared.rules.Found.{Found}
+use Rattle.bim_model.specs.Rules.{distance_of}
+use Rattle.bim_model.specs.Snapshots.{Version}
+use Rattle.bim_model.specs.Keys.{Subject, subjects_of, key_of, pair_cmp, IsBelow}
+use Rattle.clearance.specs.Near.{ElementsNear}
+use Rattle.bucket_grid.specs.Subjects.{subject_at}
+use Rattle.bucket_check.specs.declared.pair.SetPair.{SetPair}
+use Rattle.bucket_check.specs.Clashes.{in_grid_numbers, rule_between}
+
+-- the element of a number
+abbrev pub element_of : Version → ℕ → Subject
+element_of version n = subject_at (subjects_of version.models) n
+
+-- the distance of the rule of a number, in millimetres
+abbrev pub distance_at : List Rule → ℕ → ℕ
+distance_at [] number = 0
+distance_at (rule ∷ rules) zero = distance_of rule.kind
+distance_at (rule ∷ rules) (suc number) = distance_at rules number
+
+-- the rule of that number decides for two elements, and they come within its distance of each other
+pub record ClashBy (rules : List Rule) (s t : Subject) (number : ℕ) : Type 0 where
+  pub found : Found
+  pub decides : rule_between rules s t ≡ Some found
+  pub number_is : found.rule ≡ number
+  pub distance_is : found.distance ≡ distance_at rules number
+  pub near : ElementsNear s.element t.element (in_grid_numbers found.distance)
+
+-- two elements of a version by their numbers, the lower first, and the rule by which they clash
+pub record IsClash (version : Version) (p : SetPair) : Type 0 where
+  pub below : p.a < p.b
+  pub within : p.b < length (subjects_of version.models)
+  pub clash : ClashBy version.rules (element_of version p.a) (element_of version p.b) p.rule
+
+-- the same by keys
+abbrev pub by_keys : Version → SetPair → Pair
+by_keys version p =
+    record { a = key_of (element_of version p.a); b = key_of (element_of version p.b); rule = p.rule }
+
+-- two elements of a version by their keys, the lower first, and the rule by which they clash
+pub record IsKeyClash (version : Version) (p : Pair) : Type 0 where
+  pub first : Subject
+  pub second : Subject
+  pub first_in : Contains (subjects_of version.models) first
+  pub second_in : Contains (subjects_of version.models) second
+  pub first_key : key_of first ≡ p.a
+  pub second_key : key_of second ≡ p.b
+  pub below : IsBelow first second
+  pub clash : ClashBy version.rules first second p.rule
+
+-- one pair of keys stands before another: by the first key, then by the second
+abbrev pub IsKeyBefore : Pair → Pair → Type 0
+IsKeyBefore p q = IsTrue (is_lt (pair_cmp p q))
