@@ -85,10 +85,12 @@ abbrev pub IsFront : Option (List ℕ) → List ℕ → Type 0
 IsFront None bytes = ⊤
 IsFront (Some left) bytes = bytes ≡ judged left
 
--- these are the bytes that are judged of the file of that name, where the files tell it and it isn't lent
-abbrev pub Holds : Option FilesTold → List ℕ → List ℕ → Type 0
-Holds None name bytes = ⊤
-Holds (Some told) name bytes = told.lent name ≡ 0 → bytes ≡ judged (content_of told.files name)
+-- these are the bytes that are judged of the file of that name, where the files tell it, before and after, and the
+-- name wasn't lent
+abbrev pub Holds : Option FilesTold → Option FilesTold → List ℕ → List ℕ → Type 0
+Holds None after name bytes = ⊤
+Holds (Some before) None name bytes = ⊤
+Holds (Some before) (Some after) name bytes = before.lent name ≡ 0 → bytes ≡ judged (content_of before.files name)
 
 -- two states of files that tell the same, but for files that stopped telling
 abbrev pub Tells : Option FilesTold → Option FilesTold → Type 0

@@ -30,6 +30,6 @@ FrontEnds old new (Err Memory) = new.faults ≡ old.faults
 
 -- a file was read, and is given back; a failure comes only of the files'
 abbrev pub FileEnds : FilesSeen → FilesSeen → List ℕ → Result (List ℕ) FileError → Type 0
-FileEnds old new name (Ok bytes) = Tells old.told new.told × Holds old.told name bytes × (new.faults ≡ old.faults)
+FileEnds old new name (Ok bytes) = Tells old.told new.told × Holds old.told new.told name bytes × (new.faults ≡ old.faults)
 FileEnds old new name (Err Failed) = Tells old.told new.told × Rose old.faults new.faults
 FileEnds old new name (Err Memory) = Tells old.told new.told × (new.faults ≡ old.faults)
