@@ -1,5 +1,5 @@
 -- The lines of a generated file, each with its line feed.
-use Rattle.std.specs.Prelude.{ℕ, ◌+◌, ◌*◌, ◌-◌, ◌%◌, ◌==◌, List, ◌++◌, length, replicate, if◌then◌else◌, codes}
+use Rattle.std.specs.Prelude.{ℕ, ◌+◌, ◌*◌, ◌/◌, ◌%◌, ◌==◌, List, ◌++◌, if◌then◌else◌, codes}
 use Rattle.std.specs.Fmt.{decimal}
 use Rattle.model_generator.specs.declared.cuboid.Cuboid.{Cuboid}
 
@@ -41,22 +41,42 @@ triples =
 abbrev pub class_of : ℕ → List ℕ
 class_of place = if place % 2 == 0 then codes "IFCBEAM" else codes "IFCPIPESEGMENT"
 
--- the identifier of a place: its number from 1, with zeros in front up to 22 digits
+-- the identifier of a number below 100,000: its five digits behind seventeen zeros
 abbrev pub guid_of : ℕ → List ℕ
-guid_of place = replicate (22 - length (decimal (place + 1))) 48 ++ decimal (place + 1)
+guid_of number =
+    codes "00000000000000000" ++ decimal (number / 10000) ++ decimal (number / 1000 % 10)
+    ++ decimal (number / 100 % 10) ++ decimal (number / 10 % 10) ++ decimal (number % 10)
 
 -- `#` and the number of an instance
 abbrev pub name : ℕ → List ℕ
 name id = codes "#" ++ decimal id
 
--- the five lines of the element of a place, from 0
+-- the lines of an element, whose first instance has the number k: its corners
+abbrev pub points_line : ℕ → Cuboid → List ℕ
+points_line k cuboid = name k ++ codes "=IFCCARTESIANPOINTLIST3D((" ++ corners cuboid ++ codes "));\n"
+
+-- its triangles, which close
+abbrev pub set_line : ℕ → List ℕ
+set_line k =
+    name (k + 1) ++ codes "=IFCTRIANGULATEDFACESET(" ++ name k ++ codes ",$,.T.,(" ++ triples ++ codes "),$);\n"
+
+-- the representation that they are
+abbrev pub shape_line : ℕ → List ℕ
+shape_line k =
+    name (k + 2) ++ codes "=IFCSHAPEREPRESENTATION($,'Body','Tessellation',(" ++ name (k + 1) ++ codes "));\n"
+
+-- the shape of the element
+abbrev pub product_line : ℕ → List ℕ
+product_line k = name (k + 3) ++ codes "=IFCPRODUCTDEFINITIONSHAPE($,$,(" ++ name (k + 2) ++ codes "));\n"
+
+-- the element of a place, whose identifier is its name; identifiers count from 1
+abbrev pub subject_line : ℕ → ℕ → List ℕ
+subject_line k place =
+    name (k + 4) ++ codes "=" ++ class_of place ++ codes "('" ++ guid_of (place + 1) ++ codes "',$,'"
+    ++ guid_of (place + 1) ++ codes "',$,$,$," ++ name (k + 3) ++ codes ",$,$);\n"
+
+-- the lines of the element of a place, from 0
 abbrev pub element_lines : ℕ → Cuboid → List ℕ
 element_lines place cuboid =
     let k = 10 + 5 * place in
-    let guid = guid_of place in
-    name k ++ codes "=IFCCARTESIANPOINTLIST3D((" ++ corners cuboid ++ codes "));\n"
-    ++ name (k + 1) ++ codes "=IFCTRIANGULATEDFACESET(" ++ name k ++ codes ",$,.T.,(" ++ triples ++ codes "),$);\n"
-    ++ name (k + 2) ++ codes "=IFCSHAPEREPRESENTATION($,'Body','Tessellation',(" ++ name (k + 1) ++ codes "));\n"
-    ++ name (k + 3) ++ codes "=IFCPRODUCTDEFINITIONSHAPE($,$,(" ++ name (k + 2) ++ codes "));\n"
-    ++ name (k + 4) ++ codes "=" ++ class_of place ++ codes "('" ++ guid ++ codes "',$,'" ++ guid
-    ++ codes "',$,$,$," ++ name (k + 3) ++ codes ",$,$);\n"
+    points_line k cuboid ++ set_line k ++ shape_line k ++ product_line k ++ subject_line k place

@@ -1,7 +1,8 @@
 //! The lines of a generated file.
 ghost use Rattle.std.specs.Prelude.{◌≡◌, ◌<◌, string_bytes, IfOk};
 ghost use Rattle.model_generator.specs.Cuboids.{IsSmall};
-ghost use Rattle.model_generator.specs.Lines.{head, end, corner, corners_at, corners, class_of, element_lines};
+ghost use Rattle.std.specs.Fmt.{decimal};
+ghost use Rattle.model_generator.specs.Lines.{head, end, corner, corners_at, corners, triples, class_of, guid_of, name, points_line, set_line, shape_line, product_line, subject_line, element_lines};
 
 use crate::cuboid::Cuboid;
 use std::alloc::{AllocError, Global};
@@ -14,6 +15,13 @@ const END: &str = "ENDSEC;\nEND-ISO-10303-21;\n";
 // Two triangles for each of the six sides.
 const TRIPLES: &str =
     "(1,3,2),(2,3,4),(5,6,7),(6,8,7),(1,2,5),(2,6,5),(3,7,4),(4,7,8),(1,5,3),(3,5,7),(2,4,6),(4,8,6)";
+
+// The same, lent.
+fn triples() -> &'static str
+    ensures { result.now ≡ triples }
+{
+    TRIPLES
+}
 
 /// The lines before the elements.
 pub fn head() -> &'static str
@@ -29,9 +37,19 @@ pub fn end() -> &'static str
     END
 }
 
+// A number in decimal.
+fn decimal(alloc: Global, number: u32) -> Result<String, AllocError>
+    ensures { IfOk result (λ text. string_bytes text ≡ decimal number) }
+{
+    format!(in alloc; "{number}")
+}
+
 fn corner(alloc: Global, x: u32, y: u32, z: u32) -> Result<String, AllocError>
     ensures { IfOk result (λ text. string_bytes text ≡ corner x y z) }
 {
+    let x = decimal(alloc, x)?;
+    let y = decimal(alloc, y)?;
+    let z = decimal(alloc, z)?;
     format!(in alloc; "({x}.,{y}.,{z}.)")
 }
 
@@ -57,6 +75,51 @@ fn corners(alloc: Global, cuboid: Cuboid) -> Result<String, AllocError>
     format!(in alloc; "{low},{high}")
 }
 
+// The name of an instance.
+fn name(alloc: Global, id: u32) -> Result<String, AllocError>
+    ensures { IfOk result (λ text. string_bytes text ≡ name id) }
+{
+    let id = decimal(alloc, id)?;
+    format!(in alloc; "#{id}")
+}
+
+fn points_line(alloc: Global, k: u32, cuboid: Cuboid) -> Result<String, AllocError>
+    requires { IsSmall cuboid }
+    ensures { IfOk result (λ text. string_bytes text ≡ points_line k cuboid) }
+{
+    let points = name(alloc, k)?;
+    let corners = corners(alloc, cuboid)?;
+    format!(in alloc; "{points}=IFCCARTESIANPOINTLIST3D(({corners}));\n")
+}
+
+fn set_line(alloc: Global, k: u32) -> Result<String, AllocError>
+    requires { k < 100000 }
+    ensures { IfOk result (λ text. string_bytes text ≡ set_line k) }
+{
+    let set = name(alloc, k + 1)?;
+    let points = name(alloc, k)?;
+    let triples = triples();
+    format!(in alloc; "{set}=IFCTRIANGULATEDFACESET({points},$,.T.,({triples}),$);\n")
+}
+
+fn shape_line(alloc: Global, k: u32) -> Result<String, AllocError>
+    requires { k < 100000 }
+    ensures { IfOk result (λ text. string_bytes text ≡ shape_line k) }
+{
+    let shape = name(alloc, k + 2)?;
+    let set = name(alloc, k + 1)?;
+    format!(in alloc; "{shape}=IFCSHAPEREPRESENTATION($,'Body','Tessellation',({set}));\n")
+}
+
+fn product_line(alloc: Global, k: u32) -> Result<String, AllocError>
+    requires { k < 100000 }
+    ensures { IfOk result (λ text. string_bytes text ≡ product_line k) }
+{
+    let product = name(alloc, k + 3)?;
+    let shape = name(alloc, k + 2)?;
+    format!(in alloc; "{product}=IFCPRODUCTDEFINITIONSHAPE($,$,({shape}));\n")
+}
+
 // The class of the element of that place.
 fn class_of(place: u32) -> &'static str
     ensures { result.now ≡ class_of place }
@@ -68,20 +131,41 @@ fn class_of(place: u32) -> &'static str
     }
 }
 
+// The identifier of a number below 100,000: its five digits behind seventeen zeros.
+fn guid_of(alloc: Global, number: u32) -> Result<String, AllocError>
+    ensures { IfOk result (λ text. string_bytes text ≡ guid_of number) }
+{
+    let first = decimal(alloc, number / 10_000)?;
+    let second = decimal(alloc, number / 1_000 % 10)?;
+    let third = decimal(alloc, number / 100 % 10)?;
+    let fourth = decimal(alloc, number / 10 % 10)?;
+    let fifth = decimal(alloc, number % 10)?;
+    format!(in alloc; "00000000000000000{first}{second}{third}{fourth}{fifth}")
+}
+
+fn subject_line(alloc: Global, k: u32, place: u32) -> Result<String, AllocError>
+    requires k { k < 100000 }
+    requires place { place < 10000 }
+    ensures { IfOk result (λ text. string_bytes text ≡ subject_line k place) }
+{
+    let subject = name(alloc, k + 4)?;
+    let class = class_of(place);
+    let guid = guid_of(alloc, place + 1)?;
+    let product = name(alloc, k + 3)?;
+    format!(in alloc; "{subject}={class}('{guid}',$,'{guid}',$,$,$,{product},$,$);\n")
+}
+
 /// The five lines of the element of that place, from 0.
 pub fn element_lines(alloc: Global, place: u32, cuboid: Cuboid) -> Result<String, AllocError>
     requires place { place < 10000 }
     requires cuboid { IsSmall cuboid }
     ensures { IfOk result (λ text. string_bytes text ≡ element_lines place cuboid) }
 {
-    let points = 10 + 5 * place;
-    let set = points + 1;
-    let shape = points + 2;
-    let product = points + 3;
-    let element = points + 4;
-    let number = place + 1;
-    let corners = corners(alloc, cuboid)?;
-    let class = class_of(place);
-    let guid = format!(in alloc; "{number:022}")?;
-    format!(in alloc; "#{points}=IFCCARTESIANPOINTLIST3D(({corners}));\n#{set}=IFCTRIANGULATEDFACESET(#{points},$,.T.,({TRIPLES}),$);\n#{shape}=IFCSHAPEREPRESENTATION($,'Body','Tessellation',(#{set}));\n#{product}=IFCPRODUCTDEFINITIONSHAPE($,$,(#{shape}));\n#{element}={class}('{guid}',$,'{guid}',$,$,$,#{product},$,$);\n")
+    let k = 10 + 5 * place;
+    let points = points_line(alloc, k, cuboid)?;
+    let set = set_line(alloc, k)?;
+    let shape = shape_line(alloc, k)?;
+    let product = product_line(alloc, k)?;
+    let subject = subject_line(alloc, k, place)?;
+    format!(in alloc; "{points}{set}{shape}{product}{subject}")
 }

@@ -1,5 +1,8 @@
 //! A generated file, piece by piece.
-ghost use Rattle.std.specs.Prelude.{◌≡◌, ◌≤◌, ◌++◌, [], string_bytes, IfOk, MatchOption, OnErr};
+ghost use Rattle.std.specs.Prelude.{◌≡◌, ◌≤◌, ◌<◌, ◌+◌, ◌*◌, ◌++◌, [], ℕ, string_bytes, IfOk, MatchOption, OnErr};
+ghost use Rattle.model_generator.specs.Numbers.{state_at};
+ghost use Rattle.model_generator.specs.Cuboids.{cuboid_of};
+ghost use Rattle.model_generator.specs.Lines.{element_lines};
 ghost use Rattle.model_generator.specs.Files.{generated};
 
 use crate::cuboid::draw_cuboid;
@@ -42,6 +45,20 @@ impl Model for Pieces {
     ghost invariant = { λ p. (p.state ≡ state_at p.number (6 * p.place)) × (p.place + p.left ≤ MOST_GENERATED) };
 }
 
+// The lines of the element of that place, from the state before it, and the state behind it.
+fn next_element(alloc: Global, state: u64, place: u32) -> Result<(String, u64), AllocError>
+    requires { place < MOST_GENERATED }
+    ensures lines { (number : ℕ) → state ≡ state_at number (6 * place)
+        → IfOk result (λ made. string_bytes made.0 ≡ element_lines place (cuboid_of number place)) }
+    ensures state { (number : ℕ) → state ≡ state_at number (6 * place)
+        → IfOk result (λ made. made.1 ≡ state_at number (6 * place + 6)) }
+{
+    let mut behind = state;
+    let cuboid = draw_cuboid(&mut behind);
+    let text = element_lines(alloc, place, cuboid)?;
+    Ok((text, behind))
+}
+
 impl Pieces {
     /// All pieces of the file of so many elements, which are drawn from a number.
     pub fn of(count: u32, number: u64) -> Pieces
@@ -57,23 +74,6 @@ impl Pieces {
         }
     }
 
-    // The lines of the next element, or the end where none is left.
-    fn next_element(&mut self, alloc: Global) -> Result<String, AllocError>
-    {
-        if self.left == 0 {
-            let text = format!(in alloc; "{}", end())?;
-            self.stage = Stage::Done;
-            return Ok(text);
-        }
-        let mut state = self.state;
-        let cuboid = draw_cuboid(&mut state);
-        let text = element_lines(alloc, self.place, cuboid)?;
-        self.state = state;
-        self.place += 1;
-        self.left -= 1;
-        Ok(text)
-    }
-
     /// The next piece, none where nothing is left. An `Err` leaves the pieces as they were.
     pub fn next(&mut self, alloc: Global) -> Result<Option<String>, AllocError>
         ensures piece { IfOk result (λ piece. MatchOption piece (self.old ≡ []) (λ text. self.old ≡ string_bytes text ++ self.new)) }
@@ -81,12 +81,20 @@ impl Pieces {
     {
         match self.stage {
             Stage::Head => {
-                let text = format!(in alloc; "{}", head())?;
+                let text = String::from_str(alloc, head())?;
                 self.stage = Stage::Elements;
                 Ok(Some(text))
             }
             Stage::Elements => {
-                let text = self.next_element(alloc)?;
+                if self.left == 0 {
+                    let text = String::from_str(alloc, end())?;
+                    self.stage = Stage::Done;
+                    return Ok(Some(text));
+                }
+                let (text, state) = next_element(alloc, self.state, self.place)?;
+                self.state = state;
+                self.place += 1;
+                self.left -= 1;
                 Ok(Some(text))
             }
             Stage::Done => Ok(None),
