@@ -3,7 +3,7 @@
 use Rattle.std.specs.Prelude.{ℕ, zero, suc, ◌+◌, ◌*◌, ◌/◌, ◌%◌, ◌^◌}
 
 -- the state after this one
-abbrev pub after : ℕ → ℕ
+unfoldable pub after : ℕ → ℕ
 after state = (state * 6364136223846793005 + 1442695040888963407) % 2 ^ 64
 
 -- the state of that place, the number itself at 0

@@ -4,6 +4,7 @@
 mod cuboid;
 mod lines;
 mod numbers;
+mod phrases;
 mod pieces;
 #[cfg(test)]
 mod tests;

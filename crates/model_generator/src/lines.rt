@@ -1,10 +1,10 @@
 //! The lines of a generated file.
 ghost use Rattle.std.specs.Prelude.{◌≡◌, ◌<◌, string_bytes, IfOk};
 ghost use Rattle.model_generator.specs.Cuboids.{IsSmall};
-ghost use Rattle.std.specs.Fmt.{decimal};
-ghost use Rattle.model_generator.specs.Lines.{head, end, corner, corners_at, corners, triples, class_of, guid_of, name, points_line, set_line, shape_line, product_line, subject_line, element_lines};
+ghost use Rattle.model_generator.specs.Lines.{head, end, whole, corner, corners_at, corners, triples, class_of, guid_of, name, named, points_line, set_line, shape_line, product_line, subject_line, element_lines};
 
 use crate::cuboid::Cuboid;
+use crate::phrases::{Phrase, text_of};
 use std::alloc::{AllocError, Global};
 
 const HEAD: &str =
@@ -16,7 +16,7 @@ const END: &str = "ENDSEC;\nEND-ISO-10303-21;\n";
 const TRIPLES: &str =
     "(1,3,2),(2,3,4),(5,6,7),(6,8,7),(1,2,5),(2,6,5),(3,7,4),(4,7,8),(1,5,3),(3,5,7),(2,4,6),(4,8,6)";
 
-// The same, lent.
+#[tactic(auto, unfolding(crate::specs::Lines::triples))]
 fn triples() -> &'static str
     ensures { result.now ≡ triples }
 {
@@ -24,6 +24,7 @@ fn triples() -> &'static str
 }
 
 /// The lines before the elements.
+#[tactic(auto, unfolding(crate::specs::Lines::head))]
 pub fn head() -> &'static str
     ensures { result.now ≡ head }
 {
@@ -31,15 +32,17 @@ pub fn head() -> &'static str
 }
 
 /// The lines behind them.
+#[tactic(auto, unfolding(crate::specs::Lines::end))]
 pub fn end() -> &'static str
     ensures { result.now ≡ end }
 {
     END
 }
 
-// A number in decimal.
-fn decimal(alloc: Global, number: u32) -> Result<String, AllocError>
-    ensures { IfOk result (λ text. string_bytes text ≡ decimal number) }
+// A whole number in decimal.
+#[tactic(auto, unfolding(crate::specs::Lines::whole))]
+fn whole(alloc: Global, number: u32) -> Result<String, AllocError>
+    ensures { IfOk result (λ text. string_bytes text ≡ whole number) }
 {
     format!(in alloc; "{number}")
 }
@@ -47,9 +50,9 @@ fn decimal(alloc: Global, number: u32) -> Result<String, AllocError>
 fn corner(alloc: Global, x: u32, y: u32, z: u32) -> Result<String, AllocError>
     ensures { IfOk result (λ text. string_bytes text ≡ corner x y z) }
 {
-    let x = decimal(alloc, x)?;
-    let y = decimal(alloc, y)?;
-    let z = decimal(alloc, z)?;
+    let x = whole(alloc, x)?;
+    let y = whole(alloc, y)?;
+    let z = whole(alloc, z)?;
     format!(in alloc; "({x}.,{y}.,{z}.)")
 }
 
@@ -79,7 +82,7 @@ fn corners(alloc: Global, cuboid: Cuboid) -> Result<String, AllocError>
 fn name(alloc: Global, id: u32) -> Result<String, AllocError>
     ensures { IfOk result (λ text. string_bytes text ≡ name id) }
 {
-    let id = decimal(alloc, id)?;
+    let id = whole(alloc, id)?;
     format!(in alloc; "#{id}")
 }
 
@@ -88,8 +91,10 @@ fn points_line(alloc: Global, k: u32, cuboid: Cuboid) -> Result<String, AllocErr
     ensures { IfOk result (λ text. string_bytes text ≡ points_line k cuboid) }
 {
     let points = name(alloc, k)?;
+    let open = text_of(Phrase::Points);
     let corners = corners(alloc, cuboid)?;
-    format!(in alloc; "{points}=IFCCARTESIANPOINTLIST3D(({corners}));\n")
+    let close = text_of(Phrase::Close);
+    format!(in alloc; "{points}{open}{corners}{close}")
 }
 
 fn set_line(alloc: Global, k: u32) -> Result<String, AllocError>
@@ -99,7 +104,10 @@ fn set_line(alloc: Global, k: u32) -> Result<String, AllocError>
     let set = name(alloc, k + 1)?;
     let points = name(alloc, k)?;
     let triples = triples();
-    format!(in alloc; "{set}=IFCTRIANGULATEDFACESET({points},$,.T.,({triples}),$);\n")
+    let open = text_of(Phrase::Set);
+    let closed = text_of(Phrase::Closed);
+    let plain = text_of(Phrase::Plain);
+    format!(in alloc; "{set}{open}{points}{closed}{triples}{plain}")
 }
 
 fn shape_line(alloc: Global, k: u32) -> Result<String, AllocError>
@@ -107,8 +115,10 @@ fn shape_line(alloc: Global, k: u32) -> Result<String, AllocError>
     ensures { IfOk result (λ text. string_bytes text ≡ shape_line k) }
 {
     let shape = name(alloc, k + 2)?;
+    let open = text_of(Phrase::Shape);
     let set = name(alloc, k + 1)?;
-    format!(in alloc; "{shape}=IFCSHAPEREPRESENTATION($,'Body','Tessellation',({set}));\n")
+    let close = text_of(Phrase::Close);
+    format!(in alloc; "{shape}{open}{set}{close}")
 }
 
 fn product_line(alloc: Global, k: u32) -> Result<String, AllocError>
@@ -116,11 +126,14 @@ fn product_line(alloc: Global, k: u32) -> Result<String, AllocError>
     ensures { IfOk result (λ text. string_bytes text ≡ product_line k) }
 {
     let product = name(alloc, k + 3)?;
+    let open = text_of(Phrase::Product);
     let shape = name(alloc, k + 2)?;
-    format!(in alloc; "{product}=IFCPRODUCTDEFINITIONSHAPE($,$,({shape}));\n")
+    let close = text_of(Phrase::Close);
+    format!(in alloc; "{product}{open}{shape}{close}")
 }
 
 // The class of the element of that place.
+#[tactic(auto, unfolding(crate::specs::Lines::class_of))]
 fn class_of(place: u32) -> &'static str
     ensures { result.now ≡ class_of place }
 {
@@ -135,12 +148,24 @@ fn class_of(place: u32) -> &'static str
 fn guid_of(alloc: Global, number: u32) -> Result<String, AllocError>
     ensures { IfOk result (λ text. string_bytes text ≡ guid_of number) }
 {
-    let first = decimal(alloc, number / 10_000)?;
-    let second = decimal(alloc, number / 1_000 % 10)?;
-    let third = decimal(alloc, number / 100 % 10)?;
-    let fourth = decimal(alloc, number / 10 % 10)?;
-    let fifth = decimal(alloc, number % 10)?;
-    format!(in alloc; "00000000000000000{first}{second}{third}{fourth}{fifth}")
+    let first = whole(alloc, number / 10_000)?;
+    let second = whole(alloc, number / 1_000 % 10)?;
+    let third = whole(alloc, number / 100 % 10)?;
+    let fourth = whole(alloc, number / 10 % 10)?;
+    let fifth = whole(alloc, number % 10)?;
+    let zeros = text_of(Phrase::Zeros);
+    format!(in alloc; "{zeros}{first}{second}{third}{fourth}{fifth}")
+}
+
+// The identifier of the element of a place, and its name, which is the same.
+fn named(alloc: Global, place: u32) -> Result<String, AllocError>
+    requires { place < 10000 }
+    ensures { IfOk result (λ text. string_bytes text ≡ named place) }
+{
+    let open = text_of(Phrase::Guid);
+    let guid = guid_of(alloc, place + 1)?;
+    let between = text_of(Phrase::Named);
+    format!(in alloc; "{open}{guid}{between}{guid}")
 }
 
 fn subject_line(alloc: Global, k: u32, place: u32) -> Result<String, AllocError>
@@ -150,9 +175,11 @@ fn subject_line(alloc: Global, k: u32, place: u32) -> Result<String, AllocError>
 {
     let subject = name(alloc, k + 4)?;
     let class = class_of(place);
-    let guid = guid_of(alloc, place + 1)?;
+    let named = named(alloc, place)?;
+    let placed = text_of(Phrase::Placed);
     let product = name(alloc, k + 3)?;
-    format!(in alloc; "{subject}={class}('{guid}',$,'{guid}',$,$,$,{product},$,$);\n")
+    let done = text_of(Phrase::Done);
+    format!(in alloc; "{subject}={class}{named}{placed}{product}{done}")
 }
 
 /// The five lines of the element of that place, from 0.

@@ -6,6 +6,7 @@ const FACTOR: u128 = 6364136223846793005;
 const STEP: u128 = 1442695040888963407;
 
 // The state that follows.
+#[tactic(auto, unfolding(crate::specs::Numbers::after))]
 fn after(state: u64) -> u64
     ensures { result ≡ after state }
 {
