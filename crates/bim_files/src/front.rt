@@ -67,7 +67,7 @@ fn read_front<S: NamedSource>(alloc: Global, source: &mut S) -> Result<Bytes, Fi
 {
     let mut room = vec![in alloc; 0u8; ROOM]?;
     let mut bytes = Vec::new(alloc);
-    while bytes.len() <= MOST_UPLOAD {
+    'reads: while bytes.len() <= MOST_UPLOAD {
         let most = ROOM.min(MOST_UPLOAD + 1 - bytes.len());
         match read_once(source, room.as_mut_slice(), &mut bytes, most)? {
             Step::Again => {}

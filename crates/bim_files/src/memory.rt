@@ -106,7 +106,7 @@ impl Model for MemFiles {
 fn place_of(slots: &[Slot], name: &Text) -> Option<usize>
     ensures found { IfSome result (λ place. IsFirst (map slot_seen slots.now) name.now place) }
 {
-    for place in 0..slots.len() {
+    'places: for place in 0..slots.len() {
         if slots[place].file.name.as_str() == name.as_str() {
             return Some(place);
         }
@@ -119,7 +119,7 @@ fn lent_place_of(slots: &[Slot], name: &Text) -> Option<usize>
     ensures found { IfSome result (λ place. IsFirstLent (map slot_seen slots.now) name.now place) }
     ensures none { IfNone result (lent_times (map slot_seen slots.now) name.now ≡ 0) }
 {
-    for place in 0..slots.len() {
+    'places: for place in 0..slots.len() {
         let slot = &slots[place];
         if slot.lent && slot.file.name.as_str() == name.as_str() {
             return Some(place);
