@@ -66,11 +66,11 @@ name id = codes "#" ++ whole id
 
 -- the front of a line: its instance, a phrase and the instance that it names
 abbrev pub front_of : ℕ → Phrase → ℕ → List ℕ
-front_of id open named = name id ++ text_of open ++ name named
+front_of id phrase named = name id ++ text_of phrase ++ name named
 
 -- a line that names one instance and nothing else
 abbrev pub line_of : ℕ → Phrase → ℕ → List ℕ
-line_of id open named = front_of id open named ++ text_of Close
+line_of id phrase named = front_of id phrase named ++ text_of Close
 
 -- the lines of an element, whose first instance has the number k: its corners
 abbrev pub points_line : ℕ → Cuboid → List ℕ

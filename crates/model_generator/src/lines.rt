@@ -110,11 +110,11 @@ fn points_line(alloc: Global, k: u32, cuboid: Cuboid) -> Result<String, AllocErr
 }
 
 // A line's front: its instance and the one that it names.
-fn front_of(alloc: Global, id: u32, open: Phrase, named: u32) -> Result<String, AllocError>
-    ensures { IfOk result (λ text. string_bytes text ≡ front_of id open named) }
+fn front_of(alloc: Global, id: u32, phrase: Phrase, named: u32) -> Result<String, AllocError>
+    ensures { IfOk result (λ text. string_bytes text ≡ front_of id phrase named) }
 {
     let instance = name(alloc, id)?;
-    let open = text_of(open);
+    let open = text_of(phrase);
     let named = name(alloc, named)?;
     format!(in alloc; "{instance}{open}{named}")
 }
@@ -139,10 +139,10 @@ fn set_line(alloc: Global, k: u32) -> Result<String, AllocError>
 }
 
 // A line that names one instance and nothing else.
-fn line_of(alloc: Global, id: u32, open: Phrase, named: u32) -> Result<String, AllocError>
-    ensures { IfOk result (λ text. string_bytes text ≡ line_of id open named) }
+fn line_of(alloc: Global, id: u32, phrase: Phrase, named: u32) -> Result<String, AllocError>
+    ensures { IfOk result (λ text. string_bytes text ≡ line_of id phrase named) }
 {
-    let front = front_of(alloc, id, open, named)?;
+    let front = front_of(alloc, id, phrase, named)?;
     let close = text_of(Phrase::Close);
     format!(in alloc; "{front}{close}")
 }
