@@ -3,10 +3,10 @@
 
 mod command;
 mod number;
-mod parse;
+mod parsing;
 #[cfg(test)]
 mod tests;
 
 pub use command::{plain_command, with_flag, with_list, with_option};
 pub use number::{is_word, number_word};
-pub use parse::{lent_words, parse};
+pub use parsing::{lent_words, parse};

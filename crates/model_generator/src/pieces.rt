@@ -75,6 +75,7 @@ impl Pieces {
     }
 
     /// The next piece, none where nothing is left. An `Err` leaves the pieces as they were.
+    #[tactic(auto, using(crate::proofs::Rest::rest_after))]
     pub fn next(&mut self, alloc: Global) -> Result<Option<String>, AllocError>
         ensures piece { IfOk result (λ piece. MatchOption piece (self.old ≡ []) (λ text. self.old ≡ string_bytes text ++ self.new)) }
         ensures kept { OnErr result (self.new ≡ self.old) }

@@ -1,7 +1,7 @@
 use Rattle.std.proofs.Common.{◌∙◌, map}
 use Rattle.clap.specs.Words.{app_of}
 use Rattle.command_words.proofs.Grammar.{found_matches, found_nothing}
-use Rattle.command_words.proofs.parse.parse.Goals as goal
+use Rattle.command_words.proofs.parsing.parse.Goals as goal
 
 pub returns-in-Ok : goal.returns-in-Ok
 returns-in-Ok c =
