@@ -79,7 +79,12 @@ Checks (Some said) files files' sink sink' status =
 abbrev pub touching : List Rule
 touching =
     record {
-      a = class.Any; b = class.Any; storey = storey.Any; level = None; models = models.Any; kind = Clash 0;
+      a = class.Any;
+      b = class.Any;
+      storey = storey.Any;
+      level = None;
+      models = models.Any;
+      kind = Clash 0;
     } ∷ []
 
 -- the version of one model under that rule

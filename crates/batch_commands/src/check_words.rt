@@ -82,9 +82,7 @@ fn each_word(alloc: Global, texts: &[&str]) -> Result<Option<Vec<ModelWord>>, Al
 fn has_name(words: &[ModelWord], name: &Text) -> bool
     ensures { result ≡ list_any (λ (w : ModelWord). bytes_eq w.name name.now) words.now }
 {
-    words
-        .iter()
-        .any(|word| word.name.as_str() == name.as_str())
+    words.iter().any(|word| word.name.as_str() == name.as_str())
 }
 
 // Whether no name stands twice.

@@ -12,8 +12,8 @@ use crate::generate_words::{GenerateWords, generate_words};
 use crate::statuses::{NO_MEMORY, print_usage, printed};
 use bim_io::Sink;
 use bim_model::{
-    Bytes, ClassTest, Mode, Model, ModelTest, NamedModel, Rule, RuleKind, Rules,
-    Shared, Snapshot, StoreyTest, Text,
+    Bytes, ClassTest, Mode, Model, ModelTest, NamedModel, Rule, RuleKind, Rules, Shared, Snapshot,
+    StoreyTest, Text,
 };
 use clash_check::clashes_of;
 use model_build::build_owned;

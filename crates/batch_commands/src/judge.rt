@@ -59,11 +59,7 @@ impl From<FileError> for JudgeError {
 }
 
 // The rules of the file of that name.
-fn judge_rules<F: Files>(
-    alloc: Global,
-    files: &mut F,
-    name: &Text,
-) -> Result<Rules, JudgeError>
+fn judge_rules<F: Files>(alloc: Global, files: &mut F, name: &Text) -> Result<Rules, JudgeError>
     ensures { JudgesRules (F.seen files.old) (F.seen files.new) name.now result }
 {
     let bytes = read_file(alloc, files, name)?;

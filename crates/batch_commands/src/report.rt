@@ -35,11 +35,7 @@ fn count_line(alloc: Global, found: &Published) -> Result<String, AllocError>
 }
 
 /// Prints the clashes of a version, one a line, and their number.
-pub fn print_found<K: Sink>(
-    alloc: Global,
-    sink: &mut K,
-    found: &Published,
-) -> Result<(), Stop>
+pub fn print_found<K: Sink>(alloc: Global, sink: &mut K, found: &Published) -> Result<(), Stop>
     ensures { Flushes (K.seen sink.old) (K.seen sink.new) (found_bytes found.now) result }
 {
     let mut block = Vec::new(alloc);
@@ -74,11 +70,7 @@ fn refusal_line(alloc: Global, refusal: &Refusal) -> Result<String, AllocError>
 }
 
 /// Prints the line of a refusal.
-pub fn print_refusal<K: Sink>(
-    alloc: Global,
-    sink: &mut K,
-    refusal: &Refusal,
-) -> Result<(), Stop>
+pub fn print_refusal<K: Sink>(alloc: Global, sink: &mut K, refusal: &Refusal) -> Result<(), Stop>
     ensures { Flushes (K.seen sink.old) (K.seen sink.new) (refusal_line refusal.now) result }
 {
     let line = refusal_line(alloc, refusal)?;

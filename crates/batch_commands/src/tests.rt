@@ -82,7 +82,15 @@ fn checks_print_clashes_or_one_refusal(rt: HostRuntime) -> Result<(), Fail> {
     assert_check(&rt, alloc, &bad, &[], &[], 3, "rules: H9 BadJson\n")?;
     let usage = "usage: bim_server replay|check|generate|serve\n";
     assert_check(&rt, alloc, &[], &[], &[], 2, usage)?;
-    assert_check(&rt, alloc, &["--rules", "r.json", "m=b.ifc", "m=a.ifc"], &[], &[], 2, usage)
+    assert_check(
+        &rt,
+        alloc,
+        &["--rules", "r.json", "m=b.ifc", "m=a.ifc"],
+        &[],
+        &[],
+        2,
+        usage,
+    )
 }
 
 // What is printed where the write of that number fails is a front of the output.
@@ -92,7 +100,10 @@ fn a_failed_write_ends_a_check(rt: HostRuntime) -> Result<(), Fail> {
     let words = words_of(alloc, &["--rules", "r.json", "m=b.ifc"])?;
     let mut files = files_of(alloc, &[], &[])?;
     let mut sink = MemSink::new(alloc, 7, numbers(alloc, &[3])?)?;
-    assert_eq!(rt; run_check(alloc, words.as_slice(), &mut files, &mut sink), 5);
+    assert_eq!(rt;
+        run_check(alloc, words.as_slice(), &mut files, &mut sink),
+        5
+    );
     assert_eq!(rt; sink.bytes(), b"m 000000000000".as_slice());
     Ok(())
 }
@@ -103,7 +114,10 @@ fn models_are_generated(rt: HostRuntime) -> Result<(), Fail> {
     let words = words_of(alloc, &["--count", "1"])?;
     let mut sink = MemSink::new(alloc, 100, numbers(alloc, &[])?)?;
     assert_eq!(rt; run_generate(alloc, words.as_slice(), &mut sink), 0);
-    assert_eq!(rt; sink.bytes(), b"elements 1\ntriangles 12\nclashes 0\n".as_slice());
+    assert_eq!(rt;
+        sink.bytes(),
+        b"elements 1\ntriangles 12\nclashes 0\n".as_slice()
+    );
     let words = words_of(alloc, &["--count=1", "--file"])?;
     let mut sink = MemSink::new(alloc, 1000, numbers(alloc, &[])?)?;
     assert_eq!(rt; run_generate(alloc, words.as_slice(), &mut sink), 0);

@@ -28,7 +28,13 @@ abbrev pub fresh_source : MemFile → ℕ → LentState
 fresh_source file most = record {
   name = file.name;
   source = record {
-    left = file.contents; given = []; ended = false; most = most; fails = file.read_fails; calls = 0; faults = 0;
+    left = file.contents;
+    given = [];
+    ended = false;
+    most = most;
+    fails = file.read_fails;
+    calls = 0;
+    faults = 0;
   };
   faults = 0;
 }

@@ -6,10 +6,9 @@ ghost use Rattle.bim_io.specs.Causes.{HasCause, ReadGives, ReadTakes, ends_read,
 use crate::traits::{Files, NamedSource};
 use bim_io::{Failed, Source};
 use bim_model::Text;
-use std::fs;
 use std::io::Read;
 use std::marker::Model;
-use std::rt;
+use std::{fs, rt};
 
 /// An open file of the system, which tells no contents and no name.
 #[derive(Drop)]

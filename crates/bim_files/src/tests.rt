@@ -25,7 +25,10 @@ fn assert_read<F: Files>(
 ) -> Result<(), Fail> {
     let name = Text::of(alloc, name)?;
     match read_file(alloc, files, &name) {
-        Ok(bytes) => assert_eq!(rt; Some(bytes.as_slice()), wanted.ok().map(|text| text.as_bytes())),
+        Ok(bytes) => assert_eq!(rt;
+            Some(bytes.as_slice()),
+            wanted.ok().map(|text| text.as_bytes())
+        ),
         Err(error) => assert_eq!(rt; Some(error), wanted.err()),
     }
     Ok(())

@@ -58,7 +58,6 @@ fn version(alloc: Global) -> Result<Snapshot, Fail> {
     Ok(empty.with_model(alloc, named)?)
 }
 
-
 #[test]
 fn two_elements_clash(rt: HostRuntime) -> Result<(), Fail> {
     let alloc = rt.alloc();

@@ -3,6 +3,7 @@ ghost use Rattle.std.specs.Prelude.{◌≡◌, ◌<◌, ◌/◌, ◌^◌};
 ghost use Rattle.model_generator.specs.Numbers.{after};
 
 const FACTOR: u128 = 6364136223846793005;
+
 const STEP: u128 = 1442695040888963407;
 
 // The state that follows.
