@@ -1,5 +1,5 @@
 -- What is left of a file once the lines of one more element were given.
-use Rattle.std.proofs.Common.{◌≡◌, ◌+◌, ◌-◌, ◌*◌, ◌<◌, ℕ, zero, suc, List, ◌++◌, refl, sym, ◌∙◌, ap, arith}
+use Rattle.std.proofs.Common.{◌≡◌, ◌+◌, ◌-◌, ◌<◌, ℕ, zero, suc, List, ◌++◌, refl, sym, ◌∙◌, ap, arith}
 use Rattle.model_generator.specs.Cuboids.{cuboid_of}
 use Rattle.model_generator.specs.Lines.{element_lines}
 use Rattle.model_generator.specs.Files.{rest_from}
