@@ -1,0 +1,16 @@
+-- What is left of a file once the lines of one more element were given.
+use Rattle.std.proofs.Common.{◌≡◌, ◌+◌, ◌-◌, ◌<◌, ℕ, zero, suc, List, ◌++◌, refl, sym, ◌∙◌, ap, arith}
+use Rattle.model_generator.specs.Cuboids.{cuboid_of}
+use Rattle.model_generator.specs.Lines.{element_lines}
+use Rattle.model_generator.specs.Files.{rest_from}
+
+pub rest_more : (number place n : ℕ) → 0 < n → rest_from number place n ≡ element_lines place (cuboid_of number place) ++ rest_from number (place + 1) (n - 1)
+rest_more number place zero some = absurd (omega arith)
+rest_more number place (suc k) some =
+    let e : suc k - 1 ≡ k = omega arith in
+    rw e refl
+
+-- the same, where a text has these lines
+pub rest_after : (number place n : ℕ) (text : List ℕ) → 0 < n → text ≡ element_lines place (cuboid_of number place)
+    → rest_from number place n ≡ text ++ rest_from number (place + 1) (n - 1)
+rest_after number place n text some is = rest_more number place n some ∙ ap (λ t. t ++ rest_from number (place + 1) (n - 1)) (sym is)
