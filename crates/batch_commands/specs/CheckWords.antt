@@ -1,5 +1,7 @@
 -- What the words of `check` say.
-use Rattle.std.specs.Prelude.{◌≡◌, ℕ, ◌==◌, ◌&&◌, ◌||◌, Bool, true, false, not, List, [], ◌∷◌, length, map, nat_lt, nat_le, if◌then◌else◌, Option, Some, None, option_map, option_and_then, codes}
+use Rattle.std.specs.Prelude.{◌≡◌, ℕ, ◌==◌, nat_lt, nat_le, List, [], ◌∷◌, length, map, codes}
+use Rattle.std.specs.Prelude.{Bool, true, false, not, ◌&&◌, ◌||◌, if◌then◌else◌}
+use Rattle.std.specs.Prelude.{Option, Some, None, option_map, option_and_then}
 use Rattle.std.specs.List.{list_all, list_any, before_first, after_first, position_or_len}
 use Rattle.std.specs.Char.{is_ascii_alphanumeric}
 use Rattle.std.specs.Str.{bytes_eq}
@@ -18,7 +20,8 @@ is_model_name_char byte = is_ascii_alphanumeric byte || byte == 95 || byte == 46
 
 -- 1 to 64 such characters
 abbrev pub is_model_name : List ℕ → Bool
-is_model_name text = nat_lt 0 (length text) && nat_le (length text) MOST_NAME && list_all is_model_name_char text
+is_model_name text =
+    nat_lt 0 (length text) && nat_le (length text) MOST_NAME && list_all is_model_name_char text
 
 -- `=`
 abbrev pub is_equals : ℕ → Bool
@@ -67,7 +70,8 @@ mode_said (Some text) =
     else (if bytes_eq text (codes "snap") then Some Snap else None)
 
 abbrev pub all_said : Option (List ℕ) → Option Mode → Option (List ModelWord) → Option CheckWords
-all_said (Some rules) (Some mode) (Some models) = Some (record { rules = rules; mode = mode; models = models })
+all_said (Some rules) (Some mode) (Some models) =
+    Some (record { rules = rules; mode = mode; models = models })
 all_said _ _ _ = None
 
 -- what the values of the options and the other words say

@@ -1,5 +1,6 @@
 -- What the commands do and answer.
-use Rattle.std.specs.Prelude.{◌≡◌, ◌≢◌, ◌⊎◌, ℕ, ◌++◌, List, [], ◌∷◌, length, Bool, true, false, Option, Some, None, Result, Ok, Err, codes}
+use Rattle.std.specs.Prelude.{◌≡◌, ◌≢◌, ◌⊎◌, ℕ, ◌++◌, List, [], ◌∷◌, length, codes}
+use Rattle.std.specs.Prelude.{Bool, true, false, Option, Some, None, Result, Ok, Err}
 use Rattle.std.specs.Fmt.{decimal}
 use Rattle.bim_model.specs.declared.element.Element.{Element}
 use Rattle.bim_model.specs.declared.rules.Rule.{Rule}
@@ -57,7 +58,8 @@ AnswersFound old new (Ok version) status = Prints old new (found_bytes version) 
 AnswersFound old new (Err e) status = AnswersError old new e status
 
 -- a check by what its words say
-pub record ChecksBy (said : CheckWords) (files files' : FilesSeen) (sink sink' : SinkSeen) (status : ℕ) : Type 0 where
+pub record ChecksBy (said : CheckWords) (files files' : FilesSeen) (sink sink' : SinkSeen) (status : ℕ)
+    : Type 0 where
   pub found : Result Version JudgeError
   pub finds : Finds files files' said found
   pub answers : AnswersFound sink sink' found status
@@ -107,7 +109,8 @@ pub record IsSummary (number count : ℕ) (text : List ℕ) : Type 0 where
 -- the file is printed, or its numbers
 abbrev pub GeneratesAs : Bool → ℕ → ℕ → SinkSeen → SinkSeen → ℕ → Type 0
 GeneratesAs true number count old new status = Prints old new (generated number count) 0 status
-GeneratesAs false number count old new status = (text : List ℕ) × IsSummary number count text × Prints old new text 0 status
+GeneratesAs false number count old new status =
+    (text : List ℕ) × IsSummary number count text × Prints old new text 0 status
 
 abbrev pub GeneratesBy : GenerateWords → SinkSeen → SinkSeen → ℕ → Type 0
 GeneratesBy said old new status = GeneratesAs said.file said.number said.count old new status

@@ -37,14 +37,16 @@ pub record LacksRules (before after : Option FilesTold) (name : List ℕ) (fault
   pub spell : rules_in bytes ≡ Err fault
 
 -- the file that a word names makes this model, which has the name that it says
-pub record IsJudged (before after : Option FilesTold) (mode : Mode) (word : ModelWord) (model : NamedModel) : Type 0 where
+pub record IsJudged (before after : Option FilesTold) (mode : Mode) (word : ModelWord) (model : NamedModel)
+    : Type 0 where
   pub name : model.name ≡ word.name
   pub bytes : List ℕ
   pub holds : Holds before after word.file bytes
   pub makes : Profile bytes mode (Ok model.model)
 
 -- the file that a word names makes no model, with this fault
-pub record IsRefused (before after : Option FilesTold) (mode : Mode) (word : ModelWord) (fault : UploadFault) : Type 0 where
+pub record IsRefused (before after : Option FilesTold) (mode : Mode) (word : ModelWord) (fault : UploadFault)
+    : Type 0 where
   pub bytes : List ℕ
   pub holds : Holds before after word.file bytes
   pub refused : Profile bytes mode (Err fault)
@@ -61,8 +63,8 @@ abbrev pub AreJudged : Option FilesTold → Option FilesTold → Mode → List M
 AreJudged before after mode words models = AllZip (IsJudged before after mode) words models
 
 -- the first of the words whose file is refused, with its fault
-pub record IsFirstRefused (before after : Option FilesTold) (mode : Mode) (words : List ModelWord) (why : Refusal)
-    : Type 0 where
+pub record IsFirstRefused (before after : Option FilesTold) (mode : Mode) (words : List ModelWord)
+    (why : Refusal) : Type 0 where
   pub front : List ModelWord
   pub word : ModelWord
   pub rest : List ModelWord
@@ -74,7 +76,8 @@ pub record IsFirstRefused (before after : Option FilesTold) (mode : Mode) (words
   pub why_is : why ≡ refusal.Model word.name fault
 
 -- the version of the rules and models that the words name
-pub record IsVersionOf (before after : Option FilesTold) (said : CheckWords) (version : Version) : Type 0 where
+pub record IsVersionOf (before after : Option FilesTold) (said : CheckWords) (version : Version)
+    : Type 0 where
   pub rules : HasRules before after said.rules version.rules
   pub models : List NamedModel
   pub judged : AreJudged before after said.mode said.models models
@@ -93,7 +96,8 @@ pub record IsModelRefusal (before after : Option FilesTold) (said : CheckWords) 
   pub first : IsFirstRefused before after said.mode said.models why
 
 -- the rules and the files are good, and their version is too large
-pub record IsVersionRefusal (before after : Option FilesTold) (said : CheckWords) (why : Refusal) : Type 0 where
+pub record IsVersionRefusal (before after : Option FilesTold) (said : CheckWords) (why : Refusal)
+    : Type 0 where
   pub version : Version
   pub of_words : IsVersionOf before after said version
   pub fault : VersionFault
@@ -127,7 +131,8 @@ JudgesRules old new name (Ok rules) = Quiet old new × HasRules old.told new.tol
 JudgesRules old new name (Err e) = Ends old new (IsRulesRefusal old.told new.told name) e
 
 -- one word's file is refused
-pub record IsWordRefused (before after : Option FilesTold) (mode : Mode) (word : ModelWord) (why : Refusal) : Type 0 where
+pub record IsWordRefused (before after : Option FilesTold) (mode : Mode) (word : ModelWord) (why : Refusal)
+    : Type 0 where
   pub fault : UploadFault
   pub refused : IsRefused before after mode word fault
   pub why_is : why ≡ refusal.Model word.name fault
@@ -137,21 +142,23 @@ JudgesModel old new mode word (Ok model) = Quiet old new × IsJudged old.told ne
 JudgesModel old new mode word (Err e) = Ends old new (IsWordRefused old.told new.told mode word) e
 
 -- these rules and the models of the words
-pub record IsMadeOf (before after : Option FilesTold) (mode : Mode) (words : List ModelWord) (rules : List Rule) (version : Version)
-    : Type 0 where
+pub record IsMadeOf (before after : Option FilesTold) (mode : Mode) (words : List ModelWord)
+    (rules : List Rule) (version : Version) : Type 0 where
   pub rules_are : version.rules ≡ rules
   pub models : List NamedModel
   pub judged : AreJudged before after mode words models
   pub placed_are : version.models ≡ placed [] models
 
-abbrev pub JudgesModels : FilesSeen → FilesSeen → Mode → List ModelWord → List Rule → Result Version JudgeError → Type 0
+abbrev pub JudgesModels :
+    FilesSeen → FilesSeen → Mode → List ModelWord → List Rule → Result Version JudgeError → Type 0
 JudgesModels old new mode words rules (Ok version) =
     Quiet old new × IsMadeOf old.told new.told mode words rules version
 JudgesModels old new mode words rules (Err e) = Ends old new (IsFirstRefused old.told new.told mode words) e
 
 -- the version that the words name is found, and it isn't too large; or there is nothing
 abbrev pub Finds : FilesSeen → FilesSeen → CheckWords → Result Version JudgeError → Type 0
-Finds old new said (Ok version) = Quiet old new × IsVersionOf old.told new.told said version × IsChecked version
+Finds old new said (Ok version) =
+    Quiet old new × IsVersionOf old.told new.told said version × IsChecked version
 Finds old new said (Err e) = Ends old new (IsRefusal old.told new.told said) e
 
 -- an error of a file as one of a check

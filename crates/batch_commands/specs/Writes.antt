@@ -8,7 +8,8 @@ use Rattle.batch_commands.specs.declared.block.Stop.TheVariants.{Write, Memory}
 -- a front of the bytes was written, and not all of them, since a write failed
 abbrev pub WritesLess : SinkSeen → SinkSeen → List ℕ → Type 0
 WritesLess old new bytes =
-    (front : List ℕ) × (more : List ℕ) × (bytes ≡ front ++ more) × (more ≢ []) × SinkTakes old new front × Rose old.faults new.faults
+    (front : List ℕ) × (more : List ℕ) × (bytes ≡ front ++ more) × (more ≢ [])
+    × SinkTakes old new front × Rose old.faults new.faults
 
 -- all the bytes were written, or a front of them where a write failed
 abbrev pub WritesWhole : {E : Type 0} → SinkSeen → SinkSeen → List ℕ → Result (Unit {0}) E → Type 0
@@ -17,7 +18,8 @@ WritesWhole old new bytes (Err e) = WritesLess old new bytes
 
 -- a front of these bytes was written
 abbrev pub WritesFront : SinkSeen → SinkSeen → List ℕ → Type 0
-WritesFront old new bytes = (front : List ℕ) × (more : List ℕ) × (bytes ≡ front ++ more) × SinkTakes old new front
+WritesFront old new bytes =
+    (front : List ℕ) × (more : List ℕ) × (bytes ≡ front ++ more) × SinkTakes old new front
 
 -- why no more was written: a write failed, or memory was wanting
 abbrev pub Stops : SinkSeen → SinkSeen → Stop → Type 0
@@ -32,7 +34,8 @@ Flushes old new bytes (Err stop) = WritesFront old new bytes × Stops old new st
 -- bytes were put behind those of a block, of which a front was written
 abbrev pub Puts : SinkSeen → SinkSeen → List ℕ → List ℕ → List ℕ → Result (Unit {0}) Stop → Type 0
 Puts old new before after bytes (Ok u) =
-    (written : List ℕ) × (before ++ bytes ≡ written ++ after) × SinkTakes old new written × (new.faults ≡ old.faults)
+    (written : List ℕ) × (before ++ bytes ≡ written ++ after)
+    × SinkTakes old new written × (new.faults ≡ old.faults)
 Puts old new before after bytes (Err stop) = WritesFront old new (before ++ bytes) × Stops old new stop
 
 -- the exit status of a command that stopped at a write or for want of memory

@@ -20,7 +20,8 @@ fn check_said<F: Files, K: Sink>(
     files: &mut F,
     sink: &mut K,
 ) -> u8
-    ensures does { ChecksBy said.now (F.seen files.old) (F.seen files.new) (K.seen sink.old) (K.seen sink.new) result }
+    ensures does { ChecksBy said.now (F.seen files.old) (F.seen files.new)
+        (K.seen sink.old) (K.seen sink.new) result }
     ensures read { ComesOfFault (F.seen files.old).faults (F.seen files.new).faults (result ≡ 4) }
     ensures write { result ≡ 5 → Rose (K.seen sink.old).faults (K.seen sink.new).faults }
 {
@@ -34,18 +35,20 @@ fn check_said<F: Files, K: Sink>(
     }
 }
 
-/// Prints the clashes of the models that the words name, under the rules that they name: one line a clash in the order
-/// of keys, `MODEL GUID MODEL GUID RULE`, and then `clashes N`. Where the rules, a file or the version is refused, the
-/// line of the first refusal and nothing else. The words are those behind `check`. It answers the exit status: 0 where
-/// the clashes are printed, 2 where the words are outside their grammar, 3 where something is refused, 4 where a file
-/// can't be opened or read, 5 where a write failed, 6 where memory was wanting.
+/// Prints the clashes of the models that the words name, under the rules that they name: one line a clash in
+/// the order of keys, `MODEL GUID MODEL GUID RULE`, and then `clashes N`. Where the rules, a file or the
+/// version is refused, the line of the first refusal and nothing else. The words are those behind `check`. It
+/// answers the exit status: 0 where the clashes are printed, 2 where the words are outside their grammar, 3
+/// where something is refused, 4 where a file can't be opened or read, 5 where a write failed, 6 where memory
+/// was wanting.
 pub fn run_check<F: Files, K: Sink>(
     alloc: Global,
     words: &[Text],
     files: &mut F,
     sink: &mut K,
 ) -> u8
-    ensures does { Checks (check_words words.now) (F.seen files.old) (F.seen files.new) (K.seen sink.old) (K.seen sink.new) result }
+    ensures does { Checks (check_words words.now) (F.seen files.old) (F.seen files.new)
+        (K.seen sink.old) (K.seen sink.new) result }
     ensures read { ComesOfFault (F.seen files.old).faults (F.seen files.new).faults (result ≡ 4) }
     ensures write { result ≡ 5 → Rose (K.seen sink.old).faults (K.seen sink.new).faults }
 {

@@ -67,7 +67,8 @@ fn model_word(alloc: Global, text: &str) -> Result<Option<ModelWord>, AllocError
 
 // What each of these words says, where each says something.
 fn each_word(alloc: Global, texts: &[&str]) -> Result<Option<Vec<ModelWord>>, AllocError>
-    ensures { IfOk result (λ said. option_map (λ words. words.items) said ≡ all_some (map (λ t. model_word t.now) texts.now)) }
+    ensures { IfOk result (λ said. option_map (λ words. words.items) said
+        ≡ all_some (map (λ t. model_word t.now) texts.now)) }
 {
     let mut words = Vec::with_capacity(alloc, texts.len())?;
     for text in texts {
@@ -100,7 +101,8 @@ fn models_said(
     alloc: Global,
     texts: Option<&[&str]>,
 ) -> Result<Option<Items<ModelWord>>, AllocError>
-    ensures { IfOk result (λ said. said ≡ if_models (option_map (λ texts. map (λ t. t.now) texts.now) texts)) }
+    ensures { IfOk result (λ said. said
+        ≡ if_models (option_map (λ texts. map (λ t. t.now) texts.now) texts)) }
 {
     let Some(texts) = texts else {
         return Ok(None);
@@ -162,9 +164,9 @@ fn check_command<'a>(alloc: Global) -> Result<Command<'a>, AllocError>
     with_list(alloc, command, "models")
 }
 
-/// What the words behind `check` say, where they are in its grammar: `--rules FILE`, which must be there, `--grid exact`
-/// or `--grid snap`, each at most once, also spelled with `=`, and 1 to 64 words `NAME=FILE` of different names, each 1
-/// to 64 characters of `A-Za-z0-9_.-`.
+/// What the words behind `check` say, where they are in its grammar: `--rules FILE`, which must be there,
+/// `--grid exact` or `--grid snap`, each at most once, also spelled with `=`, and 1 to 64 words `NAME=FILE`
+/// of different names, each 1 to 64 characters of `A-Za-z0-9_.-`.
 pub fn check_words(alloc: Global, words: &[Text]) -> Result<Option<CheckWords>, AllocError>
     ensures { IfOk result (λ said. said ≡ check_words words.now) }
 {

@@ -74,8 +74,8 @@ fn version_of(alloc: Global, model: Model) -> Result<Snapshot, AllocError>
     Snapshot::new(alloc, rules).with_model(alloc, named)
 }
 
-// How many elements, triangles and clashes a model has, one a line. A version of a generated model is never too large,
-// which is not proved: it would be answered as want of memory.
+// How many elements, triangles and clashes a model has, one a line. A version of a generated model is never
+// too large, which is not proved: it would be answered as want of memory.
 fn summary_of(alloc: Global, model: Model) -> Result<String, AllocError>
     ensures { IfOk result (λ text. string_bytes text ≡ summary_of model) }
 {
@@ -89,7 +89,8 @@ fn summary_of(alloc: Global, model: Model) -> Result<String, AllocError>
     format!(in alloc; "elements {elements}\ntriangles {triangles}\nclashes {clashes}\n")
 }
 
-// The same of the file. It is never refused, which is not proved: that too would be answered as want of memory.
+// The same of the file. It is never refused, which is not proved: that too would be answered as want of
+// memory.
 fn summary(alloc: Global, count: u32, number: u64) -> Result<String, AllocError>
     requires { count ≤ MOST_GENERATED }
     ensures { IfOk result (λ text. IsSummary number count (string_bytes text)) }
@@ -116,10 +117,10 @@ fn generate<K: Sink>(alloc: Global, said: GenerateWords, sink: &mut K) -> u8
     }
 }
 
-/// Makes a valid model of so many elements, and prints its file, or the numbers of its elements, of its triangles and of
-/// its clashes where any two elements clash that touch, one a line. The words are those behind `generate`. It answers
-/// the exit status: 0 where all is printed, 2 where the words are outside their grammar, 5 where a write failed, 6 where
-/// memory was wanting.
+/// Makes a valid model of so many elements, and prints its file, or the numbers of its elements, of its
+/// triangles and of its clashes where any two elements clash that touch, one a line. The words are those
+/// behind `generate`. It answers the exit status: 0 where all is printed, 2 where the words are outside their
+/// grammar, 5 where a write failed, 6 where memory was wanting.
 pub fn run_generate<K: Sink>(alloc: Global, words: &[Text], sink: &mut K) -> u8
     ensures does { Generates (generate_words words.now) (K.seen sink.old) (K.seen sink.new) result }
     ensures write { result ≡ 5 → Rose (K.seen sink.old).faults (K.seen sink.new).faults }

@@ -40,8 +40,8 @@ fn file(alloc: Global, name: &str, contents: &str, fails: &[u64]) -> Result<MemF
     })
 }
 
-// A file of rules, pipes and a file off the grid, of which the openings of those numbers fail, and the reads of the
-// pipes.
+// A file of rules, pipes and a file off the grid, of which the openings of those numbers fail, and the reads
+// of the pipes.
 fn files_of(alloc: Global, opens: &[u64], reads: &[u64]) -> Result<MemFiles, Fail> {
     let mut files = Vec::new(alloc);
     files.push(file(alloc, "r.json", RULES, &[])?)?;

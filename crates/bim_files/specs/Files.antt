@@ -1,5 +1,6 @@
 -- What contracts see of files, and what their calls do.
-use Rattle.std.specs.Prelude.{◌≡◌, ℕ, ◌+◌, ◌≤◌, ◌<◌, List, [], ◌∷◌, take, cond, false, Option, Some, None, IfSome, ⊤}
+use Rattle.std.specs.Prelude.{◌≡◌, ℕ, ◌+◌, ◌≤◌, ◌<◌, List, [], ◌∷◌, take, cond, false, ⊤}
+use Rattle.std.specs.Prelude.{Option, Some, None, IfSome}
 use Rattle.std.specs.Str.{bytes_eq}
 use Rattle.bim_model.specs.declared.limits.TheConstants.{MOST_UPLOAD}
 use Rattle.bim_io.specs.Causes.{Rose}
@@ -35,8 +36,8 @@ pub record IsFresh (source : SourceSeen) : Type 0 where
   pub ended : source.ended ≡ false
   pub faults : source.faults ≡ 0
 
--- a source was lent under a name, which is lent once more; where the name wasn't lent, all that the file holds is left
--- of the source
+-- a source was lent under a name, which is lent once more; where the name wasn't lent, all that the file
+-- holds is left of the source
 pub record LendsTold (old new : FilesTold) (name : List ℕ) (source : SourceSeen) (named : Option (List ℕ))
     : Type 0 where
   pub files : new.files ≡ old.files
@@ -85,12 +86,13 @@ abbrev pub IsFront : Option (List ℕ) → List ℕ → Type 0
 IsFront None bytes = ⊤
 IsFront (Some left) bytes = bytes ≡ judged left
 
--- these are the bytes that are judged of the file of that name, where the files tell it, before and after, and the
--- name wasn't lent
+-- these are the bytes that are judged of the file of that name, where the files tell it, before and after,
+-- and the name wasn't lent
 abbrev pub Holds : Option FilesTold → Option FilesTold → List ℕ → List ℕ → Type 0
 Holds None after name bytes = ⊤
 Holds (Some before) None name bytes = ⊤
-Holds (Some before) (Some after) name bytes = before.lent name ≡ 0 → bytes ≡ judged (content_of before.files name)
+Holds (Some before) (Some after) name bytes =
+    before.lent name ≡ 0 → bytes ≡ judged (content_of before.files name)
 
 -- two states of files that tell the same, but for files that stopped telling
 abbrev pub Tells : Option FilesTold → Option FilesTold → Type 0

@@ -1,5 +1,6 @@
 -- Files in memory.
-use Rattle.std.specs.Prelude.{◌≡◌, ℕ, ◌+◌, ◌<◌, List, [], ◌∷◌, length, map, take, Bool, true, false, ◌&&◌, cond, Option, Some, None, AllPairs, All, slice_index_or}
+use Rattle.std.specs.Prelude.{◌≡◌, ℕ, ◌+◌, ◌<◌, List, [], ◌∷◌, length, map, take, AllPairs, All}
+use Rattle.std.specs.Prelude.{Bool, true, false, ◌&&◌, cond, slice_index_or, Option, Some, None}
 use Rattle.std.specs.List.{sum_by}
 use Rattle.std.specs.Str.{bytes_eq}
 use Rattle.bim_io.specs.Memory.{SourceState, left_at}

@@ -27,7 +27,8 @@ impl<R: Read + Drop> Model for StdFile<R> {
 }
 
 impl<R: Read + Drop> Source for StdFile<R> {
-    ghost seen = { λ s. record { left = None; given = None; most = None; ended = s.ended; faults = s.faults } };
+    ghost seen = { λ s.
+        record { left = None; given = None; most = None; ended = s.ended; faults = s.faults } };
 
     ghost at_end = { λ s ended. tt };
 

@@ -47,7 +47,8 @@ fn read_once<S: NamedSource>(
     requires some { 0 < most }
     requires fits { most ≤ length room.old }
     ensures room { length room.new ≡ length room.old }
-    ensures step { Grown (S.Source.seen source.old) (S.Source.seen source.new) bytes.old.items bytes.new.items most result }
+    ensures step { Grown (S.Source.seen source.old) (S.Source.seen source.new)
+        bytes.old.items bytes.new.items most result }
     ensures name { S.NamedSource.name source.new ≡ S.NamedSource.name source.old }
 {
     let Ok(count) = source.read_named(&mut room[..most]) else {
@@ -77,8 +78,8 @@ fn read_front<S: NamedSource>(alloc: Global, source: &mut S) -> Result<Bytes, Fi
     Ok(Bytes::from_vec(alloc, bytes)?)
 }
 
-/// The bytes of the file of that name: all of them, or exactly the first 33,554,433 where there are more. The file is
-/// given back also where a read failed, or memory was wanting.
+/// The bytes of the file of that name: all of them, or exactly the first 33,554,433 where there are more. The
+/// file is given back also where a read failed, or memory was wanting.
 pub fn read_file<F: Files>(alloc: Global, files: &mut F, name: &Text) -> Result<Bytes, FileError>
     ensures bytes { FileEnds (F.seen files.old) (F.seen files.new) name.now result }
 {

@@ -52,7 +52,8 @@ impl Source for LentSource {
 
     fn read(&mut self, room: &mut [u8]) -> Result<usize, Failed>
         ensures bound { ReadsAtMost result room.new }
-        ensures left { ReadTakes (Some (left_at self.old.source.ended self.old.source.left)) (Some (left_at self.new.source.ended self.new.source.left)) result room.new }
+        ensures left { ReadTakes (Some (left_at self.old.source.ended self.old.source.left))
+            (Some (left_at self.new.source.ended self.new.source.left)) result room.new }
         ensures given { ReadGives (Some self.old.source.given) (Some self.new.source.given) result room.new }
         ensures within { IfOk result (λ n. n ≤ self.old.source.most) }
         ensures same { Some self.new.source.most ≡ Some self.old.source.most }
@@ -78,9 +79,9 @@ impl NamedSource for LentSource {
     }
 }
 
-/// Files in memory. The files of the numbers in `fails` can't be opened, counted from 1 over all openings; nor can a
-/// file that isn't there or is lent, nor one for which memory is wanting. Each source is as new: its reads are counted
-/// anew.
+/// Files in memory. The files of the numbers in `fails` can't be opened, counted from 1 over all openings;
+/// nor can a file that isn't there or is lent, nor one for which memory is wanting. Each source is as new:
+/// its reads are counted anew.
 #[derive(Drop)]
 pub struct MemFiles {
     alloc: Global,
@@ -97,7 +98,13 @@ impl Model for MemFiles {
 
     ghost Value = { MemFilesState };
 
-    ghost view = { λ f. record { slots = map slot_seen f.slots.items; most = f.most; fails = f.fails; calls = f.calls; faults = f.faults } };
+    ghost view = { λ f. record {
+      slots = map slot_seen f.slots.items;
+      most = f.most;
+      fails = f.fails;
+      calls = f.calls;
+      faults = f.faults;
+    } };
 
     ghost invariant = { λ f. 1 ≤ f.most };
 }
@@ -154,7 +161,8 @@ impl MemFiles {
     ) -> Result<MemFiles, AllocError>
         requires some { 1 ≤ most }
         requires differ { NamesDiffer (map (λ f. f.name) files.items) }
-        ensures { IfOk result (λ f. f ≡ record { slots = map slot_of files.items; most = most; fails = fails; calls = 0; faults = 0 }) }
+        ensures { IfOk result (λ f. f
+            ≡ record { slots = map slot_of files.items; most = most; fails = fails; calls = 0; faults = 0 }) }
     {
         let mut slots = Vec::with_capacity(alloc, files.len())?;
         for file in files {
@@ -172,7 +180,8 @@ impl MemFiles {
 
     // The source of the file at a place, where it is not lent.
     fn lend(&mut self, name: &Text) -> Option<LentSource>
-        ensures lends { IfSome result (λ source. LendsTold (told_of self.old.slots) (told_of self.new.slots) name.now (lent_seen source) (Some source.name)) }
+        ensures lends { IfSome result (λ source. LendsTold (told_of self.old.slots) (told_of self.new.slots)
+            name.now (lent_seen source) (Some source.name)) }
         ensures fresh { IfSome result (λ source. IsFresh (lent_seen source)) }
         ensures kept { IfNone result (self.new.slots ≡ self.old.slots) }
         ensures counts { (self.new.calls ≡ self.old.calls) × (self.new.faults ≡ self.old.faults) }

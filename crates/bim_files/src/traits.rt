@@ -19,7 +19,8 @@ pub trait NamedSource: Source {
         ensures given { ReadGives (Self.seen self.old).given (Self.seen self.new).given result room.new }
         ensures within { IfOk result (WithinMost (Self.seen self.old).most) }
         ensures same { (Self.seen self.new).most ≡ (Self.seen self.old).most }
-        ensures end { (Self.seen self.new).ended ≡ ends_read (Self.seen self.old).ended (length room.new) result }
+        ensures end { (Self.seen self.new).ended
+            ≡ ends_read (Self.seen self.old).ended (length room.new) result }
         ensures cause { HasCause (Self.seen self.old).faults (Self.seen self.new).faults result }
         ensures name { name self.new ≡ name self.old };
 }
@@ -29,14 +30,16 @@ pub trait Files {
     /// What they lend.
     type S: NamedSource;
 
-    /// The contents by name and how often each name is lent, where they tell them; how often they have failed.
+    /// The contents by name and how often each name is lent, where they tell them; how often they have
+    /// failed.
     ghost seen: { Self → FilesSeen };
 
-    /// Lends a source of the file of that name. It has given nothing yet. Where the name was not lent, what is left of
-    /// it is what the file holds.
+    /// Lends a source of the file of that name. It has given nothing yet. Where the name was not lent, what
+    /// is left of it is what the file holds.
     fn open_file(&mut self, name: &Text) -> Result<Self::S, Failed>
         ensures fresh { IfOk result (λ source. IsFresh (Self.S.Source.seen source)) }
-        ensures lends { IfOk result (λ source. Lends (seen self.old).told (seen self.new).told name.now (Self.S.Source.seen source) (Self.S.NamedSource.name source)) }
+        ensures lends { IfOk result (λ source. Lends (seen self.old).told (seen self.new).told name.now
+            (Self.S.Source.seen source) (Self.S.NamedSource.name source)) }
         ensures kept { OnErr result ((seen self.new).told ≡ (seen self.old).told) }
         ensures cause { HasCause (seen self.old).faults (seen self.new).faults result };
 
@@ -44,5 +47,6 @@ pub trait Files {
     fn close_file(&mut self, source: Self::S)
         requires { IsLent (seen self.old).told (Self.S.NamedSource.name source) }
         ensures back { TakesBack (seen self.old).told (seen self.new).told (Self.S.NamedSource.name source) }
-        ensures faults { ClosesWith (Self.S.Source.seen source).faults (seen self.old).faults (seen self.new).faults };
+        ensures faults { ClosesWith (Self.S.Source.seen source).faults (seen self.old).faults
+            (seen self.new).faults };
 }

@@ -19,7 +19,9 @@ abbrev pub IsVersionFault : Version → VersionFault → Type 0
 IsVersionFault version (ElementsFull count) =
     (count ≡ element_count version) × (MOST_VERSION_ELEMENTS < count)
 IsVersionFault version (TooSpread count) =
-    (element_count version ≤ MOST_VERSION_ELEMENTS) × HasMemberships version count × (MOST_MEMBERSHIPS < count)
+    (element_count version ≤ MOST_VERSION_ELEMENTS)
+    × HasMemberships version count
+    × (MOST_MEMBERSHIPS < count)
 
 -- a version without such a fault
 pub record IsChecked (version : Version) : Type 0 where

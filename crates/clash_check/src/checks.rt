@@ -75,8 +75,8 @@ fn published(alloc: Global, grid: Grid) -> Result<Published, AllocError>
     Published::of(alloc, grid, sets.as_slice())
 }
 
-/// The clashes of a version. It is refused where it has over 100,000 elements, or else over 2,000,000 pairs of a cell
-/// of its grid and a member. An error also where memory is wanting.
+/// The clashes of a version. It is refused where it has over 100,000 elements, or else over 2,000,000 pairs
+/// of a cell of its grid and a member. An error also where memory is wanting.
 pub fn clashes_of(alloc: Global, version: Shared<Snapshot>) -> Result<Published, VersionError>
     ensures version { IfOk result (λ made. made ≡ version) }
     ensures checked { IfOk result (λ _. IsChecked version) }

@@ -21,7 +21,8 @@ pub fn with_option<'a>(
     command: Command<'a>,
     name: &'a str,
 ) -> Result<Command<'a>, AllocError>
-    ensures { IfOk result (λ made. app_of made ≡ with_rule (app_of command.entry) (option_of name.entry.now)) }
+    ensures { IfOk result (λ made. app_of made
+        ≡ with_rule (app_of command.entry) (option_of name.entry.now)) }
 {
     let option = Arg::new(alloc, name).long(name).action(ArgAction::Set);
     command.arg(option)
@@ -35,9 +36,7 @@ pub fn with_flag<'a>(
 ) -> Result<Command<'a>, AllocError>
     ensures { IfOk result (λ made. app_of made ≡ with_rule (app_of command.entry) (flag_of name.entry.now)) }
 {
-    let flag = Arg::new(alloc, name)
-        .long(name)
-        .action(ArgAction::SetTrue);
+    let flag = Arg::new(alloc, name).long(name).action(ArgAction::SetTrue);
     command.arg(flag)
 }
 

@@ -1,4 +1,5 @@
-//! The words of a command line. A parser of command lines takes them apart; what their values say is judged here.
+//! The words of a command line. A parser of command lines takes them apart; what their values say is judged
+//! here.
 #![tactic(auto)]
 
 mod command;

@@ -1,4 +1,5 @@
-//! Words, numbers and a small command. That a parse finds what words say is tested by the crates whose commands they are.
+//! Words, numbers and a small command. That a parse finds what words say is tested by the crates whose
+//! commands they are.
 
 use crate::{is_word, lent_words, number_word, plain_command, with_flag, with_list, with_option};
 use bim_model::Text;
