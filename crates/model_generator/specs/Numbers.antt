@@ -1,5 +1,5 @@
--- The numbers that a generator draws: the high bits of a linear congruence modulo 2^64, whose states begin with a
--- number that is given.
+-- The numbers that a generator draws: the high bits of a linear congruence modulo 2^64, whose states begin
+-- with a number that is given.
 use Rattle.std.specs.Prelude.{ℕ, zero, suc, ◌+◌, ◌*◌, ◌/◌, ◌%◌, ◌^◌}
 
 -- the state after this one

@@ -1,7 +1,8 @@
 -- The fixed parts of the lines of a generated file.
 use Rattle.std.specs.Prelude.{ℕ, List, codes}
 use Rattle.model_generator.specs.declared.phrases.Phrase.{Phrase}
-use Rattle.model_generator.specs.declared.phrases.Phrase.TheVariants.{Points, Set, Closed, Plain, Shape, Product, Close, Guid, Named, Placed, Done, Zeros}
+use Rattle.model_generator.specs.declared.phrases.Phrase.TheVariants.{Points, Set, Closed, Plain, Shape}
+use Rattle.model_generator.specs.declared.phrases.Phrase.TheVariants.{Product, Close, Guid, Named, Placed, Done, Zeros}
 
 unfoldable pub text_of : Phrase → List ℕ
 text_of Points = codes "=IFCCARTESIANPOINTLIST3D(("

@@ -29,8 +29,10 @@ fn within(state: &mut u64, least: u32, count: u32) -> u32
 
 /// The cuboid of that place, from the state before it.
 pub fn draw_cuboid(state: &mut u64) -> Cuboid
-    ensures state { (number place : ℕ) → state.old ≡ state_at number (6 * place) → state.new ≡ state_at number (6 * place + 6) }
-    ensures cuboid { (number place : ℕ) → state.old ≡ state_at number (6 * place) → result ≡ cuboid_of number place }
+    ensures state { (number place : ℕ)
+        → state.old ≡ state_at number (6 * place) → state.new ≡ state_at number (6 * place + 6) }
+    ensures cuboid { (number place : ℕ)
+        → state.old ≡ state_at number (6 * place) → result ≡ cuboid_of number place }
     ensures small { IsSmall result }
 {
     let x = within(state, 0, 40_000);

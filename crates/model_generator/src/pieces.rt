@@ -21,8 +21,8 @@ enum Stage {
     Done,
 }
 
-/// The pieces of a generated file that are still to come. Contracts see it as the bytes that are left. It holds one
-/// number and two counts, however large the file is.
+/// The pieces of a generated file that are still to come. Contracts see it as the bytes that are left. It
+/// holds one number and two counts, however large the file is.
 #[derive(Drop)]
 pub struct Pieces {
     number: u64,
@@ -42,7 +42,8 @@ impl Model for Pieces {
 
     ghost view = { λ p. left_of p.number p.stage p.place p.left };
 
-    ghost invariant = { λ p. (p.state ≡ state_at p.number (6 * p.place)) × (p.place + p.left ≤ MOST_GENERATED) };
+    ghost invariant = { λ p.
+        (p.state ≡ state_at p.number (6 * p.place)) × (p.place + p.left ≤ MOST_GENERATED) };
 }
 
 // The lines of the element of that place, from the state before it, and the state behind it.
@@ -77,7 +78,8 @@ impl Pieces {
     /// The next piece, none where nothing is left. An `Err` leaves the pieces as they were.
     #[tactic(auto, using(crate::proofs::Rest::rest_after))]
     pub fn next(&mut self, alloc: Global) -> Result<Option<String>, AllocError>
-        ensures piece { IfOk result (λ piece. MatchOption piece (self.old ≡ []) (λ text. self.old ≡ string_bytes text ++ self.new)) }
+        ensures piece { IfOk result (λ piece.
+            MatchOption piece (self.old ≡ []) (λ text. self.old ≡ string_bytes text ++ self.new)) }
         ensures kept { OnErr result (self.new ≡ self.old) }
     {
         match self.stage {
