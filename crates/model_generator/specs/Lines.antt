@@ -3,8 +3,9 @@ use Rattle.std.specs.Prelude.{ℕ, ◌+◌, ◌*◌, ◌/◌, ◌%◌, ◌==◌,
 use Rattle.std.specs.Fmt.{decimal}
 use Rattle.model_generator.specs.declared.cuboid.Cuboid.{Cuboid}
 use Rattle.model_generator.specs.declared.phrases.Phrase.{Phrase}
-use Rattle.model_generator.specs.declared.phrases.Phrase.TheVariants.{Points, Set, Closed, Plain, Shape}
-use Rattle.model_generator.specs.declared.phrases.Phrase.TheVariants.{Product, Close, Guid, Named, Placed, Done, Zeros}
+use Rattle.model_generator.specs.declared.phrases.Phrase.TheVariants.{Points, Set, Closed, Plain}
+use Rattle.model_generator.specs.declared.phrases.Phrase.TheVariants.{Shape, Product, Close, Guid}
+use Rattle.model_generator.specs.declared.phrases.Phrase.TheVariants.{Named, Placed, Done, Zeros}
 use Rattle.model_generator.specs.Phrases.{text_of}
 
 -- the lines before the elements: the header, a project and its unit, the millimetre

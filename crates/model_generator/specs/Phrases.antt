@@ -1,8 +1,9 @@
 -- The fixed parts of the lines of a generated file.
 use Rattle.std.specs.Prelude.{ℕ, List, codes}
 use Rattle.model_generator.specs.declared.phrases.Phrase.{Phrase}
-use Rattle.model_generator.specs.declared.phrases.Phrase.TheVariants.{Points, Set, Closed, Plain, Shape}
-use Rattle.model_generator.specs.declared.phrases.Phrase.TheVariants.{Product, Close, Guid, Named, Placed, Done, Zeros}
+use Rattle.model_generator.specs.declared.phrases.Phrase.TheVariants.{Points, Set, Closed, Plain}
+use Rattle.model_generator.specs.declared.phrases.Phrase.TheVariants.{Shape, Product, Close, Guid}
+use Rattle.model_generator.specs.declared.phrases.Phrase.TheVariants.{Named, Placed, Done, Zeros}
 
 unfoldable pub text_of : Phrase → List ℕ
 text_of Points = codes "=IFCCARTESIANPOINTLIST3D(("
