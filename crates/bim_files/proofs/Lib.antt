@@ -1,2 +1,2 @@
-pub mod Reads
-pub mod Slots
+pub mod Fronts
+pub mod Lending

@@ -42,7 +42,7 @@ pub record LendsTold (old new : FilesTold) (name : List ℕ) (source : SourceSee
     : Type 0 where
   pub files : new.files ≡ old.files
   pub lent : (n : List ℕ) → new.lent n ≡ old.lent n + once name n
-  pub named : named ≡ Some name
+  pub name_is : named ≡ Some name
   pub left : old.lent name ≡ 0 → source.left ≡ Some (content_of old.files name)
 
 -- A source was lent under a name. Files may stop telling, and never begin to.

@@ -4,11 +4,15 @@
 mod adapters;
 mod front;
 mod memory;
+mod shelf;
+mod sure;
 #[cfg(test)]
 mod tests;
 mod traits;
 
 pub use adapters::{StdFile, StdFiles};
 pub use front::{FileError, read_file};
-pub use memory::{LentSource, MemFile, MemFiles};
+pub use memory::{LentSource, MemFiles};
+pub use shelf::MemFile;
+pub use sure::{SureFile, SureFiles, SureLentSource};
 pub use traits::{Files, NamedSource};

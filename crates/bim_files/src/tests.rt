@@ -1,6 +1,9 @@
 //! Files in memory and of the system are read.
 
-use crate::{FileError, Files, MemFile, MemFiles, StdFiles, read_file};
+use crate::{
+    FileError, Files, MemFile, MemFiles, StdFiles, SureFile, SureFiles, read_file,
+};
+use bim_io::Source;
 use bim_model::{Bytes, Items, Text};
 use std::alloc::Global;
 use std::fs;
@@ -48,6 +51,46 @@ fn files_are_read_and_given_back(rt: HostRuntime) -> Result<(), Fail> {
     assert_read(&rt, alloc, &mut files, "b", Err(FileError::Failed))?;
     assert_read(&rt, alloc, &mut files, "c", Err(FileError::Failed))?;
     assert_read(&rt, alloc, &mut files, "a", Ok("some bytes"))
+}
+
+fn sure_file(alloc: Global, name: &str, contents: &[u8]) -> Result<SureFile, Fail> {
+    Ok(SureFile {
+        name: Text::of(alloc, name)?,
+        contents: Bytes::of(alloc, contents)?,
+    })
+}
+
+// Opens a file, reads into a room of four bytes, and leaves it lent.
+fn assert_opened<F: Files>(
+    rt: &impl Abort,
+    alloc: Global,
+    files: &mut F,
+    name: &str,
+    wanted: &str,
+) -> Result<F::S, Fail> {
+    let name = Text::of(alloc, name)?;
+    let mut room = [0; 4];
+    let mut source = files.open_file(&name)?;
+    let count = source.read(&mut room)?;
+    assert_eq!(rt; &room[..count], wanted.as_bytes());
+    Ok(source)
+}
+
+#[test]
+fn sure_files_are_read(rt: HostRuntime) -> Result<(), Fail> {
+    let alloc = rt.alloc();
+    let mut list = Vec::new(alloc);
+    list.push(sure_file(alloc, "a", b"some bytes")?)?;
+    list.push(sure_file(alloc, "b", b"others")?)?;
+    let mut files = SureFiles::new(alloc, list, 4)?;
+    assert_read(&rt, alloc, &mut files, "a", Ok("some bytes"))?;
+    assert_read(&rt, alloc, &mut files, "c", Ok(""))?;
+    let first = assert_opened(&rt, alloc, &mut files, "b", "othe")?;
+    let second = assert_opened(&rt, alloc, &mut files, "b", "")?;
+    files.close_file(first);
+    assert_read(&rt, alloc, &mut files, "b", Ok(""))?;
+    files.close_file(second);
+    assert_read(&rt, alloc, &mut files, "b", Ok("others"))
 }
 
 #[test]

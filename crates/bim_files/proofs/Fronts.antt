@@ -46,7 +46,7 @@ told_same (Some x) None None name source named p q = tt
 told_same (Some x) None (Some z) name source named p q = absurd q
 told_same (Some x) (Some y) None name source named p q = tt
 told_same (Some x) (Some y) (Some z) name source named p q =
-    let back : TakesBack (Some y) (Some z) (Some name) = subst (λ (n : Option (List ℕ)). TakesBack (Some y) (Some z) n) p.named q in
+    let back : TakesBack (Some y) (Some z) (Some name) = subst (λ (n : Option (List ℕ)). TakesBack (Some y) (Some z) n) p.name_is q in
     (back.files ∙ p.files, λ n. omega (arith, back.lent n, p.lent n))
 
 -- what was read of it is what the files hold
@@ -70,4 +70,4 @@ lent_now (Some x) None name source named p = tt
 lent_now (Some x) (Some y) name source named p =
     let more = p.lent name in
     let one : once name name ≡ 1 = rw (itself name) refl in
-    subst (λ (n : Option (List ℕ)). IsLent (Some y) n) (sym p.named) (omega (arith, more, one))
+    subst (λ (n : Option (List ℕ)). IsLent (Some y) n) (sym p.name_is) (omega (arith, more, one))
