@@ -1,14 +1,17 @@
 -- What is read of a source, and of a file that is lent and given back.
-use Rattle.std.proofs.Common.{◌≡◌, ◌+◌, ◌≤◌, ◌<◌, ℕ, List, [], ◌++◌, length, take, Bool, true, Option, Some, None, refl, sym, ◌∙◌, ap, subst, append-nil, append_assoc, arith}
+use Rattle.std.proofs.Common.{◌≡◌, ◌+◌, ◌≤◌, ◌<◌, ℕ, List, [], ◌++◌, length, take, Bool, true, Option, Some, None, Result, Ok, Err, refl, sym, ◌∙◌, ap, subst, append-nil, append_assoc, arith}
 use Rattle.std.proofs.Math.Seq.{take-append_seam}
 use Rattle.std.proofs.lemmas.List.{take_all, length-append}
 use Rattle.std.proofs.lemmas.Slice.Eq.{bytes_eq-Decides}
 use Rattle.std.specs.Str.{bytes_eq}
 use Rattle.std.specs.Io.KnownBytes.{IsAtEnd, prepend_known}
 use Rattle.bim_model.specs.declared.limits.TheConstants.{MOST_UPLOAD}
-use Rattle.bim_io.specs.Causes.{Rose, Loses}
+use Rattle.bim_io.specs.Causes.{Rose, Loses, counted}
 use Rattle.bim_io.specs.Seen.{SourceSeen}
-use Rattle.bim_files.specs.Files.{FilesTold, FilesSeen, FileSeen, content_of, once, judged, IsFront, IsLent, Lends, LendsTold, TakesBack, TakesBackTold, Holds, Tells, ClosesWith}
+use Rattle.bim_files.specs.declared.front.FileError.{FileError}
+use Rattle.bim_files.specs.declared.front.FileError.TheVariants.{Failed, Memory}
+use Rattle.bim_files.specs.Files.{FilesTold, FilesSeen, FileSeen, content_of, once, judged, IsFront, IsFresh, IsLent, Lends, LendsTold, TakesBack, TakesBackTold, Holds, Tells, ClosesWith}
+use Rattle.bim_files.specs.Reading.{FileEnds, FrontEnds}
 
 -- one more piece was lost
 pub loses_more : (a b c : Option (List ℕ)) (x y : List ℕ) → Loses a b x → Loses b c y → Loses a c (x ++ y)
@@ -71,3 +74,26 @@ lent_now (Some x) (Some y) name source named p =
     let more = p.lent name in
     let one : once name name ≡ 1 = rw (itself name) refl in
     subst (λ (n : Option (List ℕ)). IsLent (Some y) n) (sym p.name_is) (omega (arith, more, one))
+
+-- files that tell the same
+pub tells_same : (a b : Option FilesTold) → b ≡ a → Tells a b
+tells_same None None e = tt
+tells_same None (Some y) e = cc
+tells_same (Some x) None e = cc
+tells_same (Some x) (Some y) e =
+    let same : y ≡ x = cc in
+    (ap (λ (t : FilesTold). t.files) same, λ n. ap (λ (t : FilesTold). t.lent n) same)
+
+-- what a source did whose file was opened, read and given back
+pub file_ends : (a b c : FilesSeen) (name : List ℕ) (s t : SourceSeen) (named : Option (List ℕ)) (read : Result (List ℕ) FileError) → Lends a.told b.told name s named
+    → b.faults ≡ a.faults → IsFresh s → FrontEnds s t read → TakesBack b.told c.told named → ClosesWith t.faults b.faults c.faults → FileEnds a c name read
+file_ends a b c name s t named (Ok bytes) lends opened fresh front back closes = (
+  told_same a.told b.told c.told name s named lends back,
+  (holds_read a.told b.told c.told name s named bytes lends back front.0, closes.done (front.1 ∙ fresh.faults) ∙ opened),
+)
+file_ends a b c name s t named (Err Failed) lends opened fresh front back closes =
+    let failed : counted s.faults ≤ t.faults = front in
+    let none = fresh.faults in
+    (told_same a.told b.told c.told name s named lends back, subst (λ n. Rose n c.faults) opened (closes.failed (omega (arith, failed, none))))
+file_ends a b c name s t named (Err Memory) lends opened fresh front back closes =
+    (told_same a.told b.told c.told name s named lends back, closes.done (front ∙ fresh.faults) ∙ opened)

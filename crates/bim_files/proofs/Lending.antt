@@ -1,11 +1,18 @@
 -- What lending a name and taking it back does to what is told.
-use Rattle.std.proofs.Common.{◌≡◌, ◌+◌, ◌≤◌, ◌<◌, ℕ, zero, suc, List, [], ◌∷◌, ◌++◌, length, map, take, All, Bool, true, false, get_or, refl, sym, ◌∙◌, ap, arith}
+use Rattle.std.proofs.Common.{◌≡◌, ◌+◌, ◌≤◌, ◌<◌, ℕ, zero, suc, List, [], ◌∷◌, ◌++◌, length, map, take, All, Bool, true, false, get_or, Option, Some, refl, sym, ◌∙◌, ap, cond, arith}
+use Rattle.std.proofs.Math.Seq.{take-suc}
+use Rattle.std.proofs.lemmas.List.{get_or_default}
+use Rattle.std.proofs.lemmas.List.Elements.{All-push}
 use Rattle.std.proofs.lemmas.List.Sums.{sum_by_push, sum_by-swap_remove}
+use Rattle.std.proofs.lemmas.Slice.Eq.{bytes_eq-Decides}
 use Rattle.std.specs.List.{swap_remove}
 use Rattle.std.specs.Str.{bytes_eq}
+use Rattle.bim_io.specs.Seen.{SourceSeen}
 use Rattle.bim_files.specs.declared.shelf.MemFile.{MemFile}
-use Rattle.bim_files.specs.Files.{FilesTold, content_of, once}
+use Rattle.bim_files.specs.Files.{FilesTold, LendsTold, content_of, once}
 use Rattle.bim_files.specs.Memory.{IsFirst, StandsAt, file_seen, has_name, lent_times, told_of}
+
+-- ---- files by their names
 
 -- what the first file of a name holds is what the name holds
 content_at : (files : List MemFile) (name : List ℕ) (place : ℕ) (d : MemFile) → place < length files
@@ -21,16 +28,73 @@ pub content_first : (files : List MemFile) (name : List ℕ) (place : ℕ) (d : 
 content_first files name place d is = sym (content_at files name place d is.within is.before (is.here d))
 
 -- a name of no file holds nothing
-pub content_none : (files : List MemFile) (name : List ℕ) → All (λ (file : MemFile). has_name name file ≡ false) files → content_of (map file_seen files) name ≡ []
+pub content_none : (files : List MemFile) (name : List ℕ) → All (λ (file : MemFile). has_name name file ≡ false) files → [] ≡ content_of (map file_seen files) name
 content_none [] name none = refl
 content_none (f ∷ fs) name none =
     rw (none 0 f (omega arith)) (content_none fs name (λ k e more. none (suc k) e (omega (arith, more))))
+
+-- one more file hasn't the name
+pub none_more : (files : List MemFile) (name : List ℕ) (place : ℕ) (file : MemFile) → place < length files → file ≡ get_or files place file
+    → has_name name file ≡ false → All (λ (f : MemFile). has_name name f ≡ false) (take place files)
+    → All (λ (f : MemFile). has_name name f ≡ false) (take (place + 1) files)
+none_more files name place file lt is other none =
+    rw (take-suc files place file lt)
+    (All-push (λ (f : MemFile). has_name name f ≡ false) (take place files) (get_or files place file) none (rw (← is) other))
+
+-- the first file that has the name
+pub first_here : (files : List MemFile) (name : List ℕ) (place : ℕ) (file : MemFile) → place < length files → file ≡ get_or files place file
+    → has_name name file ≡ true → All (λ (f : MemFile). has_name name f ≡ false) (take place files) → IsFirst files name place
+first_here files name place file lt is same before = record {
+  within = lt;
+  before = before;
+  here = λ d. ap (has_name name) (get_or_default files place d file lt ∙ sym is) ∙ same;
+}
+
+-- ---- names that are lent
+
+-- a name that stands once for a name is that name
+pub once_same : (x name : List ℕ) → once x name ≡ 1 → x ≡ name
+once_same x name is = (bytes_eq-Decides x name).0 (told (bytes_eq x name) is)
+  where
+    told : (b : Bool) → cond b 1 0 ≡ 1 → b ≡ true
+    told true e = refl
+    told false e = cc
 
 -- one more name is lent
 pub lent_more : (lent : List (List ℕ)) (name n : List ℕ) → lent_times (lent ++ name ∷ []) n ≡ lent_times lent n + once name n
 lent_more lent name n = sum_by_push (λ (other : List ℕ). once other n) lent name
 
+-- the next of the names isn't this one
+pub lent_none_more : (lent : List (List ℕ)) (name other : List ℕ) (place : ℕ) → place < length lent → other ≡ get_or lent place other → bytes_eq other name ≡ false
+    → lent_times (take place lent) name ≡ 0 → lent_times (take (place + 1) lent) name ≡ 0
+lent_none_more lent name other place lt is differs none =
+    rw (take-suc lent place other lt)
+    (lent_more (take place lent) (get_or lent place other) name ∙ rw (none, ← is, differs) refl)
+
+-- the name stands there
+pub stands_here : (lent : List (List ℕ)) (name other : List ℕ) (place : ℕ) → place < length lent → other ≡ get_or lent place other → bytes_eq other name ≡ true
+    → StandsAt lent name place
+stands_here lent name other place lt is same = record {
+  within = lt;
+  here = λ d. ap (λ x. once x name) (get_or_default lent place d other lt ∙ sym is) ∙ rw same refl;
+}
+
 -- one that is lent is taken out
-pub lent_less : (lent : List (List ℕ)) (place : ℕ) (d n : List ℕ) → place < length lent
-    → lent_times (swap_remove lent place d) n + once (get_or lent place d) n ≡ lent_times lent n
-lent_less lent place d n lt = sum_by-swap_remove (λ (other : List ℕ). once other n) lent place d lt
+pub lent_less : (lent : List (List ℕ)) (place : ℕ) (name d n : List ℕ) → StandsAt lent name place
+    → lent_times (swap_remove lent place d) n + once name n ≡ lent_times lent n
+lent_less lent place name d n is =
+    ap (λ x. lent_times (swap_remove lent place d) n + once x n) (sym (once_same (get_or lent place d) name (is.here d)))
+    ∙ sum_by-swap_remove (λ (other : List ℕ). once other n) lent place d is.within
+
+-- ---- what is told
+
+-- a name is lent once more, with a source that has left what its file holds
+pub lends_more : (files : List MemFile) (lent : List (List ℕ)) (name : List ℕ) (source : SourceSeen) (named : Option (List ℕ)) → named ≡ Some name
+    → (lent_times lent name ≡ 0 → source.left ≡ Some (content_of (map file_seen files) name))
+    → LendsTold (told_of files lent) (told_of files (lent ++ name ∷ [])) name source named
+lends_more files lent name source named is left = record {
+  files = refl;
+  lent = λ n. lent_more lent name n;
+  name_is = is;
+  left = left;
+}

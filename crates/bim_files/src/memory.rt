@@ -1,8 +1,11 @@
 //! Files in memory that fail at the calls that they are told to fail at.
-ghost use Rattle.std.specs.Prelude.{◌≡◌, ◌≤◌, Some, IfOk, IfSome, IfNone, [], map};
-ghost use Rattle.bim_files.specs.Files.{IsFresh, LendsTold};
-ghost use Rattle.bim_files.specs.Memory.{fresh_source, lent_seen, told_of, seen_of, NamesDiffer};
+ghost use Rattle.std.specs.Prelude.{◌≡◌, ◌≤◌, Some, IfOk, IfSome, IfNone, IsErr, IsNone, OnErr, All};
+ghost use Rattle.std.specs.Prelude.{Contains, false, [], map};
+ghost use Rattle.bim_io.specs.Causes.{HasCause, counted};
 ghost use Rattle.bim_io.specs.Memory.{ended_empty};
+ghost use Rattle.bim_files.specs.Files.{IsFresh, Lends, LendsTold};
+ghost use Rattle.bim_files.specs.Memory.{fresh_source, has_name, lent_seen, lent_times, told_of, seen_of};
+ghost use Rattle.bim_files.specs.Memory.{NamesDiffer};
 
 use crate::shelf::{MemFile, lent_place_of, place_of, take_back};
 use crate::traits::{Files, NamedSource};
@@ -107,7 +110,13 @@ impl MemFiles {
         requires some { 1 ≤ most }
         requires differ { NamesDiffer (map (λ f. f.name) files.items) }
         ensures { IfOk result (λ f. f ≡ record {
-            files = files.items; lent = []; most = most; fails = fails; calls = 0; faults = 0 }) }
+          files = files.items;
+          lent = [];
+          most = most;
+          fails = fails;
+          calls = 0;
+          faults = 0;
+        }) }
     {
         Ok(MemFiles {
             alloc,
@@ -126,11 +135,15 @@ impl MemFiles {
             (told_of self.new.files self.new.lent) name.now (lent_seen source) (Some source.name)) }
         ensures fresh { IfSome result (λ source. IsFresh (lent_seen source)) }
         ensures kept { IfNone result ((self.new.files ≡ self.old.files) × (self.new.lent ≡ self.old.lent)) }
+        ensures alone { 1 ≤ lent_times self.old.lent name.now → IsNone result }
+        ensures there { All (λ (file : MemFile). has_name name.now file ≡ false) self.old.files
+            → IsNone result }
         ensures counts { (self.new.calls ≡ self.old.calls) × (self.new.faults ≡ self.old.faults) }
+        ensures fails { self.new.fails ≡ self.old.fails }
     {
-        if lent_place_of(self.lent.as_slice(), name).is_some() {
+        let None = lent_place_of(self.lent.as_slice(), name) else {
             return None;
-        }
+        };
         let place = place_of(self.files.as_slice(), name)?;
         let source = source_of(self.alloc, &self.files[place], self.most).ok()?;
         let lent = name.copy(self.alloc).ok()?;
@@ -144,7 +157,20 @@ impl Files for MemFiles {
 
     ghost seen = { λ f. seen_of f };
 
-    fn open_file(&mut self, name: &Text) -> Result<LentSource, Failed> {
+    fn open_file(&mut self, name: &Text) -> Result<LentSource, Failed>
+        ensures fresh { IfOk result (λ source. IsFresh (lent_seen source)) }
+        ensures lends { IfOk result (λ source. Lends (Some (told_of self.old.files self.old.lent))
+            (Some (told_of self.new.files self.new.lent)) name.now (lent_seen source) (Some source.name)) }
+        ensures kept { OnErr result (Some (told_of self.new.files self.new.lent)
+            ≡ Some (told_of self.old.files self.old.lent)) }
+        ensures cause { HasCause self.old.faults self.new.faults result }
+        ensures fails { Contains self.old.fails (counted self.old.calls) → IsErr result }
+        ensures alone { 1 ≤ lent_times self.old.lent name.now → IsErr result }
+        ensures there { All (λ (file : MemFile). has_name name.now file ≡ false) self.old.files
+            → IsErr result }
+        ensures calls { self.new.calls ≡ counted self.old.calls }
+        ensures list { self.new.fails ≡ self.old.fails }
+    {
         self.calls = self.calls.saturating_add(1);
         if !self.fails.as_slice().contains(&self.calls) {
             if let Some(source) = self.lend(name) {

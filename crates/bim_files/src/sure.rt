@@ -1,7 +1,9 @@
 //! Files in memory that never fail.
-ghost use Rattle.std.specs.Prelude.{◌≡◌, ◌≤◌, [], true, IfOk, map};
-ghost use Rattle.bim_files.specs.Files.{content_of, IsFresh, LendsTold};
-ghost use Rattle.bim_files.specs.Memory.{lent_times, file_seen, held, sure_fresh, sure_lent_seen, sure_ends_empty, sure_seen_of, told_of, NamesDiffer};
+ghost use Rattle.std.specs.Prelude.{◌≡◌, ◌≤◌, Some, [], true, IfOk, IfSome, OnErr, map};
+ghost use Rattle.bim_io.specs.Causes.{HasCause};
+ghost use Rattle.bim_files.specs.Files.{content_of, IsFresh, Lends, LendsTold};
+ghost use Rattle.bim_files.specs.Memory.{file_seen, held, lent_times, told_of, told_where, NamesDiffer};
+ghost use Rattle.bim_files.specs.Memory.{sure_fresh, sure_lent_seen, sure_ends_empty, sure_seen_of};
 
 use crate::shelf::{MemFile, contents_of, lent_place_of, take_back};
 use crate::traits::{Files, NamedSource};
@@ -111,8 +113,9 @@ fn left_of(
     lent: &[Text],
     name: &Text,
 ) -> Result<Bytes, AllocError>
-    ensures { IfOk result (λ left. lent_times lent.now name.now ≡ 0
+    ensures free { IfOk result (λ left. lent_times lent.now name.now ≡ 0
         → left ≡ content_of (map file_seen files.now) name.now) }
+    ensures lent { IfOk result (λ left. 1 ≤ lent_times lent.now name.now → left ≡ []) }
 {
     match lent_place_of(lent, name) {
         Some(_) => Bytes::of(alloc, b""),
@@ -133,11 +136,7 @@ fn held(alloc: Global, file: SureFile) -> MemFile
 
 impl SureFiles {
     /// These files, of which one read moves at most `most` bytes.
-    pub fn new(
-        alloc: Global,
-        files: Vec<SureFile>,
-        most: u64,
-    ) -> Result<SureFiles, AllocError>
+    pub fn new(alloc: Global, files: Vec<SureFile>, most: u64) -> Result<SureFiles, AllocError>
         requires some { 1 ≤ most }
         requires differ { NamesDiffer (map (λ f. f.name) files.items) }
         ensures { IfOk result (λ f. f
@@ -161,6 +160,8 @@ impl SureFiles {
         ensures lends { IfOk result (λ source. LendsTold (told_of self.old.files self.old.lent)
             (told_of self.new.files self.new.lent) name.now (sure_lent_seen source) source.name) }
         ensures fresh { IfOk result (λ source. IsFresh (sure_lent_seen source)) }
+        ensures lent { IfOk result (λ source. 1 ≤ lent_times self.old.lent name.now
+            → (sure_lent_seen source).left ≡ Some []) }
         ensures tells { self.new.tells ≡ self.old.tells }
     {
         let left = left_of(
@@ -180,7 +181,17 @@ impl Files for SureFiles {
 
     ghost seen = { sure_seen_of };
 
-    fn open_file(&mut self, name: &Text) -> Result<SureLentSource, Failed> {
+    fn open_file(&mut self, name: &Text) -> Result<SureLentSource, Failed>
+        ensures fresh { IfOk result (λ source. IsFresh (sure_lent_seen source)) }
+        ensures lends { IfOk result (λ source. Lends (told_where self.old.tells self.old.files self.old.lent)
+            (told_where self.new.tells self.new.files self.new.lent) name.now (sure_lent_seen source)
+            source.name) }
+        ensures kept { OnErr result (told_where self.new.tells self.new.files self.new.lent
+            ≡ told_where self.old.tells self.old.files self.old.lent) }
+        ensures cause { HasCause 0 0 result }
+        ensures lent { IfOk result (λ source. 1 ≤ lent_times self.old.lent name.now
+            → IfSome (sure_lent_seen source).left (λ left. left ≡ [])) }
+    {
         if let Ok(source) = self.lend(name) {
             return Ok(source);
         }

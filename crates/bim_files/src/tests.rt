@@ -1,8 +1,6 @@
 //! Files in memory and of the system are read.
 
-use crate::{
-    FileError, Files, MemFile, MemFiles, StdFiles, SureFile, SureFiles, read_file,
-};
+use crate::{FileError, Files, MemFile, MemFiles, StdFiles, SureFile, SureFiles, read_file};
 use bim_io::Source;
 use bim_model::{Bytes, Items, Text};
 use std::alloc::Global;
