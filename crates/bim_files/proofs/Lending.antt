@@ -1,7 +1,6 @@
 -- What lending a name and taking it back does to what is told.
-use Rattle.std.proofs.Common.{◌≡◌, ◌+◌, ◌≤◌, ◌<◌, ℕ, zero, suc, List, [], ◌∷◌, ◌++◌, length, map, take, All, Bool, true, false, get_or, Option, Some, refl, sym, ◌∙◌, ap, cond, arith}
+use Rattle.std.proofs.Common.{◌≡◌, ◌+◌, ◌<◌, ℕ, zero, suc, List, [], ◌∷◌, ◌++◌, length, map, take, All, Bool, true, false, get_or, Option, Some, refl, sym, ◌∙◌, ap, cond, subst, add-one, arith}
 use Rattle.std.proofs.Math.Seq.{take-suc}
-use Rattle.std.proofs.lemmas.List.{get_or_default}
 use Rattle.std.proofs.lemmas.List.Elements.{All-push}
 use Rattle.std.proofs.lemmas.List.Sums.{sum_by_push, sum_by-swap_remove}
 use Rattle.std.proofs.lemmas.Slice.Eq.{bytes_eq-Decides}
@@ -38,17 +37,10 @@ pub none_more : (files : List MemFile) (name : List ℕ) (place : ℕ) (file : M
     → has_name name file ≡ false → All (λ (f : MemFile). has_name name f ≡ false) (take place files)
     → All (λ (f : MemFile). has_name name f ≡ false) (take (place + 1) files)
 none_more files name place file lt is other none =
-    rw (take-suc files place file lt)
-    (All-push (λ (f : MemFile). has_name name f ≡ false) (take place files) (get_or files place file) none (rw (← is) other))
-
--- the first file that has the name
-pub first_here : (files : List MemFile) (name : List ℕ) (place : ℕ) (file : MemFile) → place < length files → file ≡ get_or files place file
-    → has_name name file ≡ true → All (λ (f : MemFile). has_name name f ≡ false) (take place files) → IsFirst files name place
-first_here files name place file lt is same before = record {
-  within = lt;
-  before = before;
-  here = λ d. ap (has_name name) (get_or_default files place d file lt ∙ sym is) ∙ same;
-}
+    let grown : take (place + 1) files ≡ take place files ++ get_or files place file ∷ [] = ap (λ n. take n files) (add-one place) ∙ take-suc files place file lt in
+    let here : has_name name (get_or files place file) ≡ false = ap (has_name name) (sym is) ∙ other in
+    subst (λ (fs : List MemFile). All (λ (f : MemFile). has_name name f ≡ false) fs) (sym grown)
+    (All-push (λ (f : MemFile). has_name name f ≡ false) (take place files) (get_or files place file) none here)
 
 -- ---- names that are lent
 
@@ -56,28 +48,13 @@ first_here files name place file lt is same before = record {
 pub once_same : (x name : List ℕ) → once x name ≡ 1 → x ≡ name
 once_same x name is = (bytes_eq-Decides x name).0 (told (bytes_eq x name) is)
   where
-    told : (b : Bool) → cond b 1 0 ≡ 1 → b ≡ true
+    told : (b : Bool) → ◌≡◌ {A = ℕ} (cond b 1 0) 1 → b ≡ true
     told true e = refl
     told false e = cc
 
 -- one more name is lent
 pub lent_more : (lent : List (List ℕ)) (name n : List ℕ) → lent_times (lent ++ name ∷ []) n ≡ lent_times lent n + once name n
 lent_more lent name n = sum_by_push (λ (other : List ℕ). once other n) lent name
-
--- the next of the names isn't this one
-pub lent_none_more : (lent : List (List ℕ)) (name other : List ℕ) (place : ℕ) → place < length lent → other ≡ get_or lent place other → bytes_eq other name ≡ false
-    → lent_times (take place lent) name ≡ 0 → lent_times (take (place + 1) lent) name ≡ 0
-lent_none_more lent name other place lt is differs none =
-    rw (take-suc lent place other lt)
-    (lent_more (take place lent) (get_or lent place other) name ∙ rw (none, ← is, differs) refl)
-
--- the name stands there
-pub stands_here : (lent : List (List ℕ)) (name other : List ℕ) (place : ℕ) → place < length lent → other ≡ get_or lent place other → bytes_eq other name ≡ true
-    → StandsAt lent name place
-stands_here lent name other place lt is same = record {
-  within = lt;
-  here = λ d. ap (λ x. once x name) (get_or_default lent place d other lt ∙ sym is) ∙ rw same refl;
-}
 
 -- one that is lent is taken out
 pub lent_less : (lent : List (List ℕ)) (place : ℕ) (name d n : List ℕ) → StandsAt lent name place

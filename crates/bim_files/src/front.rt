@@ -61,18 +61,24 @@ fn read_once<S: NamedSource>(
     Ok(Step::Again)
 }
 
+// Room for so many bytes.
+fn room_of(alloc: Global, size: usize) -> Result<Vec<u8>, AllocError>
+    ensures { IfOk result (λ room. length room.items ≡ size) }
+{
+    vec![in alloc; 0u8; size]
+}
+
 // The bytes of a source up to its end, or one more than an upload may have.
 fn read_front<S: NamedSource>(alloc: Global, source: &mut S) -> Result<Bytes, FileError>
     ensures front { FrontEnds (S.Source.seen source.old) (S.Source.seen source.new) result }
     ensures name { S.NamedSource.name source.new ≡ S.NamedSource.name source.old }
 {
-    let mut room = vec![in alloc; 0u8; ROOM]?;
+    let mut room = room_of(alloc, ROOM)?;
     let mut bytes = Vec::new(alloc);
     'reads: while bytes.len() <= MOST_UPLOAD {
         let most = ROOM.min(MOST_UPLOAD + 1 - bytes.len());
-        match read_once(source, room.as_mut_slice(), &mut bytes, most)? {
-            Step::Again => {}
-            Step::End => break,
+        if let Step::End = read_once(source, room.as_mut_slice(), &mut bytes, most)? {
+            return Ok(Bytes::from_vec(alloc, bytes)?);
         }
     }
     Ok(Bytes::from_vec(alloc, bytes)?)

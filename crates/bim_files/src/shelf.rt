@@ -60,7 +60,8 @@ pub(crate) fn take_back(lent: &mut Vec<Text>, name: &Text)
     requires { 1 ≤ lent_times lent.old.items name.now }
     ensures { (n : List ℕ) → lent_times lent.new.items n + once name.now n ≡ lent_times lent.old.items n }
 {
-    if let Some(place) = lent_place_of(lent.as_slice(), name) {
-        lent.swap_remove(place);
-    }
+    let Some(place) = lent_place_of(lent.as_slice(), name) else {
+        return;
+    };
+    lent.swap_remove(place);
 }
