@@ -69,8 +69,8 @@ fn assert_opened<F: Files>(
     let name = Text::of(alloc, name)?;
     let mut room = [0; 4];
     let mut source = files.open_file(&name)?;
-    let count = source.read(&mut room)?;
-    assert_eq!(rt; &room[..count], wanted.as_bytes());
+    assert_eq!(rt; source.read(&mut room).ok(), Some(wanted.len()));
+    assert_eq!(rt; &room[..wanted.len()], wanted.as_bytes());
     Ok(source)
 }
 
