@@ -1,5 +1,5 @@
 -- What lending a name and taking it back does to what is told.
-use Rattle.std.proofs.Common.{◌≡◌, ◌+◌, ◌<◌, ℕ, zero, suc, List, [], ◌∷◌, ◌++◌, length, map, take, All, Bool, true, false, get_or, Option, Some, refl, sym, ◌∙◌, ap, cond, subst, add-one, arith}
+use Rattle.std.proofs.Common.{◌≡◌, ◌+◌, ◌≤◌, ◌<◌, ℕ, zero, suc, List, [], ◌∷◌, ◌++◌, length, map, take, All, Bool, true, false, get_or, Option, Some, None, Result, Ok, Err, IfOk, is_ok, if◌then◌else◌, refl, sym, ◌∙◌, ap, cond, subst, add-one, arith}
 use Rattle.std.proofs.Math.Seq.{take-suc}
 use Rattle.std.proofs.lemmas.List.Elements.{All-push}
 use Rattle.std.proofs.lemmas.List.Sums.{sum_by_push, sum_by-swap_remove}
@@ -8,8 +8,9 @@ use Rattle.std.specs.List.{swap_remove}
 use Rattle.std.specs.Str.{bytes_eq}
 use Rattle.bim_io.specs.Seen.{SourceSeen}
 use Rattle.bim_files.specs.declared.shelf.MemFile.{MemFile}
-use Rattle.bim_files.specs.Files.{FilesTold, LendsTold, content_of, once}
-use Rattle.bim_files.specs.Memory.{IsFirst, StandsAt, file_seen, has_name, lent_times, told_of}
+use Rattle.std.specs.Result.{result_ok}
+use Rattle.bim_files.specs.Files.{IsLent, LendsTold, TakesBack, content_of, once}
+use Rattle.bim_files.specs.Memory.{IsFirst, LentState, StandsAt, file_seen, fresh_source, has_name, lent_seen, lent_times, told_of, told_where}
 
 -- ---- files by their names
 
@@ -63,6 +64,13 @@ lent_less lent place name d n is =
     ap (λ x. lent_times (swap_remove lent place d) n + once x n) (sym (once_same (get_or lent place d) name (is.here d)))
     ∙ sum_by-swap_remove (λ (other : List ℕ). once other n) lent place d is.within
 
+-- a name that stands there is lent
+pub lent_some : (lent : List (List ℕ)) (name : List ℕ) (place : ℕ) → StandsAt lent name place → 1 ≤ lent_times lent name
+lent_some lent name place is =
+    let same : bytes_eq name name ≡ true = (bytes_eq-Decides name name).1 refl in
+    let one : once name name ≡ 1 = rw same refl in
+    omega (arith, lent_less lent place name name name is, one)
+
 -- ---- what is told
 
 -- a name is lent once more, with a source that has left what its file holds
@@ -75,3 +83,38 @@ lends_more files lent name source named is left = record {
   name_is = is;
   left = left;
 }
+
+-- the first file of a name is lent as new
+pub lends_first : (files : List MemFile) (lent after : List (List ℕ)) (name : List ℕ) (place most : ℕ) (file : MemFile) (source : LentState) → IsFirst files name place
+    → file ≡ get_or files place file → source ≡ fresh_source file most → after ≡ lent ++ name ∷ []
+    → LendsTold (told_of files lent) (told_of files after) name (lent_seen source) (Some source.name)
+lends_first files lent after name place most file source first is whole more =
+    let named : file.name ≡ name = ap (λ (f : MemFile). f.name) is ∙ (bytes_eq-Decides (get_or files place file).name name).0 (first.here file) in
+    let holds : file.contents ≡ content_of (map file_seen files) name = ap (λ (f : MemFile). f.contents) is ∙ content_first files name place file first in
+    let given : Some source.name ≡ Some name = ap (λ (s : LentState). Some s.name) whole ∙ ap Some named in
+    let left : (lent_seen source).left ≡ Some (content_of (map file_seen files) name) = ap (λ (s : LentState). (lent_seen s).left) whole ∙ ap Some holds in
+    subst (λ (l : List (List ℕ)). LendsTold (told_of files lent) (told_of files l) name (lent_seen source) (Some source.name)) (sym more)
+    (lends_more files lent name (lent_seen source) (Some source.name) given (λ free. left))
+
+-- files that tell, where they do, take back a name that is lent
+pub back_where : (tells : Bool) (files : List MemFile) (lent after : List (List ℕ)) (named : Option (List ℕ)) → IsLent (told_where tells files lent) named
+    → ((name : List ℕ) → named ≡ Some name → 1 ≤ lent_times lent name → (n : List ℕ) → lent_times after n + once name n ≡ lent_times lent n)
+    → TakesBack (told_where tells files lent) (told_where tells files after) named
+back_where false files lent after named is less = tt
+back_where true files lent after None is less = absurd is
+back_where true files lent after (Some name) is less = record { files = refl; lent = less name refl is }
+
+-- ---- what a call gave
+
+-- what is known of what a call gave, of what is kept of it
+pub ok_gives : {X E : Type 0} (r : Result X E) (x : X) (P : X → Type 0) → Some x ≡ result_ok r → IfOk r P → P x
+ok_gives {X} {E} (Ok y) x P e p =
+    let same : y ≡ x = cc in
+    subst P same p
+ok_gives {X} {E} (Err y) x P e p = cc
+
+-- one that was pushed stands at the end
+pub pushed : {A X E : Type 0} (before after : List A) (x y : A) (r : Result X E) → after ≡ (if is_ok r then before ++ x ∷ [] else before) → true ≡ is_ok r → x ≡ y
+    → after ≡ before ++ y ∷ []
+pushed {A} {X} {E} before after x y (Ok u) e was same = e ∙ ap (λ (z : A). before ++ z ∷ []) same
+pushed {A} {X} {E} before after x y (Err u) e was same = cc

@@ -55,10 +55,10 @@ pub(crate) fn lent_place_of(lent: &[Text], name: &Text) -> Option<usize>
     None
 }
 
-/// Takes a name that is lent back once.
+/// Takes a name back once, where it is lent.
 pub(crate) fn take_back(lent: &mut Vec<Text>, name: &Text)
-    requires { 1 ≤ lent_times lent.old.items name.now }
-    ensures { (n : List ℕ) → lent_times lent.new.items n + once name.now n ≡ lent_times lent.old.items n }
+    ensures { 1 ≤ lent_times lent.old.items name.now
+        → (n : List ℕ) → lent_times lent.new.items n + once name.now n ≡ lent_times lent.old.items n }
 {
     let Some(place) = lent_place_of(lent.as_slice(), name) else {
         return;

@@ -204,8 +204,9 @@ impl Files for SureFiles {
     }
 
     fn close_file(&mut self, source: SureLentSource) {
-        if let Some(name) = &source.name {
-            take_back(&mut self.lent, name);
-        }
+        let Some(name) = &source.name else {
+            return;
+        };
+        take_back(&mut self.lent, name);
     }
 }

@@ -1,0 +1,4 @@
+use Rattle.bim_files.proofs.memory.MemFilesFiles.open_file.Goals as goal
+
+pub returns-in-Some-clause-there : goal.returns-in-Some-clause-there
+returns-in-Some-clause-there c = rw (← c.self.view_is) c.in-Some.ensures.there
