@@ -9,8 +9,8 @@ use Rattle.std.specs.Str.{bytes_eq}
 use Rattle.bim_io.specs.Seen.{SourceSeen}
 use Rattle.bim_files.specs.declared.shelf.MemFile.{MemFile}
 use Rattle.std.specs.Result.{result_ok}
-use Rattle.bim_files.specs.Files.{IsLent, LendsTold, TakesBack, content_of, once}
-use Rattle.bim_files.specs.Memory.{IsFirst, LentState, StandsAt, file_seen, fresh_source, has_name, lent_seen, lent_times, told_of, told_where}
+use Rattle.bim_files.specs.Files.{LendsTold, content_of, once}
+use Rattle.bim_files.specs.Memory.{IsFirst, LentState, StandsAt, file_seen, fresh_source, has_name, lent_seen, lent_times, told_of}
 
 -- ---- files by their names
 
@@ -95,14 +95,6 @@ lends_first files lent after name place most file source first is whole more =
     let left : (lent_seen source).left ≡ Some (content_of (map file_seen files) name) = ap (λ (s : LentState). (lent_seen s).left) whole ∙ ap Some holds in
     subst (λ (l : List (List ℕ)). LendsTold (told_of files lent) (told_of files l) name (lent_seen source) (Some source.name)) (sym more)
     (lends_more files lent name (lent_seen source) (Some source.name) given (λ free. left))
-
--- files that tell, where they do, take back a name that is lent
-pub back_where : (tells : Bool) (files : List MemFile) (lent after : List (List ℕ)) (named : Option (List ℕ)) → IsLent (told_where tells files lent) named
-    → ((name : List ℕ) → named ≡ Some name → 1 ≤ lent_times lent name → (n : List ℕ) → lent_times after n + once name n ≡ lent_times lent n)
-    → TakesBack (told_where tells files lent) (told_where tells files after) named
-back_where false files lent after named is less = tt
-back_where true files lent after None is less = absurd is
-back_where true files lent after (Some name) is less = record { files = refl; lent = less name refl is }
 
 -- ---- what a call gave
 
