@@ -1,5 +1,5 @@
 -- Files in memory.
-use Rattle.std.specs.Prelude.{◌≡◌, ℕ, ◌<◌, List, [], length, map, take, AllPairs, All, Bool, true, false}
+use Rattle.std.specs.Prelude.{◌≡◌, ℕ, ◌<◌, List, [], length, map, take, All, Bool, true, false}
 use Rattle.std.specs.Prelude.{slice_index_or, Option, Some, None}
 use Rattle.std.specs.List.{sum_by}
 use Rattle.std.specs.Str.{bytes_eq}
@@ -20,10 +20,6 @@ lent_times lent name = sum_by (λ other. once other name) lent
 
 abbrev pub told_of : List MemFile → List (List ℕ) → FilesTold
 told_of files lent = record { files = map file_seen files; lent = lent_times lent }
-
--- no name stands twice
-abbrev pub NamesDiffer : List (List ℕ) → Type 0
-NamesDiffer names = AllPairs (λ a b. bytes_eq a b ≡ false) names
 
 -- a file has this name
 abbrev pub has_name : List ℕ → MemFile → Bool
@@ -119,7 +115,8 @@ sure_fresh name contents most = record {
 }
 
 -- one that tells what is left, and has answered its end, has nothing left
-pub sure_ends_empty : (source : Option SureSourceState) (ended : Bool) → EndsEmpty (sure_source_seen source ended)
+pub sure_ends_empty : (source : Option SureSourceState) (ended : Bool)
+    → EndsEmpty (sure_source_seen source ended)
 sure_ends_empty None ended = λ is. tt
 sure_ends_empty (Some s) ended = ended_empty s.ended s.left
 

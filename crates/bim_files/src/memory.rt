@@ -1,11 +1,10 @@
 //! Files in memory that fail at the calls that they are told to fail at.
 ghost use Rattle.std.specs.Prelude.{◌≡◌, ◌≤◌, Some, IfOk, IfSome, IfNone, IsErr, IsNone, OnErr, All};
-ghost use Rattle.std.specs.Prelude.{Contains, false, [], map};
+ghost use Rattle.std.specs.Prelude.{Contains, false, []};
 ghost use Rattle.bim_io.specs.Causes.{HasCause, counted};
 ghost use Rattle.bim_io.specs.Memory.{ended_empty};
 ghost use Rattle.bim_files.specs.Files.{IsFresh, Lends, LendsTold};
 ghost use Rattle.bim_files.specs.Memory.{fresh_source, has_name, lent_seen, lent_times, told_of, seen_of};
-ghost use Rattle.bim_files.specs.Memory.{NamesDiffer};
 
 use crate::shelf::{MemFile, lent_place_of, place_of, take_back};
 use crate::traits::{Files, NamedSource};
@@ -100,15 +99,14 @@ fn source_of(alloc: Global, file: &MemFile, most: u64) -> Result<LentSource, All
 }
 
 impl MemFiles {
-    /// These files, of which one read moves at most `most` bytes.
+    /// These files, of which one read moves at most `most` bytes. Of several of one name the first counts.
     pub fn new(
         alloc: Global,
         files: Vec<MemFile>,
         most: u64,
         fails: Items<u64>,
     ) -> Result<MemFiles, AllocError>
-        requires some { 1 ≤ most }
-        requires differ { NamesDiffer (map (λ f. f.name) files.items) }
+        requires { 1 ≤ most }
         ensures { IfOk result (λ f. f ≡ record {
           files = files.items;
           lent = [];

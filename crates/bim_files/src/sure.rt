@@ -2,7 +2,7 @@
 ghost use Rattle.std.specs.Prelude.{◌≡◌, ◌≤◌, Some, [], true, IfOk, IfSome, OnErr, map};
 ghost use Rattle.bim_io.specs.Causes.{HasCause};
 ghost use Rattle.bim_files.specs.Files.{content_of, IsFresh, Lends, LendsTold};
-ghost use Rattle.bim_files.specs.Memory.{file_seen, held, lent_times, told_of, told_where, NamesDiffer};
+ghost use Rattle.bim_files.specs.Memory.{file_seen, held, lent_times, told_of, told_where};
 ghost use Rattle.bim_files.specs.Memory.{sure_fresh, sure_lent_seen, sure_ends_empty, sure_seen_of};
 
 use crate::shelf::{MemFile, contents_of, lent_place_of, take_back};
@@ -62,8 +62,8 @@ impl NamedSource for SureLentSource {
     }
 }
 
-/// Files in memory that never fail. A name that isn't there or is lent is an empty source. Where memory is wanting
-/// for a source, it gives nothing, and from then on these files no longer tell what they hold.
+/// Files in memory that never fail. A name that isn't there or is lent is an empty source. Where memory is
+/// wanting for a source, it gives nothing, and from then on these files no longer tell what they hold.
 #[derive(Drop)]
 pub struct SureFiles {
     alloc: Global,
@@ -135,10 +135,9 @@ fn held(alloc: Global, file: SureFile) -> MemFile
 }
 
 impl SureFiles {
-    /// These files, of which one read moves at most `most` bytes.
+    /// These files, of which one read moves at most `most` bytes. Of several of one name the first counts.
     pub fn new(alloc: Global, files: Vec<SureFile>, most: u64) -> Result<SureFiles, AllocError>
-        requires some { 1 ≤ most }
-        requires differ { NamesDiffer (map (λ f. f.name) files.items) }
+        requires { 1 ≤ most }
         ensures { IfOk result (λ f. f
             ≡ record { files = map held files.items; lent = []; tells = true; most = most }) }
     {
