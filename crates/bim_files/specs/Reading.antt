@@ -1,6 +1,6 @@
 -- What reading a file does.
 use Rattle.std.specs.Prelude.{◌≡◌, ℕ, ◌+◌, ◌≤◌, ◌<◌, List, [], ◌++◌, length}
-use Rattle.std.specs.Prelude.{Option, Result, Ok, Err, IfSome, OnErr, IfOk}
+use Rattle.std.specs.Prelude.{Result, Ok, Err}
 use Rattle.bim_io.specs.Causes.{Rose, Loses}
 use Rattle.bim_io.specs.Seen.{SourceSeen}
 use Rattle.std.specs.Io.KnownBytes.{IsAtEnd}
@@ -8,7 +8,7 @@ use Rattle.bim_files.specs.declared.front.FileError.{FileError}
 use Rattle.bim_files.specs.declared.front.FileError.TheVariants.{Failed, Memory}
 use Rattle.bim_files.specs.declared.front.Step.{Step}
 use Rattle.bim_files.specs.declared.front.Step.TheVariants.{Again, End}
-use Rattle.bim_files.specs.Files.{FilesSeen, FilesTold, IsFront, Holds, Tells}
+use Rattle.bim_files.specs.Files.{FilesSeen, IsFront, Holds, Tells}
 
 -- a read went well: the bytes behind the others are those that the source lost, at least one where it goes
 -- on, and none at its end
