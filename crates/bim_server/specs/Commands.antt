@@ -8,6 +8,10 @@ use Rattle.bim_session.specs.Replay.{Replays, stated_settings, status_of}
 use Rattle.bim_server.specs.declared.words.ReplayWords.{ReplayWords}
 use Rattle.bim_server.specs.declared.words.Time.{Time}
 use Rattle.bim_server.specs.declared.words.Time.TheVariants.{OfClock, At}
+use Rattle.bim_files.specs.Files.{FilesSeen}
+use Rattle.batch_commands.specs.CheckWords.{check_words}
+use Rattle.batch_commands.specs.GenerateWords.{generate_words}
+use Rattle.batch_commands.specs.Commands.{Checks, Generates}
 use Rattle.bim_server.specs.Words.{replay_words, usage_line}
 
 -- the usage line is written, or a front of it exactly where a write failed; nothing was read, and the clock was not asked
@@ -57,7 +61,33 @@ DoesBy (Some said) before after status = ReplaysBy said.time said.buckets said.p
 abbrev pub Does : Option ReplayWords → Outside → Outside → ℕ → Type 0
 Does said before after status = DoesBy said before after status ⊎ WantsMemory before after status
 
--- the words behind the name of a command, where it is `replay`; nothing for a command that is not built
-abbrev pub command_words : List (List ℕ) → Option ReplayWords
-command_words [] = None
-command_words (name ∷ words) = if bytes_eq name (codes "replay") then replay_words words else None
+-- a command that is built, with the words behind its name
+pub data Command : Type 0 where
+  Replay : List (List ℕ) → Command
+  Check : List (List ℕ) → Command
+  Generate : List (List ℕ) → Command
+
+-- the command of a name, where it is one that is built
+abbrev pub command_named : List ℕ → List (List ℕ) → Option Command
+command_named name words =
+    if bytes_eq name (codes "replay") then Some (Replay words)
+    else (if bytes_eq name (codes "check") then Some (Check words)
+    else (if bytes_eq name (codes "generate") then Some (Generate words) else None))
+
+-- the command that words ask for
+abbrev pub command_of : List (List ℕ) → Option Command
+command_of [] = None
+command_of (name ∷ words) = command_named name words
+
+-- what a command does: `replay` leaves the files alone, `check` the source and the clock, and `generate` all three.
+-- Without a command the usage line is printed.
+abbrev pub Runs : Option Command → Outside → Outside → FilesSeen → FilesSeen → ℕ → Type 0
+Runs None before after files files' status = PrintsUsage before after status × (files' ≡ files)
+Runs (Some (Replay words)) before after files files' status =
+    Does (replay_words words) before after status × (files' ≡ files)
+Runs (Some (Check words)) before after files files' status =
+    Checks (check_words words) files files' before.sink after.sink status
+    × (after.source ≡ before.source) × (after.clock ≡ before.clock)
+Runs (Some (Generate words)) before after files files' status =
+    Generates (generate_words words) before.sink after.sink status
+    × (after.source ≡ before.source) × (after.clock ≡ before.clock) × (files' ≡ files)

@@ -9,6 +9,7 @@ mod sinks;
 mod tests;
 mod words;
 
+use bim_files::StdFiles;
 use bim_io::{StdSink, StdSource, SystemClock};
 use bim_model::Text;
 use commands::run;
@@ -42,7 +43,16 @@ fn main(rt: HostRuntime) -> ExitCode {
     };
     let mut source = StdSource::new(rt.reader());
     let mut sink = StdSink::new(io::writer(&rt));
+    let mut files = StdFiles::new(rt);
     let mut clock = SystemClock::new(rt);
     let alloc = rt.alloc();
-    ExitCode::from(run(alloc, words.as_slice(), &mut source, &mut sink, &mut clock))
+    let status = run(
+        alloc,
+        words.as_slice(),
+        &mut source,
+        &mut sink,
+        &mut files,
+        &mut clock,
+    );
+    ExitCode::from(status)
 }

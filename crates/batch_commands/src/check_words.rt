@@ -1,0 +1,179 @@
+//! The words of `check`.
+ghost use Rattle.std.specs.Prelude.{◌≡◌, ◌++◌, ℕ, List, map, option_map, length, drop, IfOk, IfSome, not};
+ghost use Rattle.std.specs.List.{list_all, list_any};
+ghost use Rattle.std.specs.Str.{bytes_eq};
+ghost use Rattle.clap.specs.Words.{app_of, found_of, rows_of};
+ghost use Rattle.batch_commands.specs.CheckWords.{is_model_name, is_model_name_char, model_word, all_some, names_differ, model_words, if_models, mode_said, check_command, check_said, check_words};
+
+use bim_model::{Items, MOST_NAME, Mode, Text};
+use clap::{ArgMatches, Command};
+use command_words::{is_word, lent_words, parse, plain_command, with_list, with_option};
+use std::alloc::{AllocError, Global};
+
+/// The most models that are checked together.
+pub const MOST_MODELS: usize = 64;
+
+/// A model that is named: its name, and the file that it is read from.
+#[derive(Drop)]
+pub struct ModelWord {
+    pub name: Text,
+    pub file: Text,
+}
+
+/// What the words of `check` say.
+#[derive(Drop)]
+pub struct CheckWords {
+    /// The file of the rules.
+    pub rules: Text,
+    pub mode: Mode,
+    /// 1 to 64 models of different names.
+    pub models: Items<ModelWord>,
+}
+
+fn is_model_name_char(byte: u8) -> bool
+    ensures { result ≡ is_model_name_char byte }
+{
+    byte.is_ascii_alphanumeric() || byte == b'_' || byte == b'.' || byte == b'-'
+}
+
+fn are_model_name_chars(text: &[u8]) -> bool
+    ensures { result ≡ list_all is_model_name_char text.now }
+{
+    text.iter().all(|byte| is_model_name_char(*byte))
+}
+
+fn is_model_name(text: &[u8]) -> bool
+    ensures { result ≡ is_model_name text.now }
+{
+    !text.is_empty() && text.len() <= MOST_NAME && are_model_name_chars(text)
+}
+
+// The name and the file that a word says: what stands before and after its first `=`.
+fn model_word(alloc: Global, text: &str) -> Result<Option<ModelWord>, AllocError>
+    ensures { IfOk result (λ said. said ≡ model_word text.now) }
+{
+    match text.split_once('=') {
+        Some((name, file)) => {
+            if !is_model_name(name.as_bytes()) {
+                return Ok(None);
+            }
+            let name = Text::of(alloc, name)?;
+            let file = Text::of(alloc, file)?;
+            Ok(Some(ModelWord { name, file }))
+        }
+        None => Ok(None),
+    }
+}
+
+// What each of these words says, where each says something.
+fn each_word(alloc: Global, texts: &[&str]) -> Result<Option<Vec<ModelWord>>, AllocError>
+    ensures { IfOk result (λ said. option_map (λ words. words.items) said
+        ≡ all_some (map (λ t. model_word t.now) texts.now)) }
+{
+    let mut words = Vec::with_capacity(alloc, texts.len())?;
+    for text in texts {
+        match model_word(alloc, text)? {
+            Some(word) => words.push(word)?,
+            None => return Ok(None),
+        }
+    }
+    Ok(Some(words))
+}
+
+fn has_name(words: &[ModelWord], name: &Text) -> bool
+    ensures { result ≡ list_any (λ (w : ModelWord). bytes_eq w.name name.now) words.now }
+{
+    words.iter().any(|word| word.name.as_str() == name.as_str())
+}
+
+// Whether no name stands twice.
+fn names_differ(words: &[ModelWord]) -> bool
+    ensures { result ≡ names_differ words.now }
+{
+    match words {
+        [] => true,
+        [first, rest @ ..] => !has_name(rest, &first.name) && names_differ(rest),
+    }
+}
+
+// The models that the words name: 1 to 64 of different names.
+fn models_said(
+    alloc: Global,
+    texts: Option<&[&str]>,
+) -> Result<Option<Items<ModelWord>>, AllocError>
+    ensures { IfOk result (λ said. said
+        ≡ if_models (option_map (λ texts. map (λ t. t.now) texts.now) texts)) }
+{
+    let Some(texts) = texts else {
+        return Ok(None);
+    };
+    if texts.is_empty() || texts.len() > MOST_MODELS {
+        return Ok(None);
+    }
+    let Some(words) = each_word(alloc, texts)? else {
+        return Ok(None);
+    };
+    if names_differ(words.as_slice()) {
+        Ok(Some(Items::from_vec(words)))
+    } else {
+        Ok(None)
+    }
+}
+
+fn mode_said(text: Option<&str>) -> Option<Mode>
+    ensures { result ≡ mode_said (option_map (λ s. s.now) text.entry) }
+{
+    let Some(text) = text else {
+        return Some(Mode::Exact);
+    };
+    if is_word(text, "exact") {
+        Some(Mode::Exact)
+    } else if is_word(text, "snap") {
+        Some(Mode::Snap)
+    } else {
+        None
+    }
+}
+
+fn check_said(alloc: Global, matches: &ArgMatches<'_>) -> Result<Option<CheckWords>, AllocError>
+    ensures { IfOk result (λ said. said ≡ check_said (rows_of (found_of matches.now))) }
+{
+    let Some(rules) = matches.get_str("rules") else {
+        return Ok(None);
+    };
+    let Some(mode) = mode_said(matches.get_str("grid")) else {
+        return Ok(None);
+    };
+    let Some(models) = models_said(alloc, matches.get_strs("models"))? else {
+        return Ok(None);
+    };
+    Ok(Some(CheckWords {
+        rules: Text::of(alloc, rules)?,
+        mode,
+        models,
+    }))
+}
+
+// `check` has two options, in any order, and words for the models.
+fn check_command<'a>(alloc: Global) -> Result<Command<'a>, AllocError>
+    ensures { IfOk result (λ command. app_of command ≡ check_command) }
+{
+    let command = plain_command(alloc, "check");
+    let command = with_option(alloc, command, "rules")?;
+    let command = with_option(alloc, command, "grid")?;
+    with_list(alloc, command, "models")
+}
+
+/// What the words behind `check` say, where they are in its grammar: `--rules FILE`, which must be there,
+/// `--grid exact` or `--grid snap`, each at most once, also spelled with `=`, and 1 to 64 words `NAME=FILE`
+/// of different names, each 1 to 64 characters of `A-Za-z0-9_.-`.
+pub fn check_words(alloc: Global, words: &[Text]) -> Result<Option<CheckWords>, AllocError>
+    ensures { IfOk result (λ said. said ≡ check_words words.now) }
+{
+    let command = check_command(alloc)?;
+    let lent = lent_words(alloc, words)?;
+    match parse(command, lent.as_slice())? {
+        Some(matches) => check_said(alloc, &matches),
+        None => Ok(None),
+    }
+}

@@ -1,0 +1,129 @@
+//! Files are read and judged one after the other.
+ghost use Rattle.std.specs.Prelude.{◌≡◌, ◌++◌, ◌∷◌, take, IfOk, IfErr, OnOk, MatchResult};
+ghost use Rattle.bim_model.specs.Snapshots.{Version};
+ghost use Rattle.bim_files.specs.Files.{FilesSeen};
+ghost use Rattle.batch_commands.specs.Judging.{JudgesRules, JudgesModel, JudgesModels, Finds, placed};
+
+use crate::check_words::{CheckWords, ModelWord};
+use crate::rules_file::{RulesError, RulesFault, rules_in};
+use bim_files::{FileError, Files, read_file};
+use bim_model::{
+    BuildError, Duplicate, Mode, Model, NamedModel, Rules, Shared, Snapshot, Text, UploadFault,
+};
+use clash_check::{VersionError, VersionFault, clashes_of};
+use clash_publish::Published;
+use model_build::build_owned;
+use std::alloc::{AllocError, Global};
+
+/// Why a check is refused.
+#[derive(Drop)]
+pub enum Refusal {
+    Rules(RulesFault),
+    /// The file of the model of that name is refused.
+    Model { name: Text, fault: UploadFault },
+    Version(VersionFault),
+}
+
+/// Why a check finds nothing.
+#[derive(Drop)]
+pub enum JudgeError {
+    Refused(Refusal),
+    /// A file can't be opened or read.
+    File,
+    Memory,
+}
+
+impl From<AllocError> for JudgeError {
+    ghost from_gives = { λ _ e. e ≡ Memory };
+
+    ghost use Rattle.std.specs.Prelude.{◌≡◌};
+    ghost use Rattle.batch_commands.specs.declared.judge.JudgeError.TheVariants.{Memory};
+
+    fn from(_: AllocError) -> JudgeError {
+        JudgeError::Memory
+    }
+}
+
+impl From<FileError> for JudgeError {
+    ghost use Rattle.std.specs.Prelude.{◌≡◌};
+    ghost use Rattle.batch_commands.specs.Judging.{of_file};
+
+    ghost from_gives = { λ error made. made ≡ of_file error };
+
+    fn from(error: FileError) -> JudgeError {
+        match error {
+            FileError::Failed => JudgeError::File,
+            FileError::Memory => JudgeError::Memory,
+        }
+    }
+}
+
+// The rules of the file of that name.
+fn judge_rules<F: Files>(alloc: Global, files: &mut F, name: &Text) -> Result<Rules, JudgeError>
+    ensures { JudgesRules (F.seen files.old) (F.seen files.new) name.now result }
+{
+    let bytes = read_file(alloc, files, name)?;
+    match rules_in(alloc, bytes.as_slice()) {
+        Ok(rules) => Ok(rules),
+        Err(RulesError::Fault(fault)) => Err(JudgeError::Refused(Refusal::Rules(fault))),
+        Err(RulesError::Memory) => Err(JudgeError::Memory),
+    }
+}
+
+// The model that a word names.
+fn judge_model<F: Files>(
+    alloc: Global,
+    files: &mut F,
+    mode: Mode,
+    word: &ModelWord,
+) -> Result<NamedModel, JudgeError>
+    ensures { JudgesModel (F.seen files.old) (F.seen files.new) mode word.now result }
+{
+    let bytes = read_file(alloc, files, &word.file)?;
+    match build_owned(alloc, bytes, mode) {
+        Ok(model) => Ok(NamedModel {
+            name: word.name.copy(alloc)?,
+            model: Shared::new(alloc, model)?,
+        }),
+        Err(BuildError::Fault(fault)) => Err(JudgeError::Refused(Refusal::Model {
+            name: word.name.copy(alloc)?,
+            fault,
+        })),
+        Err(BuildError::Memory) => Err(JudgeError::Memory),
+    }
+}
+
+// The version of these rules and the models that the words name, each put in its place by name.
+fn judge_models<F: Files>(
+    alloc: Global,
+    files: &mut F,
+    mode: Mode,
+    words: &[ModelWord],
+    rules: Rules,
+) -> Result<Snapshot, JudgeError>
+    ensures { JudgesModels (F.seen files.old) (F.seen files.new) mode words.now rules result }
+{
+    let mut version = Snapshot::new(alloc, Shared::new(alloc, rules)?);
+    for word in words {
+        let model = judge_model(alloc, files, mode, word)?;
+        version = version.with_model(alloc, model)?;
+    }
+    Ok(version)
+}
+
+/// The version of the rules and models that the words name, with its clashes.
+pub fn judge<F: Files>(
+    alloc: Global,
+    files: &mut F,
+    said: &CheckWords,
+) -> Result<Published, JudgeError>
+    ensures { Finds (F.seen files.old) (F.seen files.new) said.now result }
+{
+    let rules = judge_rules(alloc, files, &said.rules)?;
+    let version = judge_models(alloc, files, said.mode, said.models.as_slice(), rules)?;
+    match clashes_of(alloc, Shared::new(alloc, version)?) {
+        Ok(found) => Ok(found),
+        Err(VersionError::Fault(fault)) => Err(JudgeError::Refused(Refusal::Version(fault))),
+        Err(VersionError::Memory) => Err(JudgeError::Memory),
+    }
+}
