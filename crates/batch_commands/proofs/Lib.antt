@@ -1,4 +1,6 @@
 pub mod Reading
 pub mod Written
+pub mod Blocks
 pub mod Plain
+pub mod Saying
 pub mod Judged

@@ -7,8 +7,8 @@ use Rattle.bim_model.specs.Snapshots.{Version}
 use Rattle.bucket_check.specs.declared.pair.SetPair.{SetPair}
 use Rattle.bucket_check.specs.Clashes.{clashes}
 use Rattle.clash_publish.specs.Listed.{element_of}
-use Rattle.batch_commands.specs.declared.judge.Refusal.{Refusal}
-use Rattle.batch_commands.specs.declared.judge.Refusal.TheVariants.{Rules, Model, Version as TooLarge}
+use Rattle.batch_commands.specs.declared.refusal.Refusal.{Refusal}
+use Rattle.batch_commands.specs.declared.refusal.Refusal.TheVariants.{Rules, Model, Version as TooLarge}
 use Rattle.batch_commands.specs.Faults.{rules_words, upload_words, version_words}
 
 -- an element: the name of its model and its identifier

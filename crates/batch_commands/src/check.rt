@@ -5,7 +5,8 @@ ghost use Rattle.batch_commands.specs.CheckWords.{check_words};
 ghost use Rattle.batch_commands.specs.Commands.{ChecksBy, Checks};
 
 use crate::check_words::{CheckWords, check_words};
-use crate::judge::{JudgeError, judge};
+use crate::judge::judge;
+use crate::refusal::JudgeError;
 use crate::report::{print_found, print_refusal};
 use crate::statuses::{NO_FILE, NO_MEMORY, REFUSED, print_usage, printed};
 use bim_files::Files;

@@ -5,44 +5,14 @@ ghost use Rattle.bim_files.specs.Files.{FilesSeen};
 ghost use Rattle.batch_commands.specs.Judging.{JudgesRules, JudgesModel, JudgesModels, Finds, placed};
 
 use crate::check_words::{CheckWords, ModelWord};
-use crate::rules_file::{RulesError, RulesFault, rules_in};
+use crate::refusal::{JudgeError, Refusal};
+use crate::rules_file::{RulesError, rules_in};
 use bim_files::{FileError, Files, read_file};
-use bim_model::{
-    BuildError, Duplicate, Mode, Model, NamedModel, Rules, Shared, Snapshot, Text, UploadFault,
-};
-use clash_check::{VersionError, VersionFault, clashes_of};
+use bim_model::{BuildError, Mode, NamedModel, Rules, Shared, Snapshot, Text};
+use clash_check::{VersionError, clashes_of};
 use clash_publish::Published;
 use model_build::build_owned;
-use std::alloc::{AllocError, Global};
-
-/// Why a check is refused.
-#[derive(Drop)]
-pub enum Refusal {
-    Rules(RulesFault),
-    /// The file of the model of that name is refused.
-    Model { name: Text, fault: UploadFault },
-    Version(VersionFault),
-}
-
-/// Why a check finds nothing.
-#[derive(Drop)]
-pub enum JudgeError {
-    Refused(Refusal),
-    /// A file can't be opened or read.
-    File,
-    Memory,
-}
-
-impl From<AllocError> for JudgeError {
-    ghost from_gives = { λ _ e. e ≡ Memory };
-
-    ghost use Rattle.std.specs.Prelude.{◌≡◌};
-    ghost use Rattle.batch_commands.specs.declared.judge.JudgeError.TheVariants.{Memory};
-
-    fn from(_: AllocError) -> JudgeError {
-        JudgeError::Memory
-    }
-}
+use std::alloc::Global;
 
 impl From<FileError> for JudgeError {
     ghost use Rattle.std.specs.Prelude.{◌≡◌};

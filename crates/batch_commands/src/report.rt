@@ -8,7 +8,7 @@ ghost use Rattle.batch_commands.specs.Writes.{Flushes};
 
 use crate::block::{Stop, flush, put, write_bytes};
 use crate::faults::{rules_words, upload_words, version_words};
-use crate::judge::Refusal;
+use crate::refusal::Refusal;
 use bim_io::Sink;
 use bucket_check::SetPair;
 use clash_publish::Published;
