@@ -1,5 +1,6 @@
 -- What a sink and a block hold of what was put.
 use Rattle.std.proofs.Common.{◌≡◌, ℕ, List, [], ◌++◌, Result, Ok, Err, refl, sym, ◌∙◌, ap, append_assoc, append-nil, subst}
+use Rattle.std.specs.Prelude.{IsErrAnd}
 use Rattle.bim_io.specs.Causes.{Rose}
 use Rattle.bim_io.specs.Seen.{SinkSeen, SinkTakes}
 use Rattle.bim_io.proofs.Calls.{takes_none, takes_trans}
@@ -7,10 +8,10 @@ use Rattle.batch_commands.specs.declared.block.Stop.{Stop}
 use Rattle.batch_commands.specs.declared.block.Stop.TheVariants.{Write, Memory}
 use Rattle.batch_commands.specs.Writes.{WritesLess, WritesFront, Stops, Flushes, Puts}
 
--- all of these bytes were put: some are written, and the others stand in the block
-abbrev pub Gathered : SinkSeen → SinkSeen → List ℕ → List ℕ → Type 0
-Gathered old new all block =
-    (written : List ℕ) × (all ≡ written ++ block) × SinkTakes old new written × (new.faults ≡ old.faults)
+-- what a `?` returns
+pub residual : {A E : Type 0} (r : Result A E) (e : E) → IsErrAnd r (λ x. x ≡ e) → r ≡ Err e
+residual (Ok a) e h = absurd h
+residual (Err x) e h = ap (λ y. Err y) h
 
 -- a write that failed is a reason to stop
 pub less_stops : (a b : SinkSeen) (bytes : List ℕ) → WritesLess a b bytes → Flushes a b bytes (Err Write)
@@ -20,7 +21,15 @@ less_stops a b bytes w = ((w.0, w.1.0, w.1.1.0, w.1.1.1.1.0), w.1.1.1.1.1)
 pub memory_stops : (a : SinkSeen) (bytes : List ℕ) → WritesFront a a bytes × Stops a a Memory
 memory_stops a bytes = (([], bytes, refl, takes_none a), refl)
 
+-- more bytes would have come behind those of which a front was written
+pub front_longer : (a b : SinkSeen) (bytes rest whole : List ℕ) → WritesFront a b bytes → whole ≡ bytes ++ rest → WritesFront a b whole
+front_longer a b bytes rest whole f e =
+    (f.0, f.1.0 ++ rest, e ∙ ap (λ xs. xs ++ rest) f.1.1.0 ∙ append_assoc f.0 f.1.0 rest, f.1.1.1)
+
 -- ---- a block
+
+pub put_none : (a : SinkSeen) (block : List ℕ) → Puts a a block block [] (Ok tt)
+put_none a block = ([], append-nil block, takes_none a, refl)
 
 pub put_kept : (a : SinkSeen) (before after bytes : List ℕ) → after ≡ before ++ bytes → Puts a a before after bytes (Ok tt)
 put_kept a before after bytes e = ([], sym e, takes_none a, refl)
@@ -33,47 +42,60 @@ put_flushed a b before full after bytes (Err stop) e f empty = (subst (λ xs. Wr
 
 -- ---- one text after the other
 
-pub gathered_none : (a : SinkSeen) → Gathered a a [] []
-gathered_none a = ([], refl, takes_none a, refl)
-
-pub gathered_more : (a b c : SinkSeen) (all before after text : List ℕ) → Gathered a b all before → Puts b c before after text (Ok tt)
-    → Gathered a c (all ++ text) after
-gathered_more a b c all before after text g p = (
-  g.0 ++ p.0,
-  ap (λ xs. xs ++ text) g.1.0 ∙ append_assoc g.0 before text ∙ ap (λ xs. g.0 ++ xs) p.1.0 ∙ sym (append_assoc g.0 p.0 after),
-  takes_trans a b c g.0 p.0 g.1.1.0 p.1.1.0,
-  p.1.1.1 ∙ g.1.1.1,
+pub put_more : (a b c : SinkSeen) (x y z s t : List ℕ) → Puts a b x y s (Ok tt) → Puts b c y z t (Ok tt) → Puts a c x z (s ++ t) (Ok tt)
+put_more a b c x y z s t p q = (
+  p.0 ++ q.0,
+  sym (append_assoc x s t) ∙ ap (λ xs. xs ++ t) p.1.0 ∙ append_assoc p.0 y t ∙ ap (λ xs. p.0 ++ xs) q.1.0 ∙ sym (append_assoc p.0 q.0 z),
+  takes_trans a b c p.0 q.0 p.1.1.0 q.1.1.0,
+  q.1.1.1 ∙ p.1.1.1,
 )
 
 stops_later : (a b c : SinkSeen) (stop : Stop) → b.faults ≡ a.faults → Stops b c stop → Stops a c stop
 stops_later a b c Write same rose = subst (λ n. Rose n c.faults) same rose
 stops_later a b c Memory same still = still ∙ same
 
-front_later : (a b c : SinkSeen) (all before text rest whole : List ℕ) → Gathered a b all before → WritesFront b c (before ++ text) → whole ≡ all ++ (text ++ rest)
-    → WritesFront a c whole
-front_later a b c all before text rest whole g f e = (
-  g.0 ++ f.0,
-  f.1.0 ++ rest,
-  e ∙ sym (append_assoc all text rest) ∙ ap (λ xs. (xs ++ text) ++ rest) g.1.0 ∙ ap (λ xs. xs ++ rest) (append_assoc g.0 before text ∙ ap (λ xs. g.0 ++ xs) f.1.1.0)
-  ∙ ap (λ xs. xs ++ rest) (sym (append_assoc g.0 f.0 f.1.0)) ∙ append_assoc (g.0 ++ f.0) f.1.0 rest,
-  takes_trans a b c g.0 f.0 g.1.1.0 f.1.1.1,
+-- what was put stands written or in the block
+put_parts : (x y s t written : List ℕ) → x ++ s ≡ written ++ y → x ++ (s ++ t) ≡ written ++ (y ++ t)
+put_parts x y s t written e = sym (append_assoc x s t) ∙ ap (λ xs. xs ++ t) e ∙ append_assoc written y t
+
+front_later : (a b c : SinkSeen) (x y s t : List ℕ) → Puts a b x y s (Ok tt) → WritesFront b c (y ++ t) → WritesFront a c (x ++ (s ++ t))
+front_later a b c x y s t p f = (
+  p.0 ++ f.0,
+  f.1.0,
+  put_parts x y s t p.0 p.1.0 ∙ ap (λ xs. p.0 ++ xs) f.1.1.0 ∙ sym (append_assoc p.0 f.0 f.1.0),
+  takes_trans a b c p.0 f.0 p.1.1.0 f.1.1.1,
 )
 
 -- a text can't be put, so a front of the whole was written
-pub gathered_stopped : (a b c : SinkSeen) (all before text rest whole : List ℕ) (stop : Stop) → Gathered a b all before → WritesFront b c (before ++ text) → Stops b c stop
-    → whole ≡ all ++ (text ++ rest) → WritesFront a c whole × Stops a c stop
-gathered_stopped a b c all before text rest whole stop g f s e =
-    (front_later a b c all before text rest whole g f e, stops_later a b c stop g.1.1.1 s)
+pub put_stopped : (a b c : SinkSeen) (x y s t rest whole : List ℕ) (stop : Stop) → Puts a b x y s (Ok tt) → WritesFront b c (y ++ t) × Stops b c stop
+    → whole ≡ s ++ (t ++ rest) → WritesFront a c (x ++ whole) × Stops a c stop
+put_stopped a b c x y s t rest whole stop p f e =
+    let same : x ++ whole ≡ (x ++ (s ++ t)) ++ rest = ap (λ xs. x ++ xs) (e ∙ sym (append_assoc s t rest)) ∙ sym (append_assoc x (s ++ t) rest) in
+    (front_longer a c (x ++ (s ++ t)) rest (x ++ whole) (front_later a b c x y s t p f.0) same, stops_later a b c stop p.1.1.1 f.1)
 
 -- memory is wanting for a text
-pub gathered_wanting : (a b : SinkSeen) (all before rest whole : List ℕ) → Gathered a b all before → whole ≡ all ++ rest → WritesFront a b whole × Stops a b Memory
-gathered_wanting a b all before rest whole g e =
-    ((g.0, before ++ rest, e ∙ ap (λ xs. xs ++ rest) g.1.0 ∙ append_assoc g.0 before rest, g.1.1.0), g.1.1.1)
+pub put_wanting : (a b : SinkSeen) (x y s rest whole : List ℕ) → Puts a b x y s (Ok tt) → whole ≡ s ++ rest → WritesFront a b (x ++ whole) × Stops a b Memory
+put_wanting a b x y s rest whole p e =
+    ((p.0, y ++ rest, ap (λ xs. x ++ xs) e ∙ put_parts x y s rest p.0 p.1.0, p.1.1.0), p.1.1.1)
 
 -- what stands in the block is written last
-pub gathered_flushed : (a b c : SinkSeen) (all before : List ℕ) (r : Result (Unit {0}) Stop) → Gathered a b all before → Flushes b c before r → Flushes a c all r
-gathered_flushed a b c all before (Ok u) g f =
-    (subst (λ xs. SinkTakes a c xs) (sym g.1.0) (takes_trans a b c g.0 before g.1.1.0 f.0), f.1 ∙ g.1.1.1)
-gathered_flushed a b c all before (Err stop) g f =
-    let front : WritesFront b c (before ++ []) = subst (λ xs. WritesFront b c xs) (sym (append-nil before)) f.0 in
-    gathered_stopped a b c all before [] [] all stop g front f.1 (sym (append-nil all))
+pub put_last : (a b c : SinkSeen) (x y s : List ℕ) (r : Result (Unit {0}) Stop) → x ≡ [] → Puts a b x y s (Ok tt) → Flushes b c y r → Flushes a c s r
+put_last a b c x y s (Ok u) none p f =
+    let same : p.0 ++ y ≡ s = sym p.1.0 ∙ ap (λ xs. xs ++ s) none in
+    (subst (λ xs. SinkTakes a c xs) same (takes_trans a b c p.0 y p.1.1.0 f.0), f.1 ∙ p.1.1.1)
+put_last a b c x y s (Err stop) none p f =
+    let front : WritesFront b c (y ++ []) = subst (λ xs. WritesFront b c xs) (sym (append-nil y)) f.0 in
+    let whole : WritesFront a c (x ++ s) × Stops a c stop = put_stopped a b c x y s [] [] s stop p (front, f.1) (sym (append-nil s)) in
+    (subst (λ xs. WritesFront a c xs) (ap (λ xs. xs ++ s) none) whole.0, whole.1)
+
+-- the first of two texts can't be put into an empty block
+pub first_stopped : (a b : SinkSeen) (x s rest whole : List ℕ) (stop : Stop) → x ≡ [] → WritesFront a b (x ++ s) × Stops a b stop → whole ≡ s ++ rest → Flushes a b whole (Err stop)
+first_stopped a b x s rest whole stop none f e =
+    (front_longer a b (x ++ s) rest whole f.0 (e ∙ ap (λ xs. (xs ++ s) ++ rest) (sym none)), f.1)
+
+-- nor the second
+pub second_stopped : (a b c : SinkSeen) (x y s t whole : List ℕ) (stop : Stop) → x ≡ [] → Puts a b x y s (Ok tt) → WritesFront b c (y ++ t) × Stops b c stop
+    → whole ≡ s ++ t → Flushes a c whole (Err stop)
+second_stopped a b c x y s t whole stop none p f e =
+    let all : WritesFront a c (x ++ whole) × Stops a c stop = put_stopped a b c x y s t [] whole stop p f (e ∙ ap (λ xs. s ++ xs) (sym (append-nil t))) in
+    (subst (λ xs. WritesFront a c xs) (ap (λ xs. xs ++ whole) none) all.0, all.1)

@@ -5,7 +5,7 @@ ghost use Rattle.model_generator.specs.Files.{generated};
 ghost use Rattle.model_generator.specs.declared.pieces.TheConstants.{MOST_GENERATED};
 ghost use Rattle.batch_commands.specs.GenerateWords.{generate_words};
 ghost use Rattle.batch_commands.specs.Commands.{touching, version_of, summary_of, IsSummary, Generates};
-ghost use Rattle.batch_commands.specs.Writes.{Flushes};
+ghost use Rattle.batch_commands.specs.Writes.{Flushes, Puts};
 
 use crate::block::{Stop, flush, put, write_bytes};
 use crate::generate_words::{GenerateWords, generate_words};
@@ -20,17 +20,46 @@ use model_build::build_owned;
 use model_generator::Pieces;
 use std::alloc::{AllocError, Global};
 
+// Puts all pieces, one after the other. They come to an end.
+fn put_pieces<K: Sink>(
+    alloc: Global,
+    sink: &mut K,
+    block: &mut Vec<u8>,
+    mut pieces: Pieces,
+) -> Result<(), Stop>
+    ensures { Puts (K.seen sink.old) (K.seen sink.new) block.old.items block.new.items pieces result }
+{
+    'pieces: for _ in 0..u64::MAX {
+        match pieces.next(alloc)? {
+            Some(piece) => put(sink, block, piece.as_str())?,
+            None => return Ok(()),
+        }
+    }
+    Err(Stop::Memory)
+}
+
 // Prints the file, piece by piece.
 fn print_file<K: Sink>(alloc: Global, count: u32, number: u64, sink: &mut K) -> Result<(), Stop>
     requires { count ≤ MOST_GENERATED }
     ensures { Flushes (K.seen sink.old) (K.seen sink.new) (generated number count) result }
 {
-    let mut pieces = Pieces::of(count, number);
     let mut block = Vec::new(alloc);
-    while let Some(piece) = pieces.next(alloc)? {
-        put(sink, &mut block, piece.as_str())?;
-    }
+    put_pieces(alloc, sink, &mut block, Pieces::of(count, number))?;
     flush(sink, &mut block)
+}
+
+// The bytes of all pieces.
+fn all_bytes(alloc: Global, mut pieces: Pieces) -> Result<Vec<u8>, AllocError>
+    ensures { IfOk result (λ bytes. bytes.items ≡ pieces) }
+{
+    let mut bytes = Vec::new(alloc);
+    'pieces: for _ in 0..u64::MAX {
+        match pieces.next(alloc)? {
+            Some(piece) => bytes.extend_from_slice(piece.as_bytes())?,
+            None => return Ok(bytes),
+        }
+    }
+    Err(AllocError)
 }
 
 // The bytes of the file.
@@ -38,11 +67,7 @@ fn file_bytes(alloc: Global, count: u32, number: u64) -> Result<Bytes, AllocErro
     requires { count ≤ MOST_GENERATED }
     ensures { IfOk result (λ bytes. bytes ≡ generated number count) }
 {
-    let mut pieces = Pieces::of(count, number);
-    let mut bytes = Vec::new(alloc);
-    while let Some(piece) = pieces.next(alloc)? {
-        bytes.extend_from_slice(piece.as_bytes())?;
-    }
+    let bytes = all_bytes(alloc, Pieces::of(count, number))?;
     Bytes::from_vec(alloc, bytes)
 }
 
