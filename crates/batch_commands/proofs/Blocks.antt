@@ -15,7 +15,7 @@ residual (Err x) e h = ap (λ y. Err y) h
 
 -- a write that failed is a reason to stop
 pub less_stops : (a b : SinkSeen) (bytes : List ℕ) → WritesLess a b bytes → Flushes a b bytes (Err Write)
-less_stops a b bytes w = ((w.0, w.1.0, w.1.1.0, w.1.1.1.1.0), w.1.1.1.1.1)
+less_stops a b bytes w = ((w.0, w.1, w.2, w.4), w.5)
 
 -- nothing is written where memory is wanting first
 pub memory_stops : (a : SinkSeen) (bytes : List ℕ) → WritesFront a a bytes × Stops a a Memory
@@ -24,7 +24,7 @@ memory_stops a bytes = (([], bytes, refl, takes_none a), refl)
 -- more bytes would have come behind those of which a front was written
 pub front_longer : (a b : SinkSeen) (bytes rest whole : List ℕ) → WritesFront a b bytes → whole ≡ bytes ++ rest → WritesFront a b whole
 front_longer a b bytes rest whole f e =
-    (f.0, f.1.0 ++ rest, e ∙ ap (λ xs. xs ++ rest) f.1.1.0 ∙ append_assoc f.0 f.1.0 rest, f.1.1.1)
+    (f.0, f.1 ++ rest, e ∙ ap (λ xs. xs ++ rest) f.2 ∙ append_assoc f.0 f.1 rest, f.3)
 
 -- ---- a block
 
@@ -45,9 +45,9 @@ put_flushed a b before full after bytes (Err stop) e f empty = (subst (λ xs. Wr
 pub put_more : (a b c : SinkSeen) (x y z s t : List ℕ) → Puts a b x y s (Ok tt) → Puts b c y z t (Ok tt) → Puts a c x z (s ++ t) (Ok tt)
 put_more a b c x y z s t p q = (
   p.0 ++ q.0,
-  sym (append_assoc x s t) ∙ ap (λ xs. xs ++ t) p.1.0 ∙ append_assoc p.0 y t ∙ ap (λ xs. p.0 ++ xs) q.1.0 ∙ sym (append_assoc p.0 q.0 z),
-  takes_trans a b c p.0 q.0 p.1.1.0 q.1.1.0,
-  q.1.1.1 ∙ p.1.1.1,
+  sym (append_assoc x s t) ∙ ap (λ xs. xs ++ t) p.1 ∙ append_assoc p.0 y t ∙ ap (λ xs. p.0 ++ xs) q.1 ∙ sym (append_assoc p.0 q.0 z),
+  takes_trans a b c p.0 q.0 p.2 q.2,
+  q.3 ∙ p.3,
 )
 
 stops_later : (a b c : SinkSeen) (stop : Stop) → b.faults ≡ a.faults → Stops b c stop → Stops a c stop
@@ -61,9 +61,9 @@ put_parts x y s t written e = sym (append_assoc x s t) ∙ ap (λ xs. xs ++ t) e
 front_later : (a b c : SinkSeen) (x y s t : List ℕ) → Puts a b x y s (Ok tt) → WritesFront b c (y ++ t) → WritesFront a c (x ++ (s ++ t))
 front_later a b c x y s t p f = (
   p.0 ++ f.0,
-  f.1.0,
-  put_parts x y s t p.0 p.1.0 ∙ ap (λ xs. p.0 ++ xs) f.1.1.0 ∙ sym (append_assoc p.0 f.0 f.1.0),
-  takes_trans a b c p.0 f.0 p.1.1.0 f.1.1.1,
+  f.1,
+  put_parts x y s t p.0 p.1 ∙ ap (λ xs. p.0 ++ xs) f.2 ∙ sym (append_assoc p.0 f.0 f.1),
+  takes_trans a b c p.0 f.0 p.2 f.3,
 )
 
 -- a text can't be put, so a front of the whole was written
@@ -71,18 +71,18 @@ pub put_stopped : (a b c : SinkSeen) (x y s t rest whole : List ℕ) (stop : Sto
     → whole ≡ s ++ (t ++ rest) → WritesFront a c (x ++ whole) × Stops a c stop
 put_stopped a b c x y s t rest whole stop p f e =
     let same : x ++ whole ≡ (x ++ (s ++ t)) ++ rest = ap (λ xs. x ++ xs) (e ∙ sym (append_assoc s t rest)) ∙ sym (append_assoc x (s ++ t) rest) in
-    (front_longer a c (x ++ (s ++ t)) rest (x ++ whole) (front_later a b c x y s t p f.0) same, stops_later a b c stop p.1.1.1 f.1)
+    (front_longer a c (x ++ (s ++ t)) rest (x ++ whole) (front_later a b c x y s t p f.0) same, stops_later a b c stop p.3 f.1)
 
 -- memory is wanting for a text
 pub put_wanting : (a b : SinkSeen) (x y s rest whole : List ℕ) → Puts a b x y s (Ok tt) → whole ≡ s ++ rest → WritesFront a b (x ++ whole) × Stops a b Memory
 put_wanting a b x y s rest whole p e =
-    ((p.0, y ++ rest, ap (λ xs. x ++ xs) e ∙ put_parts x y s rest p.0 p.1.0, p.1.1.0), p.1.1.1)
+    ((p.0, y ++ rest, ap (λ xs. x ++ xs) e ∙ put_parts x y s rest p.0 p.1, p.2), p.3)
 
 -- what stands in the block is written last
 pub put_last : (a b c : SinkSeen) (x y s : List ℕ) (r : Result (Unit {0}) Stop) → x ≡ [] → Puts a b x y s (Ok tt) → Flushes b c y r → Flushes a c s r
 put_last a b c x y s (Ok u) none p f =
-    let same : p.0 ++ y ≡ s = sym p.1.0 ∙ ap (λ xs. xs ++ s) none in
-    (subst (λ xs. SinkTakes a c xs) same (takes_trans a b c p.0 y p.1.1.0 f.0), f.1 ∙ p.1.1.1)
+    let same : p.0 ++ y ≡ s = sym p.1 ∙ ap (λ xs. xs ++ s) none in
+    (subst (λ xs. SinkTakes a c xs) same (takes_trans a b c p.0 y p.2 f.0), f.1 ∙ p.3)
 put_last a b c x y s (Err stop) none p f =
     let front : WritesFront b c (y ++ []) = subst (λ xs. WritesFront b c xs) (sym (append-nil y)) f.0 in
     let whole : WritesFront a c (x ++ s) × Stops a c stop = put_stopped a b c x y s [] [] s stop p (front, f.1) (sym (append-nil s)) in
