@@ -1,12 +1,12 @@
 -- What a sink and a block hold of what was put.
-use Rattle.std.proofs.Common.{◌≡◌, ℕ, List, [], ◌++◌, Result, Ok, Err, refl, sym, ◌∙◌, ap, append_assoc, append-nil, subst}
+use Rattle.std.proofs.Common.{◌≡◌, ℕ, ◌<◌, List, [], ◌++◌, Result, Ok, Err, inl, inr, refl, sym, ◌∙◌, ap, append_assoc, append-nil, subst, arith}
 use Rattle.std.specs.Prelude.{IsErrAnd}
-use Rattle.bim_io.specs.Causes.{Rose}
+use Rattle.bim_io.specs.Causes.{Rose, ComesOfFault}
 use Rattle.bim_io.specs.Seen.{SinkSeen, SinkTakes}
 use Rattle.bim_io.proofs.Calls.{takes_none, takes_trans}
 use Rattle.batch_commands.specs.declared.block.Stop.{Stop}
 use Rattle.batch_commands.specs.declared.block.Stop.TheVariants.{Write, Memory}
-use Rattle.batch_commands.specs.Writes.{WritesLess, WritesFront, Stops, Flushes, Puts}
+use Rattle.batch_commands.specs.Writes.{WritesLess, WritesFront, Stops, Flushes, Puts, Prints, status_of}
 
 -- what a `?` returns
 pub residual : {A E : Type 0} (r : Result A E) (e : E) → IsErrAnd r (λ x. x ≡ e) → r ≡ Err e
@@ -99,3 +99,26 @@ pub second_stopped : (a b c : SinkSeen) (x y s t whole : List ℕ) (stop : Stop)
 second_stopped a b c x y s t whole stop none p f e =
     let all : WritesFront a c (x ++ whole) × Stops a c stop = put_stopped a b c x y s t [] whole stop p f (e ∙ ap (λ xs. s ++ xs) (sym (append-nil t))) in
     (subst (λ xs. WritesFront a c xs) (ap (λ xs. xs ++ whole) none) all.0, all.1)
+
+-- ---- statuses
+
+pub prints_of : (a b : SinkSeen) (bytes : List ℕ) (done status : ℕ) (r : Result (Unit {0}) Stop) → Flushes a b bytes r → status ≡ status_of done r → Prints a b bytes done status
+prints_of a b bytes done status (Ok u) f e = inl (e, f.0, f.1)
+prints_of a b bytes done status (Err stop) f e = inr (stop, e, f.0, f.1)
+
+-- the status of a failed write comes of one
+pub flush_rose : (a b : SinkSeen) (bytes : List ℕ) (done status : ℕ) (r : Result (Unit {0}) Stop) → Flushes a b bytes r → status ≡ status_of done r → (done ≡ 5 → ⊥)
+    → status ≡ 5 → Rose a.faults b.faults
+flush_rose a b bytes done status (Ok u) f e other five = absurd (other (sym e ∙ five))
+flush_rose a b bytes done status (Err Write) f e other five = f.1
+flush_rose a b bytes done status (Err Memory) f e other five = absurd (omega (arith, e, five))
+
+-- what is printed is never the status of a file that can't be read
+pub not_four : (done status : ℕ) (r : Result (Unit {0}) Stop) → status ≡ status_of done r → (done ≡ 4 → ⊥) → status ≡ 4 → ⊥
+not_four done status (Ok u) e other four = other (sym e ∙ four)
+not_four done status (Err Write) e other four = omega (arith, e, four)
+not_four done status (Err Memory) e other four = omega (arith, e, four)
+
+-- nothing failed, and another status
+pub no_fault : (n n' status : ℕ) → n' ≡ n → (status ≡ 4 → ⊥) → ComesOfFault n n' (status ≡ 4)
+no_fault n n' status same other = record { only = λ four. absurd (other four); always = λ less. absurd (omega (arith, same, less)) }

@@ -1,6 +1,7 @@
 pub mod Reading
 pub mod Written
 pub mod Blocks
+pub mod Printed
 pub mod Plain
 pub mod Saying
 pub mod Judged

@@ -74,11 +74,16 @@ abbrev pub version_of : List Element → Version
 version_of model =
     record { models = record { name = codes "m"; model = model } ∷ []; rules = touching }
 
--- how many elements, triangles and clashes a model has
+-- how many elements, triangles and clashes there are
+abbrev pub numbers_text : ℕ → ℕ → ℕ → List ℕ
+numbers_text elements triangles clashes =
+    codes "elements " ++ decimal elements ++ codes "\ntriangles " ++ decimal triangles
+    ++ codes "\nclashes " ++ decimal clashes ++ codes "\n"
+
+-- those of a model
 abbrev pub summary_of : List Element → List ℕ
 summary_of model =
-    codes "elements " ++ decimal (length model) ++ codes "\ntriangles " ++ decimal (triangle_count model)
-    ++ codes "\nclashes " ++ decimal (length (clashes (version_of model))) ++ codes "\n"
+    numbers_text (length model) (triangle_count model) (length (clashes (version_of model)))
 
 -- this is the summary of the model that a generated file makes
 pub record IsSummary (number count : ℕ) (text : List ℕ) : Type 0 where

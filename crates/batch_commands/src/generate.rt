@@ -4,7 +4,7 @@ ghost use Rattle.bim_io.specs.Causes.{Rose};
 ghost use Rattle.model_generator.specs.Files.{generated};
 ghost use Rattle.model_generator.specs.declared.pieces.TheConstants.{MOST_GENERATED};
 ghost use Rattle.batch_commands.specs.GenerateWords.{generate_words};
-ghost use Rattle.batch_commands.specs.Commands.{touching, version_of, summary_of, IsSummary, Generates};
+ghost use Rattle.batch_commands.specs.Commands.{touching, version_of, numbers_text, summary_of, IsSummary, Generates};
 ghost use Rattle.batch_commands.specs.Writes.{Flushes, Puts};
 
 use crate::block::{Stop, flush, put, write_bytes};
@@ -91,27 +91,40 @@ fn touching(alloc: Global) -> Result<Rules, AllocError>
 fn version_of(alloc: Global, model: Model) -> Result<Snapshot, AllocError>
     ensures { IfOk result (λ version. version ≡ version_of model) }
 {
-    let rules = Shared::new(alloc, touching(alloc)?)?;
-    let named = NamedModel {
-        name: Text::of(alloc, "m")?,
-        model: Shared::new(alloc, model)?,
-    };
-    Snapshot::new(alloc, rules).with_model(alloc, named)
+    let rules = touching(alloc)?;
+    let shared = Shared::new(alloc, rules)?;
+    let name = Text::of(alloc, "m")?;
+    let model = Shared::new(alloc, model)?;
+    let empty = Snapshot::new(alloc, shared);
+    empty.with_model(alloc, NamedModel { name, model })
 }
 
-// How many elements, triangles and clashes a model has, one a line. A version of a generated model is never
-// too large, which is not proved: it would be answered as want of memory.
+// The three numbers, one a line.
+fn numbers_text(
+    alloc: Global,
+    elements: u64,
+    triangles: u64,
+    clashes: u64,
+) -> Result<String, AllocError>
+    ensures { IfOk result (λ text. string_bytes text ≡ numbers_text elements triangles clashes) }
+{
+    format!(in alloc; "elements {elements}\ntriangles {triangles}\nclashes {clashes}\n")
+}
+
+// How many elements, triangles and clashes a model has. A version of a generated model is never too large,
+// which is not proved: it would be answered as want of memory.
 fn summary_of(alloc: Global, model: Model) -> Result<String, AllocError>
     ensures { IfOk result (λ text. string_bytes text ≡ summary_of model) }
 {
-    let elements = model.elements().len();
+    let elements = model.elements().len() as u64;
     let triangles = model.triangle_count();
-    let version = Shared::new(alloc, version_of(alloc, model)?)?;
-    let Ok(found) = clashes_of(alloc, version) else {
+    let version = version_of(alloc, model)?;
+    let shared = Shared::new(alloc, version)?;
+    let Ok(found) = clashes_of(alloc, shared) else {
         return Err(AllocError);
     };
     let clashes = found.total();
-    format!(in alloc; "elements {elements}\ntriangles {triangles}\nclashes {clashes}\n")
+    numbers_text(alloc, elements, triangles, clashes)
 }
 
 // The same of the file. It is never refused, which is not proved: that too would be answered as want of
