@@ -6,7 +6,7 @@ use Rattle.bim_io.specs.Seen.{SinkSeen, SinkTakes}
 use Rattle.bim_io.proofs.Calls.{takes_none, takes_trans}
 use Rattle.batch_commands.specs.declared.block.Stop.{Stop}
 use Rattle.batch_commands.specs.declared.block.Stop.TheVariants.{Write, Memory}
-use Rattle.batch_commands.specs.Writes.{WritesLess, WritesFront, Stops, Flushes, Puts, Prints, status_of}
+use Rattle.batch_commands.specs.Writes.{WritesLess, WritesFront, Stops, Flushes, Puts, Prints, status_of, stop_status}
 
 -- what a `?` returns
 pub residual : {A E : Type 0} (r : Result A E) (e : E) → IsErrAnd r (λ x. x ≡ e) → r ≡ Err e
@@ -106,18 +106,23 @@ pub prints_of : (a b : SinkSeen) (bytes : List ℕ) (done status : ℕ) (r : Res
 prints_of a b bytes done status (Ok u) f e = inl (e, f.0, f.1)
 prints_of a b bytes done status (Err stop) f e = inr (stop, e, f.0, f.1)
 
--- the status of a failed write comes of one
-pub flush_rose : (a b : SinkSeen) (bytes : List ℕ) (done status : ℕ) (r : Result (Unit {0}) Stop) → Flushes a b bytes r → status ≡ status_of done r → (done ≡ 5 → ⊥)
-    → status ≡ 5 → Rose a.faults b.faults
-flush_rose a b bytes done status (Ok u) f e other five = absurd (other (sym e ∙ five))
-flush_rose a b bytes done status (Err Write) f e other five = f.1
-flush_rose a b bytes done status (Err Memory) f e other five = absurd (omega (arith, e, five))
+-- such a status is never that of a file that can't be read
+stop_not_four : (status : ℕ) (stop : Stop) → status ≡ stop_status stop → status ≡ 4 → ⊥
+stop_not_four status Write e four = omega (arith, e, four)
+stop_not_four status Memory e four = omega (arith, e, four)
 
--- what is printed is never the status of a file that can't be read
-pub not_four : (done status : ℕ) (r : Result (Unit {0}) Stop) → status ≡ status_of done r → (done ≡ 4 → ⊥) → status ≡ 4 → ⊥
-not_four done status (Ok u) e other four = other (sym e ∙ four)
-not_four done status (Err Write) e other four = omega (arith, e, four)
-not_four done status (Err Memory) e other four = omega (arith, e, four)
+pub prints_not_four : (a b : SinkSeen) (bytes : List ℕ) (done status : ℕ) → Prints a b bytes done status → (done ≡ 4 → ⊥) → status ≡ 4 → ⊥
+prints_not_four a b bytes done status (inl p) other four = other (sym p.0 ∙ four)
+prints_not_four a b bytes done status (inr p) other four = stop_not_four status p.0 p.1 four
+
+-- the status of a failed write comes of one
+stop_rose : (a b : SinkSeen) (status : ℕ) (stop : Stop) → status ≡ stop_status stop → Stops a b stop → status ≡ 5 → Rose a.faults b.faults
+stop_rose a b status Write e rose five = rose
+stop_rose a b status Memory e still five = absurd (omega (arith, e, five))
+
+pub prints_rose : (a b : SinkSeen) (bytes : List ℕ) (done status : ℕ) → Prints a b bytes done status → (done ≡ 5 → ⊥) → status ≡ 5 → Rose a.faults b.faults
+prints_rose a b bytes done status (inl p) other five = absurd (other (sym p.0 ∙ five))
+prints_rose a b bytes done status (inr p) other five = stop_rose a b status p.0 p.1 p.3 five
 
 -- nothing failed, and another status
 pub no_fault : (n n' status : ℕ) → n' ≡ n → (status ≡ 4 → ⊥) → ComesOfFault n n' (status ≡ 4)

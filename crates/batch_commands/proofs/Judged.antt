@@ -1,5 +1,7 @@
 -- What was read of files stays so while other files are read.
-use Rattle.std.proofs.Common.{◌≡◌, ◌+◌, ◌<◌, ℕ, List, [], ◌∷◌, ◌++◌, length, take, drop, get_or, Option, Some, None, Result, Ok, Err, inl, inr, refl, sym, ◌∙◌, ap, subst, take_more}
+use Rattle.std.proofs.Common.{◌≡◌, ◌+◌, ◌<◌, ℕ, List, [], ◌∷◌, ◌++◌, length, take, drop, get_or, Option, Some, None, Result, Ok, Err, inl, inr, refl, sym, ◌∙◌, ap, subst}
+use Rattle.std.proofs.lemmas.List.{take_more}
+use Rattle.std.specs.Prelude.{IsErrAnd}
 use Rattle.std.specs.List.{AllZip}
 use Rattle.bim_model.specs.declared.named_model.NamedModel.{NamedModel}
 use Rattle.bim_model.specs.declared.rules.Rule.{Rule}
@@ -20,6 +22,11 @@ use Rattle.batch_commands.specs.declared.refusal.Refusal.TheVariants as refusal
 use Rattle.batch_commands.specs.declared.refusal.JudgeError.{JudgeError}
 use Rattle.batch_commands.specs.declared.refusal.JudgeError.TheVariants.{Refused, File, Memory}
 use Rattle.batch_commands.specs.Judging.{AreJudged, Ends, Fails, Finds, HasRules, IsFirstRefused, IsJudged, IsMadeOf, IsRefusal, IsRefused, IsRulesRefusal, IsVersionOf, IsWordRefused, Quiet, of_file, placed}
+
+-- what a `?` returns
+pub residual : {A E : Type 0} (r : Result A E) (e : E) → IsErrAnd r (λ x. x ≡ e) → r ≡ Err e
+residual (Ok a) e h = absurd h
+residual (Err x) e h = ap (λ y. Err y) h
 
 pub tells_same : (a : Option FilesTold) → Tells a a
 tells_same None = tt

@@ -4,4 +4,5 @@ pub mod Blocks
 pub mod Printed
 pub mod Plain
 pub mod Saying
+pub mod Each
 pub mod Judged

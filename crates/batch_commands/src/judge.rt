@@ -1,6 +1,6 @@
 //! Files are read and judged one after the other.
 ghost use Rattle.std.specs.Prelude.{◌≡◌, IfOk};
-ghost use Rattle.batch_commands.specs.declared.refusal.Refusal.TheVariants.{Model};
+ghost use Rattle.batch_commands.specs.declared.refusal.Refusal.TheVariants as refusal;
 ghost use Rattle.batch_commands.specs.Judging.{JudgesRules, JudgesModel, JudgesModels, Finds};
 
 use crate::check_words::{CheckWords, ModelWord};
@@ -53,7 +53,7 @@ fn named(alloc: Global, word: &ModelWord, model: Model) -> Result<NamedModel, Al
 
 // The refusal of a word's file.
 fn refused(alloc: Global, word: &ModelWord, fault: UploadFault) -> Result<Refusal, AllocError>
-    ensures { IfOk result (λ why. why ≡ Model word.now.name fault) }
+    ensures { IfOk result (λ why. why ≡ refusal.Model word.now.name fault) }
 {
     let name = word.name.copy(alloc)?;
     Ok(Refusal::Model { name, fault })
