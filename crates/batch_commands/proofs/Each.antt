@@ -41,7 +41,7 @@ words_none ts i t d h is said =
     ∙ some_none (map model_word (take i ts)) (map model_word (drop (i + 1) ts)))
 
 -- the same of lent words
-bytes : List (Bor (List ℕ)) → List (List ℕ)
+abbrev bytes : List (Bor (List ℕ)) → List (List ℕ)
 bytes ts = map (λ t. t.now) ts
 
 within : (ts : List (Bor (List ℕ))) (i : ℕ) → i < length ts → i < length (bytes ts)
