@@ -6,3 +6,4 @@ pub mod Plain
 pub mod Saying
 pub mod Each
 pub mod Judged
+pub mod Answered

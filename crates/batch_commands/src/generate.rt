@@ -5,7 +5,7 @@ ghost use Rattle.model_generator.specs.Files.{generated};
 ghost use Rattle.model_generator.specs.declared.pieces.TheConstants.{MOST_GENERATED};
 ghost use Rattle.batch_commands.specs.GenerateWords.{generate_words};
 ghost use Rattle.batch_commands.specs.Commands.{touching, version_of, numbers_text, summary_of, IsSummary, Generates};
-ghost use Rattle.batch_commands.specs.Writes.{Flushes, Puts};
+ghost use Rattle.batch_commands.specs.Writes.{Flushes, Prints, Puts};
 
 use crate::block::{Stop, flush, put, write_bytes};
 use crate::generate_words::{GenerateWords, generate_words};
@@ -140,6 +140,23 @@ fn summary(alloc: Global, count: u32, number: u64) -> Result<String, AllocError>
     }
 }
 
+// Prints the file.
+fn answer_file<K: Sink>(alloc: Global, said: GenerateWords, sink: &mut K) -> u8
+    requires { said.count ≤ MOST_GENERATED }
+    ensures { Prints (K.seen sink.old) (K.seen sink.new) (generated said.number said.count) 0 result }
+{
+    let written = print_file(alloc, said.count, said.number, sink);
+    printed(0, written)
+}
+
+// Prints what a file holds.
+fn answer_numbers<K: Sink>(sink: &mut K, text: &str) -> u8
+    ensures { Prints (K.seen sink.old) (K.seen sink.new) text.now 0 result }
+{
+    let written = write_bytes(sink, text.as_bytes());
+    printed(0, written)
+}
+
 // Prints the file, or what it holds.
 fn generate<K: Sink>(alloc: Global, said: GenerateWords, sink: &mut K) -> u8
     requires { said.count ≤ MOST_GENERATED }
@@ -147,10 +164,10 @@ fn generate<K: Sink>(alloc: Global, said: GenerateWords, sink: &mut K) -> u8
     ensures write { result ≡ 5 → Rose (K.seen sink.old).faults (K.seen sink.new).faults }
 {
     if said.file {
-        return printed(0, print_file(alloc, said.count, said.number, sink));
+        return answer_file(alloc, said, sink);
     }
     match summary(alloc, said.count, said.number) {
-        Ok(text) => printed(0, write_bytes(sink, text.as_bytes())),
+        Ok(text) => answer_numbers(sink, text.as_str()),
         Err(_) => NO_MEMORY,
     }
 }

@@ -1,7 +1,8 @@
 use Rattle.std.proofs.Common.{Option, inl, inr, refl, subst, arith}
 use Rattle.batch_commands.specs.declared.check_words.CheckWords.{CheckWords}
+use Rattle.batch_commands.specs.CheckWords.{check_words}
 use Rattle.batch_commands.specs.Commands.{Checks}
-use Rattle.batch_commands.proofs.Answered.{unread_status, unwritten_status}
+use Rattle.batch_commands.proofs.Answered.{check_wanting, unread_status, unwritten_status}
 use Rattle.batch_commands.proofs.check.run_check.Goals as goal
 
 pub returns-in-Ok-Some-clause-does : goal.returns-in-Ok-Some-clause-does
@@ -24,7 +25,7 @@ returns-in-Ok-None-clause-write g c = unwritten_status _ _ c.print_usage.result 
 
 pub returns-in-Err-clause-does : goal.returns-in-Err-clause-does
 returns-in-Err-clause-does g c =
-    WANTING
+    check_wanting (check_words c.args.words.now) (g.F.Files.seen c.args.files.now) (g.K.Sink.seen c.args.sink.now)
 
 pub returns-in-Err-clause-read : goal.returns-in-Err-clause-read
 returns-in-Err-clause-read g c = unread_status _ 6 6 refl (λ e. omega (arith, e))
