@@ -1,6 +1,6 @@
 -- What was read of files stays so while other files are read.
 use Rattle.std.proofs.Common.{◌≡◌, ◌+◌, ◌<◌, ℕ, List, [], ◌∷◌, ◌++◌, length, take, drop, get_or, Option, Some, None, Result, Ok, Err, inl, inr, refl, sym, ◌∙◌, ap, subst}
-use Rattle.std.proofs.lemmas.List.{take_more}
+use Rattle.std.proofs.lemmas.List.{drop_more, take_more, take-append-drop}
 use Rattle.std.specs.Prelude.{IsErrAnd}
 use Rattle.std.specs.List.{AllZip}
 use Rattle.bim_model.specs.declared.named_model.NamedModel.{NamedModel}
@@ -137,6 +137,11 @@ made_more a b c mode words i word model rules old new lt is p q made judged mode
       judged = subst (λ ws. AreJudged a c mode ws (made.models ++ model ∷ [])) words_are both;
       placed_are = models_are ∙ ap (with_model model) made.placed_are ∙ sym (placed_last [] made.models model);
     }
+
+-- words by the one of a place
+pub parts_at : (words : List ModelWord) (i : ℕ) (word : ModelWord) → i < length words → word ≡ get_or words i word → words ≡ take i words ++ word ∷ drop (i + 1) words
+parts_at words i word lt is =
+    sym (take-append-drop i words) ∙ ap (λ l. take i words ++ l) (drop_more words i word lt ∙ ap (λ w. w ∷ drop (i + 1) words) (sym is))
 
 -- the first word that is refused
 pub first_refused : (a b c : Option FilesTold) (mode : Mode) (words : List ModelWord) (i : ℕ) (word : ModelWord) (rules : List Rule) (old : Version) (why : Refusal)
