@@ -29,7 +29,7 @@ fn put_pieces<K: Sink>(
 ) -> Result<(), Stop>
     ensures { Puts (K.seen sink.old) (K.seen sink.new) block.old.items block.new.items pieces result }
 {
-    'pieces: for _ in 0..u64::MAX {
+    'asks: for _ in 0..u64::MAX {
         match pieces.next(alloc)? {
             Some(piece) => put(sink, block, piece.as_str())?,
             None => return Ok(()),
@@ -53,7 +53,7 @@ fn all_bytes(alloc: Global, mut pieces: Pieces) -> Result<Vec<u8>, AllocError>
     ensures { IfOk result (λ bytes. bytes.items ≡ pieces) }
 {
     let mut bytes = Vec::new(alloc);
-    'pieces: for _ in 0..u64::MAX {
+    'asks: for _ in 0..u64::MAX {
         match pieces.next(alloc)? {
             Some(piece) => bytes.extend_from_slice(piece.as_bytes())?,
             None => return Ok(bytes),
