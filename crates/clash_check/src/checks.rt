@@ -3,7 +3,7 @@ ghost use Rattle.std.specs.Prelude.{◌≡◌, ◌<◌, ◌≤◌, ◌-◌, ◌^
 ghost use Rattle.bim_model.specs.Keys.{subjects_of};
 ghost use Rattle.bucket_check.specs.Sets.{IsSetOf};
 ghost use Rattle.clash_publish.specs.Merged.{AreSetsOf};
-ghost use Rattle.clash_check.specs.Versions.{element_count, IsChecked, IsVersionCause};
+ghost use Rattle.clash_check.specs.Versions.{element_count, IsChecked, IsVersionCause, of_grid};
 
 use crate::fault::{MOST_VERSION_ELEMENTS, VersionError, VersionFault};
 use bim_model::{NamedModel, Shared, Snapshot, Steps};
@@ -78,6 +78,16 @@ fn published(alloc: Global, grid: Grid) -> Result<Published, AllocError>
     Published::of(alloc, shared, &sets)
 }
 
+// Why there is no grid, as an error of its version.
+fn error_of(error: GridError) -> VersionError
+    ensures { result ≡ of_grid error }
+{
+    match error {
+        GridError::TooSpread { count } => VersionError::Fault(VersionFault::TooSpread { count }),
+        GridError::Memory => VersionError::Memory,
+    }
+}
+
 /// The clashes of a version. It is refused where it has over 100,000 elements, or else over 2,000,000 pairs
 /// of a cell of its grid and a member. An error also where memory is wanting.
 pub fn clashes_of(alloc: Global, version: Shared<Snapshot>) -> Result<Published, VersionError>
@@ -91,9 +101,6 @@ pub fn clashes_of(alloc: Global, version: Shared<Snapshot>) -> Result<Published,
     }
     match Grid::of(alloc, version) {
         Ok(grid) => Ok(published(alloc, grid)?),
-        Err(GridError::TooSpread { count }) => {
-            Err(VersionError::Fault(VersionFault::TooSpread { count }))
-        }
-        Err(GridError::Memory) => Err(VersionError::Memory),
+        Err(error) => Err(error_of(error)),
     }
 }
