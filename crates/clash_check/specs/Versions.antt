@@ -1,5 +1,5 @@
 -- Which versions are too large, and what their clashes are answered by.
-use Rattle.std.specs.Prelude.{◌≡◌, ℕ, ◌≤◌, ◌<◌, ◌-◌, ◌^◌, length, min, Result, Ok, Err, ⊤}
+use Rattle.std.specs.Prelude.{◌≡◌, ℕ, ◌≤◌, ◌<◌, ◌-◌, ◌^◌, length, min, ⊤}
 use Rattle.bim_model.specs.Keys.{subjects_of}
 use Rattle.bim_model.specs.Snapshots.{Version}
 use Rattle.bucket_grid.specs.Grids.{HasMemberships}
