@@ -1,5 +1,5 @@
 -- What the commands do and answer.
-use Rattle.std.specs.Prelude.{◌≡◌, ◌≢◌, ◌⊎◌, ℕ, ◌++◌, List, [], ◌∷◌, length, codes}
+use Rattle.std.specs.Prelude.{◌≡◌, ◌⊎◌, ℕ, ◌++◌, List, [], ◌∷◌, length, codes}
 use Rattle.std.specs.Prelude.{Bool, true, false, Option, Some, None, Result, Ok, Err}
 use Rattle.std.specs.Fmt.{decimal}
 use Rattle.bim_model.specs.declared.element.Element.{Element}
@@ -11,38 +11,18 @@ use Rattle.bim_model.specs.declared.rules.RuleKind.TheVariants.{Clash}
 use Rattle.bim_model.specs.declared.upload.Mode.TheVariants.{Exact}
 use Rattle.bim_model.specs.Models.{triangle_count}
 use Rattle.bim_model.specs.Snapshots.{Version}
-use Rattle.bim_io.specs.Causes.{ComesOfFault}
-use Rattle.bim_io.specs.Seen.{SinkSeen, SinkTakes}
+use Rattle.bim_io.specs.Seen.{SinkSeen}
 use Rattle.bim_files.specs.Files.{FilesSeen}
 use Rattle.model_build.specs.Profile.{Profile}
 use Rattle.model_generator.specs.Files.{generated}
 use Rattle.bucket_check.specs.Clashes.{clashes}
-use Rattle.batch_commands.specs.declared.block.Stop.{Stop}
-use Rattle.batch_commands.specs.declared.block.Stop.TheVariants as stop
 use Rattle.batch_commands.specs.declared.check_words.CheckWords.{CheckWords}
 use Rattle.batch_commands.specs.declared.generate_words.GenerateWords.{GenerateWords}
-use Rattle.batch_commands.specs.declared.judge.JudgeError.{JudgeError}
-use Rattle.batch_commands.specs.declared.judge.JudgeError.TheVariants.{Refused, File, Memory}
+use Rattle.batch_commands.specs.declared.refusal.JudgeError.{JudgeError}
+use Rattle.batch_commands.specs.declared.refusal.JudgeError.TheVariants.{Refused, File, Memory}
 use Rattle.batch_commands.specs.Judging.{Finds}
 use Rattle.batch_commands.specs.Reports.{found_bytes, refusal_line}
-use Rattle.batch_commands.specs.Writes.{Prints}
-
-abbrev pub usage_line : List ℕ
-usage_line = codes "usage: bim_server replay|check|generate|serve\n"
-
--- the usage line is written, or a front of it exactly where a write failed
-pub record PrintsUsage (old new : SinkSeen) (status : ℕ) : Type 0 where
-  pub status_is : status ≡ 2
-  pub front : List ℕ
-  pub more : List ℕ
-  pub line : usage_line ≡ front ++ more
-  pub wrote : SinkTakes old new front
-  pub short : ComesOfFault old.faults new.faults (more ≢ [])
-
--- memory was wanting before anything was written
-pub record WantsMemory (old new : SinkSeen) (status : ℕ) : Type 0 where
-  pub status_is : status ≡ 6
-  pub same : new ≡ old
+use Rattle.batch_commands.specs.Writes.{Prints, PrintsUsage, WantsMemory}
 
 -- ---- check
 
@@ -94,11 +74,16 @@ abbrev pub version_of : List Element → Version
 version_of model =
     record { models = record { name = codes "m"; model = model } ∷ []; rules = touching }
 
--- how many elements, triangles and clashes a model has
+-- how many elements, triangles and clashes there are
+abbrev pub numbers_text : ℕ → ℕ → ℕ → List ℕ
+numbers_text elements triangles clashes =
+    codes "elements " ++ decimal elements ++ codes "\ntriangles " ++ decimal triangles
+    ++ codes "\nclashes " ++ decimal clashes ++ codes "\n"
+
+-- those of a model
 abbrev pub summary_of : List Element → List ℕ
 summary_of model =
-    codes "elements " ++ decimal (length model) ++ codes "\ntriangles " ++ decimal (triangle_count model)
-    ++ codes "\nclashes " ++ decimal (length (clashes (version_of model))) ++ codes "\n"
+    numbers_text (length model) (triangle_count model) (length (clashes (version_of model)))
 
 -- this is the summary of the model that a generated file makes
 pub record IsSummary (number count : ℕ) (text : List ℕ) : Type 0 where

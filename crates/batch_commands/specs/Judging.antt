@@ -16,10 +16,10 @@ use Rattle.clash_check.specs.declared.fault.VersionFault.{VersionFault}
 use Rattle.batch_commands.specs.declared.check_words.ModelWord.{ModelWord}
 use Rattle.batch_commands.specs.declared.check_words.CheckWords.{CheckWords}
 use Rattle.batch_commands.specs.declared.rules_file.RulesFault.{RulesFault}
-use Rattle.batch_commands.specs.declared.judge.Refusal.{Refusal}
-use Rattle.batch_commands.specs.declared.judge.Refusal.TheVariants as refusal
-use Rattle.batch_commands.specs.declared.judge.JudgeError.{JudgeError}
-use Rattle.batch_commands.specs.declared.judge.JudgeError.TheVariants.{Refused, File, Memory}
+use Rattle.batch_commands.specs.declared.refusal.Refusal.{Refusal}
+use Rattle.batch_commands.specs.declared.refusal.Refusal.TheVariants as refusal
+use Rattle.batch_commands.specs.declared.refusal.JudgeError.{JudgeError}
+use Rattle.batch_commands.specs.declared.refusal.JudgeError.TheVariants.{Refused, File, Memory}
 use Rattle.batch_commands.specs.RulesFile.{rules_in}
 
 -- ---- one file

@@ -7,19 +7,19 @@ use Rattle.bim_model.specs.Snapshots.{Version}
 use Rattle.bucket_check.specs.declared.pair.SetPair.{SetPair}
 use Rattle.bucket_check.specs.Clashes.{clashes}
 use Rattle.clash_publish.specs.Listed.{element_of}
-use Rattle.batch_commands.specs.declared.judge.Refusal.{Refusal}
-use Rattle.batch_commands.specs.declared.judge.Refusal.TheVariants.{Rules, Model, Version as TooLarge}
+use Rattle.batch_commands.specs.declared.refusal.Refusal.{Refusal}
+use Rattle.batch_commands.specs.declared.refusal.Refusal.TheVariants.{Rules, Model, Version as TooLarge}
 use Rattle.batch_commands.specs.Faults.{rules_words, upload_words, version_words}
 
--- an element: the name of its model and its identifier
-abbrev pub key_words : Subject → List ℕ
-key_words s = s.name ++ codes " " ++ s.element.guid.chars
+-- an element, the name of its model and its identifier, before other words
+abbrev pub key_before : Subject → List ℕ → List ℕ
+key_before s words = s.name ++ codes " " ++ s.element.guid.chars ++ codes " " ++ words
 
 -- two elements that clash, and the number of the rule
 abbrev pub clash_line : Version → SetPair → List ℕ
 clash_line version p =
-    key_words (element_of version p.a) ++ codes " " ++ key_words (element_of version p.b) ++ codes " "
-    ++ decimal p.rule ++ codes "\n"
+    key_before (element_of version p.a)
+    (key_before (element_of version p.b) (decimal p.rule ++ codes "\n"))
 
 abbrev pub clash_lines : Version → List SetPair → List ℕ
 clash_lines version pairs = flat_map (clash_line version) pairs

@@ -1,6 +1,6 @@
 -- What is written, in blocks.
-use Rattle.std.specs.Prelude.{◌≡◌, ◌≢◌, ◌⊎◌, ℕ, List, [], ◌++◌, Result, Ok, Err}
-use Rattle.bim_io.specs.Causes.{Rose}
+use Rattle.std.specs.Prelude.{◌≡◌, ◌≢◌, ◌⊎◌, ℕ, List, [], ◌++◌, codes, Result, Ok, Err}
+use Rattle.bim_io.specs.Causes.{Rose, ComesOfFault}
 use Rattle.bim_io.specs.Seen.{SinkSeen, SinkTakes}
 use Rattle.batch_commands.specs.declared.block.Stop.{Stop}
 use Rattle.batch_commands.specs.declared.block.Stop.TheVariants.{Write, Memory}
@@ -53,3 +53,22 @@ abbrev pub Prints : SinkSeen → SinkSeen → List ℕ → ℕ → ℕ → Type 
 Prints old new bytes done status =
     ((status ≡ done) × SinkTakes old new bytes × (new.faults ≡ old.faults))
     ⊎ ((stop : Stop) × (status ≡ stop_status stop) × WritesFront old new bytes × Stops old new stop)
+
+-- ---- the usage line, and want of memory
+
+abbrev pub usage_line : List ℕ
+usage_line = codes "usage: bim_server replay|check|generate|serve\n"
+
+-- the usage line is written, or a front of it exactly where a write failed
+pub record PrintsUsage (old new : SinkSeen) (status : ℕ) : Type 0 where
+  pub status_is : status ≡ 2
+  pub front : List ℕ
+  pub more : List ℕ
+  pub line : usage_line ≡ front ++ more
+  pub wrote : SinkTakes old new front
+  pub short : ComesOfFault old.faults new.faults (more ≢ [])
+
+-- memory was wanting before anything was written
+pub record WantsMemory (old new : SinkSeen) (status : ℕ) : Type 0 where
+  pub status_is : status ≡ 6
+  pub same : new ≡ old

@@ -2,16 +2,47 @@
 ghost use Rattle.std.specs.Prelude.{◌≡◌};
 ghost use Rattle.bim_io.specs.Causes.{Rose, ComesOfFault};
 ghost use Rattle.batch_commands.specs.CheckWords.{check_words};
-ghost use Rattle.batch_commands.specs.Commands.{ChecksBy, Checks};
+ghost use Rattle.batch_commands.specs.Reports.{found_bytes, refusal_line};
+ghost use Rattle.batch_commands.specs.Writes.{Prints};
+ghost use Rattle.batch_commands.specs.Commands.{AnswersError, ChecksBy, Checks};
 
 use crate::check_words::{CheckWords, check_words};
-use crate::judge::{JudgeError, judge};
+use crate::judge::judge;
+use crate::refusal::{JudgeError, Refusal};
 use crate::report::{print_found, print_refusal};
 use crate::statuses::{NO_FILE, NO_MEMORY, REFUSED, print_usage, printed};
 use bim_files::Files;
 use bim_io::Sink;
 use bim_model::Text;
+use clash_publish::Published;
 use std::alloc::Global;
+
+// Prints what was found.
+fn answer_found<K: Sink>(alloc: Global, sink: &mut K, found: &Published) -> u8
+    ensures { Prints (K.seen sink.old) (K.seen sink.new) (found_bytes found.now) 0 result }
+{
+    let written = print_found(alloc, sink, found);
+    printed(0, written)
+}
+
+// Prints the line of a refusal.
+fn answer_refusal<K: Sink>(alloc: Global, sink: &mut K, refusal: &Refusal) -> u8
+    ensures { Prints (K.seen sink.old) (K.seen sink.new) (refusal_line refusal.now) 3 result }
+{
+    let written = print_refusal(alloc, sink, refusal);
+    printed(REFUSED, written)
+}
+
+// Prints why nothing was found, where that is a refusal.
+fn answer_error<K: Sink>(alloc: Global, sink: &mut K, error: JudgeError) -> u8
+    ensures { AnswersError (K.seen sink.old) (K.seen sink.new) error result }
+{
+    match error {
+        JudgeError::Refused(refusal) => answer_refusal(alloc, sink, &refusal),
+        JudgeError::File => NO_FILE,
+        JudgeError::Memory => NO_MEMORY,
+    }
+}
 
 // Checks the files that the words name.
 fn check_said<F: Files, K: Sink>(
@@ -26,12 +57,8 @@ fn check_said<F: Files, K: Sink>(
     ensures write { result ≡ 5 → Rose (K.seen sink.old).faults (K.seen sink.new).faults }
 {
     match judge(alloc, files, said) {
-        Ok(found) => printed(0, print_found(alloc, sink, &found)),
-        Err(JudgeError::Refused(refusal)) => {
-            printed(REFUSED, print_refusal(alloc, sink, &refusal))
-        }
-        Err(JudgeError::File) => NO_FILE,
-        Err(JudgeError::Memory) => NO_MEMORY,
+        Ok(found) => answer_found(alloc, sink, &found),
+        Err(error) => answer_error(alloc, sink, error),
     }
 }
 

@@ -1,9 +1,10 @@
 //! The words of `check`.
-ghost use Rattle.std.specs.Prelude.{◌≡◌, ◌++◌, ℕ, List, map, option_map, length, drop, IfOk, IfSome, not};
+ghost use Rattle.std.specs.Prelude.{◌≡◌, ◌&&◌, ℕ, map, option_map, nat_lt, nat_le, Some, IfOk};
 ghost use Rattle.std.specs.List.{list_all, list_any};
 ghost use Rattle.std.specs.Str.{bytes_eq};
 ghost use Rattle.clap.specs.Words.{app_of, found_of, rows_of};
-ghost use Rattle.batch_commands.specs.CheckWords.{is_model_name, is_model_name_char, model_word, all_some, names_differ, model_words, if_models, mode_said, check_command, check_said, check_words};
+ghost use Rattle.batch_commands.specs.declared.check_words.TheConstants.{MOST_MODELS};
+ghost use Rattle.batch_commands.specs.CheckWords.{is_model_name, is_model_name_char, model_word, all_some, names_differ, if_differ, if_models, mode_said, all_said, check_command, check_said, check_words};
 
 use bim_model::{Items, MOST_NAME, Mode, Text};
 use clap::{ArgMatches, Command};
@@ -68,7 +69,7 @@ fn model_word(alloc: Global, text: &str) -> Result<Option<ModelWord>, AllocError
 // What each of these words says, where each says something.
 fn each_word(alloc: Global, texts: &[&str]) -> Result<Option<Vec<ModelWord>>, AllocError>
     ensures { IfOk result (λ said. option_map (λ words. words.items) said
-        ≡ all_some (map (λ t. model_word t.now) texts.now)) }
+        ≡ all_some (map model_word (map (λ t. t.now) texts.now))) }
 {
     let mut words = Vec::with_capacity(alloc, texts.len())?;
     for text in texts {
@@ -96,27 +97,48 @@ fn names_differ(words: &[ModelWord]) -> bool
     }
 }
 
-// The models that the words name: 1 to 64 of different names.
+// The models of words, where their names differ.
+fn if_differ(words: Vec<ModelWord>) -> Option<Items<ModelWord>>
+    ensures { result ≡ if_differ words.items }
+{
+    if names_differ(words.as_slice()) {
+        Some(Items::from_vec(words))
+    } else {
+        None
+    }
+}
+
+// Whether there may be so many models.
+fn is_count(count: usize) -> bool
+    ensures { result ≡ (nat_lt 0 count && nat_le count MOST_MODELS) }
+{
+    0 < count && count <= MOST_MODELS
+}
+
+// The models that these words name: 1 to 64 of different names.
+fn few_said(alloc: Global, texts: &[&str]) -> Result<Option<Items<ModelWord>>, AllocError>
+    ensures { IfOk result (λ said. said ≡ if_models (Some (map (λ t. t.now) texts.now))) }
+{
+    if !is_count(texts.len()) {
+        return Ok(None);
+    }
+    match each_word(alloc, texts)? {
+        Some(words) => Ok(if_differ(words)),
+        None => Ok(None),
+    }
+}
+
+// The same, where there are words.
 fn models_said(
     alloc: Global,
     texts: Option<&[&str]>,
 ) -> Result<Option<Items<ModelWord>>, AllocError>
     ensures { IfOk result (λ said. said
-        ≡ if_models (option_map (λ texts. map (λ t. t.now) texts.now) texts)) }
+        ≡ if_models (option_map (λ texts. map (λ t. t.now) texts.now) texts.entry)) }
 {
-    let Some(texts) = texts else {
-        return Ok(None);
-    };
-    if texts.is_empty() || texts.len() > MOST_MODELS {
-        return Ok(None);
-    }
-    let Some(words) = each_word(alloc, texts)? else {
-        return Ok(None);
-    };
-    if names_differ(words.as_slice()) {
-        Ok(Some(Items::from_vec(words)))
-    } else {
-        Ok(None)
+    match texts {
+        Some(texts) => few_said(alloc, texts),
+        None => Ok(None),
     }
 }
 
@@ -135,33 +157,44 @@ fn mode_said(text: Option<&str>) -> Option<Mode>
     }
 }
 
+fn all_said(
+    alloc: Global,
+    rules: Option<&str>,
+    mode: Option<Mode>,
+    models: Option<Items<ModelWord>>,
+) -> Result<Option<CheckWords>, AllocError>
+    ensures { IfOk result (λ said. said ≡ all_said (option_map (λ s. s.now) rules.entry) mode models) }
+{
+    match (rules, mode, models) {
+        (Some(rules), Some(mode), Some(models)) => {
+            let rules = Text::of(alloc, rules)?;
+            Ok(Some(CheckWords {
+                rules,
+                mode,
+                models,
+            }))
+        }
+        _ => Ok(None),
+    }
+}
+
 fn check_said(alloc: Global, matches: &ArgMatches<'_>) -> Result<Option<CheckWords>, AllocError>
     ensures { IfOk result (λ said. said ≡ check_said (rows_of (found_of matches.now))) }
 {
-    let Some(rules) = matches.get_str("rules") else {
-        return Ok(None);
-    };
-    let Some(mode) = mode_said(matches.get_str("grid")) else {
-        return Ok(None);
-    };
-    let Some(models) = models_said(alloc, matches.get_strs("models"))? else {
-        return Ok(None);
-    };
-    Ok(Some(CheckWords {
-        rules: Text::of(alloc, rules)?,
-        mode,
-        models,
-    }))
+    let rules = matches.get_str("rules");
+    let mode = mode_said(matches.get_str("grid"));
+    let models = models_said(alloc, matches.get_strs("models"))?;
+    all_said(alloc, rules, mode, models)
 }
 
 // `check` has two options, in any order, and words for the models.
 fn check_command<'a>(alloc: Global) -> Result<Command<'a>, AllocError>
     ensures { IfOk result (λ command. app_of command ≡ check_command) }
 {
-    let command = plain_command(alloc, "check");
-    let command = with_option(alloc, command, "rules")?;
-    let command = with_option(alloc, command, "grid")?;
-    with_list(alloc, command, "models")
+    let plain = plain_command(alloc, "check");
+    let ruled = with_option(alloc, plain, "rules")?;
+    let meshed = with_option(alloc, ruled, "grid")?;
+    with_list(alloc, meshed, "models")
 }
 
 /// What the words behind `check` say, where they are in its grammar: `--rules FILE`, which must be there,

@@ -2,7 +2,7 @@
 ghost use Rattle.std.specs.Prelude.{◌≡◌, ◌≤◌, option_map, IfOk, IfSome};
 ghost use Rattle.clap.specs.Words.{app_of, found_of, rows_of};
 ghost use Rattle.model_generator.specs.declared.pieces.TheConstants.{MOST_GENERATED};
-ghost use Rattle.batch_commands.specs.GenerateWords.{count_said, number_said, file_said, generate_command, generate_said, generate_words};
+ghost use Rattle.batch_commands.specs.GenerateWords.{count_said, number_said, file_said, both_said, generate_command, generate_said, generate_words};
 
 use bim_model::Text;
 use clap::{ArgMatches, Command};
@@ -27,7 +27,10 @@ fn count_said(text: Option<&str>) -> Option<u32>
     ensures said { result ≡ count_said (option_map (λ s. s.now) text.entry) }
     ensures few { IfSome result (λ n. n ≤ MOST_GENERATED) }
 {
-    match number_word(1, MOST_GENERATED as u64, text?) {
+    let Some(text) = text else {
+        return None;
+    };
+    match number_word(1, MOST_GENERATED as u64, text) {
         Some(number) => Some(number as u32),
         None => None,
     }
@@ -51,28 +54,39 @@ fn file_said(text: Option<&str>) -> bool
     }
 }
 
+fn both_said(count: Option<u32>, number: Option<u64>, file: bool) -> Option<GenerateWords>
+    requires { IfSome count (λ n. n ≤ MOST_GENERATED) }
+    ensures said { result ≡ both_said count number file }
+    ensures few { IfSome result (λ said. said.count ≤ MOST_GENERATED) }
+{
+    match (count, number) {
+        (Some(count), Some(number)) => Some(GenerateWords {
+            count,
+            number,
+            file,
+        }),
+        _ => None,
+    }
+}
+
 fn generate_said(matches: &ArgMatches<'_>) -> Option<GenerateWords>
     ensures said { result ≡ generate_said (rows_of (found_of matches.now)) }
     ensures few { IfSome result (λ said. said.count ≤ MOST_GENERATED) }
 {
-    let count = count_said(matches.get_str("count"))?;
-    let number = number_said(matches.get_str("number"))?;
+    let count = count_said(matches.get_str("count"));
+    let number = number_said(matches.get_str("number"));
     let file = file_said(matches.get_str("file"));
-    Some(GenerateWords {
-        count,
-        number,
-        file,
-    })
+    both_said(count, number, file)
 }
 
 // `generate` has three options, in any order.
 fn generate_command<'a>(alloc: Global) -> Result<Command<'a>, AllocError>
     ensures { IfOk result (λ command. app_of command ≡ generate_command) }
 {
-    let command = plain_command(alloc, "generate");
-    let command = with_option(alloc, command, "count")?;
-    let command = with_option(alloc, command, "number")?;
-    with_flag(alloc, command, "file")
+    let plain = plain_command(alloc, "generate");
+    let counted = with_option(alloc, plain, "count")?;
+    let numbered = with_option(alloc, counted, "number")?;
+    with_flag(alloc, numbered, "file")
 }
 
 /// What the words behind `generate` say, where they are in its grammar: `--count N`, 1 to 10,000, which must

@@ -1,48 +1,19 @@
 //! Files are read and judged one after the other.
-ghost use Rattle.std.specs.Prelude.{◌≡◌, ◌++◌, ◌∷◌, take, IfOk, IfErr, OnOk, MatchResult};
-ghost use Rattle.bim_model.specs.Snapshots.{Version};
-ghost use Rattle.bim_files.specs.Files.{FilesSeen};
-ghost use Rattle.batch_commands.specs.Judging.{JudgesRules, JudgesModel, JudgesModels, Finds, placed};
+ghost use Rattle.std.specs.Prelude.{◌≡◌, IfOk};
+ghost use Rattle.batch_commands.specs.declared.refusal.Refusal.TheVariants as refusal;
+ghost use Rattle.batch_commands.specs.Judging.{JudgesRules, JudgesModel, JudgesModels, Finds};
 
 use crate::check_words::{CheckWords, ModelWord};
-use crate::rules_file::{RulesError, RulesFault, rules_in};
+use crate::refusal::{JudgeError, Refusal};
+use crate::rules_file::{RulesError, rules_in};
 use bim_files::{FileError, Files, read_file};
 use bim_model::{
     BuildError, Duplicate, Mode, Model, NamedModel, Rules, Shared, Snapshot, Text, UploadFault,
 };
-use clash_check::{VersionError, VersionFault, clashes_of};
+use clash_check::{VersionError, clashes_of};
 use clash_publish::Published;
 use model_build::build_owned;
 use std::alloc::{AllocError, Global};
-
-/// Why a check is refused.
-#[derive(Drop)]
-pub enum Refusal {
-    Rules(RulesFault),
-    /// The file of the model of that name is refused.
-    Model { name: Text, fault: UploadFault },
-    Version(VersionFault),
-}
-
-/// Why a check finds nothing.
-#[derive(Drop)]
-pub enum JudgeError {
-    Refused(Refusal),
-    /// A file can't be opened or read.
-    File,
-    Memory,
-}
-
-impl From<AllocError> for JudgeError {
-    ghost from_gives = { λ _ e. e ≡ Memory };
-
-    ghost use Rattle.std.specs.Prelude.{◌≡◌};
-    ghost use Rattle.batch_commands.specs.declared.judge.JudgeError.TheVariants.{Memory};
-
-    fn from(_: AllocError) -> JudgeError {
-        JudgeError::Memory
-    }
-}
 
 impl From<FileError> for JudgeError {
     ghost use Rattle.std.specs.Prelude.{◌≡◌};
@@ -70,6 +41,24 @@ fn judge_rules<F: Files>(alloc: Global, files: &mut F, name: &Text) -> Result<Ru
     }
 }
 
+// The model under the name that its word says.
+fn named(alloc: Global, word: &ModelWord, model: Model) -> Result<NamedModel, AllocError>
+    ensures name { IfOk result (λ made. made.name ≡ word.now.name) }
+    ensures model { IfOk result (λ made. made.model ≡ model) }
+{
+    let name = word.name.copy(alloc)?;
+    let model = Shared::new(alloc, model)?;
+    Ok(NamedModel { name, model })
+}
+
+// The refusal of a word's file.
+fn refused(alloc: Global, word: &ModelWord, fault: UploadFault) -> Result<Refusal, AllocError>
+    ensures { IfOk result (λ why. why ≡ refusal.Model word.now.name fault) }
+{
+    let name = word.name.copy(alloc)?;
+    Ok(Refusal::Model { name, fault })
+}
+
 // The model that a word names.
 fn judge_model<F: Files>(
     alloc: Global,
@@ -81,14 +70,14 @@ fn judge_model<F: Files>(
 {
     let bytes = read_file(alloc, files, &word.file)?;
     match build_owned(alloc, bytes, mode) {
-        Ok(model) => Ok(NamedModel {
-            name: word.name.copy(alloc)?,
-            model: Shared::new(alloc, model)?,
-        }),
-        Err(BuildError::Fault(fault)) => Err(JudgeError::Refused(Refusal::Model {
-            name: word.name.copy(alloc)?,
-            fault,
-        })),
+        Ok(model) => {
+            let model = named(alloc, word, model)?;
+            Ok(model)
+        }
+        Err(BuildError::Fault(fault)) => {
+            let why = refused(alloc, word, fault)?;
+            Err(JudgeError::Refused(why))
+        }
         Err(BuildError::Memory) => Err(JudgeError::Memory),
     }
 }
@@ -103,7 +92,8 @@ fn judge_models<F: Files>(
 ) -> Result<Snapshot, JudgeError>
     ensures { JudgesModels (F.seen files.old) (F.seen files.new) mode words.now rules result }
 {
-    let mut version = Snapshot::new(alloc, Shared::new(alloc, rules)?);
+    let shared = Shared::new(alloc, rules)?;
+    let mut version = Snapshot::new(alloc, shared);
     for word in words {
         let model = judge_model(alloc, files, mode, word)?;
         version = version.with_model(alloc, model)?;
@@ -121,7 +111,8 @@ pub fn judge<F: Files>(
 {
     let rules = judge_rules(alloc, files, &said.rules)?;
     let version = judge_models(alloc, files, said.mode, said.models.as_slice(), rules)?;
-    match clashes_of(alloc, Shared::new(alloc, version)?) {
+    let shared = Shared::new(alloc, version)?;
+    match clashes_of(alloc, shared) {
         Ok(found) => Ok(found),
         Err(VersionError::Fault(fault)) => Err(JudgeError::Refused(Refusal::Version(fault))),
         Err(VersionError::Memory) => Err(JudgeError::Memory),

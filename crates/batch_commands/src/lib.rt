@@ -8,6 +8,7 @@ mod faults;
 mod generate;
 mod generate_words;
 mod judge;
+mod refusal;
 mod report;
 mod rules_file;
 mod statuses;

@@ -1,14 +1,13 @@
 //! What is printed of a check.
-ghost use Rattle.std.specs.Prelude.{◌≡◌, ◌<◌, [], string_bytes, length, IfOk};
-ghost use Rattle.bim_model.specs.Keys.{subjects_of};
+ghost use Rattle.std.specs.Prelude.{◌≡◌, string_bytes, IfOk};
 ghost use Rattle.bucket_check.specs.Clashes.{clashes};
 ghost use Rattle.clash_publish.specs.Listed.{IsClash};
 ghost use Rattle.batch_commands.specs.Reports.{clash_line, count_line, clash_lines, found_bytes, refusal_line};
-ghost use Rattle.batch_commands.specs.Writes.{Flushes};
+ghost use Rattle.batch_commands.specs.Writes.{Flushes, Puts};
 
 use crate::block::{Stop, flush, put, write_bytes};
 use crate::faults::{rules_words, upload_words, version_words};
-use crate::judge::Refusal;
+use crate::refusal::Refusal;
 use bim_io::Sink;
 use bucket_check::SetPair;
 use clash_publish::Published;
@@ -34,17 +33,45 @@ fn count_line(alloc: Global, found: &Published) -> Result<String, AllocError>
     format!(in alloc; "clashes {total}\n")
 }
 
+// Puts the lines of all clashes.
+fn put_clashes<K: Sink>(
+    alloc: Global,
+    sink: &mut K,
+    block: &mut Vec<u8>,
+    found: &Published,
+) -> Result<(), Stop>
+    ensures { Puts (K.seen sink.old) (K.seen sink.new) block.old.items block.new.items
+        (clash_lines found.now (clashes found.now)) result }
+{
+    let pairs = found.pairs();
+    for pair in pairs {
+        let line = clash_line(alloc, found, *pair)?;
+        put(sink, block, line.as_str())?;
+    }
+    Ok(())
+}
+
+// Puts the line of their number.
+fn put_count<K: Sink>(
+    alloc: Global,
+    sink: &mut K,
+    block: &mut Vec<u8>,
+    found: &Published,
+) -> Result<(), Stop>
+    ensures { Puts (K.seen sink.old) (K.seen sink.new) block.old.items block.new.items
+        (count_line found.now) result }
+{
+    let line = count_line(alloc, found)?;
+    put(sink, block, line.as_str())
+}
+
 /// Prints the clashes of a version, one a line, and their number.
 pub fn print_found<K: Sink>(alloc: Global, sink: &mut K, found: &Published) -> Result<(), Stop>
     ensures { Flushes (K.seen sink.old) (K.seen sink.new) (found_bytes found.now) result }
 {
     let mut block = Vec::new(alloc);
-    for pair in found.pairs() {
-        let line = clash_line(alloc, found, *pair)?;
-        put(sink, &mut block, line.as_str())?;
-    }
-    let line = count_line(alloc, found)?;
-    put(sink, &mut block, line.as_str())?;
+    put_clashes(alloc, sink, &mut block, found)?;
+    put_count(alloc, sink, &mut block, found)?;
     flush(sink, &mut block)
 }
 

@@ -1,7 +1,6 @@
 //! Exit statuses, and the usage line.
 ghost use Rattle.std.specs.Prelude.{◌≡◌};
-ghost use Rattle.batch_commands.specs.Writes.{status_of};
-ghost use Rattle.batch_commands.specs.Commands.{PrintsUsage};
+ghost use Rattle.batch_commands.specs.Writes.{status_of, PrintsUsage};
 
 use crate::block::{Stop, write_whole};
 use bim_io::Sink;

@@ -99,7 +99,8 @@ pub fn run<S: Source, K: Sink, F: Files, C: Clock>(
 ) -> u8
     ensures does { Runs (command_of words.now)
         (outside (S.seen source.old) (K.seen sink.old) (C.seen clock.old))
-        (outside (S.seen source.new) (K.seen sink.new) (C.seen clock.new)) (F.seen files.old) (F.seen files.new) result }
+        (outside (S.seen source.new) (K.seen sink.new) (C.seen clock.new))
+        (F.seen files.old) (F.seen files.new) result }
     ensures read { result ≡ 4 → Rose (S.seen source.old).faults (S.seen source.new).faults
         ⊎ Rose (F.seen files.old).faults (F.seen files.new).faults }
     ensures source { (S.seen source.old).faults < (S.seen source.new).faults → result ≡ 4 }

@@ -1,8 +1,10 @@
 -- Which versions are too large, and what their clashes are answered by.
-use Rattle.std.specs.Prelude.{◌≡◌, ℕ, ◌≤◌, ◌<◌, ◌-◌, ◌^◌, length, min, Result, Ok, Err, ⊤}
+use Rattle.std.specs.Prelude.{◌≡◌, ℕ, ◌≤◌, ◌<◌, ◌-◌, ◌^◌, length, min, ⊤}
 use Rattle.bim_model.specs.Keys.{subjects_of}
 use Rattle.bim_model.specs.Snapshots.{Version}
 use Rattle.bucket_grid.specs.Grids.{HasMemberships}
+use Rattle.bucket_grid.specs.declared.grid.GridError.{GridError}
+use Rattle.bucket_grid.specs.declared.grid.GridError.TheVariants as lacks
 use Rattle.bucket_grid.specs.declared.grid.TheConstants.{MOST_MEMBERSHIPS}
 use Rattle.clash_check.specs.declared.fault.TheConstants.{MOST_VERSION_ELEMENTS}
 use Rattle.clash_check.specs.declared.fault.VersionError.{VersionError}
@@ -32,3 +34,8 @@ pub record IsChecked (version : Version) : Type 0 where
 abbrev pub IsVersionCause : Version → VersionError → Type 0
 IsVersionCause version (Fault fault) = IsVersionFault version fault
 IsVersionCause version Memory = ⊤
+
+-- why there is no grid, as an error of its version
+abbrev pub of_grid : GridError → VersionError
+of_grid (lacks.TooSpread count) = Fault (TooSpread count)
+of_grid lacks.Memory = Memory

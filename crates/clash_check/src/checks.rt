@@ -1,8 +1,9 @@
 //! Every bucket of a version is checked.
 ghost use Rattle.std.specs.Prelude.{◌≡◌, ◌<◌, ◌≤◌, ◌-◌, ◌^◌, length, min, IfOk, IfErr};
 ghost use Rattle.bim_model.specs.Keys.{subjects_of};
+ghost use Rattle.bucket_check.specs.Sets.{IsSetOf};
 ghost use Rattle.clash_publish.specs.Merged.{AreSetsOf};
-ghost use Rattle.clash_check.specs.Versions.{element_count, IsChecked, IsVersionCause};
+ghost use Rattle.clash_check.specs.Versions.{element_count, IsChecked, IsVersionCause, of_grid};
 
 use crate::fault::{MOST_VERSION_ELEMENTS, VersionError, VersionFault};
 use bim_model::{NamedModel, Shared, Snapshot, Steps};
@@ -32,17 +33,18 @@ fn set_of<L: Ledger>(
     room: &mut Room,
     steps: &mut Steps<L>,
 ) -> Result<Shared<BucketSet>, AllocError>
-    ensures grid { IfOk result (λ set. set.work.grid ≡ grid.now) }
-    ensures cell { IfOk result (λ set. set.work.cell ≡ cell) }
+    ensures { IfOk result (λ set. IsSetOf grid.now cell set) }
 {
+    let shared = grid.share()?;
     let work = BucketWork {
         project: 1,
         version: 1,
         cell,
-        grid: grid.share()?,
+        grid: shared,
     };
     let set = check(alloc, work, room, steps)?;
-    Shared::new(alloc, set)
+    let kept = Shared::new(alloc, set)?;
+    Ok(kept)
 }
 
 // The sets of all buckets, in their order. One after the other is checked, in the same room.
@@ -58,10 +60,11 @@ fn sets_of<L: Ledger>(
 {
     let mut steps = Steps::<L>::new(blank);
     let mut room = Room::new(alloc);
+    let mut sets = Vec::new(alloc);
     let buckets = grid.get().buckets();
-    let mut sets = Vec::with_capacity(alloc, buckets.len())?;
     for bucket in buckets {
-        sets.push(set_of(alloc, grid, bucket.cell, &mut room, &mut steps)?)?;
+        let set = set_of(alloc, grid, bucket.cell, &mut room, &mut steps)?;
+        sets.push(set)?;
     }
     Ok(sets)
 }
@@ -70,9 +73,19 @@ fn sets_of<L: Ledger>(
 fn published(alloc: Global, grid: Grid) -> Result<Published, AllocError>
     ensures { IfOk result (λ made. made ≡ grid.version) }
 {
-    let grid = Shared::new(alloc, grid)?;
-    let sets = sets_of::<Brand>(Blank::new(1), alloc, &grid)?;
-    Published::of(alloc, grid, sets.as_slice())
+    let shared = Shared::new(alloc, grid)?;
+    let sets = sets_of::<Brand>(Blank::new(1), alloc, &shared)?;
+    Published::of(alloc, shared, &sets)
+}
+
+// Why there is no grid, as an error of its version.
+fn error_of(error: GridError) -> VersionError
+    ensures { result ≡ of_grid error }
+{
+    match error {
+        GridError::TooSpread { count } => VersionError::Fault(VersionFault::TooSpread { count }),
+        GridError::Memory => VersionError::Memory,
+    }
 }
 
 /// The clashes of a version. It is refused where it has over 100,000 elements, or else over 2,000,000 pairs
@@ -88,9 +101,6 @@ pub fn clashes_of(alloc: Global, version: Shared<Snapshot>) -> Result<Published,
     }
     match Grid::of(alloc, version) {
         Ok(grid) => Ok(published(alloc, grid)?),
-        Err(GridError::TooSpread { count }) => {
-            Err(VersionError::Fault(VersionFault::TooSpread { count }))
-        }
-        Err(GridError::Memory) => Err(VersionError::Memory),
+        Err(error) => Err(error_of(error)),
     }
 }

@@ -1,0 +1,6 @@
+use Rattle.std.proofs.Common.{subst}
+use Rattle.batch_commands.proofs.Blocks.{prints_of}
+use Rattle.batch_commands.proofs.generate.answer_numbers.Goals as goal
+
+pub returns : goal.returns
+returns g c = prints_of _ _ c.args.text.now 0 c.printed.result c.write_bytes-written.result c.write_bytes-written.ensures c.printed.ensures
