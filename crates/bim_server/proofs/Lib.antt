@@ -8,8 +8,6 @@ pub mod Owed
 pub mod Stepping
 pub mod Behind
 pub mod Running
-pub mod Numbers
-pub mod Taking
 pub mod Grammar
 pub mod Statuses
 pub mod Calling

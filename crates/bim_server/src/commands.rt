@@ -7,11 +7,12 @@ ghost use Rattle.bim_server.specs.Commands.{Does, PrintsUsage, ReplaysBy, Runs, 
 
 use crate::session::{run_session, status_of};
 use crate::sinks::write_whole;
-use crate::words::{ReplayWords, Time, is_word, replay_words};
+use crate::words::{ReplayWords, Time, replay_words};
 use batch_commands::{run_check, run_generate};
 use bim_files::Files;
 use bim_io::{Clock, MemClock, Sink, Source};
 use bim_model::Text;
+use command_words::is_word;
 use std::alloc::Global;
 
 const USAGE: &str = "usage: bim_server replay|check|generate|serve\n";
@@ -110,11 +111,11 @@ pub fn run<S: Source, K: Sink, F: Files, C: Clock>(
     match words {
         [] => print_usage(sink),
         [name, rest @ ..] => {
-            if is_word(name, "replay") {
+            if is_word(name.as_str(), "replay") {
                 run_replay(alloc, rest, source, sink, clock)
-            } else if is_word(name, "check") {
+            } else if is_word(name.as_str(), "check") {
                 run_check(alloc, rest, files, sink)
-            } else if is_word(name, "generate") {
+            } else if is_word(name.as_str(), "generate") {
                 run_generate(alloc, rest, sink)
             } else {
                 print_usage(sink)
