@@ -11,6 +11,7 @@ use Rattle.bim_files.specs.Files.{FileSeen, FilesTold, FilesSeen, once}
 
 -- ---- what files tell
 
+-- what contracts see of a file in memory
 abbrev pub file_seen : MemFile → FileSeen
 file_seen file = record { name = file.name; bytes = file.contents }
 
@@ -18,6 +19,7 @@ file_seen file = record { name = file.name; bytes = file.contents }
 abbrev pub lent_times : List (List ℕ) → List ℕ → ℕ
 lent_times lent name = sum_by (λ other. once other name) lent
 
+-- what files in memory tell, of which these names are lent
 abbrev pub told_of : List MemFile → List (List ℕ) → FilesTold
 told_of files lent = record { files = map file_seen files; lent = lent_times lent }
 
@@ -44,6 +46,7 @@ pub record LentState : Type 0 where
   pub source : SourceState
   pub faults : ℕ
 
+-- what contracts see of a source that was lent
 abbrev pub lent_seen : LentState → SourceSeen
 lent_seen s = record {
   left = Some (left_at s.source.ended s.source.left);
@@ -79,6 +82,7 @@ pub record MemFilesState : Type 0 where
   pub calls : ℕ
   pub faults : ℕ
 
+-- what contracts see of files in memory
 abbrev pub seen_of : MemFilesState → FilesSeen
 seen_of f = record { told = Some (told_of f.files f.lent); faults = f.faults }
 
@@ -103,6 +107,7 @@ sure_source_seen (Some s) ended = record {
   faults = 0;
 }
 
+-- what contracts see of a source that never fails
 abbrev pub sure_lent_seen : SureLentState → SourceSeen
 sure_lent_seen s = sure_source_seen s.source s.ended
 
@@ -137,5 +142,6 @@ abbrev pub told_where : Bool → List MemFile → List (List ℕ) → Option Fil
 told_where true files lent = Some (told_of files lent)
 told_where false files lent = None
 
+-- what contracts see of files in memory that never fail
 abbrev pub sure_seen_of : SureFilesState → FilesSeen
 sure_seen_of f = record { told = told_where f.tells f.files f.lent; faults = 0 }
