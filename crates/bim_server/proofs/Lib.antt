@@ -1,4 +1,3 @@
-pub mod Known
 pub mod SoFar
 pub mod Growing
 pub mod Events

@@ -50,9 +50,6 @@ replay_said rows =
 abbrev pub replay_words : List (List ℕ) → Option ReplayWords
 replay_words words = said_by replay_command replay_said words
 
-abbrev pub usage_line : List ℕ
-usage_line = codes "usage: bim_server replay|check|generate|serve\n"
-
 -- a moment that stands in place of the clock is one that a clock may give
 abbrev pub IsTime : Time → Type 0
 IsTime OfClock = Unit {0}

@@ -1,33 +1,21 @@
 //! The commands.
 ghost use Rattle.std.specs.Prelude.{◌≡◌, ◌<◌, ◌⊎◌};
 ghost use Rattle.bim_io.specs.Causes.{Rose, ComesOfFault};
-ghost use Rattle.bim_io.specs.Seen.{SourceSeen, ClockSeen, outside};
+ghost use Rattle.bim_io.specs.Seen.{outside};
 ghost use Rattle.bim_server.specs.Words.{replay_words, IsReplay};
-ghost use Rattle.bim_server.specs.Commands.{Does, PrintsUsage, ReplaysBy, Runs, command_of};
+ghost use Rattle.bim_server.specs.Commands.{Does, ReplaysBy, Runs, command_of};
 
 use crate::session::{run_session, status_of};
-use crate::sinks::write_whole;
 use crate::words::{ReplayWords, Time, replay_words};
-use batch_commands::{run_check, run_generate};
+use batch_commands::{print_usage, run_check, run_generate};
 use bim_files::Files;
 use bim_io::{Clock, MemClock, Sink, Source};
 use bim_model::Text;
 use command_words::is_word;
 use std::alloc::Global;
 
-const USAGE: &str = "usage: bim_server replay|check|generate|serve\n";
-
 /// The exit status for want of memory.
 const NO_MEMORY: u8 = 6;
-
-fn print_usage<K: Sink>(sink: &mut K) -> u8
-    ensures { (source : SourceSeen) (clock : ClockSeen)
-        → PrintsUsage (outside source (K.seen sink.old) clock)
-        (outside source (K.seen sink.new) clock) result }
-{
-    let _written = write_whole(sink, USAGE.as_bytes());
-    2
-}
 
 // Replays one recorded session by what the words say.
 fn replay<S: Source, K: Sink, C: Clock>(

@@ -4,7 +4,6 @@
 mod commands;
 mod one_thread;
 mod session;
-mod sinks;
 #[cfg(test)]
 mod tests;
 mod words;
