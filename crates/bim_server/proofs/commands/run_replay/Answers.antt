@@ -2,7 +2,7 @@ use Rattle.std.proofs.Common.{Option, inl, inr, refl, subst, arith}
 use Rattle.bim_io.specs.Seen.{outside}
 use Rattle.bim_server.specs.declared.words.ReplayWords.{ReplayWords}
 use Rattle.bim_server.specs.Commands.{Does}
-use Rattle.bim_server.proofs.Statuses.{unread_status, unwritten_status}
+use Rattle.batch_commands.proofs.Answered.{unread_status, unwritten_status}
 use Rattle.bim_server.proofs.commands.run_replay.Goals as goal
 
 pub returns-in-Ok-Some-clause-does : goal.returns-in-Ok-Some-clause-does
