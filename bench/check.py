@@ -3,8 +3,9 @@
 clashes, called as `PLAIN FILE DISTANCE --reps 1`, which tells `clash_s` and `peak_kb`, and TUBES a program that prints a file of so many tubes, called as
 `TUBES COUNT 7 --pipes`. The least of five runs each, both programs side by side on the same files, at 0 and at 50 mm.
 
-Of PROGRAM the clash part is the time of a check less that of one which reads the same file and is then refused at a second file, so it holds the grid,
-the tests of the buckets and the printing. Growth is how much more time a step takes than its number of elements has grown."""
+Of PROGRAM the clash part is the processor's time of a check less that of one which reads the same file and is then refused at a second file, so it holds
+the grid, the tests of the buckets and the printing. Beside a reading that takes a hundred times as long it is told to a few milliseconds alone, and may
+come out below zero: bench/clash times that part by itself. Growth is how much more time a step takes than its number of elements has grown."""
 import os
 import re
 import subprocess
@@ -16,18 +17,13 @@ RUNS = 5
 
 
 def run(words, folder):
-    """Seconds, peak in kB and output of one run."""
+    """Seconds, seconds of processor, peak in kB and output of one run."""
     start = time.perf_counter()
     child = subprocess.Popen(words, cwd=folder, stdout=subprocess.PIPE)
     output = child.stdout.read()
     _, _, usage = os.wait4(child.pid, 0)
     child.returncode = 0
-    return time.perf_counter() - start, usage.ru_maxrss, output
-
-
-def least(words, folder):
-    runs = [run(words, folder) for _ in range(RUNS)]
-    return min(seconds for seconds, _, _ in runs), max(peak for _, peak, _ in runs), runs[0][2]
+    return time.perf_counter() - start, usage.ru_utime + usage.ru_stime, usage.ru_maxrss, output
 
 
 def told(output, name):
@@ -37,17 +33,18 @@ def told(output, name):
 def measure(program, plain, folder, name, distance):
     with open(os.path.join(folder, "r.json"), "w") as file:
         file.write('{"rules":[{"a":"*","b":"*","distance":%d}]}' % distance)
-    whole, peak, output = least([program, "check", "--rules", "r.json", "m=" + name], folder)
-    read, _, _ = least([program, "check", "--rules", "r.json", "m=" + name, "z=bad"], folder)
-    runs = [run([plain, name, str(distance), "--reps", "1", "--lex", "0"], folder) for _ in range(RUNS)]
-    plain_whole = min(seconds for seconds, _, _ in runs)
-    plain_clash = min(told(text, "clash_s") for _, _, text in runs)
-    plain_peak = max(told(text, "peak_kb") for _, _, text in runs)
-    count = int(output.split()[-1])
-    if count != int(told(runs[0][2], "clashes")):
-        sys.exit(f"{name}: {count} clashes, and the other program finds {told(runs[0][2], 'clashes'):.0f}")
-    clash = max(whole - read, 1e-9)
-    return count, whole, clash, peak, whole / plain_whole, clash / plain_clash, peak / plain_peak, plain_whole, plain_clash
+    words = [program, "check", "--rules", "r.json", "m=" + name]
+    plain_words = [plain, name, str(distance), "--reps", "1", "--lex", "0"]
+    turns = [(run(words, folder), run(words + ["z=bad"], folder), run(plain_words, folder)) for _ in range(RUNS)]
+    whole, peak, output = min(turn[0][0] for turn in turns), max(turn[0][2] for turn in turns), turns[0][0][3]
+    clash = min(turn[0][1] for turn in turns) - min(turn[1][1] for turn in turns)
+    plain_whole = min(turn[2][0] for turn in turns)
+    plain_clash = min(told(turn[2][3], "clash_s") for turn in turns)
+    plain_peak = max(told(turn[2][3], "peak_kb") for turn in turns)
+    found, wanted = int(output.split()[-1]), int(told(turns[0][2][3], "clashes"))
+    if found != wanted:
+        sys.exit(f"{name}: {found} clashes, and the other program finds {wanted}")
+    return found, whole, clash, peak, whole / plain_whole, clash / plain_clash, peak / plain_peak, plain_clash
 
 
 def main():
@@ -67,9 +64,9 @@ def main():
                 with open(os.path.join(folder, name), "wb") as file:
                     subprocess.run(words, stdout=file, check=True)
                 row = measure(program, plain, folder, name, distance)
-                found, whole, clash, peak, by_whole, by_clash, by_peak, plain_whole, plain_clash = row
+                found, whole, clash, peak, by_whole, by_clash, by_peak, plain_clash = row
                 grown = ""
-                if before and before[0][:5] == name[:5]:
+                if before and before[0][:5] == name[:5] and before[2] > 0:
                     step = count / before[1]
                     grown = f", growth {clash / before[2] / step:.2f}, plain {plain_clash / before[3] / step:.2f}"
                 before = (name, count, clash, plain_clash)
