@@ -13,7 +13,7 @@ use Rattle.batch_commands.specs.Faults.{rules_words, upload_words, version_words
 
 -- an element, the name of its model and its identifier, before other words
 abbrev pub key_before : Subject → List ℕ → List ℕ
-key_before s words = s.name ++ codes " " ++ s.element.guid.chars ++ codes " " ++ words
+key_before s words = s.name ++ (codes " " ++ (s.element.guid.chars ++ (codes " " ++ words)))
 
 -- two elements that clash, and the number of the rule
 abbrev pub clash_line : Version → SetPair → List ℕ
