@@ -21,6 +21,7 @@ clash_line version p =
     key_before (element_of version p.a)
     (key_before (element_of version p.b) (decimal p.rule ++ codes "\n"))
 
+-- the lines of clashes
 abbrev pub clash_lines : Version → List SetPair → List ℕ
 clash_lines version pairs = flat_map (clash_line version) pairs
 
