@@ -49,6 +49,7 @@ names_differ [] = true
 names_differ (word ∷ words) =
     not (list_any (λ (w : ModelWord). bytes_eq w.name word.name) words) && names_differ words
 
+-- the models, where their names differ
 abbrev pub if_differ : List ModelWord → Option (List ModelWord)
 if_differ words = if names_differ words then Some words else None
 
@@ -69,6 +70,7 @@ mode_said (Some text) =
     if bytes_eq text (codes "exact") then Some Exact
     else (if bytes_eq text (codes "snap") then Some Snap else None)
 
+-- what the values say together, where each says something
 abbrev pub all_said : Option (List ℕ) → Option Mode → Option (List ModelWord) → Option CheckWords
 all_said (Some rules) (Some mode) (Some models) =
     Some (record { rules = rules; mode = mode; models = models })

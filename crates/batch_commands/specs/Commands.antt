@@ -77,8 +77,8 @@ version_of model =
 -- how many elements, triangles and clashes there are
 abbrev pub numbers_text : ℕ → ℕ → ℕ → List ℕ
 numbers_text elements triangles clashes =
-    codes "elements " ++ decimal elements ++ codes "\ntriangles " ++ decimal triangles
-    ++ codes "\nclashes " ++ decimal clashes ++ codes "\n"
+    codes "elements " ++ (decimal elements ++ (codes "\ntriangles " ++ (decimal triangles
+    ++ (codes "\nclashes " ++ (decimal clashes ++ codes "\n")))))
 
 -- those of a model
 abbrev pub summary_of : List Element → List ℕ
@@ -97,6 +97,7 @@ GeneratesAs true number count old new status = Prints old new (generated number 
 GeneratesAs false number count old new status =
     (text : List ℕ) × IsSummary number count text × Prints old new text 0 status
 
+-- what `generate` does by what its words say
 abbrev pub GeneratesBy : GenerateWords → SinkSeen → SinkSeen → ℕ → Type 0
 GeneratesBy said old new status = GeneratesAs said.file said.number said.count old new status
 

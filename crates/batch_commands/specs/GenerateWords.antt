@@ -22,6 +22,7 @@ abbrev pub file_said : Option (List ℕ) → Bool
 file_said None = false
 file_said (Some text) = bytes_eq text (codes "true")
 
+-- what the values say together, where the two numbers are said
 abbrev pub both_said : Option ℕ → Option ℕ → Bool → Option GenerateWords
 both_said (Some count) (Some number) file = Some (record { count = count; number = number; file = file })
 both_said _ _ file = None

@@ -126,6 +126,7 @@ Ends old new Is (Refused why) = Quiet old new × Is why
 Ends old new Is File = Fails old new
 Ends old new Is Memory = Quiet old new
 
+-- the rules of a file are found, or there are none
 abbrev pub JudgesRules : FilesSeen → FilesSeen → List ℕ → Result (List Rule) JudgeError → Type 0
 JudgesRules old new name (Ok rules) = Quiet old new × HasRules old.told new.told name rules
 JudgesRules old new name (Err e) = Ends old new (IsRulesRefusal old.told new.told name) e
@@ -137,6 +138,7 @@ pub record IsWordRefused (before after : Option FilesTold) (mode : Mode) (word :
   pub refused : IsRefused before after mode word fault
   pub why_is : why ≡ refusal.Model word.name fault
 
+-- the model of a word's file is found, or there is none
 abbrev pub JudgesModel : FilesSeen → FilesSeen → Mode → ModelWord → Result NamedModel JudgeError → Type 0
 JudgesModel old new mode word (Ok model) = Quiet old new × IsJudged old.told new.told mode word model
 JudgesModel old new mode word (Err e) = Ends old new (IsWordRefused old.told new.told mode word) e
@@ -149,6 +151,7 @@ pub record IsMadeOf (before after : Option FilesTold) (mode : Mode) (words : Lis
   pub judged : AreJudged before after mode words models
   pub placed_are : version.models ≡ placed [] models
 
+-- the version of these rules and the models of the words is found, or there is none
 abbrev pub JudgesModels :
     FilesSeen → FilesSeen → Mode → List ModelWord → List Rule → Result Version JudgeError → Type 0
 JudgesModels old new mode words rules (Ok version) =

@@ -56,6 +56,7 @@ Prints old new bytes done status =
 
 -- ---- the usage line, and want of memory
 
+-- the line that says which commands there are
 abbrev pub usage_line : List ℕ
 usage_line = codes "usage: bim_server replay|check|generate|serve\n"
 

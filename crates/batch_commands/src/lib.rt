@@ -15,5 +15,7 @@ mod statuses;
 #[cfg(test)]
 mod tests;
 
+pub use block::write_whole;
 pub use check::run_check;
 pub use generate::run_generate;
+pub use statuses::print_usage;
