@@ -1,6 +1,6 @@
 //! What is printed of a refusal.
 ghost use Rattle.std.specs.Prelude.{◌≡◌, string_bytes, IfOk};
-ghost use Rattle.batch_commands.specs.Faults.{many_word, with_number, upload_words, rules_words, version_words};
+ghost use Rattle.batch_commands.specs.Faults.{many_word, upload_words, rules_words, version_words};
 
 use crate::rules_file::RulesFault;
 use bim_model::{Many, UploadFault};
@@ -21,22 +21,6 @@ fn many_word(many: Many) -> &'static str
     }
 }
 
-// A number behind a word.
-fn with_number(alloc: Global, word: &str, number: u64) -> Result<String, AllocError>
-    ensures { IfOk result (λ text. string_bytes text ≡ with_number word.now number) }
-{
-    format!(in alloc; "{word} {number}")
-}
-
-// Two numbers behind a word.
-fn with_two(alloc: Global, word: &str, first: u64, second: u64) -> Result<String, AllocError>
-    ensures { IfOk result (λ text.
-        string_bytes text ≡ with_number (with_number word.now first) second) }
-{
-    let front = with_number(alloc, word, first)?;
-    with_number(alloc, front.as_str(), second)
-}
-
 /// The number and the name of a fault of an upload, and its fields.
 pub fn upload_words(alloc: Global, fault: UploadFault) -> Result<String, AllocError>
     ensures { IfOk result (λ text. string_bytes text ≡ upload_words fault) }
@@ -47,7 +31,7 @@ pub fn upload_words(alloc: Global, fault: UploadFault) -> Result<String, AllocEr
         UploadFault::BadStatement { at } => format!(in alloc; "U3 BadStatement {at}"),
         UploadFault::WrongSchema => format!(in alloc; "U4 WrongSchema"),
         UploadFault::DoubleId { id } => format!(in alloc; "U5 DoubleId {id}"),
-        UploadFault::Dangling { id, to } => with_two(alloc, "U6 Dangling", id, to),
+        UploadFault::Dangling { id, to } => format!(in alloc; "U6 Dangling {id} {to}"),
         UploadFault::BadShape { id } => format!(in alloc; "U7 BadShape {id}"),
         UploadFault::LengthUnit { id } => format!(in alloc; "U8 LengthUnit {id}"),
         UploadFault::OffGrid { id } => format!(in alloc; "U9 OffGrid {id}"),
@@ -89,10 +73,10 @@ pub fn version_words(alloc: Global, fault: VersionFault) -> Result<String, Alloc
 {
     match fault {
         VersionFault::ElementsFull { count } => {
-            with_two(alloc, "K7 ElementsFull", count, MOST_VERSION_ELEMENTS)
+            format!(in alloc; "K7 ElementsFull {count} {MOST_VERSION_ELEMENTS}")
         }
         VersionFault::TooSpread { count } => {
-            with_two(alloc, "K8 TooSpread", count, MOST_MEMBERSHIPS)
+            format!(in alloc; "K8 TooSpread {count} {MOST_MEMBERSHIPS}")
         }
     }
 }
