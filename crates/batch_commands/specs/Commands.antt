@@ -77,8 +77,8 @@ version_of model =
 -- how many elements, triangles and clashes there are
 abbrev pub numbers_text : ℕ → ℕ → ℕ → List ℕ
 numbers_text elements triangles clashes =
-    codes "elements " ++ decimal elements ++ codes "\ntriangles " ++ decimal triangles
-    ++ codes "\nclashes " ++ decimal clashes ++ codes "\n"
+    codes "elements " ++ (decimal elements ++ (codes "\ntriangles " ++ (decimal triangles
+    ++ (codes "\nclashes " ++ (decimal clashes ++ codes "\n")))))
 
 -- those of a model
 abbrev pub summary_of : List Element → List ℕ

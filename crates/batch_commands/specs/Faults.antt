@@ -23,7 +23,7 @@ many_word many.Triangles = codes "triangles"
 
 -- a number behind a word
 abbrev pub with_number : List ℕ → ℕ → List ℕ
-with_number word number = word ++ codes " " ++ decimal number
+with_number word number = word ++ (codes " " ++ decimal number)
 
 -- a fault of an upload
 abbrev pub upload_words : UploadFault → List ℕ

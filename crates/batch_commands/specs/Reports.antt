@@ -13,7 +13,7 @@ use Rattle.batch_commands.specs.Faults.{rules_words, upload_words, version_words
 
 -- an element, the name of its model and its identifier, before other words
 abbrev pub key_before : Subject → List ℕ → List ℕ
-key_before s words = s.name ++ codes " " ++ s.element.guid.chars ++ codes " " ++ words
+key_before s words = s.name ++ (codes " " ++ (s.element.guid.chars ++ (codes " " ++ words)))
 
 -- two elements that clash, and the number of the rule
 abbrev pub clash_line : Version → SetPair → List ℕ
@@ -27,7 +27,7 @@ clash_lines version pairs = flat_map (clash_line version) pairs
 
 -- how many clashes there are
 abbrev pub count_line : Version → List ℕ
-count_line version = codes "clashes " ++ decimal (length (clashes version)) ++ codes "\n"
+count_line version = codes "clashes " ++ (decimal (length (clashes version)) ++ codes "\n")
 
 -- the clashes of a version, and their number
 abbrev pub found_bytes : Version → List ℕ
@@ -35,6 +35,6 @@ found_bytes version = clash_lines version (clashes version) ++ count_line versio
 
 -- a refusal: what is refused, and why
 abbrev pub refusal_line : Refusal → List ℕ
-refusal_line (Rules fault) = codes "rules: " ++ rules_words fault ++ codes "\n"
-refusal_line (Model name fault) = name ++ codes ": " ++ upload_words fault ++ codes "\n"
-refusal_line (TooLarge fault) = codes "version: " ++ version_words fault ++ codes "\n"
+refusal_line (Rules fault) = codes "rules: " ++ (rules_words fault ++ codes "\n")
+refusal_line (Model name fault) = name ++ (codes ": " ++ (upload_words fault ++ codes "\n"))
+refusal_line (TooLarge fault) = codes "version: " ++ (version_words fault ++ codes "\n")
