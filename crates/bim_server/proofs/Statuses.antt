@@ -1,13 +1,12 @@
 -- `generate` never answers 4.
 use Rattle.std.proofs.Common.{◌≡◌, ℕ, Bool, true, false, Option, Some, None, inl, inr, arith}
 use Rattle.bim_io.specs.Seen.{SinkSeen}
-use Rattle.model_generator.specs.Files.{generated}
 use Rattle.batch_commands.specs.declared.generate_words.GenerateWords.{GenerateWords}
 use Rattle.batch_commands.specs.Commands.{Generates, GeneratesAs}
 use Rattle.batch_commands.proofs.Blocks.{prints_not_four}
 
 generates_as_not_four : (file : Bool) (number count : ℕ) (a b : SinkSeen) (status : ℕ) → GeneratesAs file number count a b status → status ≡ 4 → ⊥
-generates_as_not_four true number count a b status prints = prints_not_four a b (generated number count) 0 status prints (λ e. omega (arith, e))
+generates_as_not_four true number count a b status prints = prints_not_four a b _ 0 status prints (λ e. omega (arith, e))
 generates_as_not_four false number count a b status x = prints_not_four a b x.0 0 status x.2 (λ e. omega (arith, e))
 
 pub generates_not_four : (said : Option GenerateWords) (a b : SinkSeen) (status : ℕ) → Generates said a b status → status ≡ 4 → ⊥
