@@ -1,27 +1,17 @@
 -- What the words of `check` say.
 use Rattle.std.specs.Prelude.{◌≡◌, ℕ, ◌==◌, nat_lt, nat_le, List, [], ◌∷◌, length, map, codes}
-use Rattle.std.specs.Prelude.{Bool, true, false, not, ◌&&◌, ◌||◌, if◌then◌else◌}
+use Rattle.std.specs.Prelude.{Bool, true, false, not, ◌&&◌, if◌then◌else◌}
 use Rattle.std.specs.Prelude.{Option, Some, None, option_map, option_and_then}
-use Rattle.std.specs.List.{list_all, list_any, before_first, after_first, position_or_len}
-use Rattle.std.specs.Char.{is_ascii_alphanumeric}
+use Rattle.std.specs.List.{list_any, before_first, after_first, position_or_len}
 use Rattle.std.specs.Str.{bytes_eq}
 use Rattle.clap.specs.Words.{App, Row, with_rule, first_of, all_of}
-use Rattle.bim_model.specs.declared.limits.TheConstants.{MOST_NAME}
+use Rattle.model_names.specs.Names.{is_model_name}
 use Rattle.bim_model.specs.declared.upload.Mode.{Mode}
 use Rattle.bim_model.specs.declared.upload.Mode.TheVariants.{Exact, Snap}
 use Rattle.command_words.specs.Words.{bare_command, option_of, list_of, said_by}
 use Rattle.batch_commands.specs.declared.check_words.TheConstants.{MOST_MODELS}
 use Rattle.batch_commands.specs.declared.check_words.ModelWord.{ModelWord}
 use Rattle.batch_commands.specs.declared.check_words.CheckWords.{CheckWords}
-
--- a letter, a digit, an underscore (95), a point (46) or a dash (45)
-abbrev pub is_model_name_char : ℕ → Bool
-is_model_name_char byte = is_ascii_alphanumeric byte || byte == 95 || byte == 46 || byte == 45
-
--- 1 to 64 such characters
-abbrev pub is_model_name : List ℕ → Bool
-is_model_name text =
-    nat_lt 0 (length text) && nat_le (length text) MOST_NAME && list_all is_model_name_char text
 
 -- `=`
 abbrev pub is_equals : ℕ → Bool

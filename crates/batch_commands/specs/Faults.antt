@@ -1,25 +1,16 @@
 -- What is printed of a refusal: the number and the name of the fault, and its fields behind blanks.
 use Rattle.std.specs.Prelude.{ℕ, List, ◌++◌, codes}
 use Rattle.std.specs.Fmt.{decimal}
-use Rattle.bim_model.specs.declared.upload.Many.{Many}
-use Rattle.bim_model.specs.declared.upload.Many.TheVariants as many
 use Rattle.bim_model.specs.declared.upload.UploadFault.{UploadFault}
 use Rattle.bim_model.specs.declared.upload.UploadFault.TheVariants as upload
 use Rattle.bucket_grid.specs.declared.grid.TheConstants.{MOST_MEMBERSHIPS}
 use Rattle.clash_rules.specs.declared.fault.RuleFault.TheVariants as rule
+use Rattle.coord_json.specs.Faults.{many_word}
 use Rattle.clash_check.specs.declared.fault.TheConstants.{MOST_VERSION_ELEMENTS}
 use Rattle.clash_check.specs.declared.fault.VersionFault.{VersionFault}
 use Rattle.clash_check.specs.declared.fault.VersionFault.TheVariants as version
 use Rattle.batch_commands.specs.declared.rules_file.RulesFault.{RulesFault}
 use Rattle.batch_commands.specs.declared.rules_file.RulesFault.TheVariants as rules
-
--- what is too many
-abbrev pub many_word : Many → List ℕ
-many_word many.Bytes = codes "bytes"
-many_word many.Instances = codes "instances"
-many_word many.Values = codes "values"
-many_word many.Corners = codes "corners"
-many_word many.Triangles = codes "triangles"
 
 -- a number behind a word
 abbrev pub with_number : List ℕ → ℕ → List ℕ

@@ -1,14 +1,15 @@
 //! The words of `check`.
 ghost use Rattle.std.specs.Prelude.{◌≡◌, ◌&&◌, ℕ, map, option_map, nat_lt, nat_le, Some, IfOk};
-ghost use Rattle.std.specs.List.{list_all, list_any};
+ghost use Rattle.std.specs.List.{list_any};
 ghost use Rattle.std.specs.Str.{bytes_eq};
 ghost use Rattle.clap.specs.Words.{app_of, found_of, rows_of};
 ghost use Rattle.batch_commands.specs.declared.check_words.TheConstants.{MOST_MODELS};
-ghost use Rattle.batch_commands.specs.CheckWords.{is_model_name, is_model_name_char, model_word, all_some, names_differ, if_differ, if_models, mode_said, all_said, check_command, check_said, check_words};
+ghost use Rattle.batch_commands.specs.CheckWords.{model_word, all_some, names_differ, if_differ, if_models, mode_said, all_said, check_command, check_said, check_words};
 
-use bim_model::{Items, MOST_NAME, Mode, Text};
+use bim_model::{Items, Mode, Text};
 use clap::{ArgMatches, Command};
 use command_words::{is_word, lent_words, parse, plain_command, with_list, with_option};
+use model_names::is_model_name;
 use std::alloc::{AllocError, Global};
 
 /// The most models that are checked together.
@@ -29,24 +30,6 @@ pub struct CheckWords {
     pub mode: Mode,
     /// 1 to 64 models of different names.
     pub models: Items<ModelWord>,
-}
-
-fn is_model_name_char(byte: u8) -> bool
-    ensures { result ≡ is_model_name_char byte }
-{
-    byte.is_ascii_alphanumeric() || byte == b'_' || byte == b'.' || byte == b'-'
-}
-
-fn are_model_name_chars(text: &[u8]) -> bool
-    ensures { result ≡ list_all is_model_name_char text.now }
-{
-    text.iter().all(|byte| is_model_name_char(*byte))
-}
-
-fn is_model_name(text: &[u8]) -> bool
-    ensures { result ≡ is_model_name text.now }
-{
-    !text.is_empty() && text.len() <= MOST_NAME && are_model_name_chars(text)
 }
 
 // The name and the file that a word says: what stands before and after its first `=`.

@@ -1,25 +1,14 @@
 //! What is printed of a refusal.
 ghost use Rattle.std.specs.Prelude.{◌≡◌, string_bytes, IfOk};
-ghost use Rattle.batch_commands.specs.Faults.{many_word, upload_words, rules_words, version_words};
+ghost use Rattle.batch_commands.specs.Faults.{upload_words, rules_words, version_words};
 
 use crate::rules_file::RulesFault;
-use bim_model::{Many, UploadFault};
+use bim_model::UploadFault;
 use bucket_grid::MOST_MEMBERSHIPS;
 use clash_check::{MOST_VERSION_ELEMENTS, VersionFault};
 use clash_rules::RuleFault;
+use coord_json::many_word;
 use std::alloc::{AllocError, Global};
-
-fn many_word(many: Many) -> &'static str
-    ensures { result.now ≡ many_word many }
-{
-    match many {
-        Many::Bytes => "bytes",
-        Many::Instances => "instances",
-        Many::Values => "values",
-        Many::Corners => "corners",
-        Many::Triangles => "triangles",
-    }
-}
 
 /// The number and the name of a fault of an upload, and its fields.
 pub fn upload_words(alloc: Global, fault: UploadFault) -> Result<String, AllocError>
