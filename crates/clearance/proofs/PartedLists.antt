@@ -25,6 +25,10 @@ lengthened o v k m t w b = record {
   c_high = le_trans _ _ _ b.c_high w.high;
 }
 
+-- an interval for one triangle more
+pub projected_more : (around : Extent) (d : ℕ) (o v : Vector) (f m : Interval) (t : Triangle) → Longer f m → ProjectsIn around d o v f t → ProjectsIn around d o v m t
+projected_more around d o v f m t w r = λ s h n. lengthened o v f m (shape_of t) w (r s h n)
+
 -- a bound on an argument as the callee saw it
 pub as_seen : (high low f g : ℤ) (d : ℕ) → unsigned_abs high ≤ 24576000000000000000000 → unsigned_abs low ≤ 24576000000000000000000 → unsigned_abs f ≤ 786432000000000000000000000000 → f ≡ g → Apart (in_128 high) (in_128 low) (in_128 f) d → Apart high low g d
 as_seen high low f g d h k l e a =
