@@ -113,13 +113,7 @@ fn join_projected(
 }
 
 /// The interval of every sixteenth triangle, if it reaches the box `around`.
-fn sampled_interval(
-    ts: &[Triangle],
-    around: Extent,
-    base: V3,
-    across: Normal,
-    d: u32,
-) -> Interval
+fn sampled_interval(ts: &[Triangle], around: Extent, base: V3, across: Normal, d: u32) -> Interval
     requires ts_in { All IsInGrid ts.now }
     requires around_in { IsExtent around }
     requires base_in { IsPoint base }
