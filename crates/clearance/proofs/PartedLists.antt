@@ -1,5 +1,5 @@
 -- Two lists with a gap between their places across a direction are not near
-use Rattle.std.proofs.Common.{ℕ, ◌≡◌, ◌∙◌, ℤ, ◌≤ℤ◌, ◌≤◌, unsigned_abs, List, subst}
+use Rattle.std.proofs.Common.{ℕ, ◌≡◌, ◌∙◌, ℤ, ◌≤◌, unsigned_abs, List, subst}
 use Rattle.bim_model.specs.declared.geometry.Triangle.{Triangle}
 use Rattle.bim_model.specs.declared.geometry.Extent.{Extent}
 use Rattle.bim_model.specs.Points.{shape_of}
