@@ -13,7 +13,7 @@ use Rattle.bim_files.specs.Files.{FilesTold, FilesSeen, Holds, Tells, content_of
 use Rattle.bim_files.specs.Reading.{FileEnds}
 use Rattle.bim_files.specs.declared.front.FileError.{FileError}
 use Rattle.bim_files.specs.declared.front.FileError.TheVariants as file
-use Rattle.clash_check.specs.Versions.{IsVersionFault, IsChecked}
+use Rattle.clash_check.specs.Versions.{IsVersionFault}
 use Rattle.clash_check.specs.declared.fault.VersionFault.{VersionFault}
 use Rattle.batch_commands.specs.declared.check_words.ModelWord.{ModelWord}
 use Rattle.batch_commands.specs.declared.check_words.CheckWords.{CheckWords}
@@ -21,7 +21,7 @@ use Rattle.batch_commands.specs.declared.refusal.Refusal.{Refusal}
 use Rattle.batch_commands.specs.declared.refusal.Refusal.TheVariants as refusal
 use Rattle.batch_commands.specs.declared.refusal.JudgeError.{JudgeError}
 use Rattle.batch_commands.specs.declared.refusal.JudgeError.TheVariants.{Refused, File, Memory}
-use Rattle.batch_commands.specs.Judging.{AreJudged, Ends, Fails, Finds, HasRules, IsFirstRefused, IsJudged, IsMadeOf, IsRefusal, IsRefused, IsRulesRefusal, IsVersionOf, IsWordRefused, Quiet, of_file, placed}
+use Rattle.batch_commands.specs.Judging.{AreJudged, Ends, Fails, HasRules, IsFirstRefused, IsJudged, IsMadeOf, IsRefusal, IsRefused, IsVersionOf, IsWordRefused, Quiet, of_file, placed}
 
 -- what a `?` returns
 pub residual : {A E : Type 0} (r : Result A E) (e : E) → IsErrAnd r (λ x. x ≡ e) → r ≡ Err e

@@ -28,11 +28,12 @@ returns-in-Ok g c =
     let said = c.args.said.now in
     let quiet = c.in_ok-rules.ensures.0 in
     let later = c.in_ok-version.ensures.0 in
-    let made = subst (λ (words : List ModelWord). IsMadeOf mid.told new.told said.mode words c.in_ok-rules.rules c.in_ok-version.version) c.as_slice.ensures c.in_ok-version.ensures.1 in
-    (quiet_on old mid new quiet later,
-    version_of_words old.told mid.told new.told said c.in_ok-rules.rules c.in-Ok.found c.in_ok-version.version quiet.0 later.0 c.in_ok-rules.ensures.1 made
-    (c.in-Ok.ensures.version ∙ c.in_ok-shared.ensures),
-    subst (λ (v : Version). IsChecked v) (sym c.in-Ok.ensures.version) c.in-Ok.ensures.checked)
+    let made = subst (λ (words : List ModelWord). IsMadeOf mid.told new.told said.mode words c.in_ok-rules.rules c.in_ok-version.version) c.as_slice.ensures c.in_ok-version.ensures.1 in (
+      quiet_on old mid new quiet later,
+      version_of_words old.told mid.told new.told said c.in_ok-rules.rules c.in-Ok.found c.in_ok-version.version quiet.0 later.0 c.in_ok-rules.ensures.1 made
+          (c.in-Ok.ensures.version ∙ c.in_ok-shared.ensures),
+      subst (λ (v : Version). IsChecked v) (sym c.in-Ok.ensures.version) c.in-Ok.ensures.checked,
+    )
 
 pub returns-in-Err-Fault : goal.returns-in-Err-Fault
 returns-in-Err-Fault g c =
@@ -43,8 +44,9 @@ returns-in-Err-Fault g c =
     let quiet = c.in_ok-rules.ensures.0 in
     let later = c.in_ok-version.ensures.0 in
     let made = subst (λ (words : List ModelWord). IsMadeOf mid.told new.told said.mode words c.in_ok-rules.rules c.in_ok-version.version) c.as_slice.ensures c.in_ok-version.ensures.1 in
-    let full = rw c.in-Err-Fault.field-0-is at c.in-Err-Fault.ensures.fault in
-    (quiet_on old mid new quiet later,
-    version_refusal old.told new.told said c.in_ok-shared.shared c.in-Err-Fault.fault
-    (version_of_words old.told mid.told new.told said c.in_ok-rules.rules c.in_ok-shared.shared c.in_ok-version.version quiet.0 later.0 c.in_ok-rules.ensures.1 made c.in_ok-shared.ensures)
-    full)
+    let full = rw c.in-Err-Fault.field-0-is at c.in-Err-Fault.ensures.fault in (
+      quiet_on old mid new quiet later,
+      version_refusal old.told new.told said c.in_ok-shared.shared c.in-Err-Fault.fault
+          (version_of_words old.told mid.told new.told said c.in_ok-rules.rules c.in_ok-shared.shared c.in_ok-version.version quiet.0 later.0 c.in_ok-rules.ensures.1 made c.in_ok-shared.ensures)
+          full,
+    )

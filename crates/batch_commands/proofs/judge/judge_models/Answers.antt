@@ -36,5 +36,5 @@ loop-word-preserved g c =
     record {
       quiet = quiet_on old mid new quiet later;
       made = made_more old.told mid.told new.told c.args.mode c.args.words.now c.loop-word.word-index c.word-item.result c.in_ok-model.model c.args.rules c.loop-word.version c.in_ok-version.version
-      c.loop-word-test.true c.word-item.is quiet.0 later.0 c.loop-word.invariant.made c.in_ok-model.ensures.1 c.in_ok-version.ensures.models c.in_ok-version.ensures.rules;
+          c.loop-word-test.true c.word-item.is quiet.0 later.0 c.loop-word.invariant.made c.in_ok-model.ensures.1 c.in_ok-version.ensures.models c.in_ok-version.ensures.rules;
     }
