@@ -3,7 +3,8 @@ use Rattle.bim_model.specs.Snapshots.{Version}
 use Rattle.clash_check.specs.Versions.{IsChecked}
 use Rattle.batch_commands.specs.declared.check_words.ModelWord.{ModelWord}
 use Rattle.batch_commands.specs.Judging.{IsFirstRefused, IsMadeOf, IsRefusal}
-use Rattle.batch_commands.proofs.Judged.{ends_on, model_refusal, quiet_on, residual, version_of_words, version_refusal}
+use Rattle.batch_commands.proofs.Blocks.{residual}
+use Rattle.batch_commands.proofs.Judged.{ends_on, model_refusal, quiet_on, version_of_words, version_refusal}
 use Rattle.batch_commands.proofs.judge.judge.Goals as goal
 
 pub returns-in_err-version : goal.returns-in_err-version

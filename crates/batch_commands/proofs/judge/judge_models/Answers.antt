@@ -1,6 +1,7 @@
 use Rattle.std.proofs.Common.{◌∙◌}
 use Rattle.batch_commands.specs.Judging.{IsFirstRefused, IsWordRefused}
-use Rattle.batch_commands.proofs.Judged.{ends_on, first_refused, made_more, made_none, parts_at, quiet_on, quiet_same, residual}
+use Rattle.batch_commands.proofs.Blocks.{residual}
+use Rattle.batch_commands.proofs.Judged.{ends_on, first_refused, made_more, made_none, parts_at, quiet_on, quiet_same}
 use Rattle.batch_commands.proofs.judge.judge_models.Goals as goal
 
 pub loop-word-init : goal.loop-word-init
