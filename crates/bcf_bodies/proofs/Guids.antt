@@ -1,5 +1,5 @@
 -- The identifiers of what is read.
-use Rattle.std.proofs.Common.{◌≡◌, ◌↔◌, ℕ, ℤ, ◌==◌, IfOk, inl, inr, Bool, true, false, cond, ◌&&◌, List, [], ◌∷◌, length, Option, Some, None, IsSome, IfSome, option_map, option_and_then, is_some, Result, Ok, Err, refl, sym, ◌∙◌, ap, subst}
+use Rattle.std.proofs.Common.{◌≡◌, ◌↔◌, ℕ, ℤ, ◌==◌, nat_le, codes, IfOk, inl, inr, Bool, true, false, true≢false, cond, ◌&&◌, List, ◌∷◌, length, Option, Some, None, IsSome, IfSome, option_map, option_and_then, is_some, Result, Ok, Err, refl, sym, ap}
 use Rattle.std.specs.List.{All, list_all}
 use Rattle.std.proofs.lemmas.Bool.{cases_Bool, and_parts, eqb-true, eq-eqb}
 use Rattle.std.proofs.lemmas.List.Elements.{All-cons, All-nil}
@@ -8,25 +8,27 @@ use Rattle.serde_json.specs.Data.{Data, Items, no_items, item}
 use Rattle.serde_json.specs.Find.{get, as_null, as_str, as_object}
 use Rattle.bim_model.specs.Guids.{is_guid_char, IsGuid}
 use Rattle.bim_model.specs.declared.guid.Guid.{Guid}
+use Rattle.bcf_viewpoints.specs.declared.limits.TheConstants.{MOST_COMPONENTS, MOST_SOURCE}
 use Rattle.bcf_viewpoints.specs.declared.component.Component.{Component}
 use Rattle.bcf_viewpoints.specs.declared.component.Coloring.{Coloring}
 use Rattle.bcf_viewpoints.specs.declared.view.ViewBody.{ViewBody}
 use Rattle.bcf_viewpoints.specs.Components.{IsComponent, IsColoring}
 use Rattle.bcf_viewpoints.specs.Views.{IsViewBody}
 use Rattle.bcf_bodies.specs.declared.fault.BodyFault.{BodyFault}
+use Rattle.bcf_bodies.specs.declared.fault.BodyFault.TheVariants.{BadMember}
 use Rattle.bcf_bodies.specs.declared.fault.BodyError.{BodyError}
 use Rattle.bcf_bodies.specs.Faults.{IsReadAs}
-use Rattle.bcf_bodies.specs.Members.{optional, before, all_of, items_under}
-use Rattle.bcf_bodies.specs.ViewBodies.{if_guid, guid_value, guid_in, joined_component, component_in, components_under, color_in, joined_coloring, coloring_in, colorings_under, joined_view, view_of_parts, view_body}
+use Rattle.bcf_bodies.specs.Members.{optional, text_in, index_in, before, all_of, is_table, items_under}
+use Rattle.bcf_bodies.specs.ViewBodies.{if_guid, guid_value, guid_in, joined_component, component_in, components_under, color_in, joined_coloring, coloring_in, colorings_under, parts_of, visibility_of, is_shaped, component_count, is_shown, joined_view, view_of_parts, view_body}
 
 -- what is read of a text is the identifier that it is, if it is one
 pub read_is : (text : List ℕ) (r : Option Guid) → IsSome r ↔ IsGuid text → IfSome r (λ (g : Guid). g.chars ≡ text) → r ≡ if_guid text
 read_is text None iff same = elim (cases_Bool ((length text == 22) && list_all is_guid_char text)) [
-  | inl t ↦ (let p = and_parts (length text == 22) (list_all is_guid_char text) t in absurd (iff.1 (eqb-true (length text) 22 p.0, p.1)))
+  | inl t ↦ (let p = and_parts (length text == 22) (list_all is_guid_char text) t in absurd (true≢false (sym (iff.1 (eqb-true (length text) 22 p.0, p.1)))))
   | inr f ↦ rw f refl
 ]
 read_is text (Some g) iff same =
-    let is : IsGuid text = iff.0 tt in
+    let is : IsGuid text = iff.0 refl in
     let made : List ℕ → Option Guid = λ cs. Some (record { chars = cs }) in
     rw (eq-eqb (length text) 22 is.0, is.1) (ap made same)
 
@@ -72,7 +74,13 @@ joined_good true (Some guid) (Some system) (Some tool) h = h
 
 component_good : (d : Data) → IfSome (component_in d) IsComponent
 unfolding component_in guid_in
-component_good d = joined_good _ _ _ _ (optional_good (get _ d))
+component_good d =
+    joined_good
+    (is_some (as_object d))
+    (optional guid_value (get (codes "ifc_guid") d))
+    (text_in MOST_SOURCE (codes "originating_system") d)
+    (text_in MOST_SOURCE (codes "authoring_tool_id") d)
+    (optional_good (get (codes "ifc_guid") d))
 
 cons_good : {A : Type 0} (P : A → Type 0) (a : A) (rest : Option (List A)) → P a → IfSome rest (All P) → IfSome (option_map (λ xs. a ∷ xs) rest) (All P)
 cons_good P a None h k = tt
@@ -98,7 +106,8 @@ coloring_joined (Some color) (Some components) h = h
 
 coloring_good : (d : Data) → IfSome (coloring_in d) IsColoring
 unfolding coloring_in
-coloring_good d = coloring_joined (color_in d) _ (components_good _ d)
+coloring_good d =
+    coloring_joined (color_in d) (components_under (codes "components") d) (components_good (codes "components") d)
 
 colorings_good : (name : List ℕ) (d : Data) → IfSome (colorings_under name d) (All IsColoring)
 unfolding colorings_under
@@ -120,7 +129,18 @@ view_joined true (Some index) true (Some selection) (Some coloring) (Some except
 
 parts_good : (index : Option (Option ℤ)) (parts : Data) → IfOk (view_of_parts index parts) IsViewBody
 unfolding view_of_parts
-parts_good index parts = view_joined _ index _ _ _ _ _ (components_good _ parts) (colorings_good _ parts) (components_good _ _)
+parts_good index parts =
+    view_joined
+    (is_shaped parts)
+    index
+    (nat_le (component_count parts) MOST_COMPONENTS)
+    (components_under (codes "selection") parts)
+    (colorings_under (codes "coloring") parts)
+    (components_under (codes "exceptions") (visibility_of parts))
+    (is_shown parts)
+    (components_good (codes "selection") parts)
+    (colorings_good (codes "coloring") parts)
+    (components_good (codes "exceptions") (visibility_of parts))
 
 either_good : (b : Bool) (r : Result ViewBody BodyFault) (fault : BodyFault) → IfOk r IsViewBody → IfOk (cond b r (Err fault)) IsViewBody
 either_good true r fault h = h
@@ -128,7 +148,12 @@ either_good false r fault h = tt
 
 body_good : (tree : Data) → IfOk (view_body tree) IsViewBody
 unfolding view_body
-body_good tree = either_good _ _ _ (parts_good _ _)
+body_good tree =
+    either_good
+    (is_table (codes "components") tree)
+    (view_of_parts (index_in tree) (parts_of tree))
+    (BadMember (codes "components"))
+    (parts_good (index_in tree) (parts_of tree))
 
 -- what is read of a body has identifiers
 pub read_good : (tree : Data) (result : Result ViewBody BodyError) → IsReadAs result (view_body tree) → IfOk result IsViewBody

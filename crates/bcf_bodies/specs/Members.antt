@@ -1,10 +1,11 @@
 -- The members of bodies, over the JSON data that serde_json reads. A member that is null counts as absent; of
 -- one that stands twice the data have the last.
-use Rattle.std.specs.Prelude.{ℕ, ℤ, pos, negsuc, int_le, int_lt, unsigned_abs, nat_lt, nat_le, codes}
-use Rattle.std.specs.Prelude.{Bool, true, ◌&&◌, ◌||◌, cond, result_ok, List, [], ◌∷◌, length}
+use Rattle.std.specs.Prelude.{ℕ, ℤ, pos, negsuc, int_le, int_lt, int_div, unsigned_abs, nat_lt, nat_le, codes}
+use Rattle.std.specs.Prelude.{Bool, true, ◌&&◌, ◌||◌, cond, List, [], ◌∷◌, length}
 use Rattle.std.specs.Prelude.{Option, Some, None, option_and_then, option_map, is_some}
 use Rattle.std.specs.Option.{unwrap_or}
-use Rattle.std.specs.Int.{int_div, from_be_bytes, w128}
+use Rattle.std.specs.Result.{result_ok}
+use Rattle.std.specs.Int.{from_be_bytes, w128}
 use Rattle.serde_json.specs.Data.{Data, Items, no_items, item}
 use Rattle.serde_json.specs.Find.{get, as_null, as_bool, as_number, as_str, as_array, as_object, as_integer}
 use Rattle.serde_json.specs.Events.{items_len}
