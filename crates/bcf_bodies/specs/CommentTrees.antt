@@ -19,6 +19,7 @@ comment_base project comment created =
 abbrev pub viewpoint_text : ℕ → Option ℕ → Option (List ℕ)
 viewpoint_text project viewpoint = option_map (λ serial. identifier_text project serial) viewpoint
 
+-- a comment, with the dates as texts
 unfoldable pub comment_tree : ℕ → Comment → List ℕ → Option (List ℕ) → Data
 comment_tree project comment created modified =
     object (put_text_if (codes "viewpoint_guid") (viewpoint_text project comment.body.viewpoint)

@@ -23,6 +23,7 @@ optional read (Some value) =
 abbrev pub if_short : ℕ → List ℕ → Option (List ℕ)
 if_short most text = cond (nat_le (length text) most) (Some text) None
 
+-- the same, of data that are a text
 abbrev pub short_text : ℕ → Data → Option (List ℕ)
 short_text most value = option_and_then (if_short most) (as_str value)
 
@@ -46,9 +47,11 @@ if_index n = cond (int_le (negsuc 2147483647) n && int_le n (pos 2147483647)) (S
 abbrev pub index_value : Data → Option ℤ
 index_value value = option_and_then if_index (option_and_then as_integer (as_number value))
 
+-- the member `index`
 unfoldable pub index_in : Data → Option (Option ℤ)
 index_in tree = optional index_value (get (codes "index") tree)
 
+-- a second that is a moment
 abbrev pub if_moment : ℤ → Option ℕ
 if_moment second =
     cond (int_le (pos 0) second && int_le second (pos last_moment)) (Some (unsigned_abs second)) None
@@ -61,9 +64,11 @@ moment_of nanos = cond (int_lt nanos (pos 0)) None (if_moment (int_div nanos (po
 unfoldable pub if_date : List ℕ → Option ℕ
 if_date text = option_and_then moment_of (result_ok (parse_timestamp text))
 
+-- the same, of data that are a text
 abbrev pub date_value : Data → Option ℕ
 date_value value = option_and_then if_date (as_str value)
 
+-- the member `due_date`
 unfoldable pub due_in : Data → Option (Option ℕ)
 due_in tree = optional date_value (get (codes "due_date") tree)
 
@@ -71,12 +76,15 @@ due_in tree = optional date_value (get (codes "due_date") tree)
 unfoldable pub if_identifier : List ℕ → Option ℕ
 if_identifier text = option_map (λ bytes. from_be_bytes w128 bytes) (parsed text)
 
+-- the same, of data that are a text
 abbrev pub identifier_value : Data → Option ℕ
 identifier_value value = option_and_then if_identifier (as_str value)
 
+-- the member `viewpoint_guid`
 unfoldable pub viewpoint_in : Data → Option (Option ℕ)
 viewpoint_in tree = optional identifier_value (get (codes "viewpoint_guid") tree)
 
+-- one item before the rest, where both can be read
 abbrev pub before : {A : Type 0} → Option A → Option (List A) → Option (List A)
 before None rest = None
 before (Some a) rest = option_map (λ xs. a ∷ xs) rest
@@ -96,6 +104,7 @@ abbrev pub is_array_if : Option Data → Bool
 is_array_if None = true
 is_array_if (Some value) = is_some (as_null value) || is_some (as_array value)
 
+-- the same of the member of a name
 unfoldable pub is_list : List ℕ → Data → Bool
 is_list name tree = is_array_if (get name tree)
 
@@ -104,6 +113,7 @@ abbrev pub is_object_if : Option Data → Bool
 is_object_if None = true
 is_object_if (Some value) = is_some (as_null value) || is_some (as_object value)
 
+-- the same of the member of a name
 unfoldable pub is_table : List ℕ → Data → Bool
 is_table name tree = is_object_if (get name tree)
 
@@ -112,6 +122,7 @@ abbrev pub is_bool_if : Option Data → Bool
 is_bool_if None = true
 is_bool_if (Some value) = is_some (as_null value) || is_some (as_bool value)
 
+-- the same of the member of a name
 unfoldable pub is_flag : List ℕ → Data → Bool
 is_flag name tree = is_bool_if (get name tree)
 

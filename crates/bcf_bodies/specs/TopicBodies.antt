@@ -16,9 +16,11 @@ use Rattle.bcf_bodies.specs.Members.{optional, short_text, text_in, filled_in, i
 unfoldable pub labels_of : Items → Option (List (List ℕ))
 labels_of items = cond (nat_le (items_len items) MOST_LABELS) (all_of (short_text MOST_LABEL) items) None
 
+-- the same, of data that are an array
 abbrev pub labels_value : Data → Option (List (List ℕ))
 labels_value value = option_and_then labels_of (as_array value)
 
+-- the member `labels`, no labels where it is absent
 unfoldable pub labels_in : Data → Option (List (List ℕ))
 labels_in tree =
     option_map (λ labels. unwrap_or labels []) (optional labels_value (get (codes "labels") tree))

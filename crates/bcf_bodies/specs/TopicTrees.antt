@@ -16,6 +16,7 @@ IsDateIf None (Some date) = ⊥
 IsDateIf (Some moment) None = ⊥
 IsDateIf (Some moment) (Some date) = IsDateText moment date
 
+-- when a body was replaced last
 abbrev pub moment_if : Option Author → Option ℕ
 moment_if None = None
 moment_if (Some author) = Some author.moment
@@ -26,10 +27,12 @@ put_modified (Some author) (Some date) members =
     put_text (codes "modified_date") date (put_text (codes "modified_author") author.user members)
 put_modified author date members = members
 
+-- the index, where there is one
 abbrev pub put_index : Option ℤ → Members → Members
 put_index None members = members
 put_index (Some index) members = put (codes "index") (number (of_integer index)) members
 
+-- the labels, where there are any
 abbrev pub put_labels : List (List ℕ) → Members → Members
 put_labels [] members = members
 put_labels (label ∷ labels) members =
@@ -59,6 +62,7 @@ unfoldable pub put_rest : TopicBody → Option (List ℕ) → Members → Member
 put_rest body due members =
     put_text_if (codes "due_date") due (put_labels body.labels (put_index body.index members))
 
+-- a topic, with the dates as texts
 unfoldable pub topic_tree : ℕ → Topic → List ℕ → Option (List ℕ) → Option (List ℕ) → Data
 topic_tree project topic created modified due =
     object (put_rest topic.body due (put_words topic.body

@@ -23,9 +23,11 @@ use Rattle.bcf_bodies.specs.Members.{is_list, is_table, is_flag, items_under}
 abbrev pub if_guid : List ℕ → Option Guid
 if_guid text = cond ((length text == 22) && list_all is_guid_char text) (Some (record { chars = text })) None
 
+-- the same, of data that are a text
 abbrev pub guid_value : Data → Option Guid
 guid_value value = option_and_then if_guid (as_str value)
 
+-- the member `ifc_guid`
 unfoldable pub guid_in : Data → Option (Option Guid)
 guid_in component = optional guid_value (get (codes "ifc_guid") component)
 
@@ -63,9 +65,11 @@ is_color text =
     let digits = after_sign text in
     ((length digits == 6) || (length digits == 8)) && list_all is_ascii_hexdigit digits
 
+-- such a text, as it is
 abbrev pub if_color : List ℕ → Option (List ℕ)
 if_color text = cond (is_color text) (Some text) None
 
+-- the member `color`, which must be there
 unfoldable pub color_in : Data → Option (List ℕ)
 color_in coloring = option_and_then if_color (option_and_then as_str (get (codes "color") coloring))
 
@@ -79,6 +83,7 @@ joined_coloring None _ = None
 joined_coloring (Some color) None = None
 joined_coloring (Some color) (Some components) = Some (record { color = color; components = components })
 
+-- a coloring, none where its color or one of its components is bad
 unfoldable pub coloring_in : Data → Option Coloring
 coloring_in coloring = joined_coloring (color_in coloring) (components_under (codes "components") coloring)
 

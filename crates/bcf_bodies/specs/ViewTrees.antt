@@ -12,6 +12,7 @@ use Rattle.bcf_viewpoints.specs.declared.part.ViewPart.TheVariants as part
 use Rattle.bcf_bodies.specs.Objects.{put_text, put_text_if, listed}
 use Rattle.bcf_bodies.specs.TopicTrees.{put_index}
 
+-- the characters of an identifier
 abbrev pub guid_text : Option Guid → Option (List ℕ)
 guid_text guid = option_map (λ (g : Guid). g.chars) guid
 
@@ -22,14 +23,17 @@ component_tree c =
     (put_text_if (codes "ifc_guid") (guid_text c.ifc_guid)
     (put_text_if (codes "originating_system") c.originating_system no_members)))
 
+-- components as an array
 abbrev pub components_tree : List Component → Data
 components_tree components = array (listed component_tree components)
 
+-- a coloring
 unfoldable pub coloring_tree : Coloring → Data
 coloring_tree c =
     object (put_text (codes "color") c.color
     (put (codes "components") (components_tree c.components) no_members))
 
+-- whether components are shown, and which are not so
 unfoldable pub visibility_tree : ViewBody → Data
 visibility_tree body =
     object (put (codes "default_visibility") (boolean body.default_visibility)
