@@ -1,14 +1,13 @@
 -- Items read and written one after another.
-use Rattle.std.proofs.Common.{◌≡◌, ℕ, suc, ◌+◌, ◌<◌, ◌≤◌, Bool, true, false, ◌&&◌, inl, inr, ◌-◌, nat_le, List, [], ◌∷◌, ◌++◌, length, get_or, take, drop, map, Option, Some, None, option_map, codes, refl, sym, ap, ◌∙◌, append-nil, append_assoc, drop-cons, add-one, arith}
+use Rattle.std.proofs.Common.{◌≡◌, ℕ, suc, ◌+◌, ◌<◌, ◌≤◌, Bool, true, false, ◌&&◌, inl, inr, ◌-◌, nat_le, List, [], ◌∷◌, ◌++◌, length, get_or, take, drop, map, Option, Some, None, codes, refl, sym, ap, ◌∙◌, append-nil, append_assoc, drop-cons, add-one, arith}
 use Rattle.std.proofs.lemmas.Bool.{cases_lt, le-leb, lt-leb}
 use Rattle.std.proofs.lemmas.List.{take_more, map-append}
 use Rattle.serde_json.specs.Data.{Data, Items, item}
 use Rattle.serde_json.specs.Events.{items_len}
-use Rattle.serde_json.specs.View.{view, items_view, items_of}
+use Rattle.serde_json.specs.View.{view, items_view}
 use Rattle.serde_json.specs.declared.value.Value.{Value}
 use Rattle.bcf_bodies.specs.Members.{before, all_of, all_are, items_under}
 use Rattle.bcf_bodies.specs.ViewBodies.{colored_count}
-use Rattle.bcf_bodies.specs.Objects.{listed}
 
 pub count_is : (values : List Value) → items_len (items_view values) ≡ length values
 count_is [] = refl

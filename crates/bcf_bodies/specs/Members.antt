@@ -8,7 +8,6 @@ use Rattle.std.specs.Result.{result_ok}
 use Rattle.std.specs.Int.{from_be_bytes, w128}
 use Rattle.serde_json.specs.Data.{Data, Items, no_items, item}
 use Rattle.serde_json.specs.Find.{get, as_null, as_bool, as_number, as_str, as_array, as_object, as_integer}
-use Rattle.serde_json.specs.Events.{items_len}
 use Rattle.jiff.specs.Words.{parse_timestamp}
 use Rattle.uuid.specs.Text.{parsed}
 use Rattle.bim_model.specs.Moments.{last_moment}

@@ -1,5 +1,5 @@
 -- Objects and arrays that go out.
-use Rattle.std.specs.Prelude.{◌≡◌, ℕ, List, map, Option, Some, None, ⊤}
+use Rattle.std.specs.Prelude.{ℕ, List, map, Option, Some, None}
 use Rattle.serde_json.specs.Data.{Data, string, Items, Members, put}
 use Rattle.serde_json.specs.View.{items_of}
 

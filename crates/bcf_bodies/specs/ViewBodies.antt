@@ -1,7 +1,7 @@
 -- The body of a viewpoint, as far as it is kept (BCF API 3.0, Viewpoint Services).
-use Rattle.std.specs.Prelude.{◌≡◌, ℕ, ◌+◌, ℤ, ◌==◌, nat_le, List, [], ◌∷◌, length, codes}
+use Rattle.std.specs.Prelude.{ℕ, ◌+◌, ℤ, ◌==◌, nat_le, List, [], ◌∷◌, length, codes}
 use Rattle.std.specs.Prelude.{Bool, true, false, ◌&&◌, ◌||◌, cond, Result, Ok, Err}
-use Rattle.std.specs.Prelude.{Option, Some, None, option_and_then, option_map, is_some}
+use Rattle.std.specs.Prelude.{Option, Some, None, option_and_then, is_some}
 use Rattle.std.specs.Option.{unwrap_or}
 use Rattle.std.specs.List.{list_all}
 use Rattle.std.specs.Char.{is_ascii_hexdigit}

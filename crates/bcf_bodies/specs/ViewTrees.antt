@@ -1,6 +1,6 @@
 -- Viewpoints that go out (BCF API 3.0, Viewpoint Services), as JSON data.
-use Rattle.std.specs.Prelude.{◌≡◌, ℕ, List, Option, Some, None, option_map, codes}
-use Rattle.serde_json.specs.Data.{Data, boolean, string, array, object, Members, no_members, put}
+use Rattle.std.specs.Prelude.{ℕ, List, Option, option_map, codes}
+use Rattle.serde_json.specs.Data.{Data, boolean, array, object, no_members, put}
 use Rattle.bim_model.specs.declared.guid.Guid.{Guid}
 use Rattle.bcf_json.specs.Trees.{identifier_text}
 use Rattle.bcf_viewpoints.specs.declared.component.Component.{Component}
