@@ -1,0 +1,15 @@
+-- How bodies are answered.
+use Rattle.std.specs.Prelude.{◌≡◌, Result, Ok, Err, ⊤}
+use Rattle.bcf_bodies.specs.declared.fault.BodyFault.{BodyFault}
+use Rattle.bcf_bodies.specs.declared.fault.BodyError.{BodyError}
+use Rattle.bcf_bodies.specs.declared.fault.BodyError.TheVariants.{Fault, Memory}
+
+-- the error is the fault that is meant, or want of memory
+abbrev pub IsFault : {A : Type 0} → BodyError → Result A BodyFault → Type 0
+IsFault (Fault fault) meant = meant ≡ Err fault
+IsFault Memory meant = ⊤
+
+-- the answer is what is meant, or want of memory
+abbrev pub IsReadAs : {A : Type 0} → Result A BodyError → Result A BodyFault → Type 0
+IsReadAs (Ok body) meant = meant ≡ Ok body
+IsReadAs (Err error) meant = IsFault error meant
