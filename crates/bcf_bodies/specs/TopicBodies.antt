@@ -25,27 +25,37 @@ unfoldable pub labels_in : Data → Option (List (List ℕ))
 labels_in tree =
     option_map (λ labels. unwrap_or labels []) (optional labels_value (get (codes "labels") tree))
 
--- the topic of its members, each none where it is bad: first the title decides, then the others by their
--- names' bytes
+-- what is read of a member, or the fault that it is bad
+abbrev pub member_or : {A : Type 0} → List ℕ → Option A → Result A BodyFault
+member_or name None = Err (BadMember name)
+member_or name (Some value) = Ok value
+
+-- a title, or the fault that it is bad
+abbrev pub title_or : Option (List ℕ) → Result (List ℕ) BodyFault
+title_or None = Err Title
+title_or (Some title) = Ok title
+
+-- a member that is a text, or its fault
+unfoldable pub word_in : List ℕ → Data → Result (Option (List ℕ)) BodyFault
+word_in name tree = member_or name (text_in MOST_WORDS name tree)
+
+-- the topic of its title and its other members by their names' bytes, or the first fault of these
 unfoldable pub joined_topic :
-    Option (List ℕ) → Option (Option (List ℕ)) → Option (Option (List ℕ)) → Option (Option ℕ)
-    → Option (Option ℤ) → Option (List (List ℕ)) → Option (Option (List ℕ)) → Option (Option (List ℕ))
-    → Option (Option (List ℕ)) → Option (Option (List ℕ)) → Result TopicBody BodyFault
-joined_topic None _ _ _ _ _ _ _ _ _ = Err Title
-joined_topic (Some t) None _ _ _ _ _ _ _ _ = Err (BadMember (codes "assigned_to"))
-joined_topic (Some t) (Some a) None _ _ _ _ _ _ _ = Err (BadMember (codes "description"))
-joined_topic (Some t) (Some a) (Some d) None _ _ _ _ _ _ = Err (BadMember (codes "due_date"))
-joined_topic (Some t) (Some a) (Some d) (Some u) None _ _ _ _ _ = Err (BadMember (codes "index"))
-joined_topic (Some t) (Some a) (Some d) (Some u) (Some i) None _ _ _ _ = Err (BadMember (codes "labels"))
-joined_topic (Some t) (Some a) (Some d) (Some u) (Some i) (Some l) None _ _ _ =
-    Err (BadMember (codes "priority"))
-joined_topic (Some t) (Some a) (Some d) (Some u) (Some i) (Some l) (Some p) None _ _ =
-    Err (BadMember (codes "stage"))
-joined_topic (Some t) (Some a) (Some d) (Some u) (Some i) (Some l) (Some p) (Some s) None _ =
-    Err (BadMember (codes "topic_status"))
-joined_topic (Some t) (Some a) (Some d) (Some u) (Some i) (Some l) (Some p) (Some s) (Some o) None =
-    Err (BadMember (codes "topic_type"))
-joined_topic (Some t) (Some a) (Some d) (Some u) (Some i) (Some l) (Some p) (Some s) (Some o) (Some k) =
+    Result (List ℕ) BodyFault → Result (Option (List ℕ)) BodyFault → Result (Option (List ℕ)) BodyFault
+    → Result (Option ℕ) BodyFault → Result (Option ℤ) BodyFault → Result (List (List ℕ)) BodyFault
+    → Result (Option (List ℕ)) BodyFault → Result (Option (List ℕ)) BodyFault
+    → Result (Option (List ℕ)) BodyFault → Result (Option (List ℕ)) BodyFault → Result TopicBody BodyFault
+joined_topic (Err fault) _ _ _ _ _ _ _ _ _ = Err fault
+joined_topic (Ok t) (Err fault) _ _ _ _ _ _ _ _ = Err fault
+joined_topic (Ok t) (Ok a) (Err fault) _ _ _ _ _ _ _ = Err fault
+joined_topic (Ok t) (Ok a) (Ok d) (Err fault) _ _ _ _ _ _ = Err fault
+joined_topic (Ok t) (Ok a) (Ok d) (Ok u) (Err fault) _ _ _ _ _ = Err fault
+joined_topic (Ok t) (Ok a) (Ok d) (Ok u) (Ok i) (Err fault) _ _ _ _ = Err fault
+joined_topic (Ok t) (Ok a) (Ok d) (Ok u) (Ok i) (Ok l) (Err fault) _ _ _ = Err fault
+joined_topic (Ok t) (Ok a) (Ok d) (Ok u) (Ok i) (Ok l) (Ok p) (Err fault) _ _ = Err fault
+joined_topic (Ok t) (Ok a) (Ok d) (Ok u) (Ok i) (Ok l) (Ok p) (Ok s) (Err fault) _ = Err fault
+joined_topic (Ok t) (Ok a) (Ok d) (Ok u) (Ok i) (Ok l) (Ok p) (Ok s) (Ok o) (Err fault) = Err fault
+joined_topic (Ok t) (Ok a) (Ok d) (Ok u) (Ok i) (Ok l) (Ok p) (Ok s) (Ok o) (Ok k) =
     Ok (record {
       title = t;
       topic_type = k;
@@ -63,13 +73,13 @@ joined_topic (Some t) (Some a) (Some d) (Some u) (Some i) (Some l) (Some p) (Som
 unfoldable pub topic_body : Data → Result TopicBody BodyFault
 topic_body tree =
     joined_topic
-    (filled_in MOST_TITLE (codes "title") tree)
-    (text_in MOST_WORDS (codes "assigned_to") tree)
-    (text_in MOST_WORDS (codes "description") tree)
-    (due_in tree)
-    (index_in tree)
-    (labels_in tree)
-    (text_in MOST_WORDS (codes "priority") tree)
-    (text_in MOST_WORDS (codes "stage") tree)
-    (text_in MOST_WORDS (codes "topic_status") tree)
-    (text_in MOST_WORDS (codes "topic_type") tree)
+    (title_or (filled_in MOST_TITLE (codes "title") tree))
+    (word_in (codes "assigned_to") tree)
+    (word_in (codes "description") tree)
+    (member_or (codes "due_date") (due_in tree))
+    (member_or (codes "index") (index_in tree))
+    (member_or (codes "labels") (labels_in tree))
+    (word_in (codes "priority") tree)
+    (word_in (codes "stage") tree)
+    (word_in (codes "topic_status") tree)
+    (word_in (codes "topic_type") tree)

@@ -1,14 +1,14 @@
 //! Topics that come in.
-ghost use Rattle.std.specs.Prelude.{◌≡◌, ◌++◌, ◌∷◌, [], IfOk, OnOk, Err};
+ghost use Rattle.std.specs.Prelude.{◌≡◌, IfOk, codes};
 ghost use Rattle.serde_json.specs.View.{view, items_view};
-ghost use Rattle.bcf_bodies.specs.Members.{short_text, all_of};
+ghost use Rattle.bcf_bodies.specs.Members.{short_text, filled_in, all_of};
 ghost use Rattle.bcf_bodies.specs.Faults.{IsReadAs};
-ghost use Rattle.bcf_bodies.specs.TopicBodies.{labels_of, labels_in, joined_topic, topic_body};
+ghost use Rattle.bcf_bodies.specs.TopicBodies.{labels_of, labels_in, member_or, title_or, word_in, topic_body};
 
 use crate::fault::{BodyError, BodyFault, refuse};
 use crate::members::{due_in, filled_in, index_in, text_in};
 use bcf_topics::{MOST_LABEL, MOST_LABELS, MOST_WORDS, TopicBody};
-use bim_model::{Items, MOST_TITLE, Moment, Text};
+use bim_model::{Items, MOST_TITLE, Text};
 use serde_json::Value;
 use std::alloc::{AllocError, Global};
 
@@ -70,55 +70,58 @@ fn labels_in(alloc: Global, tree: &Value) -> Result<Option<Items<Text>>, AllocEr
     }
 }
 
-// The topic of its members, each none where it is bad.
-#[tactic(auto, unfolding(crate::specs::TopicBodies::joined_topic))]
-fn joined(
-    alloc: Global,
-    title: Option<Text>,
-    assigned_to: Option<Option<Text>>,
-    description: Option<Option<Text>>,
-    due: Option<Option<Moment>>,
-    index: Option<Option<i32>>,
-    labels: Option<Items<Text>>,
-    priority: Option<Option<Text>>,
-    stage: Option<Option<Text>>,
-    topic_status: Option<Option<Text>>,
-    topic_type: Option<Option<Text>>,
-) -> Result<TopicBody, BodyError>
-    ensures { IsReadAs result
-        (joined_topic title assigned_to description due index
-        labels priority stage topic_status topic_type) }
+// What is read of a member, or the refusal of it where it is bad.
+fn member<T>(alloc: Global, name: &str, value: Option<T>) -> Result<T, BodyError>
+    ensures { IsReadAs result (member_or name.now value) }
 {
-    let Some(title) = title else {
-        return Err(BodyError::Fault(BodyFault::Title));
-    };
-    let Some(assigned_to) = assigned_to else {
-        return refuse(alloc, "assigned_to");
-    };
-    let Some(description) = description else {
-        return refuse(alloc, "description");
-    };
-    let Some(due) = due else {
-        return refuse(alloc, "due_date");
-    };
-    let Some(index) = index else {
-        return refuse(alloc, "index");
-    };
-    let Some(labels) = labels else {
-        return refuse(alloc, "labels");
-    };
-    let Some(priority) = priority else {
-        return refuse(alloc, "priority");
-    };
-    let Some(stage) = stage else {
-        return refuse(alloc, "stage");
-    };
-    let Some(topic_status) = topic_status else {
-        return refuse(alloc, "topic_status");
-    };
-    let Some(topic_type) = topic_type else {
-        return refuse(alloc, "topic_type");
-    };
+    match value {
+        Some(value) => Ok(value),
+        None => refuse(alloc, name),
+    }
+}
+
+fn title_of(alloc: Global, tree: &Value) -> Result<Text, BodyError>
+    ensures { IsReadAs result (title_or (filled_in MOST_TITLE (codes "title") (view tree.now))) }
+{
+    match filled_in(alloc, MOST_TITLE, "title", tree)? {
+        Some(title) => Ok(title),
+        None => Err(BodyError::Fault(BodyFault::Title)),
+    }
+}
+
+#[tactic(auto, unfolding(crate::specs::TopicBodies::word_in))]
+fn word_in(alloc: Global, name: &str, tree: &Value) -> Result<Option<Text>, BodyError>
+    ensures { IsReadAs result (word_in name.now (view tree.now)) }
+{
+    member(alloc, name, text_in(alloc, MOST_WORDS, name, tree)?)
+}
+
+fn all_labels(alloc: Global, tree: &Value) -> Result<Items<Text>, BodyError>
+    ensures { IsReadAs result (member_or (codes "labels") (labels_in (view tree.now))) }
+{
+    member(alloc, "labels", labels_in(alloc, tree)?)
+}
+
+/// The topic that a body asks for: `title`, a text of 1 to 1,024 bytes, and, if they are there, `topic_type`,
+/// `topic_status`, `priority`, `assigned_to`, `stage` and `description`, texts of up to 4,096 bytes, `index`,
+/// a whole number of 32 bits, `labels`, up to 20 texts of up to 256 bytes, and `due_date`, a date and time of
+/// 1970 or later. A member that is null counts as absent, another member is passed over.
+///
+/// B3 where the title is bad, then B4 with the first bad member by its name's bytes.
+#[tactic(auto, unfolding(crate::specs::TopicBodies::topic_body, crate::specs::TopicBodies::joined_topic))]
+pub fn topic_in(alloc: Global, tree: &Value) -> Result<TopicBody, BodyError>
+    ensures { IsReadAs result (topic_body (view tree.now)) }
+{
+    let title = title_of(alloc, tree)?;
+    let assigned_to = word_in(alloc, "assigned_to", tree)?;
+    let description = word_in(alloc, "description", tree)?;
+    let due = member(alloc, "due_date", due_in(tree))?;
+    let index = member(alloc, "index", index_in(tree))?;
+    let labels = all_labels(alloc, tree)?;
+    let priority = word_in(alloc, "priority", tree)?;
+    let stage = word_in(alloc, "stage", tree)?;
+    let topic_status = word_in(alloc, "topic_status", tree)?;
+    let topic_type = word_in(alloc, "topic_type", tree)?;
     Ok(TopicBody {
         title,
         topic_type,
@@ -131,37 +134,4 @@ fn joined(
         description,
         due,
     })
-}
-
-/// The topic that a body asks for: `title`, a text of 1 to 1,024 bytes, and, if they are there, `topic_type`,
-/// `topic_status`, `priority`, `assigned_to`, `stage` and `description`, texts of up to 4,096 bytes, `index`,
-/// a whole number of 32 bits, `labels`, up to 20 texts of up to 256 bytes, and `due_date`, a date and time of
-/// 1970 or later. A member that is null counts as absent, another member is passed over.
-///
-/// B3 where the title is bad, then B4 with the first bad member by its name's bytes.
-#[tactic(auto, unfolding(crate::specs::TopicBodies::topic_body))]
-pub fn topic_in(alloc: Global, tree: &Value) -> Result<TopicBody, BodyError>
-    ensures { IsReadAs result (topic_body (view tree.now)) }
-{
-    let title = filled_in(alloc, MOST_TITLE, "title", tree)?;
-    let assigned_to = text_in(alloc, MOST_WORDS, "assigned_to", tree)?;
-    let description = text_in(alloc, MOST_WORDS, "description", tree)?;
-    let labels = labels_in(alloc, tree)?;
-    let priority = text_in(alloc, MOST_WORDS, "priority", tree)?;
-    let stage = text_in(alloc, MOST_WORDS, "stage", tree)?;
-    let topic_status = text_in(alloc, MOST_WORDS, "topic_status", tree)?;
-    let topic_type = text_in(alloc, MOST_WORDS, "topic_type", tree)?;
-    joined(
-        alloc,
-        title,
-        assigned_to,
-        description,
-        due_in(tree),
-        index_in(tree),
-        labels,
-        priority,
-        stage,
-        topic_status,
-        topic_type,
-    )
 }
