@@ -13,3 +13,8 @@ IsFault Memory meant = ⊤
 abbrev pub IsReadAs : {A : Type 0} → Result A BodyError → Result A BodyFault → Type 0
 IsReadAs (Ok body) meant = meant ≡ Ok body
 IsReadAs (Err error) meant = IsFault error meant
+
+-- what is put in place is what is meant, or the error is its fault or want of memory
+abbrev pub IsPutAs : {T A : Type 0} → Result T BodyError → A → Result A BodyFault → Type 0
+IsPutAs (Ok done) new meant = meant ≡ Ok new
+IsPutAs (Err error) new meant = IsFault error meant

@@ -39,47 +39,97 @@ title_or (Some title) = Ok title
 unfoldable pub word_in : List ℕ → Data → Result (Option (List ℕ)) BodyFault
 word_in name tree = member_or name (text_in MOST_WORDS name tree)
 
--- the topic of its title and its other members by their names' bytes, or the first fault of these
-unfoldable pub joined_topic :
-    Result (List ℕ) BodyFault → Result (Option (List ℕ)) BodyFault → Result (Option (List ℕ)) BodyFault
+-- a topic of which the title alone is told
+abbrev pub titled : List ℕ → TopicBody
+titled title =
+    record {
+      title = title;
+      topic_type = None;
+      topic_status = None;
+      priority = None;
+      index = None;
+      labels = [];
+      assigned_to = None;
+      stage = None;
+      description = None;
+      due = None;
+    }
+
+-- a topic with the members up to `labels` by their names' bytes, or the first fault of these
+unfoldable pub with_first :
+    TopicBody → Result (Option (List ℕ)) BodyFault → Result (Option (List ℕ)) BodyFault
     → Result (Option ℕ) BodyFault → Result (Option ℤ) BodyFault → Result (List (List ℕ)) BodyFault
-    → Result (Option (List ℕ)) BodyFault → Result (Option (List ℕ)) BodyFault
-    → Result (Option (List ℕ)) BodyFault → Result (Option (List ℕ)) BodyFault → Result TopicBody BodyFault
-joined_topic (Err fault) _ _ _ _ _ _ _ _ _ = Err fault
-joined_topic (Ok t) (Err fault) _ _ _ _ _ _ _ _ = Err fault
-joined_topic (Ok t) (Ok a) (Err fault) _ _ _ _ _ _ _ = Err fault
-joined_topic (Ok t) (Ok a) (Ok d) (Err fault) _ _ _ _ _ _ = Err fault
-joined_topic (Ok t) (Ok a) (Ok d) (Ok u) (Err fault) _ _ _ _ _ = Err fault
-joined_topic (Ok t) (Ok a) (Ok d) (Ok u) (Ok i) (Err fault) _ _ _ _ = Err fault
-joined_topic (Ok t) (Ok a) (Ok d) (Ok u) (Ok i) (Ok l) (Err fault) _ _ _ = Err fault
-joined_topic (Ok t) (Ok a) (Ok d) (Ok u) (Ok i) (Ok l) (Ok p) (Err fault) _ _ = Err fault
-joined_topic (Ok t) (Ok a) (Ok d) (Ok u) (Ok i) (Ok l) (Ok p) (Ok s) (Err fault) _ = Err fault
-joined_topic (Ok t) (Ok a) (Ok d) (Ok u) (Ok i) (Ok l) (Ok p) (Ok s) (Ok o) (Err fault) = Err fault
-joined_topic (Ok t) (Ok a) (Ok d) (Ok u) (Ok i) (Ok l) (Ok p) (Ok s) (Ok o) (Ok k) =
+    → Result TopicBody BodyFault
+with_first body (Err fault) _ _ _ _ = Err fault
+with_first body (Ok a) (Err fault) _ _ _ = Err fault
+with_first body (Ok a) (Ok d) (Err fault) _ _ = Err fault
+with_first body (Ok a) (Ok d) (Ok u) (Err fault) _ = Err fault
+with_first body (Ok a) (Ok d) (Ok u) (Ok i) (Err fault) = Err fault
+with_first body (Ok a) (Ok d) (Ok u) (Ok i) (Ok l) =
     Ok (record {
-      title = t;
-      topic_type = k;
-      topic_status = o;
-      priority = p;
+      title = body.title;
+      topic_type = body.topic_type;
+      topic_status = body.topic_status;
+      priority = body.priority;
       index = i;
       labels = l;
       assigned_to = a;
-      stage = s;
+      stage = body.stage;
       description = d;
       due = u;
     })
 
--- the topic that a body asks for, or its first fault
-unfoldable pub topic_body : Data → Result TopicBody BodyFault
-topic_body tree =
-    joined_topic
-    (title_or (filled_in MOST_TITLE (codes "title") tree))
+-- the same with the members that a body has
+unfoldable pub first_in : Data → TopicBody → Result TopicBody BodyFault
+first_in tree body =
+    with_first body
     (word_in (codes "assigned_to") tree)
     (word_in (codes "description") tree)
     (member_or (codes "due_date") (due_in tree))
     (member_or (codes "index") (index_in tree))
     (member_or (codes "labels") (labels_in tree))
+
+-- a topic with the members from `priority` on, or the first fault of these
+unfoldable pub with_last :
+    TopicBody → Result (Option (List ℕ)) BodyFault → Result (Option (List ℕ)) BodyFault
+    → Result (Option (List ℕ)) BodyFault → Result (Option (List ℕ)) BodyFault → Result TopicBody BodyFault
+with_last body (Err fault) _ _ _ = Err fault
+with_last body (Ok p) (Err fault) _ _ = Err fault
+with_last body (Ok p) (Ok s) (Err fault) _ = Err fault
+with_last body (Ok p) (Ok s) (Ok o) (Err fault) = Err fault
+with_last body (Ok p) (Ok s) (Ok o) (Ok k) =
+    Ok (record {
+      title = body.title;
+      topic_type = k;
+      topic_status = o;
+      priority = p;
+      index = body.index;
+      labels = body.labels;
+      assigned_to = body.assigned_to;
+      stage = s;
+      description = body.description;
+      due = body.due;
+    })
+
+-- the same with the members that a body has
+unfoldable pub last_in : Data → TopicBody → Result TopicBody BodyFault
+last_in tree body =
+    with_last body
     (word_in (codes "priority") tree)
     (word_in (codes "stage") tree)
     (word_in (codes "topic_status") tree)
     (word_in (codes "topic_type") tree)
+
+-- what follows where there is no fault
+abbrev pub and_then : {A B : Type 0} → (A → Result B BodyFault) → Result A BodyFault → Result B BodyFault
+and_then next (Err fault) = Err fault
+and_then next (Ok a) = next a
+
+-- the title that a body has, or its fault
+abbrev pub title_in : Data → Result (List ℕ) BodyFault
+title_in tree = title_or (filled_in MOST_TITLE (codes "title") tree)
+
+-- the topic that a body asks for, or its first fault: the title decides first, then the others by their names' bytes
+unfoldable pub topic_body : Data → Result TopicBody BodyFault
+topic_body tree =
+    and_then (last_in tree) (and_then (first_in tree) (and_then (λ t. Ok (titled t)) (title_in tree)))

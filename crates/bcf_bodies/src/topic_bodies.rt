@@ -1,9 +1,9 @@
 //! Topics that come in.
 ghost use Rattle.std.specs.Prelude.{◌≡◌, IfOk, codes};
 ghost use Rattle.serde_json.specs.View.{view, items_view};
-ghost use Rattle.bcf_bodies.specs.Members.{short_text, filled_in, all_of};
-ghost use Rattle.bcf_bodies.specs.Faults.{IsReadAs};
-ghost use Rattle.bcf_bodies.specs.TopicBodies.{labels_of, labels_in, member_or, title_or, word_in, topic_body};
+ghost use Rattle.bcf_bodies.specs.Members.{short_text, all_of};
+ghost use Rattle.bcf_bodies.specs.Faults.{IsReadAs, IsPutAs};
+ghost use Rattle.bcf_bodies.specs.TopicBodies.{labels_of, labels_in, member_or, title_in, word_in, titled, first_in, last_in, topic_body};
 
 use crate::fault::{BodyError, BodyFault, refuse};
 use crate::members::{due_in, filled_in, index_in, text_in};
@@ -80,8 +80,8 @@ fn member<T>(alloc: Global, name: &str, value: Option<T>) -> Result<T, BodyError
     }
 }
 
-fn title_of(alloc: Global, tree: &Value) -> Result<Text, BodyError>
-    ensures { IsReadAs result (title_or (filled_in MOST_TITLE (codes "title") (view tree.now))) }
+fn title_in(alloc: Global, tree: &Value) -> Result<Text, BodyError>
+    ensures { IsReadAs result (title_in (view tree.now)) }
 {
     match filled_in(alloc, MOST_TITLE, "title", tree)? {
         Some(title) => Ok(title),
@@ -96,10 +96,65 @@ fn word_in(alloc: Global, name: &str, tree: &Value) -> Result<Option<Text>, Body
     member(alloc, name, text_in(alloc, MOST_WORDS, name, tree)?)
 }
 
-fn all_labels(alloc: Global, tree: &Value) -> Result<Items<Text>, BodyError>
-    ensures { IsReadAs result (member_or (codes "labels") (labels_in (view tree.now))) }
+fn put_word(
+    alloc: Global,
+    place: &mut Option<Text>,
+    name: &str,
+    tree: &Value,
+) -> Result<(), BodyError>
+    ensures { IsPutAs result place.new (word_in name.now (view tree.now)) }
 {
-    member(alloc, "labels", labels_in(alloc, tree)?)
+    *place = word_in(alloc, name, tree)?;
+    Ok(())
+}
+
+fn put_labels(alloc: Global, place: &mut Items<Text>, tree: &Value) -> Result<(), BodyError>
+    ensures { IsPutAs result place.new (member_or (codes "labels") (labels_in (view tree.now))) }
+{
+    let labels = labels_in(alloc, tree)?;
+    *place = member(alloc, "labels", labels)?;
+    Ok(())
+}
+
+// Puts in the members up to `labels`.
+#[tactic(auto, unfolding(crate::specs::TopicBodies::first_in, crate::specs::TopicBodies::with_first))]
+fn put_first(alloc: Global, body: &mut TopicBody, tree: &Value) -> Result<(), BodyError>
+    ensures { IsPutAs result body.new (first_in (view tree.now) body.old) }
+{
+    put_word(alloc, &mut body.assigned_to, "assigned_to", tree)?;
+    put_word(alloc, &mut body.description, "description", tree)?;
+    body.due = member(alloc, "due_date", due_in(tree))?;
+    body.index = member(alloc, "index", index_in(tree))?;
+    put_labels(alloc, &mut body.labels, tree)
+}
+
+// Puts in the members from `priority` on.
+#[tactic(auto, unfolding(crate::specs::TopicBodies::last_in, crate::specs::TopicBodies::with_last), using(crate::proofs::LastMembers::third_fault))]
+fn put_last(alloc: Global, body: &mut TopicBody, tree: &Value) -> Result<(), BodyError>
+    ensures { IsPutAs result body.new (last_in (view tree.now) body.old) }
+{
+    put_word(alloc, &mut body.priority, "priority", tree)?;
+    put_word(alloc, &mut body.stage, "stage", tree)?;
+    put_word(alloc, &mut body.topic_status, "topic_status", tree)?;
+    put_word(alloc, &mut body.topic_type, "topic_type", tree)
+}
+
+// A topic of which the title alone is told.
+fn titled(alloc: Global, title: Text) -> TopicBody
+    ensures { result ≡ titled title }
+{
+    TopicBody {
+        title,
+        topic_type: None,
+        topic_status: None,
+        priority: None,
+        index: None,
+        labels: Items::new(alloc),
+        assigned_to: None,
+        stage: None,
+        description: None,
+        due: None,
+    }
 }
 
 /// The topic that a body asks for: `title`, a text of 1 to 1,024 bytes, and, if they are there, `topic_type`,
@@ -108,30 +163,12 @@ fn all_labels(alloc: Global, tree: &Value) -> Result<Items<Text>, BodyError>
 /// 1970 or later. A member that is null counts as absent, another member is passed over.
 ///
 /// B3 where the title is bad, then B4 with the first bad member by its name's bytes.
-#[tactic(auto, unfolding(crate::specs::TopicBodies::topic_body, crate::specs::TopicBodies::joined_topic))]
+#[tactic(auto, unfolding(crate::specs::TopicBodies::topic_body))]
 pub fn topic_in(alloc: Global, tree: &Value) -> Result<TopicBody, BodyError>
     ensures { IsReadAs result (topic_body (view tree.now)) }
 {
-    let title = title_of(alloc, tree)?;
-    let assigned_to = word_in(alloc, "assigned_to", tree)?;
-    let description = word_in(alloc, "description", tree)?;
-    let due = member(alloc, "due_date", due_in(tree))?;
-    let index = member(alloc, "index", index_in(tree))?;
-    let labels = all_labels(alloc, tree)?;
-    let priority = word_in(alloc, "priority", tree)?;
-    let stage = word_in(alloc, "stage", tree)?;
-    let topic_status = word_in(alloc, "topic_status", tree)?;
-    let topic_type = word_in(alloc, "topic_type", tree)?;
-    Ok(TopicBody {
-        title,
-        topic_type,
-        topic_status,
-        priority,
-        index,
-        labels,
-        assigned_to,
-        stage,
-        description,
-        due,
-    })
+    let mut body = titled(alloc, title_in(alloc, tree)?);
+    put_first(alloc, &mut body, tree)?;
+    put_last(alloc, &mut body, tree)?;
+    Ok(body)
 }

@@ -8,14 +8,13 @@ ghost use Rattle.bcf_viewpoints.specs.Components.{IsComponent, IsColoring};
 ghost use Rattle.bcf_viewpoints.specs.Views.{IsViewBody};
 ghost use Rattle.bcf_bodies.specs.Members.{all_are, is_list, is_table, is_flag, items_under};
 ghost use Rattle.bcf_bodies.specs.Faults.{IsReadAs};
-ghost use Rattle.bcf_bodies.specs.ViewBodies.{component_in, is_coloring, visibility_of, is_shaped, colored_count, component_count, is_shown, joined_view, view_of_parts, view_body};
+ghost use Rattle.bcf_bodies.specs.ViewBodies.{component_in, is_coloring, visibility_of, is_shaped, colored_count, component_count, is_shown, view_of_parts, view_body};
 
 use crate::components::{colorings_under, components_among, components_under, is_coloring};
 use crate::fault::{BodyError, BodyFault, refuse};
 use crate::members::{index_in, items_under};
 use crate::shapes::{is_flag, is_list, is_table};
-use bcf_viewpoints::{Coloring, Component, MOST_COMPONENTS, ViewBody};
-use bim_model::Items;
+use bcf_viewpoints::{MOST_COMPONENTS, ViewBody};
 use serde_json::Value;
 use std::alloc::Global;
 
@@ -117,49 +116,8 @@ fn is_shown(parts: &Value) -> bool
     }
 }
 
-// The viewpoint of its parts.
-#[tactic(auto, unfolding(crate::specs::ViewBodies::joined_view))]
-fn joined(
-    alloc: Global,
-    is_shaped: bool,
-    index: Option<Option<i32>>,
-    fits: bool,
-    selection: Option<Items<Component>>,
-    coloring: Option<Items<Coloring>>,
-    exceptions: Option<Items<Component>>,
-    default_visibility: bool,
-) -> Result<ViewBody, BodyError>
-    ensures { IsReadAs result
-        (joined_view is_shaped index fits selection coloring exceptions default_visibility) }
-{
-    if !is_shaped {
-        return refuse(alloc, "components");
-    }
-    let Some(index) = index else {
-        return refuse(alloc, "index");
-    };
-    if !fits {
-        return Err(BodyError::Fault(BodyFault::BadComponent));
-    }
-    let Some(selection) = selection else {
-        return Err(BodyError::Fault(BodyFault::BadComponent));
-    };
-    let Some(coloring) = coloring else {
-        return Err(BodyError::Fault(BodyFault::BadComponent));
-    };
-    let Some(exceptions) = exceptions else {
-        return Err(BodyError::Fault(BodyFault::BadComponent));
-    };
-    Ok(ViewBody {
-        index,
-        selection,
-        coloring,
-        default_visibility,
-        exceptions,
-    })
-}
-
-#[tactic(auto, unfolding(crate::specs::ViewBodies::view_of_parts, crate::specs::ViewBodies::components_under))]
+// What the parts of a body make with its index: first the shape decides, then the index, then the components.
+#[tactic(auto, unfolding(crate::specs::ViewBodies::view_of_parts, crate::specs::ViewBodies::joined_view, crate::specs::ViewBodies::components_under))]
 fn view_of_parts(
     alloc: Global,
     index: Option<Option<i32>>,
@@ -167,19 +125,31 @@ fn view_of_parts(
 ) -> Result<ViewBody, BodyError>
     ensures { IsReadAs result (view_of_parts index (view parts.now)) }
 {
-    let selection = components_under(alloc, "selection", parts)?;
-    let coloring = colorings_under(alloc, "coloring", parts)?;
-    let exceptions = components_among(alloc, exceptions_of(parts))?;
-    joined(
-        alloc,
-        is_shaped(parts),
+    if !is_shaped(parts) {
+        return refuse(alloc, "components");
+    }
+    let Some(index) = index else {
+        return refuse(alloc, "index");
+    };
+    if !fits(parts) {
+        return Err(BodyError::Fault(BodyFault::BadComponent));
+    }
+    let Some(selection) = components_under(alloc, "selection", parts)? else {
+        return Err(BodyError::Fault(BodyFault::BadComponent));
+    };
+    let Some(coloring) = colorings_under(alloc, "coloring", parts)? else {
+        return Err(BodyError::Fault(BodyFault::BadComponent));
+    };
+    let Some(exceptions) = components_among(alloc, exceptions_of(parts))? else {
+        return Err(BodyError::Fault(BodyFault::BadComponent));
+    };
+    Ok(ViewBody {
         index,
-        fits(parts),
         selection,
         coloring,
+        default_visibility: is_shown(parts),
         exceptions,
-        is_shown(parts),
-    )
+    })
 }
 
 // The viewpoint that a body asks for.
