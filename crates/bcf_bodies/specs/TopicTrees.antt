@@ -62,11 +62,11 @@ unfoldable pub put_rest : TopicBody → Option (List ℕ) → Members → Member
 put_rest body due members =
     put_text_if (codes "due_date") due (put_labels body.labels (put_index body.index members))
 
--- a topic, with the dates as texts
-unfoldable pub topic_tree : ℕ → Topic → List ℕ → Option (List ℕ) → Option (List ℕ) → Data
-topic_tree project topic created modified due =
-    object (put_rest topic.body due (put_words topic.body
-    (put_modified topic.modified modified (topic_base project topic created))))
+-- the members of a topic, with the dates as texts
+unfoldable pub topic_members : ℕ → Topic → List ℕ → Option (List ℕ) → Option (List ℕ) → Members
+topic_members project topic created modified due =
+    put_rest topic.body due (put_words topic.body
+    (put_modified topic.modified modified (topic_base project topic created)))
 
 -- a topic of a project
 unfoldable pub IsTopicTree : ℕ → Topic → Data → Type 0
@@ -75,4 +75,4 @@ IsTopicTree project topic tree =
     × IsDateText topic.created.moment created
     × IsDateIf (moment_if topic.modified) modified
     × IsDateIf topic.body.due due
-    × (tree ≡ topic_tree project topic created modified due)
+    × (tree ≡ object (topic_members project topic created modified due))

@@ -4,7 +4,7 @@ ghost use Rattle.serde_json.specs.Data.{string, object, no_members};
 ghost use Rattle.serde_json.specs.View.{view, items_view, members_view};
 ghost use Rattle.bcf_json.specs.Trees.{IsDateText};
 ghost use Rattle.bcf_bodies.specs.Objects.{put_text, listed};
-ghost use Rattle.bcf_bodies.specs.TopicTrees.{moment_if, put_modified, put_labels, topic_base, put_words, put_rest, IsDateIf, IsTopicTree};
+ghost use Rattle.bcf_bodies.specs.TopicTrees.{moment_if, put_modified, put_labels, topic_base, put_words, put_rest, topic_members, IsDateIf, IsTopicTree};
 
 use crate::objects::{put_index, put_text, put_text_if};
 use bcf_json::{date_out, identifier_out};
@@ -151,19 +151,36 @@ fn put_rest(
     Ok(())
 }
 
+// The members of a topic, with the dates as texts.
+#[tactic(auto, unfolding(crate::specs::TopicTrees::topic_members))]
+fn members_out(
+    alloc: Global,
+    project: u32,
+    topic: &Topic,
+    created: &str,
+    modified: &Option<Text>,
+    due: &Option<Text>,
+) -> Result<Map<String, Value>, AllocError>
+    ensures { IfOk result (λ members. members_view members.entries
+        ≡ topic_members project topic.now created.now modified.now due.now) }
+{
+    let mut members = base_out(alloc, project, topic, created)?;
+    put_modified(alloc, &mut members, &topic.modified, modified)?;
+    put_words(alloc, &mut members, &topic.body)?;
+    put_rest(alloc, &mut members, &topic.body, due)?;
+    Ok(members)
+}
+
 /// A topic of a project, as an object: `guid`, `server_assigned_id`, `title`, `creation_author` and
 /// `creation_date`, after a replacement `modified_author` and `modified_date`, and the other members that it
 /// has; `labels` where there are any.
-#[tactic(auto, unfolding(crate::specs::TopicTrees::topic_tree, crate::specs::TopicTrees::IsTopicTree))]
+#[tactic(auto, unfolding(crate::specs::TopicTrees::IsTopicTree))]
 pub fn topic_out(alloc: Global, project: u32, topic: &Topic) -> Result<Value, AllocError>
     ensures { IfOk result (λ v. IsTopicTree project topic.now (view v)) }
 {
     let created = date_out(alloc, topic.created.moment.seconds())?;
     let modified = date_if(alloc, moment_if(&topic.modified))?;
     let due = date_if(alloc, topic.body.due)?;
-    let mut members = base_out(alloc, project, topic, created.as_str())?;
-    put_modified(alloc, &mut members, &topic.modified, &modified)?;
-    put_words(alloc, &mut members, &topic.body)?;
-    put_rest(alloc, &mut members, &topic.body, &due)?;
+    let members = members_out(alloc, project, topic, created.as_str(), &modified, &due)?;
     Ok(Value::Object(members))
 }
