@@ -1,5 +1,6 @@
 -- The last members of a topic that are put in.
-use Rattle.std.proofs.Common.{◌≡◌, ℕ, List, codes, Option, Result, Ok, Err, refl}
+use Rattle.std.proofs.Common.{◌≡◌, ℕ, List, codes, Option, Result, Ok, Err, refl, sym, subst}
+use Rattle.std.specs.Result.{IsErrAnd}
 use Rattle.serde_json.specs.Data.{Data}
 use Rattle.bcf_topics.specs.declared.body.TopicBody.{TopicBody}
 use Rattle.bcf_bodies.specs.declared.fault.BodyError.{BodyError}
@@ -7,13 +8,20 @@ use Rattle.bcf_bodies.specs.declared.fault.BodyError.TheVariants.{Fault, Memory}
 use Rattle.bcf_bodies.specs.Faults.{IsFault, IsPutAs}
 use Rattle.bcf_bodies.specs.TopicBodies.{word_in, with_last, last_in}
 
--- the third of them is bad
-pub third_fault : (tree : Data) (body : TopicBody) (p s : Option (List ℕ)) (error : BodyError)
+third_fault : (tree : Data) (body : TopicBody) (p s : Option (List ℕ)) (error : BodyError)
     → word_in (codes "priority") tree ≡ Ok p → word_in (codes "stage") tree ≡ Ok s
     → IsFault error (word_in (codes "topic_status") tree) → IsFault error (last_in tree body)
 unfolding last_in with_last
 third_fault tree body p s (Fault fault) a b e = rw (a, b, e) refl
 third_fault tree body p s Memory a b e = tt
+
+-- the third of them is bad
+pub third_put : {T : Type 0} (tree : Data) (body new : TopicBody) (p s : Option (List ℕ)) (result : Result T BodyError) (error : BodyError)
+    → word_in (codes "priority") tree ≡ Ok p → word_in (codes "stage") tree ≡ Ok s
+    → IsFault error (word_in (codes "topic_status") tree) → IsErrAnd result (λ x. x ≡ error) → IsPutAs result new (last_in tree body)
+third_put tree body new p s (Ok done) error a b e is = absurd is
+third_put tree body new p s (Err x) error a b e is =
+    third_fault tree body p s x a b (subst (λ y. IsFault y (word_in (codes "topic_status") tree)) (sym is) e)
 
 -- the first three of them are good
 pub last_put : {T : Type 0} (tree : Data) (body : TopicBody) (p s o k : Option (List ℕ)) (result : Result T BodyError)

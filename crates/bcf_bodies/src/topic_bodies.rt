@@ -129,7 +129,7 @@ fn put_first(alloc: Global, body: &mut TopicBody, tree: &Value) -> Result<(), Bo
 }
 
 // Puts in the members from `priority` on.
-#[tactic(auto, unfolding(crate::specs::TopicBodies::last_in, crate::specs::TopicBodies::with_last), using(crate::proofs::LastMembers::third_fault))]
+#[tactic(auto, unfolding(crate::specs::TopicBodies::last_in, crate::specs::TopicBodies::with_last))]
 fn put_last(alloc: Global, body: &mut TopicBody, tree: &Value) -> Result<(), BodyError>
     ensures { IsPutAs result body.new (last_in (view tree.now) body.old) }
 {
