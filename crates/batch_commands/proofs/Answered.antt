@@ -1,5 +1,5 @@
 -- What the status of a command says of files and of the sink.
-use Rattle.std.proofs.Common.{◌≡◌, ℕ, List, Bool, true, false, Result, Ok, Err, Option, Some, None, inl, inr, refl, sym, ◌∙◌, subst, arith}
+use Rattle.std.proofs.Common.{◌≡◌, ℕ, List, Bool, true, false, Ok, Option, Some, None, inr, refl, sym, subst, arith}
 use Rattle.bim_io.specs.Causes.{Rose, ComesOfFault}
 use Rattle.bim_io.specs.Seen.{SinkSeen}
 use Rattle.bim_files.specs.Files.{FilesSeen}

@@ -1,5 +1,5 @@
 -- What a sink and a block hold of what was put.
-use Rattle.std.proofs.Common.{◌≡◌, ℕ, ◌<◌, List, [], ◌++◌, Result, Ok, Err, inl, inr, refl, sym, ◌∙◌, ap, append_assoc, append-nil, subst, arith}
+use Rattle.std.proofs.Common.{◌≡◌, ℕ, List, [], ◌++◌, Result, Ok, Err, inl, inr, refl, sym, ◌∙◌, ap, append_assoc, append-nil, subst, arith}
 use Rattle.std.specs.Prelude.{IsErrAnd}
 use Rattle.bim_io.specs.Causes.{Rose, ComesOfFault}
 use Rattle.bim_io.specs.Seen.{SinkSeen, SinkTakes}
@@ -22,7 +22,7 @@ pub memory_stops : (a : SinkSeen) (bytes : List ℕ) → WritesFront a a bytes �
 memory_stops a bytes = (([], bytes, refl, takes_none a), refl)
 
 -- more bytes would have come behind those of which a front was written
-pub front_longer : (a b : SinkSeen) (bytes rest whole : List ℕ) → WritesFront a b bytes → whole ≡ bytes ++ rest → WritesFront a b whole
+front_longer : (a b : SinkSeen) (bytes rest whole : List ℕ) → WritesFront a b bytes → whole ≡ bytes ++ rest → WritesFront a b whole
 front_longer a b bytes rest whole f e =
     (f.0, f.1 ++ rest, e ∙ ap (λ xs. xs ++ rest) f.2 ∙ append_assoc f.0 f.1 rest, f.3)
 
@@ -30,15 +30,6 @@ front_longer a b bytes rest whole f e =
 
 pub put_none : (a : SinkSeen) (block : List ℕ) → Puts a a block block [] (Ok tt)
 put_none a block = ([], append-nil block, takes_none a, refl)
-
-pub put_kept : (a : SinkSeen) (before after bytes : List ℕ) → after ≡ before ++ bytes → Puts a a before after bytes (Ok tt)
-put_kept a before after bytes e = ([], sym e, takes_none a, refl)
-
-pub put_flushed : (a b : SinkSeen) (before full after bytes : List ℕ) (r : Result (Unit {0}) Stop) → full ≡ before ++ bytes → Flushes a b full r
-    → (r ≡ Ok tt → after ≡ []) → Puts a b before after bytes r
-put_flushed a b before full after bytes (Ok u) e f empty =
-    (full, sym e ∙ sym (append-nil full) ∙ ap (λ xs. full ++ xs) (sym (empty refl)), f.0, f.1)
-put_flushed a b before full after bytes (Err stop) e f empty = (subst (λ xs. WritesFront a b xs) e f.0, f.1)
 
 -- ---- one text after the other
 

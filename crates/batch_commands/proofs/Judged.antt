@@ -1,7 +1,6 @@
 -- What was read of files stays so while other files are read.
-use Rattle.std.proofs.Common.{◌≡◌, ◌+◌, ◌<◌, ℕ, List, [], ◌∷◌, ◌++◌, length, take, drop, get_or, Option, Some, None, Result, Ok, Err, inl, inr, refl, sym, ◌∙◌, ap, subst}
+use Rattle.std.proofs.Common.{◌≡◌, ◌+◌, ◌<◌, ℕ, List, [], ◌∷◌, ◌++◌, length, take, drop, get_or, Option, Some, None, Err, inl, inr, refl, sym, ◌∙◌, ap, subst}
 use Rattle.std.proofs.lemmas.List.{drop_more, take_more, take-append-drop}
-use Rattle.std.specs.Prelude.{IsErrAnd}
 use Rattle.std.specs.List.{AllZip}
 use Rattle.bim_model.specs.declared.named_model.NamedModel.{NamedModel}
 use Rattle.bim_model.specs.declared.rules.Rule.{Rule}
@@ -13,7 +12,7 @@ use Rattle.bim_files.specs.Files.{FilesTold, FilesSeen, Holds, Tells, content_of
 use Rattle.bim_files.specs.Reading.{FileEnds}
 use Rattle.bim_files.specs.declared.front.FileError.{FileError}
 use Rattle.bim_files.specs.declared.front.FileError.TheVariants as file
-use Rattle.clash_check.specs.Versions.{IsVersionFault, IsChecked}
+use Rattle.clash_check.specs.Versions.{IsVersionFault}
 use Rattle.clash_check.specs.declared.fault.VersionFault.{VersionFault}
 use Rattle.batch_commands.specs.declared.check_words.ModelWord.{ModelWord}
 use Rattle.batch_commands.specs.declared.check_words.CheckWords.{CheckWords}
@@ -21,18 +20,13 @@ use Rattle.batch_commands.specs.declared.refusal.Refusal.{Refusal}
 use Rattle.batch_commands.specs.declared.refusal.Refusal.TheVariants as refusal
 use Rattle.batch_commands.specs.declared.refusal.JudgeError.{JudgeError}
 use Rattle.batch_commands.specs.declared.refusal.JudgeError.TheVariants.{Refused, File, Memory}
-use Rattle.batch_commands.specs.Judging.{AreJudged, Ends, Fails, Finds, HasRules, IsFirstRefused, IsJudged, IsMadeOf, IsRefusal, IsRefused, IsRulesRefusal, IsVersionOf, IsWordRefused, Quiet, of_file, placed}
+use Rattle.batch_commands.specs.Judging.{AreJudged, Ends, Fails, HasRules, IsFirstRefused, IsJudged, IsMadeOf, IsRefusal, IsRefused, IsVersionOf, IsWordRefused, Quiet, of_file, placed}
 
--- what a `?` returns
-pub residual : {A E : Type 0} (r : Result A E) (e : E) → IsErrAnd r (λ x. x ≡ e) → r ≡ Err e
-residual (Ok a) e h = absurd h
-residual (Err x) e h = ap (λ y. Err y) h
-
-pub tells_same : (a : Option FilesTold) → Tells a a
+tells_same : (a : Option FilesTold) → Tells a a
 tells_same None = tt
 tells_same (Some x) = (refl, λ n. refl)
 
-pub tells_on : (a b c : Option FilesTold) → Tells a b → Tells b c → Tells a c
+tells_on : (a b c : Option FilesTold) → Tells a b → Tells b c → Tells a c
 tells_on None None None p q = tt
 tells_on None None (Some z) p q = absurd q
 tells_on None (Some y) c p q = absurd p
@@ -42,7 +36,7 @@ tells_on (Some x) (Some y) None p q = tt
 tells_on (Some x) (Some y) (Some z) p q = (q.0 ∙ p.0, λ n. q.1 n ∙ p.1 n)
 
 -- what a call in the middle reads, which tells whether it tells, is what the files hold all along
-pub holds_within : (a b c d : Option FilesTold) (name bytes : List ℕ) → Tells a b → Tells b c → Tells c d → Holds b c name bytes → Holds a d name bytes
+holds_within : (a b c d : Option FilesTold) (name bytes : List ℕ) → Tells a b → Tells b c → Tells c d → Holds b c name bytes → Holds a d name bytes
 holds_within None b c d name bytes p m q h = tt
 holds_within (Some x) b c None name bytes p m q h = tt
 holds_within (Some x) b None (Some z) name bytes p m q h = absurd q
@@ -51,23 +45,23 @@ holds_within (Some x) (Some w) (Some y) (Some z) name bytes p m q h =
     λ free. h (p.1 name ∙ free) ∙ ap (λ fs. judged (content_of fs name)) p.0
 
 -- a model that was judged stays so
-pub judged_on : (a b c : Option FilesTold) (mode : Mode) (word : ModelWord) (model : NamedModel) → Tells a b → Tells b c → IsJudged a b mode word model → IsJudged a c mode word model
+judged_on : (a b c : Option FilesTold) (mode : Mode) (word : ModelWord) (model : NamedModel) → Tells a b → Tells b c → IsJudged a b mode word model → IsJudged a c mode word model
 judged_on a b c mode word model p q is =
     record { name = is.name; bytes = is.bytes; holds = holds_within a a b c word.file is.bytes (tells_same a) p q is.holds; makes = is.makes }
 
 -- and one that a later call judges is one of all calls
-pub judged_within : (a b c : Option FilesTold) (mode : Mode) (word : ModelWord) (model : NamedModel) → Tells a b → Tells b c → IsJudged b c mode word model → IsJudged a c mode word model
+judged_within : (a b c : Option FilesTold) (mode : Mode) (word : ModelWord) (model : NamedModel) → Tells a b → Tells b c → IsJudged b c mode word model → IsJudged a c mode word model
 judged_within a b c mode word model p q is =
     record { name = is.name; bytes = is.bytes; holds = holds_within a b c c word.file is.bytes p q (tells_same c) is.holds; makes = is.makes }
 
-pub all_judged_on : (a b c : Option FilesTold) (mode : Mode) (words : List ModelWord) (models : List NamedModel) → Tells a b → Tells b c → AreJudged a b mode words models → AreJudged a c mode words models
+all_judged_on : (a b c : Option FilesTold) (mode : Mode) (words : List ModelWord) (models : List NamedModel) → Tells a b → Tells b c → AreJudged a b mode words models → AreJudged a c mode words models
 all_judged_on a b c mode [] [] p q are = tt
 all_judged_on a b c mode [] (m ∷ ms) p q are = absurd are
 all_judged_on a b c mode (w ∷ ws) [] p q are = absurd are
 all_judged_on a b c mode (w ∷ ws) (m ∷ ms) p q are = (judged_on a b c mode w m p q are.0, all_judged_on a b c mode ws ms p q are.1)
 
 -- the last of the models is put among the others
-pub placed_last : (there models : List NamedModel) (model : NamedModel) → placed there (models ++ model ∷ []) ≡ with_model model (placed there models)
+placed_last : (there models : List NamedModel) (model : NamedModel) → placed there (models ++ model ∷ []) ≡ with_model model (placed there models)
 placed_last there [] model = refl
 placed_last there (m ∷ ms) model = placed_last (with_model m there) ms model
 
@@ -96,7 +90,7 @@ ends_on a b c Is Was Memory p by f = quiet_on a b c p f
 
 -- ---- rules
 
-pub rules_on : (a b c : Option FilesTold) (name : List ℕ) (rules : List Rule) → Tells a b → Tells b c → HasRules a b name rules → HasRules a c name rules
+rules_on : (a b c : Option FilesTold) (name : List ℕ) (rules : List Rule) → Tells a b → Tells b c → HasRules a b name rules → HasRules a c name rules
 rules_on a b c name rules p q has =
     record { bytes = has.bytes; holds = holds_within a a b c name has.bytes (tells_same a) p q has.holds; spell = has.spell }
 

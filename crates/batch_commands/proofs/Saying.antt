@@ -1,6 +1,6 @@
 -- What the words of the two commands say, by the values of their options.
-use Rattle.std.proofs.Common.{◌≡◌, ◌∙◌, ℕ, Bool, List, Option, Some, None, option_map, codes, ap, ap₂}
-use Rattle.clap.specs.Words.{first_of, first_value, found_of, matched_of, raw_values, rows_of}
+use Rattle.std.proofs.Common.{◌≡◌, ◌∙◌, ℕ, Bool, List, Option, option_map, codes, ap, ap₂}
+use Rattle.clap.specs.Words.{first_of, first_value, matched_of, raw_values, rows_of}
 use Rattle.clap.specs.declared.parser.matches.Found.{Found}
 use Rattle.clap.proofs.WalkLemmas.{first_value-rows, raw_values-rows}
 use Rattle.bim_model.specs.declared.upload.Mode.{Mode}

@@ -1,4 +1,4 @@
-use Rattle.std.proofs.Common.{Option, inl, inr, refl, subst, arith}
+use Rattle.std.proofs.Common.{Option, inl, refl, subst, arith}
 use Rattle.batch_commands.specs.declared.check_words.CheckWords.{CheckWords}
 use Rattle.batch_commands.specs.CheckWords.{check_words}
 use Rattle.batch_commands.specs.Commands.{Checks}

@@ -1,4 +1,4 @@
-use Rattle.std.proofs.Common.{◌≡◌, ◌++◌, List, ℕ, string_bytes, sym, ap, ◌∙◌}
+use Rattle.std.proofs.Common.{◌++◌, List, ℕ, sym, ap, ◌∙◌}
 use Rattle.batch_commands.specs.declared.block.Stop.TheVariants.{Memory}
 use Rattle.batch_commands.proofs.Blocks.{residual}
 use Rattle.batch_commands.proofs.Pieces.{of_all, of_more, of_none, of_stopped, of_wanting}

@@ -3,7 +3,8 @@ use Rattle.bim_model.specs.Snapshots.{Version}
 use Rattle.clash_check.specs.Versions.{IsChecked}
 use Rattle.batch_commands.specs.declared.check_words.ModelWord.{ModelWord}
 use Rattle.batch_commands.specs.Judging.{IsFirstRefused, IsMadeOf, IsRefusal}
-use Rattle.batch_commands.proofs.Judged.{ends_on, model_refusal, quiet_on, residual, version_of_words, version_refusal}
+use Rattle.batch_commands.proofs.Blocks.{residual}
+use Rattle.batch_commands.proofs.Judged.{ends_on, model_refusal, quiet_on, version_of_words, version_refusal}
 use Rattle.batch_commands.proofs.judge.judge.Goals as goal
 
 pub returns-in_err-version : goal.returns-in_err-version
@@ -28,11 +29,12 @@ returns-in-Ok g c =
     let said = c.args.said.now in
     let quiet = c.in_ok-rules.ensures.0 in
     let later = c.in_ok-version.ensures.0 in
-    let made = subst (λ (words : List ModelWord). IsMadeOf mid.told new.told said.mode words c.in_ok-rules.rules c.in_ok-version.version) c.as_slice.ensures c.in_ok-version.ensures.1 in
-    (quiet_on old mid new quiet later,
-    version_of_words old.told mid.told new.told said c.in_ok-rules.rules c.in-Ok.found c.in_ok-version.version quiet.0 later.0 c.in_ok-rules.ensures.1 made
-    (c.in-Ok.ensures.version ∙ c.in_ok-shared.ensures),
-    subst (λ (v : Version). IsChecked v) (sym c.in-Ok.ensures.version) c.in-Ok.ensures.checked)
+    let made = subst (λ (words : List ModelWord). IsMadeOf mid.told new.told said.mode words c.in_ok-rules.rules c.in_ok-version.version) c.as_slice.ensures c.in_ok-version.ensures.1 in (
+      quiet_on old mid new quiet later,
+      version_of_words old.told mid.told new.told said c.in_ok-rules.rules c.in-Ok.found c.in_ok-version.version quiet.0 later.0 c.in_ok-rules.ensures.1 made
+          (c.in-Ok.ensures.version ∙ c.in_ok-shared.ensures),
+      subst (λ (v : Version). IsChecked v) (sym c.in-Ok.ensures.version) c.in-Ok.ensures.checked,
+    )
 
 pub returns-in-Err-Fault : goal.returns-in-Err-Fault
 returns-in-Err-Fault g c =
@@ -43,8 +45,9 @@ returns-in-Err-Fault g c =
     let quiet = c.in_ok-rules.ensures.0 in
     let later = c.in_ok-version.ensures.0 in
     let made = subst (λ (words : List ModelWord). IsMadeOf mid.told new.told said.mode words c.in_ok-rules.rules c.in_ok-version.version) c.as_slice.ensures c.in_ok-version.ensures.1 in
-    let full = rw c.in-Err-Fault.field-0-is at c.in-Err-Fault.ensures.fault in
-    (quiet_on old mid new quiet later,
-    version_refusal old.told new.told said c.in_ok-shared.shared c.in-Err-Fault.fault
-    (version_of_words old.told mid.told new.told said c.in_ok-rules.rules c.in_ok-shared.shared c.in_ok-version.version quiet.0 later.0 c.in_ok-rules.ensures.1 made c.in_ok-shared.ensures)
-    full)
+    let full = rw c.in-Err-Fault.field-0-is at c.in-Err-Fault.ensures.fault in (
+      quiet_on old mid new quiet later,
+      version_refusal old.told new.told said c.in_ok-shared.shared c.in-Err-Fault.fault
+          (version_of_words old.told mid.told new.told said c.in_ok-rules.rules c.in_ok-shared.shared c.in_ok-version.version quiet.0 later.0 c.in_ok-rules.ensures.1 made c.in_ok-shared.ensures)
+          full,
+    )

@@ -1,5 +1,6 @@
 use Rattle.batch_commands.specs.Judging.{IsWordRefused, of_file}
-use Rattle.batch_commands.proofs.Judged.{file_ends, residual}
+use Rattle.batch_commands.proofs.Blocks.{residual}
+use Rattle.batch_commands.proofs.Judged.{file_ends}
 use Rattle.batch_commands.proofs.judge.judge_model.Goals as goal
 
 pub returns-in_err-bytes : goal.returns-in_err-bytes

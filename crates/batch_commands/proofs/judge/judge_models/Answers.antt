@@ -1,6 +1,7 @@
 use Rattle.std.proofs.Common.{◌∙◌}
 use Rattle.batch_commands.specs.Judging.{IsFirstRefused, IsWordRefused}
-use Rattle.batch_commands.proofs.Judged.{ends_on, first_refused, made_more, made_none, parts_at, quiet_on, quiet_same, residual}
+use Rattle.batch_commands.proofs.Blocks.{residual}
+use Rattle.batch_commands.proofs.Judged.{ends_on, first_refused, made_more, made_none, parts_at, quiet_on, quiet_same}
 use Rattle.batch_commands.proofs.judge.judge_models.Goals as goal
 
 pub loop-word-init : goal.loop-word-init
@@ -36,5 +37,5 @@ loop-word-preserved g c =
     record {
       quiet = quiet_on old mid new quiet later;
       made = made_more old.told mid.told new.told c.args.mode c.args.words.now c.loop-word.word-index c.word-item.result c.in_ok-model.model c.args.rules c.loop-word.version c.in_ok-version.version
-      c.loop-word-test.true c.word-item.is quiet.0 later.0 c.loop-word.invariant.made c.in_ok-model.ensures.1 c.in_ok-version.ensures.models c.in_ok-version.ensures.rules;
+          c.loop-word-test.true c.word-item.is quiet.0 later.0 c.loop-word.invariant.made c.in_ok-model.ensures.1 c.in_ok-version.ensures.models c.in_ok-version.ensures.rules;
     }

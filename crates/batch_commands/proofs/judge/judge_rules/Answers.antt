@@ -1,7 +1,8 @@
 use Rattle.std.proofs.Common.{ap, sym, ◌∙◌, refl}
 use Rattle.batch_commands.specs.RulesFile.{rules_in}
 use Rattle.batch_commands.specs.Judging.{IsRulesRefusal, of_file}
-use Rattle.batch_commands.proofs.Judged.{file_ends, residual}
+use Rattle.batch_commands.proofs.Blocks.{residual}
+use Rattle.batch_commands.proofs.Judged.{file_ends}
 use Rattle.batch_commands.proofs.judge.judge_rules.Goals as goal
 
 pub returns-in_err-bytes : goal.returns-in_err-bytes
