@@ -100,7 +100,7 @@ def in_place(crates):
 
 # ---- the picture
 
-WIDTH, HIGH, GAP, LEFT = 1180, 26, 34, 92
+WIDTH, HIGH, GAP, LEFT = 860, 26, 30, 96
 
 
 def reduced(crates):
@@ -125,52 +125,85 @@ def layers(crates, lines):
     return rows
 
 
-def places(rows, lines):
-    """Where the middle of each crate lies from left to right: near those that it stands on and those that stand on it."""
+def stretched(rows, lines):
+    """The rows with a point in each that a line passes, one for all lines to the same crate, and the steps of the lines from one row to the next
+    below. A point is a crate's name with the number of its row."""
+    row_of = {name: at for at, (_, names) in enumerate(rows) for name in names}
+    spots, steps = [list(names) for _, names in rows], set()
+    for name, uses in lines.items():
+        for use in uses:
+            upper = name
+            for at in range(row_of[name] - 1, row_of[use], -1):
+                if (use, at) not in spots[at]:
+                    spots[at].append((use, at))
+                steps.add((upper, (use, at)))
+                upper = (use, at)
+            steps.add((upper, use))
+    return spots, sorted(steps, key=str)
+
+
+def wide(spot):
+    return 14 + 7.1 * len(spot) if isinstance(spot, str) else 4
+
+
+def settled(spots, wanted):
+    """The middles of the spots of a row, in their order, as near to what is wanted as their widths allow."""
+    apart, at = [], 0.0
+    for before, spot in zip([None] + spots, spots):
+        at += (wide(before) + wide(spot)) / 2 + 16 if before else 0.0
+        apart.append(at)
+    runs = []  # runs of spots that lie as close as they may, each with the sum of where they would lie and their number
+    for spot, off in zip(spots, apart):
+        runs.append([wanted[spot] - off, 1])
+        while len(runs) > 1 and runs[-2][0] / runs[-2][1] > runs[-1][0] / runs[-1][1]:
+            last = runs.pop()
+            runs[-1] = [runs[-1][0] + last[0], runs[-1][1] + last[1]]
+    low, high = LEFT + wide(spots[0]) / 2, WIDTH - 8 - wide(spots[-1]) / 2 - apart[-1]
+    starts = [min(max(total / count, low), high) for total, count in runs for _ in range(count)]
+    return {spot: round(start + off, 2) for spot, start, off in zip(spots, starts, apart)}
+
+
+def places(spots, steps):
+    """Where the middle of each spot lies from left to right: near those that its lines lead to."""
+    near = {True: {}, False: {}}
+    for upper, lower in steps:
+        near[True].setdefault(upper, []).append(lower)
+        near[False].setdefault(lower, []).append(upper)
     middle = {}
-
-    def spread(names):
-        for at, name in enumerate(names):
-            middle[name] = LEFT + (WIDTH - LEFT) * (2 * at + 1) / (2 * len(names))
-
-    for _, names in rows:
-        spread(names)
-    above = {name: [top for top in lines if name in lines[top]] for name in lines}
-    for turn in range(24):
-        near = lines if turn % 2 == 0 else above
-        for _, names in rows if turn % 2 == 0 else reversed(rows):
-            wanted = {name: sum(middle[other] for other in near[name]) / len(near[name]) if near[name] else middle[name] for name in names}
-            names.sort(key=lambda name: (round(wanted[name], 3), name))
-            spread(names)
+    for row in spots:
+        middle.update(settled(row, {spot: LEFT + (WIDTH - LEFT) * (at + 0.5) / len(row) for at, spot in enumerate(row)}))
+    for turn in range(60):
+        up = turn % 2 == 0
+        for row in spots if up else reversed(spots):
+            ends = {spot: near[up].get(spot) or near[not up].get(spot) or [spot] for spot in row}
+            wanted = {spot: round(sum(middle[end] for end in ends[spot]) / len(ends[spot]), 2) for spot in row}
+            if turn < 48:
+                row.sort(key=lambda spot: (wanted[spot], str(spot)))
+            middle.update(settled(row, wanted))
     return middle
 
 
 def drawn(crates):
     lines = reduced(crates)
     rows = layers(crates, lines)
-    middle = places(rows, lines)
-    high = {}
-    for at, (_, names) in enumerate(reversed(rows)):
-        for name in names:
-            high[name] = GAP // 2 + at * (HIGH + GAP)
+    spots, steps = stretched(rows, lines)
+    middle = places(spots, steps)
     total = len(rows) * (HIGH + GAP)
+    high = {spot: GAP // 2 + (len(rows) - 1 - at) * (HIGH + GAP) for at, row in enumerate(spots) for spot in row}
     out = [f'<svg xmlns="http://www.w3.org/2000/svg" width="{WIDTH}" height="{total}" viewBox="0 0 {WIDTH} {total}" font-family="sans-serif">',
-           "<title>The crates; each stands on those that its lines lead down to</title>",
-           f'<rect width="{WIDTH}" height="{total}" fill="#ffffff"/>']
-    for at, group in enumerate(reversed(list(dict.fromkeys(group for group, _ in rows)))):
+           "<title>The crates; each stands on those that its lines lead down to</title>"]
+    for at, group in enumerate(dict.fromkeys(group for group, _ in rows)):
         tops = [high[names[0]] for name, names in rows if name == group]
-        top, count = min(tops) - GAP // 2, len(tops)
-        fill = "#f3f5f8" if at % 2 == 0 else "#e8edf3"
-        out.append(f'<rect y="{top}" width="{WIDTH}" height="{count * (HIGH + GAP)}" fill="{fill}"/>')
+        top, tall = min(tops) - GAP // 2, len(tops) * (HIGH + GAP)
+        out.append(f'<rect x="0" y="{top}" width="{WIDTH}" height="{tall}" fill="{("#eef1f5", "#f8f9fb")[at % 2]}"/>')
         out.append(f'<text x="10" y="{top + 22}" font-size="15" fill="#445566">{escape(group)}</text>')
-    for name, uses in lines.items():
-        for use in uses:
-            x, y, u, v = middle[name], high[name] + HIGH, middle[use], high[use]
-            half = (v - y) / 2
-            out.append(f'<path d="M{x:.0f} {y} C{x:.0f} {y + half:.0f} {u:.0f} {v - half:.0f} {u:.0f} {v}" fill="none" stroke="#7f93a8" stroke-width="1.1"/>')
+    for upper, lower in steps:
+        x, y, u, v = middle[upper], high[upper] + HIGH, middle[lower], high[lower]
+        passed = f" L{u:.0f} {v + HIGH}" if isinstance(lower, tuple) else ""
+        half = (y + v) // 2
+        out.append(f'<path d="M{x:.0f} {y} C{x:.0f} {half} {u:.0f} {half} {u:.0f} {v}{passed}" fill="none" stroke="#7f93a8" stroke-width="1.2"/>')
     for name in lines:
-        wide = 14 + 7.1 * len(name)
-        out.append(f'<rect x="{middle[name] - wide / 2:.0f}" y="{high[name]}" width="{wide:.0f}" height="{HIGH}" rx="4" fill="#ffffff" stroke="#33506e"/>')
+        out.append(f'<rect x="{middle[name] - wide(name) / 2:.0f}" y="{high[name]}" width="{wide(name):.0f}" height="{HIGH}" rx="4" fill="#ffffff" stroke="#33506e"/>')
         out.append(f'<text x="{middle[name]:.0f}" y="{high[name] + 17}" font-size="12.5" text-anchor="middle" fill="#12263a">{escape(name)}</text>')
     return "\n".join(out + ["</svg>", ""])
 
