@@ -1,6 +1,6 @@
 # make build    proves the crates that the program stands on, and leaves it at crates/bim_server/out/bim_server
 # make replay   replays the stored run of cases/topics over the built program, and prints what it writes
-# make check    the test command: the whole gate, then the end-to-end cases over the built program
+# make check    the test command: the map of crates, the whole gate, then the end-to-end cases over the built program
 
 SERVER := crates/bim_server/out/bim_server
 
@@ -14,6 +14,7 @@ replay: build
 
 # rt ci leaves the program that it proved and built
 check:
+	python3 bench/map.py
 	rt ci
 	@test -x $(SERVER) || $(MAKE) --no-print-directory build
 	python3 cases/run.py $(SERVER)

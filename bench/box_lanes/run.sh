@@ -10,12 +10,12 @@ top=$(cd "$(dirname "$0")/../.." && pwd)
 work=$(mktemp -d)
 trap 'rm -rf "$work"' EXIT
 mkdir -p "$work/crates/pace/src"
-for name in bim_model box_lanes; do
+for name in $(python3 "$top/bench/stands_on.py" --names box_lanes); do
     cp -r "$top/crates/$name" "$work/crates/$name"
     rm -rf "$work/crates/$name/out"
 done
 cp "$top/bench/box_lanes/pace.txt" "$work/crates/pace/src/main.rt"
-printf 'bim_model:\nbox_lanes: bim_model\npace: box_lanes bim_model\n' > "$work/crates.txt"
+{ python3 "$top/bench/stands_on.py" box_lanes; echo 'pace: box_lanes bim_model'; } > "$work/crates.txt"
 git -C "$work" init -q
 (cd "$work/crates/pace" && rt run > "$work/first.log" 2>&1) || { tail -60 "$work/first.log"; exit 1; }
 "$work/crates/pace/out/pace"
