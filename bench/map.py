@@ -83,8 +83,9 @@ def below(crates):
 
 def in_place(crates):
     names = [crate.name for crate in crates]
-    for name in sorted(set(os.listdir(os.path.join(TOP, "crates"))) - set(names)):
-        yield f"crates/{name} isn't in crates.txt"
+    for name in sorted(os.listdir(os.path.join(TOP, "crates"))):
+        if name not in names and os.path.isdir(os.path.join(TOP, "crates", name, "src")):
+            yield f"crates/{name} isn't in crates.txt"
     rows = re.findall(r"^\| \[`(\w+)`\]", text_of("README.md"), re.M)
     for name in names:
         if not os.path.isdir(os.path.join(TOP, "crates", name)):
