@@ -1,16 +1,19 @@
-# make build    proves the crates that the program stands on, and leaves it at crates/bim_server/out/bim_server
-# make replay   replays the stored run of cases/topics over the built program, and prints what it writes
-# make check    the test command: the map of crates, the whole gate, then the end-to-end cases over the built program
+# make build             proves the crates that the program stands on, and leaves it at crates/bim_server/out/bim_server
+# make replay            replays the stored run of cases/topics/stored_run over the built program, and prints what it writes
+# make check             the test command: the map of crates, the whole gate, then the end-to-end cases over the built program
+# make crate NAME=..     proves one crate, over what earlier checks kept of those below it, and runs its tests
+# make cases [GROUP=..]  the end-to-end cases alone, over the program as it was built last: all, or those of the groups
+#                        (upload/u07), or with one of the words in their path; cases/README.md names the groups
 
 SERVER := crates/bim_server/out/bim_server
 
-.PHONY: build replay check
+.PHONY: build replay check crate cases
 
 build:
 	@cd crates/bim_server && rt run -- replay </dev/null >&2
 
 replay: build
-	@$(SERVER) $$(cat cases/topics/args) <cases/topics/stdin
+	@$(SERVER) $$(cat cases/topics/stored_run/args) <cases/topics/stored_run/stdin
 
 # rt ci leaves the program that it proved and built
 check:
@@ -18,3 +21,11 @@ check:
 	rt ci
 	@test -x $(SERVER) || $(MAKE) --no-print-directory build
 	python3 cases/run.py $(SERVER)
+
+crate:
+	@test -d "crates/$(NAME)/src" || { echo "make crate NAME=.. wants one of: $$(ls crates | xargs)"; exit 2; }
+	cd crates/$(NAME) && rt check && rt test
+
+cases:
+	@test -x $(SERVER) || $(MAKE) --no-print-directory build
+	@python3 cases/run.py $(SERVER) $(GROUP)

@@ -17,8 +17,8 @@ CODES = {f"U{number}" for number in range(1, 20)}
 
 
 def house():
-    path = os.path.join(os.path.dirname(os.path.abspath(__file__)), "..", "cases", "upload_of_a_house", "stdin")
-    with open(path, "rb") as file:
+    cases = os.path.join(os.path.dirname(os.path.abspath(__file__)), "..", "cases")
+    with open(os.path.join(cases, "upload", "accepted", "upload_of_a_house", "stdin"), "rb") as file:
         whole = file.read()
     head, rest = whole.split(b"\r\n\r\n", 1)
     length = next(int(line.split(b":")[1]) for line in head.split(b"\r\n") if line.lower().startswith(b"content-length"))

@@ -49,7 +49,7 @@ EMPTY = b"X-Book-Turn: %d\r\nContent-Length: 2\r\n\r\n[]"
 
 def main():
     program = os.path.abspath(sys.argv[1] if len(sys.argv) > 1 else "crates/bim_server/out/bim_server")
-    case = os.path.join(os.path.dirname(os.path.abspath(__file__)), "..", "cases", "topics")
+    case = os.path.join(os.path.dirname(os.path.abspath(__file__)), "..", "cases", "topics", "stored_run")
     with open(os.path.join(case, "stdin"), "rb") as file:
         given = file.read()
     with open(os.path.join(case, "stdout"), "rb") as file:

@@ -5,6 +5,7 @@ topics by title, empty versions, and uploads of one small file; where a stream a
 
     python3 cases/http_reference.py --at N [--projects N] <input >output      ends with the status of the run
     python3 cases/http_reference.py --cases FOLDER     compares with the cases KKK.json, KKK.in, KKK.out of a folder
+    python3 cases/run.py cases/http_reference.py clients topics     runs cases over it, in place of the program
 """
 import datetime
 import glob
@@ -517,6 +518,10 @@ def compare(folder):
 if __name__ == "__main__":
     if sys.argv[1:2] == ["--cases"]:
         sys.exit(compare(sys.argv[2]))
-    written, ended = replay(sys.stdin.buffer.read(), *words(sys.argv[1:]))
+    given = sys.argv[2:] if sys.argv[1:2] == ["replay"] else sys.argv[1:]
+    try:
+        written, ended = replay(sys.stdin.buffer.read(), *words(given))
+    except Beyond as reason:
+        sys.exit(f"the stream asks for what this program doesn't know: {reason}")
     sys.stdout.buffer.write(written)
     sys.exit(ended)
