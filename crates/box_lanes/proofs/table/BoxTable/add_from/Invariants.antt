@@ -1,4 +1,4 @@
-use Rattle.std.proofs.Common.{◌≡◌, ◌+◌, ◌*◌, ◌/◌, ◌++◌, ◌≤◌, ◌-◌, length}
+use Rattle.std.proofs.Common.{◌≡◌, ◌+◌, ◌/◌, ◌++◌, ◌≤◌, ◌-◌, length}
 use Rattle.std.specs.Prelude.{min}
 use Rattle.box_lanes.specs.Lanes.{meets}
 use Rattle.box_lanes.specs.Places.{part}
