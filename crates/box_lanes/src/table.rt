@@ -127,19 +127,44 @@ impl BoxTable {
             ≡ places.old.items ++ places_from from (meets reach.now) (drop from self.now)) }
     {
         let mut from = from;
+        let mut block = from / LANES;
         while from < self.count {
-            let end = block_end(from, self.count);
-            self.add_block(from, end, reach, places)?;
-            from = end;
+            self.add_block(block, from, reach, places)?;
+            block += 1;
+            from = block * LANES;
         }
         Ok(())
+    }
+
+    /// Adds the places of the boxes of a block of eight, from the place `from` on, that meet `reach`. Most blocks
+    /// have none, and are left after one test.
+    #[inline(always)]
+    fn add_block(
+        &self,
+        block: usize,
+        from: usize,
+        reach: &Extent,
+        places: &mut Vec<u32>,
+    ) -> Result<(), AllocError>
+        requires from { from < length self.now }
+        requires block { block ≡ from / 8 }
+        ensures { OnOk result (places.new.items
+            ≡ places.old.items ++ part (meets reach.now) self.now from (min (block * 8 + 8) (length self.now))) }
+    {
+        let _count = self.len();
+        if self.lanes(block * LANES, reach) == 0 {
+            return Ok(());
+        }
+        let end = block_end(from, self.count);
+        self.add_part(block, from, end, reach, places)
     }
 
     /// Adds the places of those boxes from the place `from` up to `end`, all in one block of eight, that meet
     /// `reach`.
     #[inline(always)]
-    fn add_block(
+    fn add_part(
         &self,
+        block: usize,
         from: usize,
         end: usize,
         reach: &Extent,
@@ -148,10 +173,11 @@ impl BoxTable {
         requires from { from < end }
         requires end { end ≤ length self.now }
         requires block { end ≤ from / 8 * 8 + 8 }
+        requires number { block ≡ from / 8 }
         ensures { OnOk result (places.new.items
             ≡ places.old.items ++ part (meets reach.now) self.now from end) }
     {
-        let mut lanes = self.bits(from, end, reach);
+        let mut lanes = self.bits(block, from, end, reach);
         if lanes == 0 {
             return Ok(());
         }
@@ -169,13 +195,14 @@ impl BoxTable {
     /// A bit for each of the boxes from the place `from` up to `end`, all in one block of eight, the first the
     /// lowest: whether the box meets `reach`.
     #[inline(always)]
-    fn bits(&self, from: usize, end: usize, reach: &Extent) -> u64
+    fn bits(&self, block: usize, from: usize, end: usize, reach: &Extent) -> u64
         requires from { from < end }
         requires end { end ≤ length self.now }
         requires block { end ≤ from / 8 * 8 + 8 }
+        requires number { block ≡ from / 8 }
         ensures { result ≡ mask_l (map (meets reach.now) (take (end - from) (drop from self.now))) }
     {
-        let at = from / LANES * LANES;
+        let at = block * LANES;
         let whole = self.lanes(at, reach);
         (whole & ((1 << (end - at)) - 1)) >> (from - at)
     }
@@ -206,6 +233,7 @@ fn block_end(from: usize, count: usize) -> usize
     requires from { from < count }
     requires few { count < 2 ^ 32 }
     ensures after { from < result }
+    ensures is { result ≡ min (from / 8 * 8 + 8) count }
     ensures block { result ≤ from / 8 * 8 + 8 }
     ensures within { result ≤ count }
 {

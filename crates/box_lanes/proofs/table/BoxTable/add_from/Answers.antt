@@ -1,39 +1,30 @@
-use Rattle.std.proofs.Common.{◌≤◌, ◌++◌, length, sym, ap, ◌∙◌, arith, append_assoc, append-nil}
+use Rattle.std.proofs.Common.{◌≡◌, ◌+◌, ◌*◌, ◌<◌, ◌++◌, length, sym, ap, ◌∙◌, arith, append_assoc}
+use Rattle.std.specs.Prelude.{min}
 use Rattle.box_lanes.proofs.Eights.{count_is}
 use Rattle.box_lanes.specs.Lanes.{meets}
 use Rattle.box_lanes.specs.Places.{part}
-use Rattle.box_lanes.proofs.Bits.{part_none, part_more, part_all}
+use Rattle.box_lanes.proofs.Bits.{part_more}
 use Rattle.box_lanes.proofs.table.BoxTable.add_from.Goals as goal
-
-pub loop-from-init : goal.loop-from-init
-loop-from-init c =
-    let a = c.args in
-    record {
-      low = omega arith;
-      high = c.requires;
-      found = sym (ap (λ l. a.places.now.items ++ l) (part_none (meets a.reach.now) a.self.now a.from a.from (omega arith)) ∙ append-nil a.places.now.items);
-    }
 
 pub loop-from-preserved : goal.loop-from-preserved
 loop-from-preserved c =
     let a = c.args in
     let l = c.loop-from in
     let p = meets a.reach.now in
-    let e = c.block_end-end.ensures in
+    let boxes = a.self.now in
+    let items = a.places.now.items in
+    let end = min (l.block * 8 + 8) (length boxes) in
     let count = sym (ap length c.self.view_is) ∙ count_is c.self.inside c.self.invariant in
-    let high : c.block_end-end.result ≤ length a.self.now = omega (arith, e.within, count) in
+    let before : l.from < length boxes = omega (arith, count, c.loop-from-test.true) in
+    let here : min l.from (length boxes) ≡ l.from = omega (arith, before) in
+    let there : min ((l.block + 1) * 8) (length boxes) ≡ end = omega arith in
     record {
-      low = omega (arith, l.invariant.low, e.after);
-      high = high;
+      low = omega (arith, l.invariant.low, l.invariant.block);
+      high = omega (arith, before, l.invariant.block);
+      block = omega arith;
       found =
-          c.in_ok-add_block.ensures ∙ ap (λ ps. ps ++ part p a.self.now l.from c.block_end-end.result) l.invariant.found
-          ∙ append_assoc a.places.now.items (part p a.self.now a.from l.from) (part p a.self.now l.from c.block_end-end.result)
-          ∙ ap (λ ps. a.places.now.items ++ ps) (sym (part_more p a.self.now a.from l.from c.block_end-end.result l.invariant.low (omega (arith, e.after)) high));
+          c.in_ok-add_block.ensures ∙ ap (λ ps. ps ++ part p boxes l.from end) (l.invariant.found ∙ ap (λ m. items ++ part p boxes a.from m) here)
+          ∙ append_assoc items (part p boxes a.from l.from) (part p boxes l.from end)
+          ∙ ap (λ ps. items ++ ps) (sym (part_more p boxes a.from l.from end l.invariant.low (omega (arith, before, l.invariant.block)) (omega arith)))
+          ∙ ap (λ m. items ++ part p boxes a.from m) (sym there);
     }
-
-pub returns : goal.returns
-returns c =
-    let a = c.args in
-    let l = c.loop-from in
-    let count = sym (ap length c.self.view_is) ∙ count_is c.self.inside c.self.invariant in
-    l.invariant.found ∙ ap (λ ps. a.places.now.items ++ ps) (part_all (meets a.reach.now) a.self.now a.from l.from (omega (arith, count)))

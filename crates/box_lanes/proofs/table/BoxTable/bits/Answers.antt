@@ -15,10 +15,10 @@ power n h =
 pub returns : goal.returns
 returns c =
     let a = c.args in
-    let at = a.from / 8 * 8 in
+    let at = a.block * 8 in
     let whole = c.lanes-whole.result in
     let n = a.end - at in
-    let few : n ≤ 8 = omega (arith, c.requires.block) in
-    let on : at + n ≤ length a.self.now = omega (arith, c.requires.from, c.requires.end) in
+    let few : n ≤ 8 = omega (arith, c.requires.block, c.requires.number) in
+    let on : at + n ≤ length a.self.now = omega (arith, c.requires.from, c.requires.end, c.requires.number) in
     ap (λ m. bit_and whole (m - 1) / 2 ^ (a.from - at)) (power n few) ∙ ap (λ m. m / 2 ^ (a.from - at)) (and_mask whole n)
-    ∙ bits_of (meets a.reach.now) a.self.now at a.from a.end whole (omega arith) (omega (arith, c.requires.from)) (c.lanes-whole.ensures n few on)
+    ∙ bits_of (meets a.reach.now) a.self.now at a.from a.end whole (omega (arith, c.requires.number)) (omega (arith, c.requires.from)) (c.lanes-whole.ensures n few on)

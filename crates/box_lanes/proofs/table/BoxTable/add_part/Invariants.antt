@@ -3,7 +3,7 @@ use lib.Lanes.{mask_l}
 use Rattle.box_lanes.specs.Lanes.{meets}
 use Rattle.box_lanes.proofs.Places.{rest_of}
 use Rattle.box_lanes.specs.Places.{part}
-use Rattle.box_lanes.proofs.table.BoxTable.add_block.Given as goal
+use Rattle.box_lanes.proofs.table.BoxTable.add_part.Given as goal
 
 abbrev pub invariant-loop-lanes : goal.invariant-loop-lanes
 invariant-loop-lanes l = record {
