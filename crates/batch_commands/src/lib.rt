@@ -12,8 +12,6 @@ mod refusal;
 mod report;
 mod rules_file;
 mod statuses;
-#[cfg(test)]
-mod tests;
 
 pub use block::write_whole;
 pub use check::run_check;

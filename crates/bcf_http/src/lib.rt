@@ -18,6 +18,3 @@ pub use calls::{HttpCall, Refusal, ReplyKind, RequestFault, kind_of, to_call};
 pub use paths::RoutePath;
 pub use query::{MOST_PAIRS, QueryName};
 pub use routes::Routes;
-
-#[cfg(test)]
-mod tests;

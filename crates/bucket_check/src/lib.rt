@@ -6,8 +6,6 @@ mod laws;
 mod pair;
 mod room;
 mod set;
-#[cfg(test)]
-mod tests;
 mod work;
 
 pub use checks::check;

@@ -3,8 +3,6 @@
 
 mod checks;
 mod fault;
-#[cfg(test)]
-mod tests;
 
 pub use checks::clashes_of;
 pub use fault::{MOST_VERSION_ELEMENTS, VersionError, VersionFault};

@@ -8,8 +8,6 @@ mod progress;
 mod rules;
 mod same;
 mod slot;
-#[cfg(test)]
-mod tests;
 
 pub use carrying::carry;
 pub use progress::{Progress, PutAnswer};

@@ -8,8 +8,6 @@ mod merge;
 mod published;
 mod rows;
 mod shelf;
-#[cfg(test)]
-mod tests;
 
 pub use horizon::{Horizon, LIVE_VERSIONS};
 pub use laws::{clashes_are_listed, clashes_are_listed_by_keys};

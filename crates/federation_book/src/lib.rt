@@ -16,14 +16,3 @@ pub use book_history::{
     BookFault, BookReply, BookRequest, Change, Entry, Horizon, Limits, MOST_PROJECTS, ReplyBody,
     Settings, Stamp, StoreWhat, Wanted, WorkOrder,
 };
-
-#[cfg(test)]
-mod clash_tests;
-#[cfg(test)]
-mod desk;
-#[cfg(test)]
-mod samples;
-#[cfg(test)]
-mod tests;
-#[cfg(test)]
-mod turn_tests;

@@ -1,4 +1,0 @@
-use Rattle.federation_book.proofs.clash_tests.carries_what_stays.Given as goal
-
-abbrev pub ghosts-what_stays : goal.ghosts-what_stays
-ghosts-what_stays g a = record { name = a.blank.name; parts = a.blank.parts }

@@ -1,4 +1,0 @@
-use Rattle.federation_book.proofs.clash_tests.checks_each_bucket.Given as goal
-
-abbrev pub ghosts-each_bucket : goal.ghosts-each_bucket
-ghosts-each_bucket g a = record { name = a.blank.name; parts = a.blank.parts }

@@ -1,4 +1,0 @@
-use Rattle.federation_book.proofs.clash_tests.checks_what_changed.Given as goal
-
-abbrev pub ghosts-what_changed : goal.ghosts-what_changed
-ghosts-what_changed g a = record { name = a.blank.name; parts = a.blank.parts }
