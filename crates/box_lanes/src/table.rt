@@ -148,8 +148,8 @@ impl BoxTable {
     ) -> Result<(), AllocError>
         requires from { from < length self.now }
         requires block { block ≡ from / 8 }
-        ensures { OnOk result (places.new.items
-            ≡ places.old.items ++ part (meets reach.now) self.now from (min (block * 8 + 8) (length self.now))) }
+        ensures { OnOk result (places.new.items ≡ places.old.items
+            ++ part (meets reach.now) self.now from (min (block * 8 + 8) (length self.now))) }
     {
         let _count = self.len();
         if self.lanes(block * LANES, reach) == 0 {
