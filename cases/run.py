@@ -25,7 +25,7 @@ import sys
 
 HERE = os.path.dirname(os.path.abspath(__file__))
 NEEDED, OPTIONAL = {"args", "stdin", "stdout", "status"}, {"files", "filled", "clock"}
-SECONDS = 120
+SECONDS = 600
 DATE = re.compile(rb"\d{4}-\d\d-\d\dT\d\d:\d\d:\d\dZ")
 # A body has no line end of its own: the next response begins behind it.
 LINE = re.compile(rb"(?<=\n)|(?=HTTP/1\.1 \d{3} )")
