@@ -15,7 +15,5 @@ pub mod object;
 pub mod pass;
 mod plays;
 mod rule;
-#[cfg(test)]
-mod tests;
 pub mod turn;
 mod wait;

@@ -1,0 +1,15 @@
+//! Tests of what instances of IFC say: forms and views, units, storeys, and whole models.
+#![tactic(auto)]
+
+#[cfg(test)]
+mod build_tests;
+#[cfg(test)]
+mod length_tests;
+#[cfg(test)]
+mod survey_tests;
+#[cfg(test)]
+mod tree_tests;
+#[cfg(test)]
+mod unit_tests;
+#[cfg(test)]
+mod view_tests;
