@@ -15,5 +15,7 @@ pub mod object;
 pub mod pass;
 mod plays;
 mod rule;
+#[cfg(test)]
+mod tests;
 pub mod turn;
 mod wait;

@@ -1,6 +1,6 @@
 use Rattle.std.proofs.Common.{◌≡◌, ◌+◌, All, length, vec_len}
 use Rattle.book_turn.specs.Passes.{BelongsTo, IsSingle}
-use Rattle.turn_tests.proofs.counter_tests.join_all.Given as goal
+use Rattle.book_turn.proofs.tests.join_all.Given as goal
 
 abbrev pub invariant-loop-other : goal.invariant-loop-other
 invariant-loop-other l =

@@ -1,8 +1,8 @@
 use Rattle.std.proofs.Common.{rules, ◌≡◌, ◌+◌}
 use Rattle.book_turn.specs.Passes.{KeepsNumbers, new_pass}
 use Rattle.book_turn.specs.Counts.{own_count}
-use Rattle.turn_tests.proofs.Counting.{all_made}
-use Rattle.turn_tests.proofs.counter_tests.in_two_threads.Goals as goal
+use Rattle.book_turn.proofs.Counting.{all_made}
+use Rattle.book_turn.proofs.tests.in_two_threads.Goals as goal
 
 pub returns-clause-first : goal.returns-clause-first
 returns-clause-first g c =

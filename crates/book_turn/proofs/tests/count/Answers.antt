@@ -1,6 +1,6 @@
 use Rattle.std.proofs.Common.{[], ◌∷◌, ap, sym, ◌∙◌, refl, arith}
-use Rattle.turn_tests.proofs.Counting.{one_more}
-use Rattle.turn_tests.proofs.counter_tests.count.Goals as goal
+use Rattle.book_turn.proofs.Counting.{one_more}
+use Rattle.book_turn.proofs.tests.count.Goals as goal
 
 pub loop-done-preserved : goal.loop-done-preserved
 loop-done-preserved g c =

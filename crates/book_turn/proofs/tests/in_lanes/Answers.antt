@@ -1,7 +1,7 @@
 use Rattle.std.proofs.Common.{rules, ◌≡◌, length, sym, ap, ◌∙◌}
 use Rattle.book_turn.specs.Passes.{new_passes}
-use Rattle.turn_tests.proofs.Counting.{new_passes_length}
-use Rattle.turn_tests.proofs.counter_tests.in_lanes.Goals as goal
+use Rattle.book_turn.proofs.Counting.{new_passes_length}
+use Rattle.book_turn.proofs.tests.in_lanes.Goals as goal
 
 pub close-requires-clause-all : goal.close-requires-clause-all
 close-requires-clause-all g c =

@@ -1,14 +1,13 @@
-//! A counter that threads share.
 ghost use Rattle.std.specs.Prelude.{ℕ, ◌≡◌, ◌<◌, ◌≤◌, ◌+◌, [], ◌∷◌, length, vec_len, Some, None, IfSome, All, if◌then◌else◌};
 ghost use Rattle.book_turn.specs.Entries.{calls_by};
 ghost use Rattle.book_turn.specs.Passes.{BelongsTo, IsSingle, KeepsNumbers};
 ghost use Rattle.book_turn.specs.Counts.{own_count};
 ghost use Rattle.std.proofs.Common.{arith};
 
-use book_turn::fault::{CallFault, SpentPass};
-use book_turn::object::{SeqObject, Stamp};
-use book_turn::pass::Pass;
-use book_turn::turn::Turn;
+use crate::fault::{CallFault, SpentPass};
+use crate::object::{SeqObject, Stamp};
+use crate::pass::Pass;
+use crate::turn::Turn;
 use std::alloc::{AllocError, Global};
 use std::hint;
 use std::process::Abort;
