@@ -8,8 +8,6 @@ mod fault;
 mod members;
 mod objects;
 mod shapes;
-#[cfg(test)]
-mod tests;
 mod topic_bodies;
 mod topic_trees;
 mod view_bodies;

@@ -8,6 +8,3 @@ mod tree;
 pub use body::{BodyError, BodyFault, topic_in};
 pub use date::date_out;
 pub use tree::{identifier_out, topic_out, topics_out};
-
-#[cfg(test)]
-mod tests;

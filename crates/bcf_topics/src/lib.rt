@@ -7,8 +7,6 @@ mod limits;
 mod optional;
 mod places;
 mod replies;
-#[cfg(test)]
-mod tests;
 mod topic;
 mod topics;
 

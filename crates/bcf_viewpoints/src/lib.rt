@@ -5,8 +5,6 @@ mod checked;
 mod component;
 mod limits;
 mod part;
-#[cfg(test)]
-mod tests;
 mod view;
 mod viewpoints;
 

@@ -6,8 +6,6 @@ mod front;
 mod memory;
 mod shelf;
 mod sure;
-#[cfg(test)]
-mod tests;
 mod traits;
 
 pub use adapters::{StdFile, StdFiles};

@@ -12,6 +12,3 @@ pub use clocks::{ListClock, MemClock};
 pub use memory::{MemSink, MemSource};
 pub use sure::{SureSink, SureSource};
 pub use traits::{Clock, Failed, Sink, Source};
-
-#[cfg(test)]
-mod tests;

@@ -46,6 +46,3 @@ pub use steps::Steps;
 pub use text::Text;
 pub use topic::{Author, Topic, TopicBody};
 pub use upload::{BuildError, Many, Mode, UploadFault};
-
-#[cfg(test)]
-mod tests;

@@ -23,6 +23,3 @@ pub use limits::{MOST_DIGITS, MOST_EXPONENT};
 pub use print::print_i64;
 pub use small::small_whole;
 pub use text::text_of;
-
-#[cfg(test)]
-mod tests;

@@ -4,8 +4,6 @@
 mod blocks;
 mod plain;
 mod table;
-#[cfg(test)]
-mod tests;
 
 pub use plain::places_within;
 pub use table::BoxTable;

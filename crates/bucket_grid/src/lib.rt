@@ -10,8 +10,6 @@ mod owner;
 mod search;
 mod subjects;
 mod table;
-#[cfg(test)]
-mod tests;
 
 pub use cell::{Cell, GROWTH, SIDE};
 pub use grid::{Grid, GridError, MOST_ELEMENTS, MOST_MEMBERSHIPS};

@@ -4,8 +4,6 @@
 mod fault;
 mod member;
 mod rules;
-#[cfg(test)]
-mod tests;
 
 pub use bim_model::rule_of;
 pub use fault::{RuleError, RuleFault};

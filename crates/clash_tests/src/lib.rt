@@ -1,4 +1,4 @@
-//! Tests of what finds clashes: of one bucket, of a version that follows another, and of whole versions.
+//! Tests of what finds clashes: rules, cells, one bucket, a version that follows another, and whole versions.
 #![tactic(auto)]
 
 #[cfg(test)]
@@ -6,7 +6,11 @@ mod bucket_tests;
 #[cfg(test)]
 mod delta_tests;
 #[cfg(test)]
+mod grid_tests;
+#[cfg(test)]
 mod publish_tests;
+#[cfg(test)]
+mod rule_tests;
 #[cfg(test)]
 mod samples;
 #[cfg(test)]

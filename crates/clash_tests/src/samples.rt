@@ -10,8 +10,8 @@ use std::alloc::{AllocError, Global};
 use std::process::Abort;
 use std::test::Fail;
 
-// A corner in millimetres.
-fn corner(x: i32, y: i32, z: i32) -> Result<Point, Fail> {
+/// A corner in millimetres.
+pub fn corner(x: i32, y: i32, z: i32) -> Result<Point, Fail> {
     Ok(Point {
         x: x.checked_mul(PER_MM).ok_or("a corner")?,
         y: y.checked_mul(PER_MM).ok_or("a corner")?,

@@ -12,8 +12,6 @@ mod rows;
 mod runs;
 mod sides;
 mod solids;
-#[cfg(test)]
-mod tests;
 mod triangles;
 
 pub use laws::{near_elements_have_close_boxes, nearness_is_decided};

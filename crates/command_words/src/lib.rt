@@ -5,8 +5,6 @@
 mod command;
 mod number;
 mod parsing;
-#[cfg(test)]
-mod tests;
 
 pub use command::{plain_command, with_flag, with_list, with_option};
 pub use number::{is_word, number_word};

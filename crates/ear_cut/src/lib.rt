@@ -9,8 +9,6 @@ mod frames;
 mod normals;
 mod notes;
 mod removal;
-#[cfg(test)]
-mod tests;
 mod views;
 
 pub use ears::Ear;

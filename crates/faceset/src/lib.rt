@@ -12,8 +12,6 @@ mod rows;
 mod sets;
 mod stuck;
 mod surface;
-#[cfg(test)]
-mod tests;
 
 pub use bad::has_bad_index;
 pub use counts::triangle_count;

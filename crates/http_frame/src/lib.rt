@@ -22,6 +22,3 @@ pub use laws::{
     a_whole_line_may_become_a_head, answers_are_the_events, bytes_have_one_reading, readings_stay,
 };
 pub use types::{FrameError, FrameFault, FrameStep, HttpRequest};
-
-#[cfg(test)]
-mod tests;

@@ -10,10 +10,6 @@ mod form;
 mod laws;
 mod outcome;
 mod table;
-#[cfg(test)]
-mod tests;
-#[cfg(test)]
-mod view_tests;
 mod views;
 mod visit;
 mod words;

@@ -17,8 +17,3 @@ pub use laws::{one_grid_number, one_instance_fault, one_length, one_list_of_poin
 pub use lengths::{length, point, points, points_fault};
 pub use scale::Scale;
 pub use units::length_unit;
-
-#[cfg(test)]
-mod file_tests;
-#[cfg(test)]
-mod tests;

@@ -21,8 +21,6 @@ mod stages;
 mod storeys;
 mod stuck;
 mod surface;
-#[cfg(test)]
-mod tests;
 mod texts;
 mod unsupported;
 

@@ -6,7 +6,5 @@ mod lines;
 mod numbers;
 mod phrases;
 mod pieces;
-#[cfg(test)]
-mod tests;
 
 pub use pieces::{MOST_GENERATED, Pieces};

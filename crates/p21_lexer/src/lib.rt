@@ -12,8 +12,6 @@ mod lexer;
 mod limits;
 mod runs;
 mod spelling;
-#[cfg(test)]
-mod tests;
 mod token;
 
 pub use cutting::cut;

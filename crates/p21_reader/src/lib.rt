@@ -16,8 +16,6 @@ mod piece;
 mod schema;
 mod section;
 mod simple;
-#[cfg(test)]
-mod tests;
 mod value;
 mod values;
 mod word;

@@ -4,20 +4,14 @@
 
 mod axes;
 mod axis;
-#[cfg(test)]
-mod chain_tests;
 mod chains;
 mod direction;
 mod frame;
 mod frames;
 mod laws;
 mod operator;
-#[cfg(test)]
-mod operator_tests;
 mod own;
 mod read;
-#[cfg(test)]
-mod tests;
 mod walk;
 
 pub use axes::{Axes, axes_of};

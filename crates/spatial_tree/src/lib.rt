@@ -9,8 +9,6 @@ mod mark;
 mod only;
 mod step;
 mod storeys;
-#[cfg(test)]
-mod tests;
 
 pub use build::tree;
 pub use laws::one_storey;

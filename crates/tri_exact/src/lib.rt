@@ -8,8 +8,6 @@ mod crossing;
 mod edges;
 mod faces;
 pub mod products;
-#[cfg(test)]
-mod tests;
 
 pub use crossing::{edge_pierces, segment_crosses};
 pub use edges::{edge_edge_within, is_beside, is_crossing, point_edge_within};

@@ -1,4 +1,0 @@
-use Rattle.bim_model.proofs.tests.counts_steps.Given as goal
-
-abbrev pub ghosts-count_two_steps : goal.ghosts-count_two_steps
-ghosts-count_two_steps g a = record { name = a.blank.name; parts = a.blank.parts }

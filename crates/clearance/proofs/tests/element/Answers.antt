@@ -1,8 +1,0 @@
-use Rattle.std.proofs.Common.{All, sym, subst}
-use Rattle.bim_model.specs.Points.{IsInGrid}
-use Rattle.clearance.specs.Near.{ElementInGrid}
-use Rattle.clearance.proofs.tests.element.Goals as goal
-
-pub returns : goal.returns
-unfolding ElementInGrid
-returns c = subst (All IsInGrid) (sym c.from_vec.ensures) c.requires

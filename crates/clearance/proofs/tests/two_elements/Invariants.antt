@@ -1,4 +1,0 @@
-use Rattle.clearance.proofs.tests.two_elements.Given as goal
-
-abbrev pub ghosts-elements_near : goal.ghosts-elements_near
-ghosts-elements_near g a = record { name = a.blank.name; parts = a.blank.parts }

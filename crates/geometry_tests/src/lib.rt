@@ -1,0 +1,13 @@
+//! Tests of the geometry: exact predicates, distances, polygons that are cut, and boxes within a gap.
+#![tactic(auto)]
+
+#[cfg(test)]
+mod clearance_tests;
+#[cfg(test)]
+mod ear_tests;
+#[cfg(test)]
+mod lane_tests;
+#[cfg(test)]
+mod predicate_tests;
+#[cfg(test)]
+mod samples;
