@@ -14,7 +14,7 @@ use std::sync::ledger::{Blank, Ledger};
 use std::test::Fail;
 
 #[test]
-fn keeps_texts_and_bytes(rt: HostRuntime) -> Result<(), Fail> {
+fn texts_and_bytes_are_kept(rt: HostRuntime) -> Result<(), Fail> {
     let cases = [
         "",
         "a",
@@ -50,7 +50,7 @@ fn try_bytes(rt: &impl Abort, alloc: Global, given: &[u8]) -> Result<(), AllocEr
 }
 
 #[test]
-fn reads_guids(rt: HostRuntime) {
+fn identifiers_are_read(rt: HostRuntime) {
     let cases = [
         ("2O2Fr$t4X7Zf8NOew3FLOH", true),
         ("0123456789_ABCXYZabcyz", true),
@@ -66,7 +66,7 @@ fn reads_guids(rt: HostRuntime) {
 }
 
 #[test]
-fn numbers_objects(rt: HostRuntime) {
+fn objects_are_numbered(rt: HostRuntime) {
     let first = 0x00000001_0000_8000_8000_000000000001;
     assert_eq!(rt; id_of(1, 1), first);
     assert_eq!(rt; serial_of(1, first), Some(1));
@@ -77,7 +77,7 @@ fn numbers_objects(rt: HostRuntime) {
 }
 
 #[test]
-fn keeps_items(rt: HostRuntime) -> Result<(), Fail> {
+fn items_are_kept(rt: HostRuntime) -> Result<(), Fail> {
     let alloc = rt.alloc();
     let mut names = Items::new(alloc);
     for name in ["slab", "a beam of the upper storey"] {
@@ -95,7 +95,7 @@ fn keeps_items(rt: HostRuntime) -> Result<(), Fail> {
 }
 
 #[test]
-fn finds_a_box(rt: HostRuntime) {
+fn a_box_is_found(rt: HostRuntime) {
     let triangles = [
         triangle((0, 0, 0), (4, -1, 2), (3, 5, 1)),
         triangle((-7, 2, 2), (1, 1, 9), (2, 2, 2)),
@@ -137,7 +137,7 @@ fn is_model_at(alloc: Global, first: Guid, second: Guid, x: i32) -> Result<bool,
 }
 
 #[test]
-fn checks_models(rt: HostRuntime) -> Result<(), Fail> {
+fn models_are_checked(rt: HostRuntime) -> Result<(), Fail> {
     let beam = guid("0000000000000000000001")?;
     let duct = guid("0000000000000000000002")?;
     let alloc = rt.alloc();
@@ -154,7 +154,7 @@ fn one_element(alloc: Global, x: i32) -> Result<Model, Fail> {
 }
 
 #[test]
-fn keeps_boxes(rt: HostRuntime) -> Result<(), Fail> {
+fn boxes_are_kept(rt: HostRuntime) -> Result<(), Fail> {
     let model = one_element(rt.alloc(), 5)?;
     let wanted = Extent {
         low: point((0, 0, -3)),
@@ -179,7 +179,7 @@ fn one_model(alloc: Global) -> Result<Snapshot, Fail> {
 }
 
 #[test]
-fn makes_versions(rt: HostRuntime) -> Result<(), Fail> {
+fn versions_are_made(rt: HostRuntime) -> Result<(), Fail> {
     let alloc = rt.alloc();
     let version = one_model(alloc)?;
     assert_eq!(rt; version.models().len(), 1);
@@ -189,7 +189,7 @@ fn makes_versions(rt: HostRuntime) -> Result<(), Fail> {
 }
 
 #[test]
-fn changes_rules(rt: HostRuntime) -> Result<(), Fail> {
+fn rules_are_changed(rt: HostRuntime) -> Result<(), Fail> {
     let alloc = rt.alloc();
     let empty = Snapshot::new(alloc, Shared::new(alloc, Rules::new(alloc))?);
     let ruled = empty.with_rules(alloc, Shared::new(alloc, one_rule(alloc)?)?)?;
@@ -218,7 +218,7 @@ fn one_rule(alloc: Global) -> Result<Rules, AllocError> {
 }
 
 #[test]
-fn finds_a_rule(rt: HostRuntime) -> Result<(), Fail> {
+fn a_rule_is_found(rt: HostRuntime) -> Result<(), Fail> {
     let alloc = rt.alloc();
     let rules = one_rule(alloc)?;
     let a = element(alloc, guid("0000000000000000000001")?, 1)?;
@@ -249,7 +249,7 @@ fn pair(alloc: Global, a: &ElementKey, b: &ElementKey) -> Result<Pair, AllocErro
 }
 
 #[test]
-fn orders_keys_and_pairs(rt: HostRuntime) -> Result<(), Fail> {
+fn keys_and_pairs_are_ordered(rt: HostRuntime) -> Result<(), Fail> {
     let alloc = rt.alloc();
     let beam = guid("0000000000000000000001")?;
     let duct = guid("0000000000000000000002")?;
@@ -262,7 +262,7 @@ fn orders_keys_and_pairs(rt: HostRuntime) -> Result<(), Fail> {
 }
 
 #[test]
-fn copies_topics(rt: HostRuntime) -> Result<(), Fail> {
+fn topics_are_copied(rt: HostRuntime) -> Result<(), Fail> {
     let alloc = rt.alloc();
     let topic = Topic {
         serial: 3,
@@ -284,7 +284,7 @@ fn copies_topics(rt: HostRuntime) -> Result<(), Fail> {
 }
 
 #[test]
-fn counts_steps(rt: HostRuntime) {
+fn steps_are_counted(rt: HostRuntime) {
     count_two_steps::<Brand>(Blank::new(1));
     assert_eq!(rt; size_of::<Steps<Brand>>(), 0);
 }

@@ -17,7 +17,7 @@ fn reading(alloc: Global, text: &str) -> Result<Text, Error> {
 }
 
 #[test]
-fn reads_titles(rt: HostRuntime) -> Result<(), Fail> {
+fn titles_are_read(rt: HostRuntime) -> Result<(), Fail> {
     let alloc = rt.alloc();
     let cases = [
         (r#"{"title":"Pipe"}"#, "Pipe"),
@@ -45,7 +45,7 @@ fn reads_titles(rt: HostRuntime) -> Result<(), Fail> {
 }
 
 #[test]
-fn writes_dates_and_identifiers(rt: HostRuntime) -> Result<(), Fail> {
+fn dates_and_identifiers_are_written(rt: HostRuntime) -> Result<(), Fail> {
     let alloc = rt.alloc();
     let dates = [
         (0, "1970-01-01T00:00:00Z"),
@@ -87,7 +87,7 @@ fn topic(alloc: Global, serial: u64, title: &str, user: &str) -> Result<Topic, A
 }
 
 #[test]
-fn writes_topics(rt: HostRuntime) -> Result<(), Fail> {
+fn topics_are_written(rt: HostRuntime) -> Result<(), Fail> {
     let alloc = rt.alloc();
     let first = topic(alloc, 1, "Pipe", "anonymous")?;
     let text = topic_out(alloc, 1, &first)?.to_string(alloc)?;

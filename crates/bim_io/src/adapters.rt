@@ -131,6 +131,7 @@ pub struct SystemClock<R: rt::Clock + Drop> {
 }
 
 impl<R: rt::Clock + Drop> SystemClock<R> {
+    /// A clock over the system's.
     pub fn new(handle: R) -> Self {
         SystemClock { handle }
     }

@@ -12,6 +12,7 @@ pub fn byte_at(bytes: &[u8], at: usize) -> u8
     if at < bytes.len() { bytes[at] } else { 0 }
 }
 
+/// Whether a byte is a hexadecimal digit, of either case.
 pub fn is_hexadecimal(byte: u8) -> bool
     ensures { result ≡ is_hexadecimal byte }
 {

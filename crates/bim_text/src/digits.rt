@@ -29,6 +29,7 @@ pub struct Scanned {
     pub end: usize,
 }
 
+/// Whether a byte is a decimal digit.
 pub fn is_digit(byte: u8) -> bool
     ensures { result ≡ is_digit byte }
 {

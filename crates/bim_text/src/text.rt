@@ -102,6 +102,7 @@ fn decode(alloc: Global, bytes: &[u8]) -> Result<Text, AllocError>
     Text::of(alloc, out.as_str())
 }
 
+/// Whether all bytes stand for themselves in a file.
 pub fn are_plain(bytes: &[u8]) -> bool
     ensures { result ≡ list_all is_plain bytes.now }
 {

@@ -5,6 +5,7 @@ use crate::work::WorkOrder;
 use bim_model::{Items, Shared, Snapshot, Topic};
 use clash_publish::{Horizon, Published};
 
+/// What is answered, without the turn that it is printed with.
 #[derive(Drop)]
 pub enum ReplyBody {
     /// The topics of a project by rising serial number.

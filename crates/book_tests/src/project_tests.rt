@@ -45,7 +45,7 @@ fn list(book: &mut Book, turn: u64, project: u128) -> Result<ReplyBody, AllocErr
 }
 
 #[test]
-fn keeps_the_topics_of_each_project(rt: HostRuntime) -> Result<(), Fail> {
+fn each_project_has_its_topics(rt: HostRuntime) -> Result<(), Fail> {
     let alloc = rt.alloc();
     let mut book = Book::new(alloc, 2, Limits::stated())?;
     let pipe = post(alloc, &mut book, 1, id_of(1, 0), "Pipe")?;
@@ -58,7 +58,7 @@ fn keeps_the_topics_of_each_project(rt: HostRuntime) -> Result<(), Fail> {
 }
 
 #[test]
-fn refuses_projects_that_are_not_there(rt: HostRuntime) -> Result<(), Fail> {
+fn missing_projects_are_refused(rt: HostRuntime) -> Result<(), Fail> {
     let alloc = rt.alloc();
     let mut book = Book::new(alloc, 2, Limits::stated())?;
     is_refused(&rt, &list(&mut book, 1, id_of(3, 0))?);
@@ -194,7 +194,7 @@ fn is_changed(rt: &impl Abort, body: &ReplyBody, wanted: u64) {
 }
 
 #[test]
-fn makes_a_version_of_each_upload(rt: HostRuntime) -> Result<(), Fail> {
+fn each_upload_makes_a_version(rt: HostRuntime) -> Result<(), Fail> {
     let alloc = rt.alloc();
     let mut book = Book::new(alloc, 2, Limits::stated())?;
     let first = id_of(1, 0);

@@ -36,6 +36,7 @@ pub fn pipe(alloc: Global, guid: &[u8], x: i32, y: i32, z: i32) -> Result<Elemen
     })
 }
 
+/// A model of elements.
 pub fn model_of(alloc: Global, elements: Vec<Element>) -> Result<Shared<Model>, Fail> {
     let model = Model::checked(alloc, elements)?.ok_or("a model")?;
     Ok(Shared::new(alloc, model)?)

@@ -79,7 +79,7 @@ fn lists<R: Wait + Abort>(
 }
 
 #[test]
-fn answers_two_passes_at_one_history(rt: HostRuntime) -> Result<(), Fail> {
+fn two_passes_are_answered_at_one_history(rt: HostRuntime) -> Result<(), Fail> {
     let alloc = rt.alloc();
     let (turn, mut passes) = Turn::new(alloc, Book::new(alloc, 2, Limits::stated())?, 2)?;
     let (Some(mut second), Some(mut first)) = (passes.pop(), passes.pop()) else {

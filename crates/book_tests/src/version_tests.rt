@@ -111,7 +111,7 @@ fn what_changed<L: Ledger>(rt: &impl Abort, alloc: Global, blank: Blank) -> Resu
 }
 
 #[test]
-fn checks_what_changed(rt: HostRuntime) -> Result<(), Fail> {
+fn what_changed_is_checked(rt: HostRuntime) -> Result<(), Fail> {
     what_changed::<Brand>(&rt, rt.alloc(), Blank::new(1))
 }
 
@@ -128,7 +128,7 @@ fn what_stays<L: Ledger>(rt: &impl Abort, alloc: Global, blank: Blank) -> Result
 }
 
 #[test]
-fn carries_what_stays(rt: HostRuntime) -> Result<(), Fail> {
+fn what_stays_is_carried(rt: HostRuntime) -> Result<(), Fail> {
     what_stays::<Brand>(&rt, rt.alloc(), Blank::new(1))
 }
 
@@ -146,7 +146,7 @@ fn each_bucket<L: Ledger>(rt: &impl Abort, alloc: Global, blank: Blank) -> Resul
 }
 
 #[test]
-fn checks_each_bucket(rt: HostRuntime) -> Result<(), Fail> {
+fn each_bucket_is_checked(rt: HostRuntime) -> Result<(), Fail> {
     each_bucket::<Brand>(&rt, rt.alloc(), Blank::new(1))
 }
 
@@ -162,7 +162,7 @@ fn many_versions(rt: &impl Abort, alloc: Global, book: &mut Book) -> Result<(), 
 }
 
 #[test]
-fn keeps_sixteen_versions(rt: HostRuntime) -> Result<(), Fail> {
+fn sixteen_versions_are_kept(rt: HostRuntime) -> Result<(), Fail> {
     let mut book = Book::new(rt.alloc(), 1, Limits::stated())?;
     many_versions(&rt, rt.alloc(), &mut book)?;
     let dropped = BookFault::VersionDropped {
@@ -308,7 +308,7 @@ fn too_large_a_version(rt: &impl Abort, alloc: Global) -> Result<(), Fail> {
 }
 
 #[test]
-fn refuses_what_is_too_much(rt: HostRuntime) -> Result<(), Fail> {
+fn what_is_too_much_is_refused(rt: HostRuntime) -> Result<(), Fail> {
     too_much_is_stored(&rt, rt.alloc())?;
     too_many_entries(&rt, rt.alloc())?;
     too_large_a_version(&rt, rt.alloc())
@@ -350,6 +350,6 @@ fn without_testing<L: Ledger>(rt: &impl Abort, alloc: Global, blank: Blank) -> R
 }
 
 #[test]
-fn gives_work_out_without_testing(rt: HostRuntime) -> Result<(), Fail> {
+fn work_is_given_out_without_testing(rt: HostRuntime) -> Result<(), Fail> {
     without_testing::<Brand>(&rt, rt.alloc(), Blank::new(1))
 }

@@ -1,3 +1,4 @@
+//! A counter and a pacer shared by threads, which count and wait in turn.
 ghost use Rattle.std.specs.Prelude.{ℕ, ◌≡◌, ◌<◌, ◌≤◌, ◌+◌, [], ◌∷◌, length, vec_len, Some, None, IfSome, All, if◌then◌else◌};
 ghost use Rattle.book_turn.specs.Entries.{calls_by};
 ghost use Rattle.book_turn.specs.Passes.{BelongsTo, IsSingle, KeepsNumbers};
@@ -327,7 +328,7 @@ fn said<R: Wait>(
 }
 
 #[test]
-fn answers_in_turn(rt: HostRuntime) -> Result<(), Fail> {
+fn calls_are_answered_in_turn(rt: HostRuntime) -> Result<(), Fail> {
     let Ok((turn, mut passes)) = Turn::new(rt.alloc(), new_counter(rt.alloc(), 9), 2) else {
         panic!(rt; "no turn")
     };
@@ -354,7 +355,7 @@ fn answers_in_turn(rt: HostRuntime) -> Result<(), Fail> {
 }
 
 #[test]
-fn tells_faults(rt: HostRuntime) -> Result<(), Fail> {
+fn faults_of_turns_are_told(rt: HostRuntime) -> Result<(), Fail> {
     let spent = SpentPass::new(3, 1 << 40);
     assert_eq!(rt; (spent.pass(), spent.turns()), (3, 1099511627776));
     let cases = [

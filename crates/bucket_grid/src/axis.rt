@@ -19,7 +19,7 @@ pub enum Axis {
     Z,
 }
 
-// The first cell of the axis that holds the box.
+/// The first cell of the axis that holds the box.
 pub fn first_on(axis: Axis, extent: &Extent) -> i32
     requires { IsGridBox extent.now }
     ensures is { result ≡ first_cell (low_on axis extent.now) }
@@ -32,7 +32,7 @@ pub fn first_on(axis: Axis, extent: &Extent) -> i32
     }
 }
 
-// The last cell of the axis that holds the box.
+/// The last cell of the axis that holds the box.
 pub fn last_on(axis: Axis, extent: &Extent) -> i32
     requires { IsGridBox extent.now }
     ensures is { result ≡ last_cell (high_on axis extent.now) }

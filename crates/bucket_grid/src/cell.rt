@@ -19,7 +19,7 @@ pub const SIDE: i32 = 4_000 * PER_MM;
 /// By how much a box is grown on each side, in grid numbers.
 pub const GROWTH: i32 = 1_000 * PER_MM;
 
-// The first cell of an axis that holds a low side.
+/// The first cell of an axis that holds a low side.
 pub fn first_cell(low: i32) -> i32
     requires { unsigned_abs low ≤ grid_limit }
     ensures is { result ≡ first_cell low }
@@ -28,7 +28,7 @@ pub fn first_cell(low: i32) -> i32
     (low - GROWTH).div_euclid(SIDE)
 }
 
-// The last cell of an axis that holds a high side.
+/// The last cell of an axis that holds a high side.
 pub fn last_cell(high: i32) -> i32
     requires { unsigned_abs high ≤ grid_limit }
     ensures is { result ≡ last_cell high }

@@ -94,7 +94,7 @@ fn add_column(
     Ok(())
 }
 
-// The spans of all boxes on each axis.
+/// The spans of all boxes on each axis.
 #[derive(Drop)]
 pub struct Axes {
     pub x: Items<Span>,

@@ -53,7 +53,7 @@ fn again(set: &BucketSet) -> Result<BucketSet, AllocError> {
 }
 
 #[test]
-fn checks_and_moves(rt: HostRuntime) -> Result<(), Fail> {
+fn a_bucket_is_checked_and_moved(rt: HostRuntime) -> Result<(), Fail> {
     let alloc = rt.alloc();
     let set = checked::<Brand>(Blank::new(1), alloc, work(&rt, alloc)?)?;
     let pair = SetPair {

@@ -211,6 +211,6 @@ fn runs<L: Ledger>(rt: &impl Abort, alloc: Global, blank: Blank) -> Result<(), F
 }
 
 #[test]
-fn carries(rt: HostRuntime) -> Result<(), Fail> {
+fn unchanged_buckets_are_carried(rt: HostRuntime) -> Result<(), Fail> {
     runs::<Brand>(&rt, rt.alloc(), Blank::new(1))
 }

@@ -69,7 +69,7 @@ fn is_bucket(rt: &impl Abort, grid: &Grid, place: usize, cell: [i32; 3], members
 
 /// Four boxes of two models with sides a millimetre beside the faces of cells.
 #[test]
-fn buckets(rt: HostRuntime) -> Result<(), Fail> {
+fn buckets_are_as_worked_out(rt: HostRuntime) -> Result<(), Fail> {
     let first: &[[i32; 6]] = &[[-999, -1000, 1000, 1001, -1000, 3000]];
     let second: &[[i32; 6]] = &[
         [1001, -1000, -1000, 1001, 1000, 1000],
@@ -93,7 +93,7 @@ fn buckets(rt: HostRuntime) -> Result<(), Fail> {
 
 /// As many memberships as there may be, and one more.
 #[test]
-fn too_spread(rt: HostRuntime) -> Result<(), Fail> {
+fn spread_versions_are_refused(rt: HostRuntime) -> Result<(), Fail> {
     let wide = [1000, 1000, 1000, 498_999, 498_999, 510_999];
     match grid_of(&rt, rt.alloc(), &[("m", &[wide])])? {
         Ok(grid) => assert_eq!(rt; grid.memberships(), 2_000_000),
@@ -108,7 +108,7 @@ fn too_spread(rt: HostRuntime) -> Result<(), Fail> {
 
 /// Elements, their places and the cells that own pairs of them.
 #[test]
-fn elements(rt: HostRuntime) -> Result<(), Fail> {
+fn buckets_are_found_for_elements(rt: HostRuntime) -> Result<(), Fail> {
     let first: &[[i32; 6]] = &[[-999, -1000, 1000, 1001, -1000, 3000]];
     let second: &[[i32; 6]] = &[[1001, -1000, -1000, 1001, 1000, 1000], [100_000; 6]];
     let Ok(grid) = grid_of(&rt, rt.alloc(), &[("b", first), ("m", second)])? else {

@@ -109,7 +109,7 @@ fn has_clashes(
 }
 
 #[test]
-fn lists_clashes(rt: HostRuntime) -> Result<(), Fail> {
+fn clashes_are_listed_once(rt: HostRuntime) -> Result<(), Fail> {
     let alloc = rt.alloc();
     let four = [pair(0, 2), pair(0, 4), pair(1, 3), pair(2, 4)];
     has_clashes(&rt, alloc, &[], &[])?;
@@ -122,7 +122,7 @@ fn lists_clashes(rt: HostRuntime) -> Result<(), Fail> {
 }
 
 #[test]
-fn tells_pages_and_keys(rt: HostRuntime) -> Result<(), Fail> {
+fn pages_and_keys_are_told(rt: HostRuntime) -> Result<(), Fail> {
     let alloc = rt.alloc();
     let set = published(&rt, alloc, &[("a", &LOW), ("b", &HIGH)])?;
     let middle = [pair(0, 4), pair(1, 3)];
@@ -150,7 +150,7 @@ fn has(shelf: &Shelf, project: u32, version: u64) -> Option<u64> {
 }
 
 #[test]
-fn keeps_live_versions(rt: HostRuntime) -> Result<(), Fail> {
+fn live_versions_are_kept(rt: HostRuntime) -> Result<(), Fail> {
     let alloc = rt.alloc();
     let one = Shared::new(alloc, published(&rt, alloc, &[("m", &APART)])?)?;
     let none = Shared::new(alloc, published(&rt, alloc, &[])?)?;

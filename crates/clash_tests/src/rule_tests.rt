@@ -25,7 +25,7 @@ fn fault_of(alloc: Global, text: &str) -> Result<RuleFault, Fail> {
 }
 
 #[test]
-fn tells_faults(rt: HostRuntime) -> Result<(), Fail> {
+fn faults_of_rules_are_told(rt: HostRuntime) -> Result<(), Fail> {
     let alloc = rt.alloc();
     let text =
         r#"{"rules":[{"a":"*","b":"*","kind":"ignore"},{"a":"*","b":"*","distance":1001},{}]}"#;
@@ -46,7 +46,7 @@ fn element(alloc: Global, class: &str) -> Result<Element, Fail> {
 
 /// The first rule that fits decides, also where it ignores.
 #[test]
-fn finds_rules(rt: HostRuntime) -> Result<(), Fail> {
+fn rules_of_elements_are_found(rt: HostRuntime) -> Result<(), Fail> {
     let alloc = rt.alloc();
     let rules = rules_of(
         alloc,

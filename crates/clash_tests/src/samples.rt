@@ -36,6 +36,7 @@ pub fn pipe(alloc: Global, guid: &[u8], x: i32, y: i32, z: i32) -> Result<Elemen
     })
 }
 
+/// A model of elements under a name.
 pub fn named(alloc: Global, name: &str, elements: Vec<Element>) -> Result<NamedModel, Fail> {
     let model = Model::checked(alloc, elements)?.ok_or("a model")?;
     Ok(NamedModel {

@@ -1,3 +1,4 @@
+//! Directions in which two triangles lie apart by more than a distance.
 // A gap between two triangles across a direction.
 ghost use Rattle.std.specs.Prelude.{◌*◌, ◌≤◌, pos, ◌-ℤ◌, ◌≤ℤ◌, ◌<ℤ◌, unsigned_abs, IsTrue};
 ghost use Rattle.tri_exact.specs.Limits.{height_limit, square_limit, distance_limit};

@@ -1,3 +1,4 @@
+//! Boxes round triangles, and whether two lie apart by more than a distance.
 // Boxes along the axes.
 ghost use Rattle.std.specs.Prelude.{◌≤◌, ◌<◌, pos, ◌+ℤ◌, ◌≤ℤ◌, ◌<ℤ◌, ◌↔◌, unsigned_abs, IsTrue, All};
 ghost use Rattle.tri_exact.specs.Limits.{distance_limit};

@@ -1,3 +1,4 @@
+//! The corners of a triangle as vectors.
 // A triangle's corners as vectors.
 ghost use Rattle.std.specs.Prelude.{◌≡◌};
 ghost use Rattle.tri_exact.specs.Places.{at, IsPoint};
@@ -29,6 +30,7 @@ pub fn vector_at(p: Point) -> V3
     }
 }
 
+/// The corners of a triangle of the grid.
 #[inline(always)]
 pub fn corners_of(t: &Triangle) -> Corners
     requires { IsInGrid t.now }

@@ -1,3 +1,4 @@
+//! Directions in which two lists of triangles may lie apart: across their edges, and from box to box.
 // Directions across which two lists of triangles may have a gap. Any direction serves: these are the likely ones.
 ghost use Rattle.std.specs.Prelude.{◌≤◌, unsigned_abs, All};
 ghost use Rattle.bim_model.specs.Points.{IsInGrid, step_limit};

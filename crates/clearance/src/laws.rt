@@ -1,3 +1,4 @@
+//! Laws for callers: nearness is decided, and near elements have close boxes.
 // What follows of the definitions alone.
 ghost use Rattle.std.specs.Prelude.{ℕ, List, ◌↔◌, IsTrue};
 ghost use Rattle.bim_model.specs.declared.geometry.Triangle.{Triangle};

@@ -1,4 +1,4 @@
-// Whether triangles and elements come within a distance, exactly.
+//! Whether triangles and elements come within a distance, exactly.
 #![tactic(auto)]
 
 mod apart;

@@ -1,3 +1,4 @@
+//! Planes of triangles, and heights of corners over them.
 // A triangle's plane, and the heights of another triangle's corners over it.
 ghost use Rattle.std.specs.Prelude.{ℕ, ◌≤◌, ℤ, ◌≤ℤ◌, unsigned_abs, IsTrue};
 ghost use Rattle.tri_exact.specs.Limits.{height_limit, square_limit, distance_limit};

@@ -1,3 +1,4 @@
+//! Lists of triangles projected on a direction, and whether a gap lies between two of them.
 // Triangles projected on a direction, and gaps between all of one list and all of another.
 ghost use Rattle.std.specs.Prelude.{◌≤◌, ◌≤ℤ◌, unsigned_abs, IsTrue, IfSome, All};
 ghost use Rattle.tri_exact.specs.Limits.{height_limit, distance_limit};

@@ -1,3 +1,4 @@
+//! Whether an edge of one triangle comes near another's edges.
 // The edges of two triangles: for each pair of corners the edges that start there.
 ghost use Rattle.std.specs.Prelude.{◌≡◌, ◌≤◌, ◌↔◌, unsigned_abs, IsTrue};
 ghost use Rattle.tri_exact.specs.Limits.{product_limit, distance_limit};

@@ -1,3 +1,4 @@
+//! Lists of triangles in runs with a box each, of which only those are tested that come near.
 // Lists of triangles in runs of sixteen, each run with its box, so that most runs are passed over at once.
 // The boxes of up to 512 triangles lie on the stack.
 ghost use Rattle.std.specs.Prelude.{false, ◌≡◌, ◌<◌, ◌≤◌, ◌↔◌, ◌⊎◌, IsTrue, All, length, take, drop};

@@ -1,3 +1,4 @@
+//! Whether a triangle's corners come near the face of another.
 // A triangle with an area, and the corners and edges of another.
 ghost use Rattle.std.specs.Prelude.{◌≡◌, ◌≤◌, ◌↔◌, unsigned_abs, IsTrue};
 ghost use Rattle.tri_exact.specs.Limits.{height_limit, distance_limit};

@@ -1,3 +1,4 @@
+//! Whether two elements come within a distance.
 // Two elements.
 ghost use Rattle.std.specs.Prelude.{◌≡◌, ◌+◌, ◌≤◌, ◌↔◌, IsTrue, All};
 ghost use Rattle.tri_exact.specs.Limits.{distance_limit};

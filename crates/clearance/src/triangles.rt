@@ -1,3 +1,4 @@
+//! Whether two triangles come within a distance, by planes, edges and faces.
 // Two triangles.
 ghost use Rattle.std.specs.Prelude.{◌≡◌, ◌≤◌, ◌↔◌, IsTrue};
 ghost use Rattle.tri_exact.specs.Limits.{distance_limit};

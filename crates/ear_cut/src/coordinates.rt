@@ -1,3 +1,4 @@
+//! Vectors of space, points of a plane, and triangles there.
 // Coordinates in 64 bits, with bounds that keep each sum and product within them.
 ghost use Rattle.std.specs.Prelude.{◌≤◌, unsigned_abs};
 ghost use Rattle.bim_model.specs.Points.{grid_limit, step_limit};

@@ -1,3 +1,4 @@
+//! The corners that are left of a polygon, and the angle at each.
 // The corners of a polygon that remain.
 ghost use Rattle.std.specs.Prelude.{◌≡◌, ◌≤◌, ◌<◌, length, All, IfOk};
 ghost use Rattle.bim_model.specs.Points.{IsGridPoint, step};

@@ -1,3 +1,4 @@
+//! Ears: the triangles that are cut off.
 // The triangles of a polygon.
 ghost use Rattle.std.specs.Prelude.{◌≡◌};
 ghost use Rattle.ear_cut.specs.Removal.{ear_of};

@@ -1,3 +1,4 @@
+//! Polygons whose triangles all share the first corner, cut at once.
 // Convex polygons: all triangles but the last stand at the last corner.
 ghost use Rattle.std.specs.Prelude.{◌≡◌, ◌<◌, ◌+◌, ◌-◌, length, IfOk, IfSome, Some};
 ghost use Rattle.std.specs.Bool.{OnTrue};

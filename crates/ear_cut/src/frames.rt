@@ -1,3 +1,4 @@
+//! Frames round runs of corners, so that far corners are left out of a search.
 // Frames round runs of corners, so that a triangle is asked only of the runs that may reach into it.
 ghost use Rattle.std.specs.Prelude.{◌≡◌, ◌≤◌, ◌<◌, ◌+◌, ◌*◌, ℕ, length, IfOk, int_lt};
 ghost use Rattle.ear_cut.specs.Corners.{AreInGrid};

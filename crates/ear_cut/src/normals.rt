@@ -1,3 +1,4 @@
+//! The normal of a polygon: the sum of the products of its neighbouring corners.
 // The normal of a closed polygon.
 ghost use Rattle.std.specs.Prelude.{◌≡◌, ◌≤◌, ◌<◌, ◌+◌, ◌*◌, ℕ, All, length};
 ghost use Rattle.exact_arith.specs.Space.{plus, cross_of};

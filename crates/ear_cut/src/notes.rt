@@ -1,3 +1,4 @@
+//! What is known of each corner that is left: its angle, and how far the search for a corner inside its ear came.
 // What is noted of each corner that remains, so that a removal has only its neighbours judged anew.
 ghost use Rattle.std.specs.Prelude.{◌≡◌, ◌≤◌, ◌<◌, ◌==◌, ℕ, true, length, IfOk, IfSome, MatchOption, None, slice_index_or, slice_set, map, remove, false, Some};
 ghost use Rattle.ear_cut.specs.declared.corners.Angle.TheVariants.{Convex};

@@ -1,3 +1,4 @@
+//! Ears cut off one by one, until no polygon is left or none can be cut.
 // Polygons cut into triangles by the removal of their corners.
 ghost use Rattle.std.specs.Prelude.{◌≡◌, ◌≤◌, ◌<◌, ◌+◌, ◌-◌, length, All, IfOk, IfErr, MatchOption, None, Some};
 ghost use Rattle.bim_model.specs.Points.{IsGridPoint};

@@ -1,3 +1,4 @@
+//! A polygon seen along an axis: points, areas, and whether a triangle holds a point.
 // The view in which a polygon is cut.
 ghost use Rattle.std.specs.Prelude.{◌≡◌, ◌≤◌, pos, int_lt, unsigned_abs};
 ghost use Rattle.bim_model.specs.Points.{IsGridPoint, cross_limit};

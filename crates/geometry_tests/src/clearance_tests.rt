@@ -46,7 +46,7 @@ fn near_from(rt: &impl Abort, p: [[i32; 3]; 3], q: [[i32; 3]; 3], least: u32) {
 /// Parallel triangles, edges at 1/√2, edges that cross over each other, a point of contact, points, and
 /// triangles as large as the grid.
 #[test]
-fn by_hand(rt: HostRuntime) {
+fn triangles_by_hand_are_near_from_their_distance_on(rt: HostRuntime) {
     for (p, q, least) in [
         (
             [[0, 0, 0], [1000, 0, 0], [0, 1000, 0]],
@@ -124,7 +124,7 @@ fn row_from(rt: &impl Abort, row: &[i32]) {
 /// Pairs whose exact squared distance another program worked out in fractions: triangles, edges and points,
 /// apart, touching and crossing, small and as large as the grid.
 #[test]
-fn by_another_program(rt: HostRuntime) {
+fn triangles_of_another_program_are_near_from_their_distance_on(rt: HostRuntime) {
     assert_eq!(rt; PAIRS.len(), 1710);
     for row in PAIRS.chunks(19) {
         row_from(&rt, row);
@@ -158,7 +158,7 @@ fn elements_near<L: Ledger>(blank: Blank, first: &Element, second: &Element, d: 
 
 /// The second triangle of the one element is 30 from the only one of the other.
 #[test]
-fn two_elements(rt: HostRuntime) -> Result<(), Fail> {
+fn two_elements_are_near_from_their_distance_on(rt: HostRuntime) -> Result<(), Fail> {
     let alloc = rt.alloc();
     let guid = Guid::read(b"0000000000000000000001").ok_or("a guid")?;
     let far = triangle([[0, 0, 9000], [1000, 0, 9000], [0, 1000, 9000]]);

@@ -402,7 +402,7 @@ fn polygon(alloc: Global, corners: &[[i32; 3]]) -> Result<Vec<Point>, AllocError
 
 /// Worked out by hand and by another program.
 #[test]
-fn cuts_by_the_rule(rt: HostRuntime) -> Result<(), Fail> {
+fn polygons_are_cut_by_the_rule(rt: HostRuntime) -> Result<(), Fail> {
     for case in CASES.iter() {
         let points = polygon(rt.alloc(), case.corners)?;
         assert!(rt; points.len() >= 3 && points.len() <= MOST_CORNERS);
@@ -464,7 +464,7 @@ fn arm(turn: i32, distance: i32) -> [i32; 3] {
 
 /// A thousand corners: another program folded the places in its lists to these numbers.
 #[test]
-fn cuts_a_thousand_corners(rt: HostRuntime) -> Result<(), Fail> {
+fn a_thousand_corners_are_cut(rt: HostRuntime) -> Result<(), Fail> {
     for (kind, wanted) in [
         (Outline::Convex, 713970686u32),
         (Outline::Comb, 1342372086),

@@ -49,7 +49,7 @@ fn finds(
 /// Three boxes apart on one axis each; two boxes beyond each side of a probe, the second a grid number farther; boxes
 /// at the ends of the coordinates, in a block of eight and after it.
 #[test]
-fn by_hand(rt: HostRuntime) -> Result<(), Fail> {
+fn boxes_by_hand_are_found(rt: HostRuntime) -> Result<(), Fail> {
     let three = [[0, 0, 0, 1, 1, 1], [5, 0, 0, 6, 1, 1], [0, 0, 9, 1, 1, 10]];
     let around = [
         [150, 0, 0, 160, 9, 9],
@@ -102,7 +102,7 @@ fn by_hand(rt: HostRuntime) -> Result<(), Fail> {
 
 /// Every length from 0 to 17, where the boxes at even places are found.
 #[test]
-fn each_length(rt: HostRuntime) -> Result<(), Fail> {
+fn boxes_of_each_number_are_found(rt: HostRuntime) -> Result<(), Fail> {
     let near = [3, 3, 3, 4, 4, 4];
     let far = [3, 3, 90, 4, 4, 91];
     let boxes = [
@@ -126,7 +126,7 @@ fn each_length(rt: HostRuntime) -> Result<(), Fail> {
 
 /// A table that is filled again, by places, and asked for the boxes behind one of them alone.
 #[test]
-fn filled_again(rt: HostRuntime) -> Result<(), Fail> {
+fn a_table_is_filled_again(rt: HostRuntime) -> Result<(), Fail> {
     let boxes = [
         extent([0, 0, 0, 1, 1, 1]),
         extent([5, 0, 0, 6, 1, 1]),

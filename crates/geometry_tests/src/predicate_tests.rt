@@ -35,7 +35,7 @@ fn point(p: [i64; 3]) -> V3
 }
 
 #[test]
-fn products_by_hand(rt: HostRuntime) {
+fn products_are_as_by_hand(rt: HostRuntime) {
     let a = V3 { x: 1, y: 2, z: 3 };
     let b = V3 { x: 4, y: -5, z: 6 };
     assert_eq!(rt; dot(a, b), 12);
@@ -51,7 +51,7 @@ fn products_by_hand(rt: HostRuntime) {
 
 /// The least whole distance from the point to the edge.
 #[test]
-fn points_and_edges(rt: HostRuntime) {
+fn points_are_near_edges_from_their_distance_on(rt: HostRuntime) {
     let rows = [
         ([0, 0, 7], [-5, 0, 0], [5, 0, 0], 7_u32),
         ([-8, 4, 0], [-5, 0, 0], [5, 0, 0], 5),
@@ -81,7 +81,7 @@ fn points_and_edges(rt: HostRuntime) {
 /// The least whole distance of two edges: crossing over each other, parallel, in one line, touching, points,
 /// at 1/√2, at √3, and as long as the grid.
 #[test]
-fn edges_and_edges(rt: HostRuntime) {
+fn edges_are_near_edges_from_their_distance_on(rt: HostRuntime) {
     let rows = [
         ([-10, 0, 0], [10, 0, 0], [0, -10, 5], [0, 10, 5], 5_u32),
         ([0, 0, 0], [10, 0, 0], [2, 3, 0], [8, 3, 0], 3),
@@ -118,7 +118,7 @@ fn edges_and_edges(rt: HostRuntime) {
 /// Points over a triangle: inside, at an edge, at a corner, and those whose foot lies outside at any distance;
 /// segments that go through it, end on it, lie in its plane or pass it.
 #[test]
-fn points_and_segments_at_a_triangle(rt: HostRuntime) {
+fn points_and_segments_meet_a_triangle(rt: HostRuntime) {
     let a = V3 { x: 0, y: 0, z: 0 };
     let b = V3 { x: 100, y: 0, z: 0 };
     let c = V3 { x: 0, y: 100, z: 0 };

@@ -16,6 +16,7 @@ pub enum SizeSpot {
     Wrong,
 }
 
+/// Where one stands in the line behind a byte.
 pub fn size_spot_behind(spot: SizeSpot, b: u8) -> SizeSpot
     ensures { result ≡ size_step spot b }
 {

@@ -22,7 +22,7 @@ pub enum Place {
     Dead,
 }
 
-// Where the byte behind this one stands.
+/// Where the byte behind this one stands.
 pub fn place_behind(place: Place, b: u8) -> Place
     ensures { result ≡ step place b }
 {

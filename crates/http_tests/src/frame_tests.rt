@@ -65,7 +65,7 @@ fn tells(rt: &impl Abort, alloc: Global, text: &str, wanted: &str) -> Result<(),
 }
 
 #[test]
-fn heads_without_a_body(rt: HostRuntime) -> Result<(), Fail> {
+fn heads_without_a_body_are_read(rt: HostRuntime) -> Result<(), Fail> {
     let alloc = rt.alloc();
     tells(
         &rt,
@@ -139,7 +139,7 @@ fn heads_are_refused(rt: HostRuntime) -> Result<(), Fail> {
 }
 
 #[test]
-fn bodies_of_a_stated_length(rt: HostRuntime) -> Result<(), Fail> {
+fn bodies_of_a_stated_length_are_read(rt: HostRuntime) -> Result<(), Fail> {
     let alloc = rt.alloc();
     tells(
         &rt,
@@ -163,7 +163,7 @@ fn bodies_of_a_stated_length(rt: HostRuntime) -> Result<(), Fail> {
 }
 
 #[test]
-fn bodies_in_chunks(rt: HostRuntime) -> Result<(), Fail> {
+fn bodies_in_chunks_are_read(rt: HostRuntime) -> Result<(), Fail> {
     let alloc = rt.alloc();
     chunks_tell(
         &rt,

@@ -44,6 +44,7 @@ pub fn items_of(value: &Value21) -> Option<&[Value21]>
     }
 }
 
+/// Whether it is an enumeration.
 pub fn is_enumeration(value: &Value21) -> bool
     ensures { result ≡ is_enumeration value.now }
 {

@@ -11,6 +11,7 @@ pub struct Survey {
 }
 
 impl Survey {
+    /// The numbers of the instances that are used, of the mapped items among them, and of the elements.
     pub fn new(used: Vec<u64>, mapped: Vec<u64>, elements: Vec<u64>) -> Survey
         ensures used { used_ids result ≡ used.items }
         ensures mapped { mapped_ids result ≡ mapped.items }

@@ -1,3 +1,4 @@
+//! The attributes of each entity that is followed: what stands where.
 ghost use Rattle.std.specs.Prelude.{◌≡◌};
 ghost use Rattle.ifc_schema.specs.Table.{row_of, row_at};
 

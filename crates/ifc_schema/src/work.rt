@@ -32,6 +32,7 @@ impl Mark {
         !matches!(self, Mark::Unseen)
     }
 
+    /// Whether it was seen as a mapped item.
     pub fn is_mapped(self) -> bool
         ensures { result ≡ is_mapped self }
     {

@@ -70,7 +70,7 @@ const CHANGES: [Change; 7] = [
 ];
 
 #[test]
-fn builds_a_model(rt: HostRuntime) -> Result<(), Fail> {
+fn a_model_is_built(rt: HostRuntime) -> Result<(), Fail> {
     let alloc = rt.alloc();
     let text = file(
         alloc,
@@ -99,7 +99,7 @@ fn builds_a_model(rt: HostRuntime) -> Result<(), Fail> {
 }
 
 #[test]
-fn names_the_first_fault(rt: HostRuntime) -> Result<(), Fail> {
+fn the_first_fault_is_named(rt: HostRuntime) -> Result<(), Fail> {
     let alloc = rt.alloc();
     for change in &CHANGES {
         let text = file(alloc, change.unit, change.element, change.others)?;

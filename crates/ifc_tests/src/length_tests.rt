@@ -137,7 +137,7 @@ const LENGTHS: [Length; 20] = [
 ];
 
 #[test]
-fn lengths_on_the_grid(rt: HostRuntime) -> Result<(), Fail> {
+fn lengths_are_put_on_the_grid(rt: HostRuntime) -> Result<(), Fail> {
     for row in LENGTHS {
         let number = Decimal::read(row.text).ok_or("no number")?;
         let scale = Scale { power: row.power };

@@ -431,7 +431,7 @@ fn told(answer: Result<Survey, BuildError>) -> [u64; 3] {
 }
 
 #[test]
-fn surveys(rt: HostRuntime) -> Result<(), Fail> {
+fn used_instances_are_found(rt: HostRuntime) -> Result<(), Fail> {
     for case in CASES {
         let bytes = file_of(rt.alloc(), case)?;
         let exchange = read(rt.alloc(), bytes.as_slice()).ok().ok_or("refused")?;
@@ -459,7 +459,7 @@ fn mapped(answer: Result<Survey, BuildError>) -> [u64; 2] {
 }
 
 #[test]
-fn mapped_representations(rt: HostRuntime) -> Result<(), Fail> {
+fn mapped_representations_are_found(rt: HostRuntime) -> Result<(), Fail> {
     let bytes = file_of(rt.alloc(), MAPPED)?;
     let exchange = read(rt.alloc(), bytes.as_slice()).ok().ok_or("refused")?;
     assert_eq!(rt; told(survey(rt.alloc(), &exchange)), MAPPED.told);

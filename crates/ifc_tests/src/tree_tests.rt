@@ -191,7 +191,7 @@ fn fault_of(alloc: Global, exchange: &Exchange) -> Option<u64> {
 }
 
 #[test]
-fn rows(rt: HostRuntime) -> Result<(), Fail> {
+fn storeys_are_found_row_by_row(rt: HostRuntime) -> Result<(), Fail> {
     for row in STOREYS {
         let exchange = exchange_of(rt.alloc(), row.data)?;
         let storeys = tree(rt.alloc(), &exchange).ok().ok_or("refused")?;
@@ -219,7 +219,7 @@ fn chain(alloc: Global, count: u64) -> Result<String, AllocError> {
 }
 
 #[test]
-fn long_ways(rt: HostRuntime) -> Result<(), Fail> {
+fn storeys_are_found_by_long_ways(rt: HostRuntime) -> Result<(), Fail> {
     // a chain to a storey
     let mut text = chain(rt.alloc(), 1000)?;
     text.push_str("#1000=IFCBUILDINGSTOREY();")?;

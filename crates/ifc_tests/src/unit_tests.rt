@@ -126,7 +126,7 @@ fn file(alloc: Global, text: &[u8]) -> Result<Exchange, Fail> {
 }
 
 #[test]
-fn length_units(rt: HostRuntime) -> Result<(), Fail> {
+fn the_length_unit_is_found(rt: HostRuntime) -> Result<(), Fail> {
     for (text, wanted) in UNITS {
         let exchange = file(rt.alloc(), text)?;
         let told = match length_unit(&exchange) {
@@ -170,7 +170,7 @@ const POINTS: [(&[u8], Option<GridFault>); 11] = [
 ];
 
 #[test]
-fn faults_of_points(rt: HostRuntime) -> Result<(), Fail> {
+fn faults_of_points_are_found(rt: HostRuntime) -> Result<(), Fail> {
     for (text, wanted) in POINTS {
         let exchange = file(rt.alloc(), text)?;
         let instance = exchange.instances().first().ok_or("no instance")?;
@@ -181,7 +181,7 @@ fn faults_of_points(rt: HostRuntime) -> Result<(), Fail> {
 }
 
 #[test]
-fn points_of_a_list(rt: HostRuntime) -> Result<(), Fail> {
+fn points_of_a_list_are_read(rt: HostRuntime) -> Result<(), Fail> {
     let exchange = file(
         rt.alloc(),
         b"#1=IFCCARTESIANPOINTLIST3D(((0.,1.,2.),(-3.0004,4.,5.E-3)));",

@@ -194,7 +194,7 @@ fn file(alloc: Global) -> Result<Vec<u8>, AllocError> {
 }
 
 #[test]
-fn views(rt: HostRuntime) -> Result<(), Fail> {
+fn single_instances_are_viewed(rt: HostRuntime) -> Result<(), Fail> {
     let bytes = file(rt.alloc())?;
     let exchange = read(rt.alloc(), bytes.as_slice()).ok().ok_or("refused")?;
     for (call, id, wanted) in CASES {

@@ -1,3 +1,4 @@
+//! One token cut off the front, or the place where there is none.
 ghost use Rattle.std.specs.Prelude.{◌≡◌, ◌+◌, ◌<◌, ◌≤◌, length, drop, option_map, IfSome, IfOk};
 ghost use Rattle.p21_lexer.specs.Cutting.{CutsFrom};
 ghost use Rattle.p21_lexer.specs.Kinds.{kind_of, span};

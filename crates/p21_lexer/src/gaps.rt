@@ -1,3 +1,4 @@
+//! Gaps between tokens: blanks and comments.
 ghost use Rattle.std.specs.Prelude.{◌≡◌, ◌+◌, ◌≤◌, length, drop, option_map, IfSome};
 ghost use Rattle.p21_lexer.specs.Gaps.{is_blank, Skips};
 ghost use Rattle.p21_lexer.specs.Scanning.{comment_span, opens};

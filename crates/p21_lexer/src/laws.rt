@@ -1,3 +1,4 @@
+//! The law that bytes are cut in one way.
 ghost use Rattle.std.specs.Prelude.{◌≡◌, ℕ, List, Option, Result, length};
 ghost use Rattle.p21_lexer.specs.Cutting.{CutsFrom, Tokens};
 ghost use Rattle.p21_lexer.specs.declared.token.Token.{Token};

@@ -1,3 +1,4 @@
+//! The tokens of bytes, one after the other.
 use crate::cutting::cut;
 use crate::token::{LexFault, Token};
 use std::marker::Model;

@@ -1,3 +1,4 @@
+//! Runs of bytes of one class.
 ghost use Rattle.std.specs.Prelude.{◌≡◌, ◌+◌, ◌≤◌, ◌==◌, length, drop};
 ghost use Rattle.p21_lexer.specs.Scanning.{one};
 ghost use Rattle.p21_lexer.specs.Spelling.{run, is_digit, is_letter_or_digit, is_hexadecimal, is_word_byte};

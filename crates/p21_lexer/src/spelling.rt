@@ -1,3 +1,4 @@
+//! Where words, names, numbers, texts, enumerations and bits end.
 ghost use Rattle.std.specs.Prelude.{◌≡◌, ◌+◌, ◌≤◌, length, drop, option_map, IfSome};
 ghost use Rattle.p21_lexer.specs.Scanning.{word_span, enumeration_span, bits_span, fraction_span, exponent_span, signed_span, number_span, name_span, name_run, text_span};
 

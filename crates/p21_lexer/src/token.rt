@@ -1,3 +1,4 @@
+//! Tokens, their kinds, and the fault of bytes that are none.
 /// What a token is, by its spelling (ISO 10303-21, section 6).
 #[derive(Clone, Copy, Debug, PartialEq, Eq)]
 pub enum TokenKind {

@@ -1,3 +1,4 @@
+//! The number of values of a file.
 ghost use Rattle.std.specs.Prelude.{◌≡◌, ◌+◌, ◌-◌, ◌^◌, min, sum_by};
 ghost use Rattle.p21_reader.specs.Counting.{size, values_of};
 

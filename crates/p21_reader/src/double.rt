@@ -1,3 +1,4 @@
+//! The least number that two instances bear.
 ghost use Rattle.std.specs.Prelude.{IsSortedByKey, IfSome, IfNone};
 ghost use Rattle.std.specs.Ordering.{nat_cmp};
 ghost use Rattle.p21_reader.specs.Uploads.{IsLeastDouble, Rises};

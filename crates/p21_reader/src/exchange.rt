@@ -1,3 +1,4 @@
+//! A file that was read: its instances by rising number.
 ghost use Rattle.std.specs.Prelude.{◌≡◌, ◌⊎◌, ◌≤◌, List, IfOk, IfErr, length};
 ghost use Rattle.p21_reader.specs.Counting.{values_of};
 ghost use Rattle.p21_reader.specs.Uploads.{SpellsExchange, IsIfc4Upload, IsCause, IsTooMany};

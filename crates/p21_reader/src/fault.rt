@@ -1,3 +1,4 @@
+//! Why reading stops.
 use bim_model::{BuildError, UploadFault};
 use std::alloc::{AllocError, AllocFailed};
 

@@ -1,3 +1,4 @@
+//! A whole file, from the word that begins it to the one that ends it.
 ghost use Rattle.std.specs.Prelude.{◌≡◌, ◌≤◌, length, IfOk, IfErr, IfSome, IfNone};
 ghost use Rattle.p21_lexer.specs.Cutting.{start_of};
 ghost use Rattle.p21_reader.specs.Files.{FaultAt};

@@ -1,3 +1,4 @@
+//! The header section, and the schema that it names.
 ghost use Rattle.std.specs.Prelude.{◌≡◌, ◌≤◌, length, IfOk};
 ghost use Rattle.p21_reader.specs.Heading.{ReadsData, ReadsPart, ReadsStatements, ReadsHeader};
 ghost use Rattle.p21_reader.specs.Reading.{IsPiece};

@@ -1,3 +1,4 @@
+//! One instance: its number, and a body of one entity or of several.
 ghost use Rattle.std.specs.Prelude.{◌≡◌, ◌≤◌, ◌∷◌, [], length, Some, IfOk, OnOk, ◌-◌};
 ghost use Rattle.p21_reader.specs.declared.limits.TheConstants.{MOST_DEPTH};
 ghost use Rattle.p21_reader.specs.Grammar.{T, Open, Inside, AnyWord, Ones};

@@ -1,3 +1,4 @@
+//! Laws for callers: the table is the grammar, files have one reading, uploads one answer.
 ghost use Rattle.std.specs.Prelude.{◌≡◌, ℕ, List, [], Some, IsSome, ◌↔◌};
 ghost use Rattle.p21_reader.specs.Grammar.{Class, IsFile, IsViable, file};
 ghost use Rattle.p21_reader.specs.Machine.{run};

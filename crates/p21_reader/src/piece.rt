@@ -1,3 +1,4 @@
+//! Tokens as the grammar asks for them.
 ghost use Rattle.std.specs.Prelude.{◌≡◌, ◌<◌, ◌≤◌, length, Option, Some, Result, Ok, IfOk, IfErr, slice_range};
 ghost use Rattle.p21_lexer.specs.Cutting.{CutsFrom};
 ghost use Rattle.p21_reader.specs.Lexemes.{lexeme_of, class_of, single_says};

@@ -1,3 +1,4 @@
+//! Whether a header names the schema that is read.
 ghost use Rattle.std.specs.Prelude.{◌≡◌, ◌≤◌, ◌∷◌, [], ◌++◌, List, length, IsTrue, ◌↔◌, IfOk, IfErr};
 ghost use Rattle.p21_reader.specs.Schema.{Statement, IsIfc4};
 ghost use Rattle.p21_reader.specs.Heading.{SaysSchema, OnlyIfc4, IsStatementAt};

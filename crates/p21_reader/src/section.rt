@@ -1,3 +1,4 @@
+//! The data section: instances until the word that closes it.
 ghost use Rattle.std.specs.Prelude.{◌≡◌, ◌≤◌, [], length, IfOk};
 ghost use Rattle.p21_reader.specs.Reading.{IsPiece};
 ghost use Rattle.p21_reader.specs.Files.{ReadsClosing, ReadsSection};

@@ -1,3 +1,4 @@
+//! Values and instances, as the callers see them.
 use bim_model::{Bytes, Items, Text};
 use sqlite_items::Boxed;
 

@@ -1,3 +1,4 @@
+//! Values with what they hold: lists, and values under a keyword.
 ghost use Rattle.std.specs.Prelude.{◌≡◌, ◌<◌, ◌≤◌, ◌∷◌, [], ◌++◌, length, Some, IfOk, IfErr, OnOk, OnErr};
 ghost use Rattle.p21_reader.specs.Grammar.{Inside, Value, T, Open, Close};
 ghost use Rattle.p21_reader.specs.Lexemes.{lexeme_of, Opening};

@@ -182,7 +182,7 @@ fn assert_row(rt: &impl Abort, row: &Row) {
 }
 
 #[test]
-fn cuts_tokens(rt: HostRuntime) {
+fn tokens_are_cut(rt: HostRuntime) {
     for row in &KINDS {
         assert_row(&rt, row);
     }

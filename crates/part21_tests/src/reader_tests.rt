@@ -160,7 +160,7 @@ fn assert_fault(rt: &impl Abort, alloc: Global, bytes: &[u8], fault: UploadFault
 }
 
 #[test]
-fn places(rt: HostRuntime) -> Result<(), Fail> {
+fn faults_stand_at_their_places(rt: HostRuntime) -> Result<(), Fail> {
     for row in TEXTS {
         assert_fault(&rt, rt.alloc(), row.text, row.fault);
     }
@@ -317,7 +317,7 @@ fn file_of(alloc: Global, row: Whole) -> Result<Vec<u8>, AllocError> {
 }
 
 #[test]
-fn stages(rt: HostRuntime) -> Result<(), Fail> {
+fn faults_come_in_their_order(rt: HostRuntime) -> Result<(), Fail> {
     for row in WHOLES {
         let bytes = file_of(rt.alloc(), row)?;
         match row.fault {
@@ -329,7 +329,7 @@ fn stages(rt: HostRuntime) -> Result<(), Fail> {
 }
 
 #[test]
-fn limits(rt: HostRuntime) -> Result<(), Fail> {
+fn limits_are_kept(rt: HostRuntime) -> Result<(), Fail> {
     let mut blanks = vec![in rt.alloc(); b' '; 33_554_432]?;
     assert_fault(&rt, rt.alloc(), blanks.as_slice(), UploadFault::NotPart21);
     blanks.push(b' ')?;
@@ -455,7 +455,7 @@ fn assert_value(rt: &impl Abort, values: &[Value21], row: Kept) {
 }
 
 #[test]
-fn instances(rt: HostRuntime) -> Result<(), Fail> {
+fn instances_are_read(rt: HostRuntime) -> Result<(), Fail> {
     let bytes = joined(rt.alloc(), [HEAD, DATA, TAIL])?;
     assert_eq!(rt; size_of::<Value21>(), 24);
     let exchange = read(rt.alloc(), bytes.as_slice()).ok().ok_or("refused")?;
@@ -482,7 +482,7 @@ const FOUR_PIPES: &[u8] =
     b"ISO-10303-21;\nHEADER;\nFILE_DESCRIPTION((''),'2;1');\nFILE_NAME('a.ifc','2024-05-01T12:00:00',(''),(''),'','','');\nFILE_SCHEMA(('IFC4'));\nENDSEC;\nDATA;\n#1=IFCPROJECT('0000000000000000000001',$,'P',$,$,$,$,(),#2);\n#2=IFCUNITASSIGNMENT((#3));\n#3=IFCSIUNIT(*,.LENGTHUNIT.,.MILLI.,.METRE.);\n#10=IFCCARTESIANPOINTLIST3D(((1500.,1500.,1500.),(1600.,1500.,1500.),(1500.,1600.,1500.)));\n#11=IFCTRIANGULATEDFACESET(#10,$,$,((1,2,3)),$);\n#12=IFCSHAPEREPRESENTATION($,'Body','Tessellation',(#11));\n#13=IFCPRODUCTDEFINITIONSHAPE($,$,(#12));\n#14=IFCPIPESEGMENT('0000000000000000000011',$,'0000000000000000000011',$,$,$,#13,$,$);\n#20=IFCCARTESIANPOINTLIST3D(((1500.,1500.,1550.),(1600.,1500.,1550.),(1500.,1600.,1550.)));\n#21=IFCTRIANGULATEDFACESET(#20,$,$,((1,2,3)),$);\n#22=IFCSHAPEREPRESENTATION($,'Body','Tessellation',(#21));\n#23=IFCPRODUCTDEFINITIONSHAPE($,$,(#22));\n#24=IFCPIPESEGMENT('0000000000000000000012',$,'0000000000000000000012',$,$,$,#23,$,$);\n#30=IFCCARTESIANPOINTLIST3D(((9500.,1500.,1500.),(9600.,1500.,1500.),(9500.,1600.,1500.)));\n#31=IFCTRIANGULATEDFACESET(#30,$,$,((1,2,3)),$);\n#32=IFCSHAPEREPRESENTATION($,'Body','Tessellation',(#31));\n#33=IFCPRODUCTDEFINITIONSHAPE($,$,(#32));\n#34=IFCPIPESEGMENT('0000000000000000000013',$,'0000000000000000000013',$,$,$,#33,$,$);\n#40=IFCCARTESIANPOINTLIST3D(((9500.,1500.,1700.),(9600.,1500.,1700.),(9500.,1600.,1700.)));\n#41=IFCTRIANGULATEDFACESET(#40,$,$,((1,2,3)),$);\n#42=IFCSHAPEREPRESENTATION($,'Body','Tessellation',(#41));\n#43=IFCPRODUCTDEFINITIONSHAPE($,$,(#42));\n#44=IFCPIPESEGMENT('0000000000000000000014',$,'0000000000000000000014',$,$,$,#43,$,$);\nENDSEC;\nEND-ISO-10303-21;\n";
 
 #[test]
-fn pipes(rt: HostRuntime) -> Result<(), Fail> {
+fn a_file_of_pipes_is_read(rt: HostRuntime) -> Result<(), Fail> {
     let one = read(rt.alloc(), ONE_PIPE).ok().ok_or("refused")?;
     assert_eq!(rt; one.instances().len(), 8);
     assert_instance(&rt, &one, 1, "IFCPROJECT", 9);
@@ -503,7 +503,7 @@ const HOUSE: &[u8] =
     b"ISO-10303-21;\nHEADER;\nFILE_DESCRIPTION((''),'2;1');\nFILE_NAME('a.ifc','2024-05-01T12:00:00',(''),(''),'','','');\nFILE_SCHEMA(('IFC4'));\nENDSEC;\nDATA;\n#1=IFCPERSON($,'N',$,$,$,$,$,$);\n#2=IFCORGANIZATION($,'O',$,$,$);\n#3=IFCPERSONANDORGANIZATION(#1,#2,$);\n#4=IFCAPPLICATION(#2,'1','App','app');\n#5=IFCOWNERHISTORY(#3,#4,$,.ADDED.,$,$,$,1714564800);\n#8=IFCCARTESIANPOINT((0.,0.,0.));\n#9=IFCAXIS2PLACEMENT3D(#8,$,$);\n#10=IFCGEOMETRICREPRESENTATIONCONTEXT($,'Model',3,1.E-05,#9,$);\n#11=IFCSIUNIT(*,.LENGTHUNIT.,$,.METRE.);\n#12=IFCSIUNIT(*,.PLANEANGLEUNIT.,$,.RADIAN.);\n#13=IFCUNITASSIGNMENT((#11,#12));\n#14=IFCPROJECT('0000000000000000000030',#5,'House',$,$,$,$,(#10),#13);\n#15=IFCLOCALPLACEMENT($,#9);\n#16=IFCBUILDING('0000000000000000000031',#5,'B',$,$,#15,$,$,.ELEMENT.,$,$,$);\n#17=IFCCARTESIANPOINT((0.,0.,2.9999999999999996));\n#18=IFCAXIS2PLACEMENT3D(#17,$,$);\n#19=IFCLOCALPLACEMENT(#15,#18);\n#20=IFCBUILDINGSTOREY('0000000000000000000032',#5,'EG',$,$,#15,$,$,.ELEMENT.,0.);\n#21=IFCBUILDINGSTOREY('0000000000000000000033',#5,'OG 1',$,$,#19,$,$,.ELEMENT.,3.);\n#22=IFCRELAGGREGATES('0000000000000000000034',#5,$,$,#14,(#16));\n#23=IFCRELAGGREGATES('0000000000000000000035',#5,$,$,#16,(#20,#21));\n#24=IFCCARTESIANPOINTLIST3D(((0.,0.,0.),(4.,0.,0.),(4.,2.,0.),(2.,2.,0.),(2.,4.,0.),(0.,4.,0.)));\n#25=IFCINDEXEDPOLYGONALFACE((1,2,3,4,5,6));\n#26=IFCPOLYGONALFACESET(#24,.F.,(#25),$);\n#27=IFCSHAPEREPRESENTATION(#10,'Body','Tessellation',(#26));\n#28=IFCPRODUCTDEFINITIONSHAPE($,$,(#27));\n#29=IFCSLAB('0000000000000000000036',#5,'Decke \\X2\\00FC\\X0\\ber EG',$,$,#19,#28,$,.FLOOR.);\n#30=IFCCARTESIANPOINTLIST3D(((0.,0.,0.),(0.9,0.,0.),(0.9,0.,2.1),(0.,0.,2.1)));\n#31=IFCTRIANGULATEDFACESET(#30,$,.F.,((1,2,3),(1,3,4)),$);\n#32=IFCSHAPEREPRESENTATION(#10,'Body','Tessellation',(#31));\n#33=IFCREPRESENTATIONMAP(#9,#32);\n#34=IFCCARTESIANPOINT((1.,0.,0.));\n#35=IFCCARTESIANTRANSFORMATIONOPERATOR3D($,$,#34,$,$);\n#36=IFCMAPPEDITEM(#33,#35);\n#39=IFCSHAPEREPRESENTATION(#10,'Body','MappedRepresentation',(#36));\n#40=IFCPRODUCTDEFINITIONSHAPE($,$,(#39));\n#41=IFCDOOR('0000000000000000000037',#5,'T\\X\\FCr',$,$,#15,#40,$,2.1,0.9,.DOOR.,.SINGLE_SWING_LEFT.,$);\n#42=IFCRELCONTAINEDINSPATIALSTRUCTURE('0000000000000000000038',#5,$,$,(#41),#20);\n#43=IFCRELCONTAINEDINSPATIALSTRUCTURE('0000000000000000000039',#5,$,$,(#29),#21);\n#44=IFCPROPERTYSINGLEVALUE('Reference',$,IFCIDENTIFIER('x'),$);\n#45=IFCPROPERTYSET('0000000000000000000040',#5,'Pset_SlabCommon',$,(#44));\n#46=IFCRELDEFINESBYPROPERTIES('0000000000000000000041',#5,$,$,(#29),#45);\n#47=IFCCOLOURRGB($,0.5,0.5,0.5);\nENDSEC;\nEND-ISO-10303-21;\n";
 
 #[test]
-fn house(rt: HostRuntime) -> Result<(), Fail> {
+fn a_file_of_a_house_is_read(rt: HostRuntime) -> Result<(), Fail> {
     let house = read(rt.alloc(), HOUSE).ok().ok_or("refused")?;
     assert_eq!(rt; house.instances().len(), 43);
     assert_instance(&rt, &house, 29, "IFCSLAB", 9);

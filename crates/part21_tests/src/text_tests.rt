@@ -185,7 +185,7 @@ const WORDS: [Words; 20] = [
 ];
 
 #[test]
-fn decimals_and_texts(rt: HostRuntime) -> Result<(), Fail> {
+fn decimals_and_texts_are_read(rt: HostRuntime) -> Result<(), Fail> {
     for row in SPELLINGS {
         let decimal = Decimal::read(row.text).map(|d| (d.negative, d.digits, d.exp));
         assert_eq!(rt; decimal, row.decimal, "{:?}", row.text);
@@ -267,7 +267,7 @@ const SIZES: [Sizes; 9] = [
 ];
 
 #[test]
-fn sizes_and_numbers(rt: HostRuntime) -> Result<(), Fail> {
+fn sizes_and_numbers_are_read(rt: HostRuntime) -> Result<(), Fail> {
     for row in SIZES {
         let one = Decimal::read(row.one).ok_or("no number")?;
         let other = Decimal::read(row.other).ok_or("no number")?;
@@ -303,7 +303,7 @@ const GUIDS: [(&[u8], bool); 6] = [
 ];
 
 #[test]
-fn identifiers(rt: HostRuntime) -> Result<(), Fail> {
+fn identifiers_are_read(rt: HostRuntime) -> Result<(), Fail> {
     for (spelled, is) in GUIDS {
         assert_eq!(rt; says_guid(spelled), is);
     }
@@ -311,7 +311,7 @@ fn identifiers(rt: HostRuntime) -> Result<(), Fail> {
 }
 
 #[test]
-fn reads_small_whole_numbers(rt: HostRuntime) -> Result<(), Fail> {
+fn small_whole_numbers_are_read(rt: HostRuntime) -> Result<(), Fail> {
     let cases: [(&[u8], Option<u64>); 14] = [
         (b"0", Some(0)),
         (b"12", Some(12)),

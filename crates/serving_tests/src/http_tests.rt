@@ -29,7 +29,7 @@ fn request(
 }
 
 #[test]
-fn asks_the_book(rt: HostRuntime) -> Result<(), Fail> {
+fn requests_ask_the_book(rt: HostRuntime) -> Result<(), Fail> {
     let alloc = rt.alloc();
     let routes = Routes::new(alloc)?;
     let target = "http://localhost/bcf/3.0/projects/00000002-0000-8000-8000-000000000000/topics?x";
@@ -66,7 +66,7 @@ fn is_post(rt: &impl Abort, call: Result<HttpCall, Refusal>) {
 }
 
 #[test]
-fn puts_models(rt: HostRuntime) -> Result<(), Fail> {
+fn models_are_put(rt: HostRuntime) -> Result<(), Fail> {
     let alloc = rt.alloc();
     let routes = Routes::new(alloc)?;
     let target = "/coord/1/projects/00000001000080008000000000000000/models/a.b?y&gri%64=snap";
@@ -144,7 +144,7 @@ fn removes(rt: &impl Abort, call: Result<HttpCall, Refusal>, wanted: &str) {
 }
 
 #[test]
-fn asks_for_versions(rt: HostRuntime) -> Result<(), Fail> {
+fn versions_are_asked_for(rt: HostRuntime) -> Result<(), Fail> {
     let alloc = rt.alloc();
     let one = br#"{"rules":[{"a":"*","b":"*","distance":50}]}"#;
     sets_rules(&rt, asked(alloc, "PUT", "/rules", one)?, (1, 43));
@@ -162,7 +162,7 @@ fn asks_for_versions(rt: HostRuntime) -> Result<(), Fail> {
 }
 
 #[test]
-fn refuses_parts(rt: HostRuntime) -> Result<(), Fail> {
+fn bad_parts_are_refused(rt: HostRuntime) -> Result<(), Fail> {
     let alloc = rt.alloc();
     for query in [
         "first=1&count=0&first=x",
@@ -196,7 +196,7 @@ fn refuses_parts(rt: HostRuntime) -> Result<(), Fail> {
 }
 
 #[test]
-fn refuses(rt: HostRuntime) -> Result<(), Fail> {
+fn bad_requests_are_refused(rt: HostRuntime) -> Result<(), Fail> {
     let alloc = rt.alloc();
     let routes = Routes::new(alloc)?;
     let target =
@@ -262,7 +262,7 @@ fn try_answer(
 }
 
 #[test]
-fn writes_topics(rt: HostRuntime) -> Result<(), Fail> {
+fn topics_are_written(rt: HostRuntime) -> Result<(), Fail> {
     let alloc = rt.alloc();
     let kind = ReplyKind {
         project: 1,
@@ -281,7 +281,7 @@ fn lacks(path: RoutePath) -> Answer {
 }
 
 #[test]
-fn writes_no_body_to_head(rt: HostRuntime) -> Result<(), Fail> {
+fn head_has_no_body(rt: HostRuntime) -> Result<(), Fail> {
     let alloc = rt.alloc();
     let head = ReplyKind {
         project: 1,
@@ -296,7 +296,7 @@ fn writes_no_body_to_head(rt: HostRuntime) -> Result<(), Fail> {
 }
 
 #[test]
-fn writes_methods_of_a_row(rt: HostRuntime) -> Result<(), Fail> {
+fn methods_of_a_route_are_written(rt: HostRuntime) -> Result<(), Fail> {
     let alloc = rt.alloc();
     let wanted =
         "HTTP/1.1 405 Method Not Allowed\r\nContent-Type: application/json\r\nAllow: PUT, DELETE\r\nContent-Length: 35\r\n\r\n{\"code\":\"H8\",\"message\":\"H8 Method\"}";
@@ -312,7 +312,7 @@ fn writes_methods_of_a_row(rt: HostRuntime) -> Result<(), Fail> {
 }
 
 #[test]
-fn writes_faults_of_frames(rt: HostRuntime) -> Result<(), Fail> {
+fn faults_of_frames_are_written(rt: HostRuntime) -> Result<(), Fail> {
     let alloc = rt.alloc();
     let wanted =
         "HTTP/1.1 431 Request Header Fields Too Large\r\nContent-Type: application/json\r\nConnection: close\r\nContent-Length: 40\r\n\r\n{\"code\":\"H2\",\"message\":\"H2 HeadTooLong\"}";
@@ -322,7 +322,7 @@ fn writes_faults_of_frames(rt: HostRuntime) -> Result<(), Fail> {
 }
 
 #[test]
-fn writes_what_is_pending(rt: HostRuntime) -> Result<(), Fail> {
+fn what_is_pending_is_written(rt: HostRuntime) -> Result<(), Fail> {
     let alloc = rt.alloc();
     let pending = replied(ReplyBody::Refused(BookFault::Pending {
         version: 2,

@@ -22,7 +22,7 @@ fn is_written(
 }
 
 #[test]
-fn writes_errors_of_the_book(rt: HostRuntime) -> Result<(), Fail> {
+fn errors_of_the_book_are_written(rt: HostRuntime) -> Result<(), Fail> {
     let alloc = rt.alloc();
     let rows = [
         (
@@ -54,7 +54,7 @@ fn writes_errors_of_the_book(rt: HostRuntime) -> Result<(), Fail> {
 }
 
 #[test]
-fn writes_faults_of_bodies(rt: HostRuntime) -> Result<(), Fail> {
+fn faults_of_bodies_are_written(rt: HostRuntime) -> Result<(), Fail> {
     let alloc = rt.alloc();
     let rows = [
         (
@@ -86,7 +86,7 @@ fn writes_faults_of_bodies(rt: HostRuntime) -> Result<(), Fail> {
 }
 
 #[test]
-fn writes_versions(rt: HostRuntime) -> Result<(), Fail> {
+fn versions_are_written(rt: HostRuntime) -> Result<(), Fail> {
     let alloc = rt.alloc();
     let rules = Shared::new(alloc, Rules::new(alloc))?;
     let tree = version_out(alloc, 0, 3, &Snapshot::new(alloc, rules))?;

@@ -232,7 +232,7 @@ fn axis(number: i8) -> Axis {
 }
 
 #[test]
-fn turns_axes(rt: HostRuntime) -> Result<(), Fail> {
+fn axes_are_turned(rt: HostRuntime) -> Result<(), Fail> {
     let alloc = rt.alloc();
     for turned in &TURNS {
         let (axis_text, reference_text) = (turned.axis, turned.reference);
@@ -267,7 +267,7 @@ fn turns_axes(rt: HostRuntime) -> Result<(), Fail> {
 }
 
 #[test]
-fn carries_points(rt: HostRuntime) {
+fn points_are_carried(rt: HostRuntime) {
     let point = Point { x: 1, y: 2, z: 3 };
     assert_eq!(rt; Frame::identity().place(point), Some(point));
     let outer = Frame {

@@ -111,7 +111,7 @@ fn chain(alloc: Global, first: u64, last: u64) -> Result<String, AllocError> {
 }
 
 #[test]
-fn orders_chains(rt: HostRuntime) -> Result<(), Fail> {
+fn chains_are_ordered(rt: HostRuntime) -> Result<(), Fail> {
     let alloc = rt.alloc();
     for chained in &CHAINS {
         let data = chained.data;
@@ -147,7 +147,7 @@ const PLACED: &str =
     #31=IFCDIRECTION((0.,1.,0.));#32=IFCDIRECTION((0.,1.,1.));";
 
 #[test]
-fn composes_frames(rt: HostRuntime) -> Result<(), Fail> {
+fn frames_are_composed(rt: HostRuntime) -> Result<(), Fail> {
     let alloc = rt.alloc();
     let exchange = exchange_of(alloc, PLACED)?;
     let chains = Chains::of(alloc, &exchange, &[1])?;
@@ -206,7 +206,7 @@ fn composes_frames(rt: HostRuntime) -> Result<(), Fail> {
 }
 
 #[test]
-fn composes_deep_frames(rt: HostRuntime) -> Result<(), Fail> {
+fn deep_frames_are_composed(rt: HostRuntime) -> Result<(), Fail> {
     let alloc = rt.alloc();
     let mut text = chain(alloc, 1, 1000)?;
     text.push_str("#1000=IFCLOCALPLACEMENT($,#20001);")?;

@@ -13,7 +13,7 @@ fn number(alloc: Global, spelled: &str) -> Result<Value21, AllocError> {
 }
 
 #[test]
-fn names_points(rt: HostRuntime) -> Result<(), Fail> {
+fn indexes_name_points(rt: HostRuntime) -> Result<(), Fail> {
     let alloc = rt.alloc();
     let cases = [
         ("1", 3, Some(0)),
@@ -113,7 +113,7 @@ fn place_in(triangles: Option<Vec<Triangle>>) -> Option<i32> {
 }
 
 #[test]
-fn names_points_by_their_numbers(rt: HostRuntime) -> Result<(), Fail> {
+fn numbers_of_points_are_followed(rt: HostRuntime) -> Result<(), Fail> {
     let alloc = rt.alloc();
     let cases: [(&str, &[[i32; 3]], Option<i32>); 6] = [
         ("1", &SHORT_LINE, Some(3)),
@@ -145,7 +145,7 @@ fn triangle(a: [i32; 3], b: [i32; 3], c: [i32; 3]) -> Triangle {
 }
 
 #[test]
-fn makes_triangles(rt: HostRuntime) -> Result<(), Fail> {
+fn sets_become_triangles(rt: HostRuntime) -> Result<(), Fail> {
     let alloc = rt.alloc();
     let turned = triangle([0, 100, 0], [0, 0, 0], [100, 0, 0]);
     let flat = triangle([100, 0, 0], [100, 0, 0], [0, 0, 0]);
@@ -262,7 +262,7 @@ fn exchange_of(alloc: Global, set: &str, faces: &str) -> Result<Exchange, Fail> 
 }
 
 #[test]
-fn finds_bad_indexes_and_counts(rt: HostRuntime) -> Result<(), Fail> {
+fn bad_indexes_and_counts_are_found(rt: HostRuntime) -> Result<(), Fail> {
     for case in CASES {
         let text = case.set;
         let bad = case.bad;

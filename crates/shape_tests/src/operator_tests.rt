@@ -197,7 +197,7 @@ fn instance(alloc: Global, direction: &str, id: u64) -> Result<String, AllocErro
 }
 
 #[test]
-fn reads_operator_axes(rt: HostRuntime) -> Result<(), Fail> {
+fn axes_of_operators_are_read(rt: HostRuntime) -> Result<(), Fail> {
     let alloc = rt.alloc();
     for operated in &OPERATED {
         let (axis1, axis2, axis3) = (operated.axis1, operated.axis2, operated.axis3);
@@ -234,7 +234,7 @@ const OPERATORS: &str =
 const METRES: Scale = Scale { power: 3 };
 
 #[test]
-fn reads_operator_frames(rt: HostRuntime) -> Result<(), Fail> {
+fn frames_of_operators_are_read(rt: HostRuntime) -> Result<(), Fail> {
     let alloc = rt.alloc();
     let exchange = exchange_of(alloc, OPERATORS)?;
     let offset = Offset {

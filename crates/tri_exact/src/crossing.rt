@@ -1,3 +1,4 @@
+//! Whether a segment goes through a triangle.
 // Segments and triangles.
 ghost use Rattle.std.specs.Prelude.{◌≡◌, ◌≤◌, ◌↔◌, ◌⊎◌, unsigned_abs, IsTrue};
 ghost use Rattle.tri_exact.specs.Limits.{height_limit};

@@ -1,3 +1,4 @@
+//! Whether a point or a segment comes within a distance of a segment.
 // Points and edges, and two edges.
 ghost use Rattle.std.specs.Prelude.{ℕ, ◌≡◌, ◌≤◌, ℤ, pos, ◌*ℤ◌, ◌↔◌, unsigned_abs, IsTrue};
 ghost use Rattle.tri_exact.specs.Limits.{product_limit, distance_limit};

@@ -1,3 +1,4 @@
+//! Whether a point comes within a distance of a triangle's inside.
 // Points and triangles.
 ghost use Rattle.std.specs.Prelude.{◌≡◌, ◌≤◌, ◌↔◌, unsigned_abs, IsTrue};
 ghost use Rattle.tri_exact.specs.Limits.{square_limit, distance_limit};

@@ -1,4 +1,4 @@
-// Exact predicates on points, edges and triangles of a whole grid.
+//! Exact predicates on points, edges and triangles of a whole grid.
 #![tactic(auto)]
 
 ghost use Rattle.std.specs.Prelude.{◌≤◌, unsigned_abs};

@@ -1,3 +1,4 @@
+//! Products of vectors, without overflow.
 // Products of vectors. Those of two vectors of the grid fit 64 bits, and those above them fit 128.
 ghost use Rattle.std.specs.Prelude.{ℕ, ◌≡◌, ◌≤◌, ℤ, pos, ◌-ℤ◌, ◌*ℤ◌, ◌≤ℤ◌, ◌↔◌, unsigned_abs, IsTrue};
 ghost use Rattle.tri_exact.specs.Limits.{product_limit, height_limit, square_limit, minor_limit, distance_limit};
