@@ -11,7 +11,9 @@ use Rattle.bim_model.specs.declared.topic.Topic.{Topic}
 
 -- the moment's date and time of day in UTC, to the second, and Z (RFC 3339)
 unfoldable pub IsDateText : ℕ → List ℕ → Type 0
-IsDateText moment text = (dt : DateTime) × (civil_nanos dt ≡ pos (moment * 1000000000)) × (text ≡ iso_datetime_text dt ++ codes "Z")
+IsDateText moment text =
+    (dt : DateTime) × (civil_nanos dt ≡ pos (moment * 1000000000))
+    × (text ≡ iso_datetime_text dt ++ codes "Z")
 
 -- the identifier of an object as a text (RFC 9562, 4)
 unfoldable pub identifier_text : ℕ → ℕ → List ℕ
@@ -30,7 +32,8 @@ topic_tree user date guid serial title =
 abbrev pub IsTopicTree : ℕ → Topic → Data → Type 0
 IsTopicTree project topic tree =
     (date : List ℕ) × IsDateText topic.created.moment date
-    × (tree ≡ topic_tree topic.created.user date (identifier_text project topic.serial) (decimal topic.serial) topic.body.title)
+    × (tree ≡ topic_tree topic.created.user date (identifier_text project topic.serial)
+    (decimal topic.serial) topic.body.title)
 
 -- topics of a project, one after another
 abbrev pub AreTopicTrees : ℕ → List Topic → Items → Type 0

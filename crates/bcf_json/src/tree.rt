@@ -62,7 +62,8 @@ fn push_topic(
     trees: &mut Vec<Value>,
     topic: &Topic,
 ) -> Result<(), AllocError>
-    ensures { OnOk result ((v : _) × IsTopicTree project topic.now (view v) × (trees.new.items ≡ trees.old.items ++ v ∷ [])) }
+    ensures { OnOk result ((v : _) × IsTopicTree project topic.now (view v)
+        × (trees.new.items ≡ trees.old.items ++ v ∷ [])) }
 {
     trees.push(topic_out(alloc, project, topic)?)?;
     Ok(())

@@ -38,7 +38,8 @@ ReadGives old new r room = MatchResult r (λ n. Gains old new (take n room)) (λ
 -- it failed
 abbrev pub ReadTakes : {E : Type 0} → Option (List ℕ) → Option (List ℕ) → Result ℕ E → List ℕ → Type 0
 ReadTakes old new r room =
-    MatchResult r (λ n. Loses old new (take n room) × (n ≡ 0 → 0 < length room → IsAtEnd new)) (λ _. new ≡ old)
+    MatchResult r (λ n. Loses old new (take n room) × (n ≡ 0 → 0 < length room → IsAtEnd new))
+    (λ _. new ≡ old)
 
 -- whether the end was answered, with this read
 abbrev pub ends_read : {E : Type 0} → Bool → ℕ → Result ℕ E → Bool

@@ -39,7 +39,13 @@ impl<R: Read + Drop> StdSource<R> {
 }
 
 impl<R: Read + Drop> Source for StdSource<R> {
-    ghost seen = { λ s. record { left = None; given = None; most = None; ended = s.ended; faults = s.faults } };
+    ghost seen = { λ s. record {
+      left = None;
+      given = None;
+      most = None;
+      ended = s.ended;
+      faults = s.faults;
+    } };
 
     ghost at_end = { λ s ended. tt };
 

@@ -57,7 +57,10 @@ impl Model for ListClock {
 
     ghost Value = { ListClockState };
 
-    ghost view = { λ c. record { left = drop c.at c.moments; gave = (if c.tells then Some (take c.at c.moments) else None) } };
+    ghost view = { λ c. record {
+      left = drop c.at c.moments;
+      gave = (if c.tells then Some (take c.at c.moments) else None);
+    } };
 
     ghost invariant = { λ c. c.at ≤ length c.moments };
 }

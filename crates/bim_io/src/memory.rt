@@ -28,9 +28,18 @@ impl Model for MemSource {
 
     ghost Value = { SourceState };
 
-    ghost view = { λ s. record { left = drop s.at s.contents; given = take s.at s.contents; ended = s.ended; most = s.most; fails = s.fails; calls = s.calls; faults = s.faults } };
+    ghost view = { λ s. record {
+      left = drop s.at s.contents;
+      given = take s.at s.contents;
+      ended = s.ended;
+      most = s.most;
+      fails = s.fails;
+      calls = s.calls;
+      faults = s.faults;
+    } };
 
-    ghost invariant = { λ s. (s.at ≤ length s.contents) × (1 ≤ s.most) × (s.ended ≡ true → drop s.at s.contents ≡ []) };
+    ghost invariant = { λ s. (s.at ≤ length s.contents) × (1 ≤ s.most)
+        × (s.ended ≡ true → drop s.at s.contents ≡ []) };
 }
 
 /// One more, up to the type's end.
@@ -52,7 +61,15 @@ impl MemSource {
     /// fail, counted from 1.
     pub fn new(contents: Bytes, most: u64, fails: Items<u64>) -> Result<MemSource, AllocError>
         requires { 1 ≤ most }
-        ensures { IfOk result (λ s. s ≡ record { left = contents; given = []; ended = false; most = most; fails = fails; calls = 0; faults = 0 }) }
+        ensures { IfOk result (λ s. s ≡ record {
+          left = contents;
+          given = [];
+          ended = false;
+          most = most;
+          fails = fails;
+          calls = 0;
+          faults = 0;
+        }) }
     {
         Ok(MemSource {
             contents,
@@ -67,13 +84,20 @@ impl MemSource {
 }
 
 impl Source for MemSource {
-    ghost seen = { λ s. record { left = Some (left_at s.ended s.left); given = Some s.given; most = Some s.most; ended = s.ended; faults = s.faults } };
+    ghost seen = { λ s. record {
+      left = Some (left_at s.ended s.left);
+      given = Some s.given;
+      most = Some s.most;
+      ended = s.ended;
+      faults = s.faults;
+    } };
 
     ghost at_end = { λ s. ended_empty s.ended s.left };
 
     fn read(&mut self, room: &mut [u8]) -> Result<usize, Failed>
         ensures bound { ReadsAtMost result room.new }
-        ensures left { ReadTakes (Some (left_at self.old.ended self.old.left)) (Some (left_at self.new.ended self.new.left)) result room.new }
+        ensures left { ReadTakes (Some (left_at self.old.ended self.old.left))
+            (Some (left_at self.new.ended self.new.left)) result room.new }
         ensures given { ReadGives (Some self.old.given) (Some self.new.given) result room.new }
         ensures within { IfOk result (λ n. n ≤ self.old.most) }
         ensures same { Some self.new.most ≡ Some self.old.most }
@@ -113,7 +137,13 @@ impl Model for MemSink {
 
     ghost Value = { SinkState };
 
-    ghost view = { λ s. record { held = s.bytes.items; most = s.most; fails = s.fails; calls = s.calls; faults = s.faults } };
+    ghost view = { λ s. record {
+      held = s.bytes.items;
+      most = s.most;
+      fails = s.fails;
+      calls = s.calls;
+      faults = s.faults;
+    } };
 
     ghost invariant = { λ s. 1 ≤ s.most };
 }
@@ -123,7 +153,13 @@ impl MemSink {
     /// fail, counted from 1.
     pub fn new(alloc: Global, most: u64, fails: Items<u64>) -> Result<MemSink, AllocError>
         requires { 1 ≤ most }
-        ensures { IfOk result (λ s. s ≡ record { held = []; most = most; fails = fails; calls = 0; faults = 0 }) }
+        ensures { IfOk result (λ s. s ≡ record {
+          held = [];
+          most = most;
+          fails = fails;
+          calls = 0;
+          faults = 0;
+        }) }
     {
         Ok(MemSink {
             bytes: Vec::new(alloc),

@@ -24,9 +24,15 @@ impl Model for SureSource {
 
     ghost Value = { SureSourceState };
 
-    ghost view = { λ s. record { left = drop s.at s.contents; given = take s.at s.contents; ended = s.ended; most = s.most } };
+    ghost view = { λ s. record {
+      left = drop s.at s.contents;
+      given = take s.at s.contents;
+      ended = s.ended;
+      most = s.most;
+    } };
 
-    ghost invariant = { λ s. (s.at ≤ length s.contents) × (1 ≤ s.most) × (s.ended ≡ true → drop s.at s.contents ≡ []) };
+    ghost invariant = { λ s. (s.at ≤ length s.contents) × (1 ≤ s.most)
+        × (s.ended ≡ true → drop s.at s.contents ≡ []) };
 }
 
 impl SureSource {
@@ -81,13 +87,20 @@ pub(crate) fn is_over(ended: bool, room: &[u8], count: usize) -> bool
 }
 
 impl Source for SureSource {
-    ghost seen = { λ s. record { left = Some (left_at s.ended s.left); given = Some s.given; most = Some s.most; ended = s.ended; faults = 0 } };
+    ghost seen = { λ s. record {
+      left = Some (left_at s.ended s.left);
+      given = Some s.given;
+      most = Some s.most;
+      ended = s.ended;
+      faults = 0;
+    } };
 
     ghost at_end = { λ s. ended_empty s.ended s.left };
 
     fn read(&mut self, room: &mut [u8]) -> Result<usize, Failed>
         ensures bound { ReadsAtMost result room.new }
-        ensures left { ReadTakes (Some (left_at self.old.ended self.old.left)) (Some (left_at self.new.ended self.new.left)) result room.new }
+        ensures left { ReadTakes (Some (left_at self.old.ended self.old.left))
+            (Some (left_at self.new.ended self.new.left)) result room.new }
         ensures given { ReadGives (Some self.old.given) (Some self.new.given) result room.new }
         ensures within { IfOk result (λ n. n ≤ self.old.most) }
         ensures same { Some self.new.most ≡ Some self.old.most }

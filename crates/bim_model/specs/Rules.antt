@@ -74,7 +74,8 @@ decided Ignore number = None
 -- the first rule that fits decides; the first of the list has the number n
 abbrev pub rule_from : ℕ → List Rule → Element → Element → Bool → Option Found
 rule_from n [] a b same = None
-rule_from n (rule ∷ rules) a b same = cond (fits rule a b same) (decided rule.kind n) (rule_from (n + 1) rules a b same)
+rule_from n (rule ∷ rules) a b same =
+    cond (fits rule a b same) (decided rule.kind n) (rule_from (n + 1) rules a b same)
 
 -- the rule of two elements: the first that fits, unless it says that they never clash; rules count from 0
 abbrev pub rule_of : List Rule → Element → Element → Bool → Option Found

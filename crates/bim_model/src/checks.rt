@@ -65,7 +65,8 @@ fn is_guid_below(a: &Guid, b: &Guid) -> bool
 
 // Whether the elements rise strictly by identifier.
 fn are_rising(elements: &[Element]) -> bool
-    ensures { IsTrue result ↔ AllPairs (λ (e f : Element). IsTrue (is_below e.guid.chars f.guid.chars)) elements.now }
+    ensures { IsTrue result ↔ AllPairs
+        (λ (e f : Element). IsTrue (is_below e.guid.chars f.guid.chars)) elements.now }
 {
     for next in 1..elements.len() {
         if !is_guid_below(&elements[next - 1].guid, &elements[next].guid) {

@@ -41,7 +41,8 @@ fn push_below(
     name: &str,
     made: &mut Vec<NamedModel>,
 ) -> Result<(), AllocError>
-    ensures { OnOk result (made.new.items ≡ made.old.items ++ filter (λ (m : NamedModel). is_below m.name name.now) models.now) }
+    ensures { OnOk result (made.new.items
+        ≡ made.old.items ++ filter (λ (m : NamedModel). is_below m.name name.now) models.now) }
 {
     for model in models {
         if is_below(model.name.as_str(), name) {
@@ -58,7 +59,8 @@ fn push_above(
     name: &str,
     made: &mut Vec<NamedModel>,
 ) -> Result<(), AllocError>
-    ensures { OnOk result (made.new.items ≡ made.old.items ++ filter (λ (m : NamedModel). is_below name.now m.name) models.now) }
+    ensures { OnOk result (made.new.items
+        ≡ made.old.items ++ filter (λ (m : NamedModel). is_below name.now m.name) models.now) }
 {
     for model in models {
         if is_below(name, model.name.as_str()) {

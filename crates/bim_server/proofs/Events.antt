@@ -2,7 +2,6 @@
 use Rattle.std.proofs.Common.{◌≡◌, ℕ, ◌+◌, ◌<◌, ◌≤◌, List, [], ◌∷◌, ◌++◌, length, Bool, true, false, Option, Some, None, Ok, IsTrue, inl, inr, sym, ◌∙◌, ap, subst, refl, length-append, arith}
 use Rattle.http_frame.specs.declared.types.HttpRequest.{HttpRequest}
 use Rattle.http_frame.specs.Events.{Event}
-use Rattle.bucket_check.specs.Sets.{SetValue}
 use Rattle.book_turn.specs.declared.object.Stamp.{Stamp}
 use Rattle.book_turn.specs.Entries.{listed}
 use Rattle.book_history.specs.declared.limits.Settings.{Settings}

@@ -1,32 +1,27 @@
 -- A bucket that a one-thread book gives out, and its set.
-use Rattle.std.proofs.Common.{◌≡◌, ◌⊎◌, ℕ, suc, ◌+◌, ◌<◌, ◌≤◌, List, [], ◌∷◌, ◌++◌, length, map, slice_index_or, Result, Ok, Err, OnOk, OnErr, IfOk, inl, inr, sym, ◌∙◌, ap, subst, refl, length-append, arith}
+use Rattle.std.proofs.Common.{◌≡◌, ◌⊎◌, ℕ, ◌+◌, ◌<◌, ◌≤◌, List, [], ◌∷◌, ◌++◌, length, Ok, sym, ◌∙◌, ap, subst, refl, length-append, arith}
 use Rattle.std.specs.List.{flat_map, sum_by}
-use Rattle.std.specs.declared.alloc.AllocError.{AllocError}
 use Rattle.std.proofs.lemmas.List.{length-map}
 use Rattle.std.proofs.lemmas.List.Sums.{sum_by-cons}
-use Rattle.bucket_grid.specs.declared.cell.Cell.{Cell}
 use Rattle.bucket_grid.specs.Cells.{IsBucket}
-use Rattle.bucket_check.specs.declared.work.BucketWork.{BucketWork}
-use Rattle.bucket_check.specs.Sets.{SetValue, own_places}
+use Rattle.bucket_check.specs.Sets.{SetValue}
 use Rattle.book_history.specs.declared.limits.Settings.{Settings}
 use Rattle.book_history.specs.declared.changes.Entry.{Entry}
 use Rattle.book_history.specs.declared.replies.BookReply.{BookReply}
-use Rattle.book_history.specs.declared.replies.ReplyBody.{ReplyBody}
 use Rattle.book_history.specs.declared.replies.ReplyBody.TheVariants.{Work}
 use Rattle.book_history.specs.declared.requests.BookRequest.{BookRequest}
 use Rattle.book_history.specs.declared.requests.BookRequest.TheVariants.{ListTopics, PostTopic, Upload, Remove, SetRules, ReadVersion, ReadClashes, TakeWork, Finish}
 use Rattle.book_history.specs.Orders.{OrderValue, order_of}
 use Rattle.book_history.specs.Versions.{VersionState, live_in, first_live}
-use Rattle.book_history.specs.History.{state_of, left_in, live_of, left_all, project_numbers}
-use Rattle.book_history.specs.Requests.{orders_in, orders_from, orders_of, all_orders, order_for, body_of, outcome_of, reply_of, added_by}
-use Rattle.book_history.specs.Legal.{IsLegal, IsGiven}
+use Rattle.book_history.specs.History.{state_of, left_in, live_of, project_numbers}
+use Rattle.book_history.specs.Requests.{orders_in, orders_from, orders_of, all_orders, order_for, body_of, reply_of, added_by}
+use Rattle.book_history.specs.Legal.{IsLegal}
 use Rattle.book_history.proofs.Given.{given_out}
 use Rattle.book_history.proofs.Legality.{given_later}
 use Rattle.bcf_http.specs.Calls.{BringsNone}
-use Rattle.bim_session.specs.Works.{IsSetOf}
-use Rattle.bim_session.specs.Talking.{BookReceipt}
+use Rattle.bim_session.specs.Works.{IsFoundFor}
 use Rattle.bim_server.specs.Loop.{ServerState, Calls, with_turn, stamp_of, left_of}
-use Rattle.bim_server.specs.Working.{GivesOut, WorksBucket, WorksPart, WorksTimes}
+use Rattle.bim_server.specs.Working.{GivesOut}
 
 -- a call that brings no set may be made at every history
 pub legal_of : (settings : Settings) (h : List Entry) (call : BookRequest) → BringsNone call → IsLegal settings h call
@@ -88,7 +83,7 @@ calls_ok call old settings history turn reply next is grown same =
     (next, here, λ i. record { settings = same i; history = there i; turns = next i })
 
 -- the set of an order that was given out may be brought at the next turn
-pub set_legal : (s : ServerState) (order : OrderValue) (set : SetValue) → GivesOut s order → IsSetOf order set → IsBucket set.work.grid.boxes set.work.cell
+pub set_legal : (s : ServerState) (order : OrderValue) (set : SetValue) → GivesOut s order → IsFoundFor order set → IsBucket set.work.grid.boxes set.work.cell
     → IsLegal s.settings (with_turn (TakeWork 0) s).history (Finish set)
 set_legal s order set given found bucket =
     let work : GivesOut s (order_of set.work) = subst (λ o. GivesOut s o) (sym found.order_is) given in

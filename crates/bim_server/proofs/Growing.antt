@@ -4,7 +4,6 @@ use Rattle.std.proofs.lemmas.Bool.Decides.{eqb_tells}
 use Rattle.bim_io.specs.Causes.{WithinMost}
 use Rattle.bim_io.specs.Seen.{Outside, Exchanges}
 use Rattle.bim_io.proofs.Calls.{exchanges_none, exchanges_trans}
-use Rattle.http_frame.specs.declared.types.HttpRequest.{HttpRequest}
 use Rattle.http_frame.specs.Events.{Event, IsRest, IsTold}
 use Rattle.http_frame.specs.Events as frame
 use Rattle.http_frame.specs.Framers.{Stands}
@@ -14,8 +13,7 @@ use Rattle.book_history.specs.Runs.{Step, IsRun, IsOneThread}
 use Rattle.book_history.proofs.Histories.{none_before, one_none}
 use Rattle.bim_session.specs.declared.end.SessionEnd.{SessionEnd}
 use Rattle.bim_session.specs.declared.end.SessionEnd.TheVariants as end
-use Rattle.bim_session.specs.Works.{Standing}
-use Rattle.bim_session.specs.Session.{WorksBehind, past, Stop, IsBare, Ends, Reads, AnswersEvent, Answered, behind, closes, is_closed, counted, requests, most_requests, closes_after}
+use Rattle.bim_session.specs.Session.{WorksBehind, past, Stop, IsBare, Ends, Reads, AnswersEvent, Answered, behind, closes, counted, requests, most_requests, closes_after}
 use Rattle.bim_session.specs.Replay.{ReadsAsNeeded, HoldsNoMore, IsOneRead}
 use Rattle.bim_session.specs.Talking.{TalkState, fresh, Feeds, is_end, with_framer, with_piece, leaving_after}
 use Rattle.bim_session.proofs.Reading.{Reads_more, Reads_append, requests-push, is_closed-push}

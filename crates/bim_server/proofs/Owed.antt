@@ -1,5 +1,5 @@
 -- A request was answered: the work behind the answer, done or not.
-use Rattle.std.proofs.Common.{◌≡◌, ◌⊎◌, ℕ, ◌+◌, ◌*◌, ◌<◌, ◌≤◌, List, [], ◌∷◌, ◌++◌, length, Bool, true, false, Option, Some, None, inl, inr, sym, ◌∙◌, ap, subst, refl, append_assoc, append-nil, length-append, arith}
+use Rattle.std.proofs.Common.{◌≡◌, ◌⊎◌, ℕ, ◌+◌, ◌*◌, ◌<◌, ◌≤◌, List, [], ◌∷◌, ◌++◌, length, false, Option, None, inl, inr, sym, ◌∙◌, ap, subst, refl, append_assoc, length-append, arith}
 use Rattle.bim_io.specs.Seen.{Outside, EndsEmpty, Exchanges}
 use Rattle.http_frame.specs.declared.types.HttpRequest.{HttpRequest}
 use Rattle.http_frame.specs.Events as frame
@@ -10,14 +10,14 @@ use Rattle.book_history.specs.declared.requests.BookRequest.TheVariants.{TakeWor
 use Rattle.book_history.specs.History.{IsBefore}
 use Rattle.book_history.specs.Runs.{Step, IsRun, IsOneThread}
 use Rattle.bim_session.specs.declared.end.SessionEnd.TheVariants as end
-use Rattle.bim_session.specs.Works.{Standing, WorksOn, Works, WorksShort, IsEnough, IsMore, Gives, left_behind, last_turn}
+use Rattle.bim_session.specs.Works.{Standing, WorksOn, Works, WorksShort, IsEnough, Gives, left_behind, last_turn}
 use Rattle.bim_session.specs.Session.{Reads, AnswersEvent, Answered, past, behind, requests}
 use Rattle.bim_session.specs.Replay.{Replays, IsReadFault, IsWriteFault}
 use Rattle.bim_session.specs.Talking.{TalkState}
 use Rattle.bim_session.proofs.Sessions.{event_grown, Answered_grown, last_turn-append, run_last}
 use Rattle.bim_server.specs.Loop.{ServerState, with_turn, left_of}
 use Rattle.bim_server.specs.Working.{WorksAll, WorksSome, WorksPart, WorksTimes}
-use Rattle.bim_server.proofs.SoFar.{SoFar, Owes, IsQuiet, start_of, stop_of}
+use Rattle.bim_server.proofs.SoFar.{SoFar, Owes, IsQuiet, start_of}
 use Rattle.bim_server.proofs.Growing.{open_of, so_far_push, leaving_behind}
 use Rattle.bim_server.proofs.Ending.{finish_step, no_fault, memory_own}
 use Rattle.bim_server.proofs.Events.{step_of}

@@ -1,11 +1,9 @@
 -- Where a session stands after one step.
-use Rattle.std.proofs.Common.{◌≡◌, ◌≢◌, ◌⊎◌, ℕ, ◌+◌, ◌≤◌, List, [], ◌∷◌, ◌++◌, length, Bool, true, false, Option, Some, None, Result, Ok, Err, IsTrue, inl, inr, sym, ◌∙◌, ap, subst, refl, append-nil, arith}
+use Rattle.std.proofs.Common.{◌≡◌, ◌≢◌, ◌⊎◌, ℕ, ◌+◌, ◌≤◌, List, [], ◌∷◌, ◌++◌, Bool, true, false, Option, Some, None, Result, Ok, Err, inl, inr, sym, ◌∙◌, ap, subst, refl, append-nil, arith}
 use Rattle.std.specs.declared.alloc.AllocError.{AllocError}
-use Rattle.bim_io.specs.Causes.{Rose}
 use Rattle.bim_io.specs.Seen.{SourceSeen, SinkSeen, ClockSeen, Outside, EndsEmpty, SourceGives, SinkTakes, ClockGives, Exchanges}
 use Rattle.bim_io.proofs.Calls.{gives_none, takes_none}
 use Rattle.http_frame.specs.declared.types.HttpRequest.{HttpRequest}
-use Rattle.http_frame.specs.declared.types.FrameFault.{FrameFault}
 use Rattle.http_frame.specs.declared.framer.Framer.{Framer}
 use Rattle.http_frame.specs.Events.{Event, IsRest, IsTold}
 use Rattle.http_frame.specs.Events as frame
@@ -14,23 +12,22 @@ use Rattle.book_history.specs.declared.limits.Settings.{Settings}
 use Rattle.book_history.specs.declared.requests.BookRequest.{BookRequest}
 use Rattle.book_history.specs.History.{IsBefore}
 use Rattle.book_history.specs.Requests.{reply_of}
-use Rattle.book_history.specs.Runs.{Step}
 use Rattle.bim_session.specs.declared.end.SessionEnd.{SessionEnd}
 use Rattle.bim_session.specs.declared.end.SessionEnd.TheVariants as end
 use Rattle.bim_session.specs.declared.want.Waiting.{Waiting}
 use Rattle.bim_session.specs.declared.want.Want.{Want}
 use Rattle.bim_session.specs.declared.want.Want.TheVariants.{More, Write, Call, Leave}
-use Rattle.bim_session.specs.Session.{Stop, Reads, AnswersEvent, Ends, IsNext, TakesUnanswered, Means, asking, behind, closes_after, counted, requests}
+use Rattle.bim_session.specs.Session.{Stop, Reads, AnswersEvent, Ends, IsNext, Means, behind, closes_after, counted, requests}
 use Rattle.bim_session.specs.Session as session
 use Rattle.bim_session.specs.Replay.{Replays, IsReadFault, IsWriteFault}
-use Rattle.bim_session.specs.Talking.{TalkState, BookReceipt, Wants, LacksNext, Continues, AnswersOne, AnswersFault, TakesRequest, MeetsEnd, IsOwnWant, AnswersAlone, AnswersCall, with_answer, with_call, with_fault, with_framer, leaving_after, asks_change, waiting_for}
-use Rattle.bim_server.specs.Loop.{ServerState, Reading, StopsReading, Writing, Called, StopsAnswering, Calls, Does, Stopped, StepsOn, with_turn, stamp_of}
+use Rattle.bim_session.specs.Talking.{TalkState, BookReceipt, Wants, LacksNext, Continues, AnswersOne, AnswersFault, TakesRequest, MeetsEnd, IsOwnWant, AnswersAlone, AnswersCall, with_answer, with_call, with_framer, leaving_after, asks_change, waiting_for}
+use Rattle.bim_server.specs.Loop.{ServerState, Reading, StopsReading, Writing, Called, StopsAnswering, Calls, Does, StepsOn, with_turn, stamp_of}
 use Rattle.bim_server.specs.Writes.{WritesFront}
 use Rattle.bim_server.specs.declared.session.Progress.{Progress}
 use Rattle.bim_server.specs.declared.session.Progress.TheVariants.{Again, End}
 use Rattle.bim_server.proofs.SoFar.{SoFar, Owes, Goes, IsQuiet, LeavesBy, start_of, stop_of}
 use Rattle.bim_server.proofs.Growing.{quiet_trans, exchanged, open_of, plain_moments, plain_output, leaving_behind, so_far_fed, so_far_push}
-use Rattle.bim_server.proofs.Events.{alone_answers, step_of, called_at, turn_next, called_answers, answered_next, run_next, one_next, count_next, last_of}
+use Rattle.bim_server.proofs.Events.{alone_answers, step_of, turn_next, called_answers, answered_next, run_next, one_next, count_next, last_of}
 use Rattle.bim_server.proofs.Owed.{Replied, owed}
 use Rattle.bim_server.proofs.Ending.{no_fault, one_fault, memory_own, own_end, finish_step, finish_same, finish_leaving, finish_met, finish_short, finish_unfed}
 

@@ -1,20 +1,18 @@
 -- The work on buckets of a one-thread book, as steps of its run.
-use Rattle.std.proofs.Common.{◌≡◌, ◌⊎◌, ℕ, zero, suc, ◌+◌, ◌*◌, ◌<◌, ◌≤◌, List, [], ◌∷◌, ◌++◌, length, Option, Some, None, inl, inr, sym, ◌∙◌, ap, subst, refl, append_assoc, append-nil, length-append, arith}
-use Rattle.std.specs.List.{All}
+use Rattle.std.proofs.Common.{◌≡◌, ◌⊎◌, ℕ, zero, suc, ◌+◌, ◌*◌, ◌<◌, ◌≤◌, List, [], ◌∷◌, ◌++◌, length, sym, ◌∙◌, ap, subst, refl, append_assoc, append-nil, length-append, arith}
 use Rattle.std.proofs.lemmas.List.Elements.{All-nil, All-cons, All-append, All-weaker}
 use Rattle.book_history.specs.declared.changes.Entry.{Entry}
 use Rattle.book_history.specs.declared.requests.BookRequest.{BookRequest}
 use Rattle.book_history.specs.declared.requests.BookRequest.TheVariants.{TakeWork, Finish}
-use Rattle.book_history.specs.declared.replies.ReplyBody.TheVariants.{Work}
 use Rattle.book_history.specs.Orders.{OrderValue}
 use Rattle.book_history.specs.History.{at_turn, left_all, IsBefore}
 use Rattle.book_history.specs.Requests.{reply_of, added_by}
 use Rattle.book_history.specs.Runs.{Step, IsRun, IsOneThread}
 use Rattle.book_history.proofs.Histories.{AreOf, AreAbove, added_of, above_of, at_turn-new, at_turn-grown, Runs_push, follows_one, one_push}
-use Rattle.bim_session.specs.Works.{Standing, Gives, WorksOne, WorksOn, WorksShort, IsSetOf, left_behind}
+use Rattle.bim_session.specs.Works.{Standing, Gives, WorksOne, WorksOn, left_behind}
 use Rattle.bim_session.proofs.Sessions.{gives_grown, on_grown}
 use Rattle.bim_server.specs.Loop.{ServerState, with_turn, stamp_of, left_of}
-use Rattle.bim_server.specs.Working.{GivesOut, WorksBucket, WorksPart, WorksTimes}
+use Rattle.bim_server.specs.Working.{GivesOut, WorksBucket, WorksTimes}
 use Rattle.bim_server.proofs.Events.{step_of, taken_next}
 
 -- ---- entries of later turns

@@ -28,17 +28,20 @@ pub record ReplaysTo (buckets : Option ℕ) (projects : ℕ) (before after : Out
   pub replays : Replays (stated_settings projects) buckets before after end
 
 -- a session is replayed by a clock that always gives this moment; the one of the outside was not asked
-pub record ReplaysAt (buckets : Option ℕ) (projects moment : ℕ) (before after : Outside) (status : ℕ) : Type 0 where
+pub record ReplaysAt (buckets : Option ℕ) (projects moment : ℕ) (before after : Outside)
+    (status : ℕ) : Type 0 where
   pub clock : after.clock ≡ before.clock
   pub own : ClockSeen
   pub own' : ClockSeen
   pub one : own.one ≡ Some moment
-  pub replays : ReplaysTo buckets projects (outside before.source before.sink own) (outside after.source after.sink own') status
+  pub replays : ReplaysTo buckets projects (outside before.source before.sink own)
+      (outside after.source after.sink own') status
 
 -- a session is replayed by the clock of the outside, or by one of one moment
 abbrev pub ReplaysBy : Time → Option ℕ → ℕ → Outside → Outside → ℕ → Type 0
 ReplaysBy OfClock buckets projects before after status = ReplaysTo buckets projects before after status
-ReplaysBy (At moment) buckets projects before after status = ReplaysAt buckets projects moment before after status
+ReplaysBy (At moment) buckets projects before after status =
+    ReplaysAt buckets projects moment before after status
 
 -- memory was wanting for the words: nothing was read or written, and the clock was not asked
 pub record WantsMemory (before after : Outside) (status : ℕ) : Type 0 where

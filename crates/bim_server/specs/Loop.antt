@@ -87,7 +87,8 @@ abbrev pub Called : BookRequest → SinkSeen → SinkSeen → TalkState → Serv
     → ServerState → Type 0
 Called call sink sink' talk server Again talk' server' =
     (waiting : Waiting) × (talk.waits ≡ Some waiting)
-    × (receipt : Result BookReceipt AllocError) × (bytes : List ℕ) × Calls call server receipt server' × AnswersCall receipt waiting bytes
+    × (receipt : Result BookReceipt AllocError) × (bytes : List ℕ) × Calls call server receipt server'
+    × AnswersCall receipt waiting bytes
     × (talk' ≡ with_answer waiting.close talk) × SinkTakes sink sink' bytes × (sink'.faults ≡ sink.faults)
 Called call sink sink' talk server (End e) talk' server' =
     (waiting : Waiting) × (talk.waits ≡ Some waiting) × (receipt : Result BookReceipt AllocError)

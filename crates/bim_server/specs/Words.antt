@@ -40,7 +40,8 @@ bare_command name = on_top (λ s. record s { no_binary_name = true; disable_help
 unfoldable pub replay_command : App
 replay_command =
     with_rule
-    (with_rule (with_rule (bare_command (codes "replay")) (option_of (codes "at"))) (option_of (codes "buckets")))
+    (with_rule (with_rule (bare_command (codes "replay")) (option_of (codes "at")))
+    (option_of (codes "buckets")))
     (option_of (codes "projects"))
 
 -- a command of which it is known what a parse finds: it has no subcommands, no argument that depends on another, and
@@ -53,7 +54,8 @@ pub record IsPlainCommand (command : App) : Type 0 where
 -- a parse finds the values of exactly the words that the command takes
 abbrev pub IsParse : App → List (List ℕ) → Option ArgMatches → Type 0
 IsParse command words None = takes command words ≡ false
-IsParse command words (Some found) = (takes command words ≡ true) × (rows_of (found_of found) ≡ matches_of command words)
+IsParse command words (Some found) =
+    (takes command words ≡ true) × (rows_of (found_of found) ≡ matches_of command words)
 
 -- a moment stands in place of the clock
 abbrev pub time_said : Option (List ℕ) → Option Time
@@ -70,6 +72,7 @@ abbrev pub buckets_said : Option (List ℕ) → Option (Option ℕ)
 buckets_said None = Some None
 buckets_said (Some text) = option_map Some (number_word 0 MOST_BUCKETS text)
 
+-- what the words of a replay say together, where each says something
 abbrev pub all_said : Option Time → Option (Option ℕ) → Option ℕ → Option ReplayWords
 all_said (Some time) (Some buckets) (Some projects) =
     Some (record { time = time; buckets = buckets; projects = projects })
@@ -84,8 +87,10 @@ replay_said rows =
 -- what the words behind `replay` say: nothing where they are outside its grammar, which are those that the command doesn't
 -- take, and those with a value of another form
 unfoldable pub replay_words : List (List ℕ) → Option ReplayWords
-replay_words words = if takes replay_command words then replay_said (matches_of replay_command words) else None
+replay_words words = if takes replay_command words then replay_said
+    (matches_of replay_command words) else None
 
+-- the line that says how the program is called
 abbrev pub usage_line : List ℕ
 usage_line = codes "usage: bim_server replay|check|generate|serve\n"
 

@@ -6,9 +6,8 @@ use Rattle.book_history.specs.declared.replies.ReplyBody.TheVariants.{Work}
 use Rattle.book_history.specs.Orders.{OrderValue}
 use Rattle.book_history.specs.Requests.{reply_of}
 use Rattle.bim_io.specs.Seen.{Outside}
-use Rattle.bim_session.specs.declared.end.SessionEnd.{SessionEnd}
 use Rattle.bim_session.specs.declared.end.SessionEnd.TheVariants.{Memory}
-use Rattle.bim_session.specs.Works.{IsSetOf, IsEnough, IsMore}
+use Rattle.bim_session.specs.Works.{IsFoundFor, IsEnough, IsMore}
 use Rattle.bim_session.specs.Talking.{TalkState}
 use Rattle.bim_server.specs.declared.session.Progress.{Progress}
 use Rattle.bim_server.specs.declared.session.Progress.TheVariants.{Again, End}
@@ -23,7 +22,7 @@ pub record WorksBucket (old new : ServerState) : Type 0 where
   pub order : OrderValue
   pub set : SetValue
   pub given : GivesOut old order
-  pub found : IsSetOf order set
+  pub found : IsFoundFor order set
   pub new_is : new ≡ with_turn (Finish set) (with_turn (TakeWork 0) old)
 
 -- nothing was done of that, or the bucket was given out alone
@@ -81,7 +80,8 @@ WorksAfter buckets served talk server Again progress server' =
     ⊎ ((served < talk.served) × WorksBehind buckets talk server progress server')
 
 -- a step of a session, and the work behind it
-pub record StepsAndWorks (buckets : Option ℕ) (before after : Outside) (talk : TalkState) (server : ServerState)
+pub record StepsAndWorks (buckets : Option ℕ) (before after : Outside) (talk : TalkState)
+    (server : ServerState)
     (progress : Progress) (talk' : TalkState) (server' : ServerState) : Type 0 where
   pub stepped : Progress
   pub mid : ServerState

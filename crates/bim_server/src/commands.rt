@@ -18,7 +18,9 @@ const USAGE: &str = "usage: bim_server replay|check|generate|serve\n";
 const NO_MEMORY: u8 = 6;
 
 fn print_usage<K: Sink>(sink: &mut K) -> u8
-    ensures { (source : SourceSeen) (clock : ClockSeen) → PrintsUsage (outside source (K.seen sink.old) clock) (outside source (K.seen sink.new) clock) result }
+    ensures { (source : SourceSeen) (clock : ClockSeen)
+        → PrintsUsage (outside source (K.seen sink.old) clock)
+        (outside source (K.seen sink.new) clock) result }
 {
     let _written = write_whole(sink, USAGE.as_bytes());
     2
@@ -33,7 +35,8 @@ fn replay<S: Source, K: Sink, C: Clock>(
     clock: &mut C,
 ) -> u8
     requires { IsReplay said }
-    ensures does { ReplaysBy said.time said.buckets said.projects (outside (S.seen source.old) (K.seen sink.old) (C.seen clock.old))
+    ensures does { ReplaysBy said.time said.buckets said.projects
+        (outside (S.seen source.old) (K.seen sink.old) (C.seen clock.old))
         (outside (S.seen source.new) (K.seen sink.new) (C.seen clock.new)) result }
     ensures read { ComesOfFault (S.seen source.old).faults (S.seen source.new).faults (result ≡ 4) }
     ensures write { result ≡ 5 → Rose (K.seen sink.old).faults (K.seen sink.new).faults }
@@ -69,7 +72,8 @@ pub fn run_replay<S: Source, K: Sink, C: Clock>(
     sink: &mut K,
     clock: &mut C,
 ) -> u8
-    ensures does { Does (replay_words words.now) (outside (S.seen source.old) (K.seen sink.old) (C.seen clock.old))
+    ensures does { Does (replay_words words.now)
+        (outside (S.seen source.old) (K.seen sink.old) (C.seen clock.old))
         (outside (S.seen source.new) (K.seen sink.new) (C.seen clock.new)) result }
     ensures read { ComesOfFault (S.seen source.old).faults (S.seen source.new).faults (result ≡ 4) }
     ensures write { result ≡ 5 → Rose (K.seen sink.old).faults (K.seen sink.new).faults }
@@ -90,7 +94,8 @@ pub fn run<S: Source, K: Sink, C: Clock>(
     sink: &mut K,
     clock: &mut C,
 ) -> u8
-    ensures does { Does (command_words words.now) (outside (S.seen source.old) (K.seen sink.old) (C.seen clock.old))
+    ensures does { Does (command_words words.now)
+        (outside (S.seen source.old) (K.seen sink.old) (C.seen clock.old))
         (outside (S.seen source.new) (K.seen sink.new) (C.seen clock.new)) result }
     ensures read { ComesOfFault (S.seen source.old).faults (S.seen source.new).faults (result ≡ 4) }
     ensures write { result ≡ 5 → Rose (K.seen sink.old).faults (K.seen sink.new).faults }

@@ -3,17 +3,13 @@ ghost use Rattle.std.specs.Prelude.{◌≡◌, ◌<◌, ◌≤◌, ◌+◌, [], 
 ghost use Rattle.bucket_grid.specs.Cells.{IsBucket};
 ghost use Rattle.book_history.specs.History.{IsBefore, left_all};
 ghost use Rattle.book_history.specs.Legal.{IsLegal};
-ghost use Rattle.bim_session.specs.Works.{IsSetOf};
-ghost use Rattle.bim_session.specs.Replay.{stated_limits, stated_settings};
+ghost use Rattle.bim_session.specs.Works.{IsFoundFor};
+ghost use Rattle.bim_session.specs.Replay.{stated_settings};
 ghost use Rattle.bim_server.specs.Loop.{Calls, left_of};
 ghost use Rattle.bim_server.specs.Working.{WorksBucket, WorksPart, WorksUpTo, WorksLess, WorksAll, WorksSome};
 
 use bim_model::{Shared, Steps};
-use book_history::{
-    BookRequest, Limits, MOST_COMMENTS, MOST_ENTRIES, MOST_PROJECTS, MOST_STORED_TRIANGLES,
-    MOST_TEXT, MOST_TOPICS, MOST_VERSION_ELEMENTS, MOST_VERSION_MEMBERSHIPS, MOST_VIEWPOINTS,
-    ReplyBody, Stamp, WorkOrder,
-};
+use book_history::{BookRequest, Limits, MOST_PROJECTS, ReplyBody, Stamp, WorkOrder};
 use book_turn::turn::Receipt;
 use bucket_check::{BucketSet, Room, check};
 use federation_book::Book;
@@ -41,22 +37,6 @@ impl Model for OneThread {
     ghost invariant = { λ s. IsBefore (s.turns + 1) s.book.journal };
 }
 
-// How much a book of the program may hold.
-fn stated_limits() -> Limits
-    ensures { result ≡ stated_limits }
-{
-    Limits {
-        elements: MOST_VERSION_ELEMENTS,
-        memberships: MOST_VERSION_MEMBERSHIPS,
-        triangles: MOST_STORED_TRIANGLES,
-        text: MOST_TEXT,
-        journal: MOST_ENTRIES,
-        topics: MOST_TOPICS,
-        comments: MOST_COMMENTS,
-        viewpoints: MOST_VIEWPOINTS,
-    }
-}
-
 // What is found for the bucket of an order.
 fn set_of<L: Ledger>(
     alloc: Global,
@@ -67,7 +47,7 @@ fn set_of<L: Ledger>(
     requires name { blank.name ≡ L.name }
     requires parts { blank.parts ≡ L.parts }
     requires some { 0 < blank.parts }
-    ensures set { IfOk result (IsSetOf order) }
+    ensures set { IfOk result (IsFoundFor order) }
     ensures bucket { IfOk result (λ set. IsBucket set.work.grid.boxes set.work.cell) }
 {
     let mut steps = Steps::<L>::new(blank);
@@ -84,7 +64,7 @@ impl OneThread {
             ≡ record { settings = stated_settings projects; history = []; turns = 0 }) }
     {
         Ok(OneThread {
-            book: Book::new(alloc, projects, stated_limits())?,
+            book: Book::new(alloc, projects, Limits::stated())?,
             turns: 0,
             room: Room::new(alloc),
         })

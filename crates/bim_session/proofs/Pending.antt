@@ -1,5 +1,5 @@
 -- Where nothing is left to check, no call is answered that buckets are pending; and so for the steps of a session.
-use Rattle.std.proofs.Common.{◌≡◌, ◌≢◌, ◌⊎◌, ℕ, zero, suc, ◌+◌, ◌-◌, ◌*◌, ◌<◌, ◌≤◌, List, [], ◌∷◌, ◌++◌, length, get_or, map, Bool, true, false, nat_lt, nat_le, if◌then◌else◌, Option, Some, None, IsTrue, inl, inr, sym, ◌∙◌, ap, subst, refl, arith, append_assoc, length-append, ◌==◌}
+use Rattle.std.proofs.Common.{◌≡◌, ◌≢◌, ◌⊎◌, ℕ, zero, suc, ◌+◌, ◌-◌, ◌*◌, ◌<◌, ◌≤◌, List, [], ◌∷◌, ◌++◌, length, get_or, Bool, true, false, nat_lt, nat_le, if◌then◌else◌, Option, Some, None, inl, inr, sym, ◌∙◌, ap, subst, refl, arith, append_assoc, length-append, ◌==◌}
 use Rattle.std.specs.List.{All, sum_by}
 use Rattle.std.proofs.lemmas.Bool.Decides.{nat_tests}
 use Rattle.std.proofs.lemmas.List.{map-append}
@@ -7,17 +7,14 @@ use Rattle.std.proofs.lemmas.List.Sums.{sum_by-cons, sum_by_push}
 use Rattle.std.proofs.lemmas.List.Elements.{All-nil, All-cons}
 use Rattle.bucket_check.specs.Sets.{SetValue}
 use Rattle.bucket_grid.specs.Table.{upto}
-use Rattle.http_frame.specs.declared.types.HttpRequest.{HttpRequest}
 use Rattle.http_frame.specs.Events.{Event}
 use Rattle.http_frame.specs.Events as frame
-use Rattle.book_history.specs.declared.limits.Limits.{Limits}
 use Rattle.book_history.specs.declared.limits.Settings.{Settings}
 use Rattle.book_history.specs.declared.changes.Entry.{Entry}
 use Rattle.book_history.specs.declared.changes.Change.{Change}
 use Rattle.book_history.specs.declared.changes.Change.TheVariants as change
 use Rattle.book_history.specs.declared.faults.BookFault.{BookFault}
 use Rattle.book_history.specs.declared.faults.BookFault.TheVariants.{Pending, NoModel}
-use Rattle.book_history.specs.declared.replies.ReplyBody.{ReplyBody}
 use Rattle.book_history.specs.declared.replies.ReplyBody.TheVariants as reply
 use Rattle.book_history.specs.declared.requests.Wanted.{Wanted}
 use Rattle.book_history.specs.declared.requests.BookRequest.{BookRequest}
@@ -27,15 +24,15 @@ use Rattle.book_history.specs.Versions.{VersionState, nothing, version_at, live_
 use Rattle.book_history.specs.Projects.{ProjectState, newest, with_change}
 use Rattle.book_history.specs.History.{state_of, at_turn, left_in, live_of, left_all, project_numbers}
 use Rattle.book_history.specs.Refusals.{project_of, wanted_in, not_yet, dropped, pending, done_before, no_model, full}
-use Rattle.book_history.specs.Requests.{Outcome, Refusal, Answer, Accepted, unless, in_project, changed, removed, version_read, clashes_read, order_for, all_orders, finished, outcome_of, reply_to, body_of, reply_of, added_by}
+use Rattle.book_history.specs.Requests.{Outcome, Answer, Accepted, unless, in_project, changed, version_read, clashes_read, order_for, all_orders, finished, outcome_of, reply_to, body_of, reply_of, added_by}
 use Rattle.book_history.specs.Runs.{Step, Runs, IsRun}
 use Rattle.book_history.proofs.Live.{gone, live_length, live_at}
 use Rattle.book_history.proofs.States.{within, nothing_yet}
 use Rattle.book_history.proofs.Histories.{AreAbove, above_of, added_of}
 use Rattle.bim_session.specs.declared.end.SessionEnd.{SessionEnd}
-use Rattle.bim_session.specs.Works.{Standing, IsTaken, Gives, WorksOne, WorksOn, Works, WorksShort, IsEnough, left_behind, last_turn}
+use Rattle.bim_session.specs.Works.{Standing, Gives, WorksOn, Works, WorksShort, IsEnough, left_behind, last_turn}
 use Rattle.bim_session.specs.Session.{Asking, asking, TakesTurn, TakesIdly, TakesUnanswered, Answers, AnswersEvent, WorksBehind, Answered, Stop, Ends, IsNext, past}
-use Rattle.bim_session.specs.Replay.{Replays, beginning, IsPending, reply_at, NoneIsPending}
+use Rattle.bim_session.specs.Replay.{beginning, IsPending, reply_at, NoneIsPending}
 use Rattle.bim_session.proofs.Sessions.{last_turn-append, on_last}
 
 -- ---- faults of a list

@@ -1,13 +1,11 @@
 -- How a session grows by one more event, and its history by more steps.
-use Rattle.std.proofs.Common.{◌≡◌, ◌⊎◌, ℕ, zero, suc, ◌+◌, ◌*◌, ◌<◌, ◌≤◌, List, [], ◌∷◌, ◌++◌, length, filter, nat_lt, Option, Some, None, Bool, true, false, inl, inr, sym, ◌∙◌, ap, subst, refl, append_assoc, append-nil, add_assoc, length-append, arith}
+use Rattle.std.proofs.Common.{◌≡◌, ◌⊎◌, ℕ, zero, suc, ◌+◌, ◌*◌, ◌<◌, ◌≤◌, List, [], ◌∷◌, ◌++◌, length, filter, nat_lt, Some, true, false, inl, inr, sym, ◌∙◌, ap, subst, refl, append_assoc, append-nil, add_assoc, length-append, arith}
 use Rattle.std.proofs.lemmas.List.Elements.{filter-append}
 use Rattle.std.proofs.lemmas.Bool.Decides.{nat_tests}
-use Rattle.http_frame.specs.declared.types.HttpRequest.{HttpRequest}
 use Rattle.http_frame.specs.Events.{Event}
 use Rattle.http_frame.specs.Events as frame
 use Rattle.book_history.specs.declared.limits.Settings.{Settings}
 use Rattle.book_history.specs.declared.changes.Entry.{Entry}
-use Rattle.book_history.specs.declared.requests.BookRequest.{BookRequest}
 use Rattle.book_history.specs.declared.replies.ReplyBody.TheVariants as reply
 use Rattle.book_history.specs.History.{at_turn, of_turn, left_all, IsBefore}
 use Rattle.book_history.specs.Requests.{reply_of, added_by}
@@ -15,7 +13,7 @@ use Rattle.book_history.specs.Runs.{Step, Runs}
 use Rattle.book_history.proofs.Histories.{AreAbove, AreOf, added_of, at_turn-grown, of_turn-grown, at_turn-new, of_turn-new}
 use Rattle.bcf_http.specs.declared.answers.Answer.TheVariants as answer
 use Rattle.bim_session.specs.Works.{Standing, IsTaken, Gives, WorksOne, WorksOn, Works, IsEnough, left_behind, last_turn}
-use Rattle.bim_session.specs.Session.{Asking, asking, Means, TakesTurn, IsResponseTo, IsBooked, TakesIdly, Answers, AnswersEvent, WorksBehind, AnswersFirst, Answered, counted, requests, closes, is_closed, past, behind}
+use Rattle.bim_session.specs.Session.{Asking, asking, TakesTurn, IsResponseTo, IsBooked, TakesIdly, Answers, AnswersEvent, WorksBehind, AnswersFirst, Answered, counted, requests, closes, is_closed, past, behind}
 use Rattle.bim_session.proofs.Reading.{or_false}
 
 -- ---- later entries

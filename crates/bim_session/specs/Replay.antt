@@ -3,9 +3,8 @@ use Rattle.std.specs.Prelude.{◌≡◌, ◌⊎◌, ◌≤◌, ◌++◌, ℕ, Li
 use Rattle.bim_io.specs.Causes.{ComesOfFault, WithinMost}
 use Rattle.bim_io.specs.Seen.{Outside, EndsEmpty, Exchanges}
 use Rattle.http_frame.specs.Events.{Event, IsRest, IsTold}
-use Rattle.book_history.specs.declared.limits.Limits.{Limits}
 use Rattle.book_history.specs.declared.limits.Settings.{Settings}
-use Rattle.book_history.specs.declared.limits.TheConstants.{MOST_VERSION_ELEMENTS, MOST_VERSION_MEMBERSHIPS, MOST_STORED_TRIANGLES, MOST_TEXT, MOST_ENTRIES, MOST_TOPICS, MOST_COMMENTS, MOST_VIEWPOINTS}
+use Rattle.book_history.specs.Settings.{stated_limits}
 use Rattle.book_history.specs.declared.changes.Entry.{Entry}
 use Rattle.book_history.specs.declared.faults.BookFault.TheVariants.{Pending}
 use Rattle.book_history.specs.declared.replies.ReplyBody.{ReplyBody}
@@ -26,19 +25,6 @@ IsReadFault end = (n : ℕ) × (end ≡ ReadFault n)
 -- it ends by a failed write
 abbrev pub IsWriteFault : SessionEnd → Type 0
 IsWriteFault end = (n : ℕ) × (end ≡ WriteFault n)
-
--- how much a book of the program may hold
-abbrev pub stated_limits : Limits
-stated_limits = record {
-  elements = MOST_VERSION_ELEMENTS;
-  memberships = MOST_VERSION_MEMBERSHIPS;
-  triangles = MOST_STORED_TRIANGLES;
-  text = MOST_TEXT;
-  journal = MOST_ENTRIES;
-  topics = MOST_TOPICS;
-  comments = MOST_COMMENTS;
-  viewpoints = MOST_VIEWPOINTS;
-}
 
 -- a book of the program with so many projects
 abbrev pub stated_settings : ℕ → Settings
@@ -97,7 +83,8 @@ pub record ReadsAsNeeded (most : Option ℕ) (input : List ℕ) (events : List E
 -- n-th read fails shows that all events of what the reads before it gave were answered before it, and a sink
 -- whose n-th write fails shows that no read came between an event and its answer; where the source gives a
 -- byte at a time, not a byte more was taken.
-pub record Replays (settings : Settings) (buckets : Option ℕ) (before after : Outside) (end : SessionEnd) : Type 0 where
+pub record Replays (settings : Settings) (buckets : Option ℕ) (before after : Outside)
+    (end : SessionEnd) : Type 0 where
   pub input : List ℕ
   pub moments : List ℕ
   pub output : List ℕ
@@ -132,10 +119,12 @@ IsPending body = (version : ℕ) × (left : ℕ) × (body ≡ Refused (Pending v
 
 -- the reply to a step at the entries below its turn
 abbrev pub reply_at : Settings → List Entry → Step → ReplyBody
-reply_at settings history step = (reply_of settings (at_turn step.stamp.turn history) step.stamp step.request).body
+reply_at settings history step =
+    (reply_of settings (at_turn step.stamp.turn history) step.stamp step.request).body
 
 -- where all buckets are worked behind each answer, no step of the session is answered so
 abbrev pub NoneIsPending : Type 0
 NoneIsPending =
-    (settings : Settings) (before after : Outside) (end : SessionEnd) (replays : Replays settings None before after end)
+    (settings : Settings) (before after : Outside) (end : SessionEnd)
+    (replays : Replays settings None before after end)
     → All (λ (step : Step). IsPending (reply_at settings replays.history step) → ⊥) replays.steps

@@ -7,8 +7,6 @@ use Rattle.http_frame.specs.declared.types.HttpRequest.{HttpRequest}
 use Rattle.http_frame.specs.declared.types.FrameFault.{FrameFault}
 use Rattle.http_frame.specs.Events.{Begins, Asks, Event, IsRest, IsTold, Spells}
 use Rattle.http_frame.specs.Events as frame
-use Rattle.book_history.specs.declared.limits.Settings.{Settings}
-use Rattle.book_history.specs.declared.changes.Entry.{Entry}
 use Rattle.book_history.specs.declared.requests.BookRequest.{BookRequest}
 use Rattle.book_history.specs.declared.requests.BookRequest.TheVariants.{Upload}
 use Rattle.book_history.specs.History.{at_turn, of_turn}
@@ -76,6 +74,7 @@ pub record Asking : Type 0 where
   pub moment : ℕ
   pub request : HttpRequest
 
+-- a request with the moment at which it is asked, and where the session stands
 abbrev pub asking : Standing → ℕ → HttpRequest → Asking
 asking standing moment request = record { standing = standing; moment = moment; request = request }
 
@@ -202,7 +201,8 @@ Answered s [] moments out steps printed =
     (moments ≡ []) × (out ≡ []) × (steps ≡ []) × (printed ≡ s.printed)
 Answered s (event ∷ events) moments out steps printed =
     (first : AnswersFirst s event events moments out steps)
-    × Answered (past s event (first.own ++ first.work) first.printed) events first.after first.later first.others
+    × Answered (past s event (first.own
+    ++ first.work) first.printed) events first.after first.later first.others
     printed
 
 -- the response to a fault of the bytes, which closes the connection

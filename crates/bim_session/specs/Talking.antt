@@ -18,7 +18,6 @@ use Rattle.book_history.specs.declared.replies.BookReply.{BookReply}
 use Rattle.book_history.specs.declared.changes.Entry.{Entry}
 use Rattle.book_history.specs.declared.replies.ReplyBody.{ReplyBody}
 use Rattle.book_history.specs.declared.replies.ReplyBody.TheVariants as reply
-use Rattle.bcf_http.specs.declared.calls.ReplyKind.{ReplyKind}
 use Rattle.bcf_http.specs.declared.answers.Answer.{Answer}
 use Rattle.bcf_http.specs.declared.answers.Answer.TheVariants as answer
 use Rattle.bcf_http.specs.Calls.{kind_of}
@@ -54,6 +53,7 @@ abbrev pub is_end : List ℕ → Bool
 is_end [] = true
 is_end (b ∷ bs) = false
 
+-- a talk with the framer after a piece, which has ended where the piece is empty
 abbrev pub with_piece : Framer → List ℕ → TalkState → TalkState
 with_piece framer piece s = record s { framer = framer; ended = is_end piece }
 
@@ -142,7 +142,8 @@ Writes P (Leave e) = ⊥
 abbrev pub WantsFor : ℕ → HttpRequest → TalkState → Want → TalkState → Type 0
 WantsFor moment request old More new = ⊥
 WantsFor moment request old (Call call) new =
-    Means moment request call × (new ≡ with_call (waiting_for request (old.served + 1) (asks_change call)) old)
+    Means moment request call × (new
+    ≡ with_call (waiting_for request (old.served + 1) (asks_change call)) old)
 WantsFor moment request old (Write bytes) new =
     AnswersAlone moment request (waiting_for request (old.served + 1) false) bytes
     × (new ≡ with_answer (closes_after request (old.served + 1)) old)
@@ -208,7 +209,8 @@ Talks rest told moments old (Write bytes) new =
 Talks rest told moments old (Call call) new =
     (old.leaving ≡ None)
     × ((one : TakesRequest rest told moments new.framer) × Means one.moment one.request call
-    × (new ≡ with_call (waiting_for one.request (old.served + 1) (asks_change call)) (with_framer new.framer old)))
+    × (new ≡ with_call (waiting_for one.request (old.served + 1) (asks_change call))
+    (with_framer new.framer old)))
 Talks rest told moments old (Leave e) new =
     (moments ≡ [])
     × ((old.leaving ≡ Some e)
@@ -268,7 +270,8 @@ BookReceipt = Receipt Book BookRequest BookReply Entry Settings
 abbrev pub AnswersCall : Result BookReceipt AllocError → Waiting → List ℕ → Type 0
 AnswersCall (Ok receipt) waiting bytes =
     IsResponse (answer.Book receipt.reply) waiting.kind (Some receipt.turn) waiting.close bytes
-    ⊎ (IsTrue (changes_nothing waiting.changes receipt.reply.body) × IsResponse answer.Memory waiting.kind None waiting.close bytes)
+    ⊎ (IsTrue (changes_nothing waiting.changes receipt.reply.body)
+    × IsResponse answer.Memory waiting.kind None waiting.close bytes)
 AnswersCall (Err e) waiting bytes = IsResponse answer.Memory waiting.kind None waiting.close bytes
 
 -- what a talk wants after the answer to its call

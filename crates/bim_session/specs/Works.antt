@@ -38,7 +38,7 @@ abbrev pub left_behind : Standing → ℕ → ℕ
 left_behind s turn = left_all s.settings.projects (at_turn (turn + 1) s.history)
 
 -- the set is what was found for the bucket of an order: exactly the clashes that it owns
-pub record IsSetOf (order : OrderValue) (set : SetValue) : Type 0 where
+pub record IsFoundFor (order : OrderValue) (set : SetValue) : Type 0 where
   pub order_is : order_of set.work ≡ order
   pub pairs_are : set.pairs ≡ own_places set.work.grid set.work.cell
 
@@ -49,7 +49,8 @@ pub record Gives (s : Standing) (last : ℕ) (step : Step) : Type 0 where
   pub turn : step.stamp.turn ≡ last + 1
   pub request : step.request ≡ TakeWork 0
   pub taken : IsTaken s step
-  pub given : (reply_of s.settings (at_turn step.stamp.turn s.history) step.stamp step.request).body ≡ Work order
+  pub given : (reply_of s.settings (at_turn step.stamp.turn s.history) step.stamp step.request).body
+      ≡ Work order
 
 -- a bucket is worked: it is given out, and its set is brought at the turn behind that
 pub record WorksOne (s : Standing) (last : ℕ) (steps : List Step) : Type 0 where
@@ -58,7 +59,7 @@ pub record WorksOne (s : Standing) (last : ℕ) (steps : List Step) : Type 0 whe
   pub set : SetValue
   pub two : steps ≡ first ∷ second ∷ []
   pub gives : Gives s last first
-  pub found : IsSetOf gives.order set
+  pub found : IsFoundFor gives.order set
   pub turn : second.stamp.turn ≡ last + 2
   pub request : second.request ≡ Finish set
   pub taken : IsTaken s second

@@ -24,6 +24,7 @@ pub record ProjectState : Type 0 where
 abbrev pub untouched : ProjectState
 untouched = record { board = blank; versions = nothing ∷ [] }
 
+-- the number of a project's newest version
 abbrev pub newest : ProjectState → ℕ
 newest project = newest_in project.versions
 
@@ -31,6 +32,7 @@ newest project = newest_in project.versions
 abbrev pub newest_content : ProjectState → Version
 newest_content project = (version_at project.versions (newest project)).content
 
+-- a model under its name
 abbrev pub named_model : List ℕ → List Element → NamedModel
 named_model name model = record { name = name; model = model }
 
@@ -51,6 +53,7 @@ with_version project content = record {
   versions = project.versions ++ made_after (version_at project.versions (newest project)) content ∷ [];
 }
 
+-- a project in which a bucket of a version is done
 abbrev pub with_bucket : ProjectState → ℕ → Cell → ProjectState
 with_bucket project number cell = record {
   board = project.board;

@@ -13,3 +13,16 @@ pub record IsWithinStated (limits : Limits) : Type 0 where
   pub topics : limits.topics ≤ MOST_TOPICS
   pub comments : limits.comments ≤ MOST_COMMENTS
   pub viewpoints : limits.viewpoints ≤ MOST_VIEWPOINTS
+
+-- how much a book of the program may hold
+abbrev pub stated_limits : Limits
+stated_limits = record {
+  elements = MOST_VERSION_ELEMENTS;
+  memberships = MOST_VERSION_MEMBERSHIPS;
+  triangles = MOST_STORED_TRIANGLES;
+  text = MOST_TEXT;
+  journal = MOST_ENTRIES;
+  topics = MOST_TOPICS;
+  comments = MOST_COMMENTS;
+  viewpoints = MOST_VIEWPOINTS;
+}

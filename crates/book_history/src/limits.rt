@@ -1,6 +1,6 @@
 //! The bounds that the book keeps.
 ghost use Rattle.std.specs.Prelude.{◌≡◌};
-ghost use Rattle.book_history.specs.Settings.{IsWithinStated};
+ghost use Rattle.book_history.specs.Settings.{IsWithinStated, stated_limits};
 
 /// The most projects of a book.
 pub const MOST_PROJECTS: u32 = 8;
@@ -53,7 +53,8 @@ pub struct Limits {
 impl Limits {
     /// The limits of the program.
     pub fn stated() -> Limits
-        ensures { IsWithinStated result }
+        ensures is { result ≡ stated_limits }
+        ensures within { IsWithinStated result }
     {
         Limits {
             elements: MOST_VERSION_ELEMENTS,

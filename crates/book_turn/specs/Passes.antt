@@ -47,7 +47,16 @@ module _ {E S : Type 0} where
 
   -- a pass that has seen nothing and taken no turn
   abbrev pub new_pass : TurnState S → ℕ → PassState E S
-  new_pass t number = record { turn_id = t.turn_id; settings = Some t.settings; number = number; numbers = number ∷ []; seen = []; last = 0; turns = []; made = 0 }
+  new_pass t number = record {
+    turn_id = t.turn_id;
+    settings = Some t.settings;
+    number = number;
+    numbers = number ∷ [];
+    seen = [];
+    last = 0;
+    turns = [];
+    made = 0;
+  }
 
   -- such passes with the numbers a, a + 1 .., n of them
   abbrev pub new_passes : TurnState S → ℕ → ℕ → List (PassState E S)
@@ -73,11 +82,16 @@ module _ {E S : Type 0} where
       pub others : calls_by (λ e. (stamp_of e).pass) v.numbers news ≡ []
 
     -- a call is answered in the turn t: as the object answers where its journal is the entries with earlier turns. The call's own entry, if it has one, comes after them
-    pub record Answered {Rq Rp : Type 0} (reply_of : S → List E → Stamp → Rq → Rp) (added_by : S → List E → Stamp → Rq → Option E) (chosen : S) (t : ℕ) (request : Rq) (reply : Rp) (v w : PassState E S) : Type 0 where
+    pub record Answered {Rq Rp : Type 0} (reply_of : S → List E → Stamp → Rq → Rp)
+        (added_by : S → List E → Stamp → Rq → Option E) (chosen : S) (t : ℕ) (request : Rq) (reply : Rp)
+        (v w : PassState E S) : Type 0 where
       pub news : List E
       pub takes : Takes t news v w
-      pub replied : reply ≡ reply_of chosen (v.seen ++ news) (record { turn = t; pass = v.number; call = v.made + 1 }) request
-      pub seen : w.seen ≡ (v.seen ++ news) ++ listed (added_by chosen (v.seen ++ news) (record { turn = t; pass = v.number; call = v.made + 1 }) request)
+      pub replied : reply ≡ reply_of chosen (v.seen ++ news)
+          (record { turn = t; pass = v.number; call = v.made + 1 }) request
+      pub seen : w.seen ≡ (v.seen ++ news)
+          ++ listed (added_by chosen (v.seen ++ news)
+          (record { turn = t; pass = v.number; call = v.made + 1 }) request)
 
     -- a turn is taken, and nothing is added
     pub record GotNothing (v w : PassState E S) : Type 0 where
@@ -94,8 +108,10 @@ module _ {E S : Type 0} where
       pub seen : w.seen ≡ (if ltb v.last other.last then other.seen else v.seen)
       pub first : v.seen ≡ up_to (λ e. (stamp_of e).turn) v.last w.seen
       pub second : other.seen ≡ up_to (λ e. (stamp_of e).turn) other.last w.seen
-      pub own_first : calls_by (λ e. (stamp_of e).pass) v.numbers w.seen ≡ calls_by (λ e. (stamp_of e).pass) v.numbers v.seen
-      pub own_second : calls_by (λ e. (stamp_of e).pass) other.numbers w.seen ≡ calls_by (λ e. (stamp_of e).pass) other.numbers other.seen
+      pub own_first : calls_by (λ e. (stamp_of e).pass) v.numbers w.seen
+          ≡ calls_by (λ e. (stamp_of e).pass) v.numbers v.seen
+      pub own_second : calls_by (λ e. (stamp_of e).pass) other.numbers w.seen
+          ≡ calls_by (λ e. (stamp_of e).pass) other.numbers other.seen
       pub once : (x : ℕ) → times x v.turns + times x other.turns ≤ 1
       pub number : w.number ≡ v.number
       pub made : w.made ≡ v.made
@@ -103,7 +119,16 @@ module _ {E S : Type 0} where
 module _ {O E S : Type 0} where
   -- what a pass shows, of what it is made of
   abbrev pub pass_state : Seat (Option O) (View E S) → ℕ → ℕ → PassState E S
-  pass_state seat number made = record { turn_id = seat.table_id; settings = seat.me.0.settings; number = number; numbers = seat.me.0.passes; seen = seat.me.0.seen; last = seat.me.0.last; turns = seat.me.0.turns; made = made }
+  pass_state seat number made = record {
+    turn_id = seat.table_id;
+    settings = seat.me.0.settings;
+    number = number;
+    numbers = seat.me.0.passes;
+    seen = seat.me.0.seen;
+    last = seat.me.0.last;
+    turns = seat.me.0.turns;
+    made = made;
+  }
 
   -- between its calls a pass holds nothing and waits for nothing, and it has made its own turns but for 2^40 of each pass that was joined into it
   pub record IsIdle (seat : Seat (Option O) (View E S)) (number made last : ℕ) : Type 0 where

@@ -15,7 +15,8 @@ abbrev pub total : {A : Type 0} → (A → ℕ) → List A → ℕ
 total f [] = 0
 total f (x ∷ xs) = f x + total f xs
 
-module _ {O E S : Type 0} (journal : O → List E) (settings : O → S) (turn pass : E → ℕ) (n : ℕ) (chosen : S) where
+module _ {O E S : Type 0} (journal : O → List E) (settings : O → S) (turn pass : E → ℕ) (n : ℕ)
+    (chosen : S) where
   -- what the rule says of a view that has a pass
   pub record Stands (history : List E) (serving : ℕ) (v : View E S) : Type 0 where
     pub same : v.settings ≡ Some chosen
@@ -37,7 +38,8 @@ module _ {O E S : Type 0} (journal : O → List E) (settings : O → S) (turn pa
   -- the object lies in the slot, or one view is called and has it
   abbrev pub Placed : List E → List (mathlib.Core.Option.Option (Option O)) → List (View E S) → Type 0
   Placed history homes views =
-      ((o : O) × (homes ≡ some (Some o) ∷ []) × (journal o ≡ history) × (settings o ≡ chosen) × NobodyIsCalled views)
+      ((o : O) × (homes ≡ some (Some o) ∷ []) × (journal o ≡ history) × (settings o ≡ chosen)
+      × NobodyIsCalled views)
       ⊎ ((j : ℕ) × (v : View E S) × (get_elem? views j ≡ some v) × IsCalled v.stage × (homes ≡ none ∷ []))
 
   -- the rule of a turn with n passes, whose object has the chosen settings

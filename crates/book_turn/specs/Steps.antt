@@ -37,7 +37,9 @@ module _ {E : Type 0} (turn pass : E → ℕ) where
   -- these are the entries of the list up to their turns, which are at most t, and their passes, among ps, made none of the others
   abbrev pub AreBeginnings : List ℕ → List (Beginning E) → ℕ → List E → Type 0
   AreBeginnings ps [] t h = Unit {0}
-  AreBeginnings ps (b ∷ bs) t h = ((b.seen ≡ up_to turn b.last h) × (b.last ≤ t) × ((x : ℕ) → has x b.passes ≡ true → has x ps ≡ true) × OwnUpTo turn pass b.passes b.last h) × AreBeginnings ps bs t h
+  AreBeginnings ps (b ∷ bs) t h =
+      ((b.seen ≡ up_to turn b.last h) × (b.last ≤ t) × ((x : ℕ) → has x b.passes ≡ true → has x ps ≡ true)
+      × OwnUpTo turn pass b.passes b.last h) × AreBeginnings ps bs t h
 
 module _ {E S : Type 0} (turn pass : E → ℕ) where
   -- both have seen beginnings of one list, the longer of which is kept, and no turn was taken by both
@@ -52,7 +54,8 @@ module _ {E S : Type 0} (turn pass : E → ℕ) where
 module _ {O E S : Type 0} (turn pass : E → ℕ) where
   -- the seen lists of those that were joined are beginnings of what is seen, and no turn was taken twice
   abbrev pub compared : Step (Option O) → Me (Option O) (View E S) → ℕ → Me (Option O) (View E S) → Type 0
-  compared st m r m' = (m' ≡ (compared_view m.0, m.1)) × AreBeginnings turn pass m.0.passes m.0.begins m.0.last m.0.seen × ((x : ℕ) → times x m.0.turns ≤ 1)
+  compared st m r m' = (m' ≡ (compared_view m.0, m.1))
+      × AreBeginnings turn pass m.0.passes m.0.begins m.0.last m.0.seen × ((x : ℕ) → times x m.0.turns ≤ 1)
 
 module _ {O E S : Type 0} (journal : O → List E) (settings : O → S) (turn pass : E → ℕ) where
   -- the turn t has come: the entries up to it are seen, and the object is at hand
@@ -61,7 +64,8 @@ module _ {O E S : Type 0} (journal : O → List E) (settings : O → S) (turn pa
       (o : O) × (news : List E)
       × (m' ≡ (called_view m.0 t (m.0.seen ++ news), (0, Some o) ∷ []))
       × (journal o ≡ m.0.seen ++ news) × (m.0.settings ≡ Some (settings o))
-      × AllAfter turn m.0.last news × AllBefore turn t (m.0.seen ++ news) × (calls_by pass m.0.passes news ≡ []) × Rises turn (m.0.seen ++ news)
+      × AllAfter turn m.0.last news × AllBefore turn t (m.0.seen ++ news)
+      × (calls_by pass m.0.passes news ≡ []) × Rises turn (m.0.seen ++ news)
 
   -- nothing changed, or the turn has come
   abbrev pub looked : Step (Option O) → Me (Option O) (View E S) → ℕ → Me (Option O) (View E S) → Type 0
@@ -69,16 +73,22 @@ module _ {O E S : Type 0} (journal : O → List E) (settings : O → S) (turn pa
 
   -- the object's journal is what was seen, and at most one entry more, of the turn t and the pass
   abbrev pub Adds : ℕ → O → View E S → Type 0
-  Adds t o v = (v.settings ≡ Some (settings o)) × (news : List E) × (journal o ≡ v.seen ++ news) × IsOneOf turn pass t v.passes news
+  Adds t o v = (v.settings ≡ Some (settings o)) × (news : List E) × (journal o ≡ v.seen ++ news)
+      × IsOneOf turn pass t v.passes news
 
-module _ {E S Rq Rp : Type 0} (reply_of : S → List E → Stamp → Rq → Rp) (added_by : S → List E → Stamp → Rq → Option E) where
+module _ {E S Rq Rp : Type 0} (reply_of : S → List E → Stamp → Rq → Rp)
+    (added_by : S → List E → Stamp → Rq → Option E) where
   -- a call was answered at what was seen, and its entry seen after that; or there was no memory, and nothing was added
   abbrev pub Serves : Stamp → Rq → View E S → View E S → Result Rp AllocError → Type 0
-  Serves stamp request v w (Ok reply) = (s : S) × (v.settings ≡ Some s) × (reply ≡ reply_of s v.seen stamp request) × (w ≡ done_view v (v.seen ++ listed (added_by s v.seen stamp request)))
+  Serves stamp request v w (Ok reply) = (s : S) × (v.settings ≡ Some s)
+      × (reply ≡ reply_of s v.seen stamp request)
+      × (w ≡ done_view v (v.seen ++ listed (added_by s v.seen stamp request)))
   Serves stamp request v w (Err e) = w ≡ done_view v v.seen
 
 -- a turn t was taken by the pass of this number, for its call of this number
-pub record TakesTurn {E S Rq Rp : Type 0} (stamp_of : E → Stamp) (reply_of : S → List E → Stamp → Rq → Rp) (added_by : S → List E → Stamp → Rq → Option E) (t number call : ℕ) (request : Rq) (v w : View E S) (res : Result Rp AllocError) : Type 0 where
+pub record TakesTurn {E S Rq Rp : Type 0} (stamp_of : E → Stamp) (reply_of : S → List E → Stamp → Rq → Rp)
+    (added_by : S → List E → Stamp → Rq → Option E) (t number call : ℕ) (request : Rq) (v w : View E S)
+    (res : Result Rp AllocError) : Type 0 where
   pub news : List E
   pub later : v.last < t
   pub within : t < 2 ^ 47
@@ -86,4 +96,5 @@ pub record TakesTurn {E S Rq Rp : Type 0} (stamp_of : E → Stamp) (reply_of : S
   pub before : AllBefore (λ e. (stamp_of e).turn) t (v.seen ++ news)
   pub others : calls_by (λ e. (stamp_of e).pass) v.passes news ≡ []
   pub rises : Rises (λ e. (stamp_of e).turn) (v.seen ++ news)
-  pub served : Serves reply_of added_by (record { turn = t; pass = number; call = call }) request (called_view (drawn_view v t) t (v.seen ++ news)) w res
+  pub served : Serves reply_of added_by (record { turn = t; pass = number; call = call }) request
+      (called_view (drawn_view v t) t (v.seen ++ news)) w res

@@ -33,7 +33,15 @@ IsInTurn serving last (Called t) = (t ≡ serving) × (last ≡ serving)
 module _ {E S : Type 0} where
   -- it has n numbers from a on, and has seen nothing
   abbrev pub dealt_view : S → ℕ → ℕ → View E S
-  dealt_view chosen a n = record { settings = Some chosen; passes = numbers_from a n; seen = []; last = 0; turns = []; begins = []; stage = Free }
+  dealt_view chosen a n = record {
+    settings = Some chosen;
+    passes = numbers_from a n;
+    seen = [];
+    last = 0;
+    turns = [];
+    begins = [];
+    stage = Free;
+  }
 
   -- at first one view has all numbers
   abbrev pub first_view : S → ℕ → View E S
@@ -41,23 +49,63 @@ module _ {E S : Type 0} where
 
   -- of a split, what stays: all numbers but the first
   abbrev pub kept_view : View E S → View E S
-  kept_view v = record { settings = v.settings; passes = all_but_first v.passes; seen = v.seen; last = v.last; turns = v.turns; begins = []; stage = v.stage }
+  kept_view v = record {
+    settings = v.settings;
+    passes = all_but_first v.passes;
+    seen = v.seen;
+    last = v.last;
+    turns = v.turns;
+    begins = [];
+    stage = v.stage;
+  }
 
   -- and what the new seat gets: the first number
   abbrev pub given_view : View E S → View E S
-  given_view v = record { settings = v.settings; passes = first_only v.passes; seen = v.seen; last = v.last; turns = []; begins = []; stage = Free }
+  given_view v = record {
+    settings = v.settings;
+    passes = first_only v.passes;
+    seen = v.seen;
+    last = v.last;
+    turns = [];
+    begins = [];
+    stage = Free;
+  }
 
   -- the turn t was drawn
   abbrev pub drawn_view : View E S → ℕ → View E S
-  drawn_view v t = record { settings = v.settings; passes = v.passes; seen = v.seen; last = v.last; turns = t ∷ v.turns; begins = []; stage = Waiting t }
+  drawn_view v t = record {
+    settings = v.settings;
+    passes = v.passes;
+    seen = v.seen;
+    last = v.last;
+    turns = t ∷ v.turns;
+    begins = [];
+    stage = Waiting t;
+  }
 
   -- the turn t has come, and these entries are seen
   abbrev pub called_view : View E S → ℕ → List E → View E S
-  called_view v t seen = record { settings = v.settings; passes = v.passes; seen = seen; last = t; turns = v.turns; begins = []; stage = Called t }
+  called_view v t seen = record {
+    settings = v.settings;
+    passes = v.passes;
+    seen = seen;
+    last = t;
+    turns = v.turns;
+    begins = [];
+    stage = Called t;
+  }
 
   -- the object is back, and these entries are seen
   abbrev pub done_view : View E S → List E → View E S
-  done_view v seen = record { settings = v.settings; passes = v.passes; seen = seen; last = v.last; turns = v.turns; begins = []; stage = Free }
+  done_view v seen = record {
+    settings = v.settings;
+    passes = v.passes;
+    seen = seen;
+    last = v.last;
+    turns = v.turns;
+    begins = [];
+    stage = Free;
+  }
 
   -- what was seen up to now
   abbrev pub begun : View E S → Beginning E
@@ -65,12 +113,36 @@ module _ {E S : Type 0} where
 
   -- what two know together. Until it is compared, what each had seen is kept
   abbrev pub both_views : View E S → View E S → View E S
-  both_views v w = record { settings = v.settings; passes = v.passes ++ w.passes; seen = (if ltb v.last w.last then w.seen else v.seen); last = max v.last w.last; turns = v.turns ++ w.turns; begins = begun v ∷ begun w ∷ []; stage = Free }
+  both_views v w = record {
+    settings = v.settings;
+    passes = v.passes ++ w.passes;
+    seen = (if ltb v.last w.last then w.seen else v.seen);
+    last = max v.last w.last;
+    turns = v.turns ++ w.turns;
+    begins = begun v ∷ begun w ∷ [];
+    stage = Free;
+  }
 
   -- what both had seen was compared
   abbrev pub compared_view : View E S → View E S
-  compared_view v = record { settings = v.settings; passes = v.passes; seen = v.seen; last = v.last; turns = v.turns; begins = []; stage = v.stage }
+  compared_view v = record {
+    settings = v.settings;
+    passes = v.passes;
+    seen = v.seen;
+    last = v.last;
+    turns = v.turns;
+    begins = [];
+    stage = v.stage;
+  }
 
   -- one that was joined into another knows nothing any more
   abbrev pub spent_view : View E S
-  spent_view = record { settings = None; passes = []; seen = []; last = 0; turns = []; begins = []; stage = Free }
+  spent_view = record {
+    settings = None;
+    passes = [];
+    seen = [];
+    last = 0;
+    turns = [];
+    begins = [];
+    stage = Free;
+  }

@@ -23,7 +23,10 @@ later_within probe grow first boxes = places_from (first + 1) (is_within probe g
 -- what stands past the end of a list of boxes
 abbrev pub nowhere : Extent
 nowhere =
-    record { low = record { x = pos 0; y = pos 0; z = pos 0 }; high = record { x = pos 0; y = pos 0; z = pos 0 } }
+    record {
+      low = record { x = pos 0; y = pos 0; z = pos 0 };
+      high = record { x = pos 0; y = pos 0; z = pos 0 };
+    }
 
 -- the box at a place
 abbrev pub box_at : List Extent → ℕ → Extent

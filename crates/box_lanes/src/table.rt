@@ -148,7 +148,8 @@ impl BoxTable {
         requires from { from < end }
         requires end { end ≤ length self.now }
         requires block { end ≤ from / 8 * 8 + 8 }
-        ensures { OnOk result (places.new.items ≡ places.old.items ++ part (meets reach.now) self.now from end) }
+        ensures { OnOk result (places.new.items
+            ≡ places.old.items ++ part (meets reach.now) self.now from end) }
     {
         let mut lanes = self.bits(from, end, reach);
         if lanes == 0 {

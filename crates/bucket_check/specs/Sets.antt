@@ -46,6 +46,12 @@ pub record SetValue : Type 0 where
   pub work : BucketWork
   pub pairs : List SetPair
 
+-- the set was found for this cell of this grid: it has the clashes that the cell owns there
+pub record IsSetOf (grid : GridValue) (cell : Cell) (set : SetValue) : Type 0 where
+  pub grid_is : set.work.grid ≡ grid
+  pub cell_is : set.work.cell ≡ cell
+  pub pairs_are : set.pairs ≡ own_places grid cell
+
 -- two elements of one key, class, storey and surface
 pub record IsSame (s t : Subject) : Type 0 where
   pub key : key_of s ≡ key_of t

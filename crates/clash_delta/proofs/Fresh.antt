@@ -7,9 +7,9 @@ use Rattle.bucket_grid.specs.declared.cell.Cell.{Cell}
 use Rattle.bucket_grid.specs.declared.table.Bucket.{Bucket}
 use Rattle.bucket_grid.specs.Cells.{cell_cmp}
 use Rattle.bucket_grid.specs.Grids.{GridValue}
-use Rattle.bucket_check.specs.Sets.{SetValue}
+use Rattle.bucket_check.specs.Sets.{SetValue, IsSetOf}
 use Rattle.clash_delta.specs.declared.slot.Slot.{Slot}
-use Rattle.clash_delta.specs.Slots.{cells_of, bucket_cells, undone_cells, IsDone, IsSetOf, IsOf}
+use Rattle.clash_delta.specs.Slots.{cells_of, bucket_cells, undone_cells, IsDone, IsOf}
 use Rattle.clash_delta.specs.Places.{Rise}
 use Rattle.clash_delta.proofs.Undone.{nothing, fact}
 use Rattle.clash_delta.proofs.Filled.{rise_by}

@@ -6,10 +6,9 @@ use Rattle.bucket_grid.specs.declared.cell.Cell.{Cell}
 use Rattle.bucket_grid.specs.declared.table.Bucket.{Bucket}
 use Rattle.bucket_grid.specs.Cells.{cell_cmp, members, IsBucket}
 use Rattle.bucket_grid.specs.Grids.{GridValue}
-use Rattle.bucket_check.specs.declared.work.BucketWork.{BucketWork}
-use Rattle.bucket_check.specs.Sets.{SetValue, IsSame, subjects_at, IsUnmoved}
+use Rattle.bucket_check.specs.Sets.{SetValue, IsSame, subjects_at, IsUnmoved, IsSetOf}
 use Rattle.clash_delta.specs.declared.slot.Slot.{Slot}
-use Rattle.clash_delta.specs.Slots.{IsDone, IsSetOf}
+use Rattle.clash_delta.specs.Slots.{IsDone}
 
 -- the cell was a bucket of the version before and done there, its members have the same keys, classes, storeys and
 -- triangles in both, and the rules are the same
@@ -19,14 +18,16 @@ pub record IsCarried (done : List Slot) (before after : GridValue) (cell : Cell)
   pub unmoved : IsUnmoved before after cell
 
 -- the set that the cell had, for a version with this grid: its project and its pairs stay
-pub record IsMoved (done : List Slot) (after : GridValue) (version : ℕ) (cell : Cell) (set : SetValue) : Type 0 where
+pub record IsMoved (done : List Slot) (after : GridValue) (version : ℕ) (cell : Cell)
+    (set : SetValue) : Type 0 where
   pub old : SetValue
   pub was : Contains done (record { cell = cell; set = Some old })
   pub work : set.work ≡ record { project = old.work.project; version = version; cell = cell; grid = after }
   pub pairs : set.pairs ≡ old.pairs
 
 -- what is carried to the bucket of a cell: a set exactly where it is carried, right in the version
-pub record IsCarriedSet (done : List Slot) (before after : GridValue) (version : ℕ) (cell : Cell) (set : SetValue)
+pub record IsCarriedSet (done : List Slot) (before after : GridValue) (version : ℕ) (cell : Cell)
+    (set : SetValue)
     : Type 0 where
   pub carried : IsCarried done before after cell
   pub moved : IsMoved done after version cell set
@@ -49,4 +50,5 @@ pub record IsUnmovedAt (before after : GridValue) (place : ℕ) (cell : Cell) : 
 pub record IsReachedCell (buckets : List Bucket) (cell : Cell) (place : ℕ) : Type 0 where
   pub within : place ≤ length buckets
   pub below : (k : ℕ) (d : Bucket) → k < place → cell_cmp (slice_index_or buckets k d).cell cell ≡ Less
-  pub first : (d : Bucket) → place < length buckets → cell_cmp (slice_index_or buckets place d).cell cell ≡ Less → ⊥
+  pub first : (d : Bucket) → place < length buckets
+      → cell_cmp (slice_index_or buckets place d).cell cell ≡ Less → ⊥

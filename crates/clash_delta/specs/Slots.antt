@@ -1,11 +1,11 @@
 -- How far the check of a grid's buckets has come: for each bucket, in the grid's order, its set where it is done.
-use Rattle.std.specs.Prelude.{◌≡◌, ℕ, cond, is_none, IfSome, IsSome, List, length, map, filter, All, Any, Some, None}
+use Rattle.std.specs.Prelude.{◌≡◌, cond, is_none, IfSome, IsSome, List, map, filter, All, Any, Some}
 use Rattle.std.specs.Option.{unwrap_or}
 use Rattle.bucket_grid.specs.declared.cell.Cell.{Cell}
 use Rattle.bucket_grid.specs.declared.table.Bucket.{Bucket}
 use Rattle.bucket_grid.specs.Grids.{GridValue}
 use Rattle.bucket_check.specs.Clashes.{is_cell}
-use Rattle.bucket_check.specs.Sets.{SetValue, own_places}
+use Rattle.bucket_check.specs.Sets.{SetValue, IsSetOf}
 use Rattle.clash_delta.specs.declared.slot.Slot.{Slot}
 
 -- the cells of these buckets
@@ -31,12 +31,6 @@ IsBucketOf slots cell = Any (λ (s : Slot). s.cell ≡ cell) slots
 -- the cell is that of a bucket that is done
 abbrev pub IsDone : List Slot → Cell → Type 0
 IsDone slots cell = Any (λ (s : Slot). (s.cell ≡ cell) × IsSome s.set) slots
-
--- the set was found for this cell of this grid: it has the clashes that the cell owns there
-pub record IsSetOf (grid : GridValue) (cell : Cell) (set : SetValue) : Type 0 where
-  pub grid_is : set.work.grid ≡ grid
-  pub cell_is : set.work.cell ≡ cell
-  pub pairs_are : set.pairs ≡ own_places grid cell
 
 -- the progress is of the grid: it has the grid's buckets in their order, and each set is right there
 pub record IsOf (grid : GridValue) (slots : List Slot) : Type 0 where

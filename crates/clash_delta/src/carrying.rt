@@ -5,9 +5,9 @@ ghost use Rattle.bucket_grid.specs.declared.cell.Cell.{Cell};
 ghost use Rattle.bucket_grid.specs.declared.table.Bucket.{Bucket};
 ghost use Rattle.bucket_grid.specs.Cells.{cell_cmp, members};
 ghost use Rattle.bucket_check.specs.declared.work.BucketWork.{BucketWork};
-ghost use Rattle.bucket_check.specs.Sets.{IsUnmoved};
+ghost use Rattle.bucket_check.specs.Sets.{IsUnmoved, IsSetOf};
 ghost use Rattle.clash_delta.specs.Numbers.{subjects, AreNumbersBefore, AreFrom};
-ghost use Rattle.clash_delta.specs.Slots.{IsDone, IsOf, IsSetOf};
+ghost use Rattle.clash_delta.specs.Slots.{IsDone, IsOf};
 ghost use Rattle.clash_delta.specs.Carried.{IsCarried, IsMoved, IsCarriedTo, IsUnmovedAt, IsReachedCell};
 ghost use Rattle.clash_delta.specs.declared.slot.Slot.{Slot};
 
@@ -23,7 +23,8 @@ use std::alloc::{AllocError, Global};
 // From `place` on, the first bucket whose cell isn't before this one.
 fn first_not_before(buckets: &[Bucket], place: usize, cell: Cell) -> usize
     requires within { place ≤ length buckets.now }
-    requires below { (k : ℕ) (d : Bucket) → k < place → cell_cmp (slice_index_or buckets.now k d).cell cell ≡ Less }
+    requires below { (k : ℕ) (d : Bucket) → k < place
+        → cell_cmp (slice_index_or buckets.now k d).cell cell ≡ Less }
     ensures { IsReachedCell buckets.now cell result }
 {
     let mut place = place;

@@ -89,7 +89,8 @@ pub fn numbers_before(
     before: &Grid,
     after: &Grid,
 ) -> Result<Vec<Option<u32>>, AllocError>
-    ensures { IfOk result (λ numbers. AreNumbersBefore (subjects before.now) (subjects after.now) numbers.items) }
+    ensures { IfOk result (λ numbers. AreNumbersBefore (subjects before.now)
+        (subjects after.now) numbers.items) }
 {
     let _models = after.models();
     let count = after.places().len();

@@ -5,8 +5,8 @@ ghost use Rattle.std.specs.List.{AllZip};
 ghost use Rattle.bucket_grid.specs.Grids.{GridValue};
 ghost use Rattle.bucket_grid.specs.declared.cell.Cell.{Cell};
 ghost use Rattle.bucket_grid.specs.declared.table.Bucket.{Bucket};
-ghost use Rattle.bucket_check.specs.Sets.{SetValue};
-ghost use Rattle.clash_delta.specs.Slots.{undone_cells, filled, IsBucketOf, IsDone, IsSetOf, IsOf};
+ghost use Rattle.bucket_check.specs.Sets.{SetValue, IsSetOf};
+ghost use Rattle.clash_delta.specs.Slots.{undone_cells, filled, IsBucketOf, IsDone, IsOf};
 ghost use Rattle.clash_delta.specs.Places.{Rise, IsPlaceOf, undone_places};
 ghost use Rattle.clash_delta.specs.declared.slot.Slot.{Slot};
 ghost use Rattle.clash_delta.specs.declared.progress.PutAnswer.TheVariants.{Taken, AlreadyDone};
@@ -187,7 +187,8 @@ impl Progress {
 // Adds the set of a bucket.
 fn add_set(slot: &Slot, sets: &mut Vec<Shared<BucketSet>>) -> Result<(), AllocError>
     requires { IsSome slot.now.set }
-    ensures { OnOk result ((d : SetValue) → sets.new.items ≡ sets.old.items ++ unwrap_or slot.now.set d ∷ []) }
+    ensures { OnOk result ((d : SetValue)
+        → sets.new.items ≡ sets.old.items ++ unwrap_or slot.now.set d ∷ []) }
 {
     match &slot.set {
         Some(set) => {

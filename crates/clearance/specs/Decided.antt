@@ -22,19 +22,23 @@ is_crossing e u r m =
     && (int_le (pos 0) (along_of e u r)
     && (int_le (along_of e u r) (square_of e u)
     && (int_le (across_of e u r) (pos 0)
-    && (int_le (pos 0) (square_of e u +ℤ across_of e u r) && int_le (height_of e u r *ℤ height_of e u r) (m *ℤ square_of e u)))))
+    && (int_le (pos 0) (square_of e u +ℤ across_of e u r) && int_le (height_of e u r *ℤ height_of e u r)
+    (m *ℤ square_of e u)))))
 
 -- the edges ab and pq are near at their starts, at the start of one and the inside of the other, or inside of both
 abbrev pub is_corner_near : (a b p q : Vector) (m : ℤ) → Bool
 is_corner_near a b p q m =
     int_le (dot_of (minus p a) (minus p a)) m
-    || (is_beside (dot_of (minus q p) (minus q p)) (dot_of (minus p a) (minus p a)) (pos 0 -ℤ dot_of (minus p a) (minus q p)) m
-    || (is_beside (dot_of (minus b a) (minus b a)) (dot_of (minus p a) (minus p a)) (dot_of (minus p a) (minus b a)) m
+    || (is_beside (dot_of (minus q p) (minus q p)) (dot_of (minus p a) (minus p a))
+    (pos 0 -ℤ dot_of (minus p a) (minus q p)) m
+    || (is_beside (dot_of (minus b a) (minus b a)) (dot_of (minus p a) (minus p a))
+    (dot_of (minus p a) (minus b a)) m
     || is_crossing (minus b a) (minus q p) (minus p a) m))
 
 -- .. the edge ab and one of the edges of s
 abbrev pub is_row_near : (a b : Vector) (s : Face) (m : ℤ) → Bool
-is_row_near a b s m = is_corner_near a b s.a s.b m || (is_corner_near a b s.b s.c m || is_corner_near a b s.c s.a m)
+is_row_near a b s m = is_corner_near a b s.a s.b m ||
+    (is_corner_near a b s.b s.c m || is_corner_near a b s.c s.a m)
 
 -- .. one of the edges of t and one of the edges of s
 abbrev pub is_edge_near : (t s : Face) (m : ℤ) → Bool
@@ -82,7 +86,8 @@ is_near_triangles p q d = is_face_near (shape_of p) (shape_of q) (pos d *ℤ pos
 
 -- a triangle of the one list is near to one of the other
 unfoldable pub is_near_lists : List Triangle → List Triangle → ℕ → Bool
-is_near_lists ps qs d = list_any (λ (p : Triangle). list_any (λ (q : Triangle). is_near_triangles p q d) qs) ps
+is_near_lists ps qs d = list_any
+    (λ (p : Triangle). list_any (λ (q : Triangle). is_near_triangles p q d) qs) ps
 
 -- two elements are near
 unfoldable pub is_near : Element → Element → ℕ → Bool

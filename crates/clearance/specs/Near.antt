@@ -15,7 +15,9 @@ use Rattle.bim_model.specs.declared.element.Element.{Element}
 unfoldable pub FacesNear : Face → Face → ℕ → Type 0
 FacesNear t s d =
     (i : ℕ) × (j : ℕ) × (k : ℕ) × (l : ℕ) × (m : ℕ) × (n : ℕ) × (0 < i + j + k) × (0 < l + m + n)
-    × IsWithin d ((i + j + k) * (l + m + n)) (minus (times (pos (l + m + n)) (mix3 t (pos i) (pos j) (pos k))) (times (pos (i + j + k)) (mix3 s (pos l) (pos m) (pos n))))
+    × IsWithin d ((i + j + k) * (l + m + n))
+    (minus (times (pos (l + m + n)) (mix3 t (pos i) (pos j) (pos k)))
+    (times (pos (i + j + k)) (mix3 s (pos l) (pos m) (pos n))))
 
 -- two triangles are near
 abbrev pub Near : Triangle → Triangle → ℕ → Type 0
@@ -25,6 +27,7 @@ Near p q d = FacesNear (shape_of p) (shape_of q) d
 abbrev pub NearAny : Triangle → List Triangle → ℕ → Type 0
 NearAny p qs d = Any (λ (q : Triangle). Near p q d) qs
 
+-- a triangle of one list is near a triangle of the other
 abbrev pub ListsNear : List Triangle → List Triangle → ℕ → Type 0
 ListsNear ps qs d = Any (λ (p : Triangle). NearAny p qs d) ps
 

@@ -17,5 +17,6 @@ pub fn nearness_is_decided()
 
 /// Elements that are near at d have boxes whose gap is at most d on each axis.
 pub fn near_elements_have_close_boxes()
-    ensures { (a b : Element) (k m : Extent) (d : ℕ) → IsExtentOf a.triangles k → IsExtentOf b.triangles m → ElementsNear a b d → IsTrue (is_within k d m) }
+    ensures { (a b : Element) (k m : Extent) (d : ℕ) → IsExtentOf a.triangles k → IsExtentOf b.triangles m
+        → ElementsNear a b d → IsTrue (is_within k d m) }
 {}

@@ -46,7 +46,8 @@ part_tree pairs first total number =
 -- of all clashes of a version at most so many, from a place on
 abbrev pub clashes_tree : ℕ → Version → ℕ → ℕ → Data
 clashes_tree number version first count =
-    part_tree (pair_items version (take count (drop first (clashes version)))) first (length (clashes version))
+    part_tree (pair_items version (take count (drop first (clashes version)))) first
+    (length (clashes version))
     number
 
 -- so many buckets of a version are still to be checked

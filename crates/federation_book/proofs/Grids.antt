@@ -1,21 +1,14 @@
 -- Grids by their parts, and the grid of no models.
-use Rattle.std.proofs.Common.{◌≡◌, ◌≤◌, ℕ, List, [], ◌∷◌, length, refl, ◌∙◌, ap, subst, arith}
-use Rattle.std.specs.List.{All, AllZip}
+use Rattle.std.proofs.Common.{◌≡◌, ◌≤◌, ℕ, List, [], ◌∷◌, refl, ◌∙◌, ap, subst, arith}
+use Rattle.std.specs.List.{All}
 use Rattle.std.proofs.lemmas.List.Elements.{All-head}
 use Rattle.bim_model.specs.declared.geometry.Extent.{Extent}
-use Rattle.bim_model.specs.declared.named_model.NamedModel.{NamedModel}
 use Rattle.bim_model.specs.Keys.{subjects_of}
-use Rattle.bim_model.specs.Snapshots.{Version, IsSnapshot}
-use Rattle.bucket_grid.specs.declared.subjects.Member.{Member}
+use Rattle.bim_model.specs.Snapshots.{Version}
 use Rattle.bucket_grid.specs.declared.table.Bucket.{Bucket}
 use Rattle.bucket_grid.specs.Cells.{memberships, IsBucket}
 use Rattle.bucket_grid.specs.Grids.{GridValue, HasMemberships}
-use Rattle.bucket_grid.specs.Places.{IsPlace, IsGridBox}
 use Rattle.bucket_grid.specs.Subjects.{AreBoxes}
-use Rattle.bucket_grid.specs.Table.{IsTable}
-use Rattle.bucket_check.specs.Sets.{SetValue}
-use Rattle.clash_delta.specs.Slots.{IsSetOf}
-use Rattle.clash_publish.specs.Merged as merged
 use Rattle.book_history.proofs.Alone.{HasParts}
 
 no_boxes : (boxes : List Extent) → AreBoxes [] boxes → boxes ≡ []
@@ -39,10 +32,3 @@ no_buckets g h e = none_buckets g.buckets (subst (λ xs. All (λ (b : Bucket). I
 -- nor has it memberships
 pub no_memberships : (v : Version) (count : ℕ) → v.models ≡ [] → HasMemberships v count → count ≡ 0
 no_memberships v count e h = h.counted ∙ ap memberships (of_none v h.boxes e h.boxed)
-
--- sets that are right are sets of their buckets
-pub sets_are : (g : GridValue) (bs : List Bucket) (ss : List SetValue) → AllZip (λ (b : Bucket) (s : SetValue). IsSetOf g b.cell s) bs ss → AllZip (λ (b : Bucket) (s : SetValue). merged.IsSetOf g b.cell s) bs ss
-sets_are g [] [] h = h
-sets_are g [] (s ∷ ss) h = h
-sets_are g (b ∷ bs) [] h = h
-sets_are g (b ∷ bs) (s ∷ ss) h = (record { grid_is = h.0.grid_is; cell_is = h.0.cell_is }, sets_are g bs ss h.1)

@@ -14,4 +14,5 @@ IsFree request = (settings : Settings) (history : List Entry) → IsLegal settin
 -- what was given out before may be brought after
 abbrev pub GivenStays : BookState → BookState → Type 0
 GivenStays before after =
-    (work : BucketWork) → IsGiven before.settings before.journal work → IsGiven after.settings after.journal work
+    (work : BucketWork) → IsGiven before.settings before.journal work
+    → IsGiven after.settings after.journal work

@@ -3,7 +3,7 @@ ghost use Rattle.std.specs.Prelude.{◌≡◌, ◌≤◌, ◌↔◌, ℕ, List, 
 ghost use Rattle.std.proofs.Props.{props};
 ghost use Rattle.http_frame.specs.Stages.{IsSafe, IsSafe-prop, Keeps, Grows, is_failed, is_before};
 
-use crate::stage::{START, Stage};
+use crate::stage::{Awaited, START, Stage};
 use crate::steps::step;
 use crate::types::{FrameError, FrameFault, FrameStep};
 use crate::walk::{Spot, walk_on};
@@ -64,6 +64,32 @@ fn is_failed(stage: &Stage) -> bool
     }
 }
 
+// The length of the body that is awaited, where the head tells it; else 0.
+fn stated(stage: &Stage) -> usize {
+    match stage {
+        Stage::Body(pending) => match pending.body {
+            Awaited::Sized(count) => count,
+            Awaited::Chunked(_) => 0,
+            Awaited::Whole(_) => 0,
+        },
+        Stage::Head(_) => 0,
+        Stage::Failed(_) => 0,
+    }
+}
+
+// Takes the room for a body of a stated length before its next bytes: that of twice what has come, but not more than
+// the length, so that a head alone takes none. Where memory is refused nothing is taken.
+fn make_room(buf: &mut Vec<u8>, more: usize, count: usize)
+    ensures { buf.new.items ≡ buf.old.items }
+{
+    let wanted = buf.len().saturating_add(more);
+    if wanted > count || wanted <= buf.capacity() {
+        return;
+    }
+    let room = wanted.saturating_mul(2).min(count);
+    let _ = buf.reserve_exact(room - buf.len());
+}
+
 fn grow(buf: &mut Vec<u8>, at: usize, stage: &Stage, piece: &[u8]) -> Result<(), AllocError>
     requires { IsSafe stage.now buf.old.items at }
     ensures safe { IsSafe stage.now buf.new.items at }
@@ -73,6 +99,7 @@ fn grow(buf: &mut Vec<u8>, at: usize, stage: &Stage, piece: &[u8]) -> Result<(),
     if is_failed(stage) {
         return Ok(());
     }
+    make_room(buf, piece.len(), stated(stage));
     buf.extend_from_slice(piece)?;
     Ok(())
 }

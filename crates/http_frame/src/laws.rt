@@ -34,7 +34,8 @@ pub fn a_whole_line_may_become_a_head()
 pub fn answers_are_the_events()
     ensures first { (old new : List ℕ) (told mark : Bool) (acts : List Act) (es : List Event) (e : Ending)
         → Runs old told acts new mark
-        → Spells (old ++ given acts) told es e → (gs : List Event) × (es ≡ told_by acts ++ gs) × Spells new mark gs e }
+        → Spells (old ++ given acts) told es e
+        → (gs : List Event) × (es ≡ told_by acts ++ gs) × Spells new mark gs e }
     ensures more { (bytes : List ℕ) (told : Bool) (es : List Event) (e : Ending)
         → IsTold told bytes → IsRest bytes → Spells bytes told es e → es ≡ [] }
 {}

@@ -29,9 +29,11 @@ StopsAt bytes from at = (at ≤ length bytes) × Skips (drop from bytes) (drop a
 
 -- from this place on: the token that is cut next, the end of the bytes, or a stop where no token begins
 abbrev pub CutsFrom : List ℕ → ℕ → Result (Option Token) LexFault → Type 0
-CutsFrom bytes from (Ok (Some t)) = StopsAt bytes from t.start × (t.start < t.end) × IsFirst (drop t.start bytes) t.kind (t.end - t.start)
+CutsFrom bytes from (Ok (Some t)) =
+    StopsAt bytes from t.start × (t.start < t.end) × IsFirst (drop t.start bytes) t.kind (t.end - t.start)
 CutsFrom bytes from (Ok None) = StopsAt bytes from (length bytes)
-CutsFrom bytes from (Err (BadToken at)) = StopsAt bytes from at × (at < length bytes) × HasNone (drop at bytes)
+CutsFrom bytes from (Err (BadToken at)) =
+    StopsAt bytes from at × (at < length bytes) × HasNone (drop at bytes)
 
 -- these tokens are cut one after another, from this place on up to that one
 abbrev pub Tokens : List ℕ → ℕ → List Token → ℕ → Type 0

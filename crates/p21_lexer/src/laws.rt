@@ -9,5 +9,6 @@ pub fn one_cut()
     ensures answer { (bytes : List ℕ) (from : ℕ) (one other : Result (Option Token) LexFault)
         → CutsFrom bytes from one → CutsFrom bytes from other → one ≡ other }
     ensures tokens { (bytes : List ℕ) (from to end : ℕ) (some others : List Token)
-        → Tokens bytes from some to → Tokens bytes from others end → length some ≡ length others → some ≡ others }
+        → Tokens bytes from some to → Tokens bytes from others end → length some ≡ length others
+        → some ≡ others }
 {}

@@ -21,7 +21,8 @@ fn rises(p: V3, q: V3, a: V3, b: V3, c: V3, from: i128, to: i128) -> bool
     requires c_in { IsPoint c }
     requires from_in { unsigned_abs from ≤ height_limit }
     requires to_in { unsigned_abs to ≤ height_limit }
-    ensures { IsTrue result ↔ Rises from to (weight_a (at p) (at q) (face_at a b c)) (weight_b (at p) (at q) (face_at a b c)) (weight_c (at p) (at q) (face_at a b c)) }
+    ensures { IsTrue result ↔ Rises from to (weight_a (at p) (at q) (face_at a b c))
+        (weight_b (at p) (at q) (face_at a b c)) (weight_c (at p) (at q) (face_at a b c)) }
 {
     if from > 0 {
         return false;

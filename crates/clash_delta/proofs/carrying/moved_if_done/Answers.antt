@@ -3,9 +3,8 @@ use Rattle.bucket_grid.specs.declared.table.Bucket.{Bucket}
 use Rattle.bucket_grid.specs.Grids.{GridValue}
 use Rattle.bucket_grid.specs.Table.{IsTable}
 use Rattle.bucket_check.specs.declared.work.BucketWork.{BucketWork}
-use Rattle.bucket_check.specs.Sets.{SetValue, IsUnmoved}
+use Rattle.bucket_check.specs.Sets.{SetValue, IsUnmoved, IsSetOf}
 use Rattle.clash_delta.specs.declared.slot.Slot.{Slot}
-use Rattle.clash_delta.specs.Slots.{IsSetOf}
 use Rattle.clash_delta.specs.Places.{Rise}
 use Rattle.clash_delta.proofs.Buckets.{old_right, is_moved, isnt_carried}
 use Rattle.clash_delta.proofs.carrying.moved_if_done.Goals as goal

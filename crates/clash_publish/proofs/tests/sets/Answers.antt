@@ -5,8 +5,8 @@ use Rattle.bucket_grid.specs.declared.table.Bucket.{Bucket}
 use Rattle.bucket_grid.specs.Grids.{GridValue}
 use Rattle.bucket_grid.proofs.Zips.{zip_push}
 use Rattle.bucket_check.specs.declared.work.BucketWork.{BucketWork}
-use Rattle.bucket_check.specs.Sets.{SetValue}
-use Rattle.clash_publish.specs.Merged.{IsSetOf, AreSetsOf}
+use Rattle.bucket_check.specs.Sets.{SetValue, IsSetOf, own_places}
+use Rattle.clash_publish.specs.Merged.{AreSetsOf}
 use Rattle.clash_publish.proofs.tests.sets.Goals as goal
 
 -- one more set
@@ -28,8 +28,9 @@ pub loop-bucket-preserved : goal.loop-bucket-preserved
 loop-bucket-preserved g c =
     let same : c.in_ok-kept.kept ≡ c.in_ok-set.set = c.in_ok-kept.ensures in
     let work = ap (λ (s : SetValue). s.work) same ∙ c.in_ok-set.ensures.work in
+    let pairs = ap (λ (s : SetValue). s.pairs) same ∙ c.in_ok-set.ensures.pairs ∙ ap (λ (g : GridValue). own_places g c.bucket-item.result.cell) c.in_ok-shared.ensures in
     more c.args.grid.now c.buckets-buckets.result.now c.loop-bucket.sets.items c.push.new.self.items c.loop-bucket.bucket-index c.bucket-item.result c.in_ok-kept.kept c.loop-bucket-test.true c.bucket-item.is c.loop-bucket.invariant
-    (record { grid_is = ap (λ (w : BucketWork). w.grid) work ∙ c.in_ok-shared.ensures; cell_is = ap (λ (w : BucketWork). w.cell) work })
+    (record { grid_is = ap (λ (w : BucketWork). w.grid) work ∙ c.in_ok-shared.ensures; cell_is = ap (λ (w : BucketWork). w.cell) work; pairs_are = pairs })
     c.in_ok-push.ensures.items
 
 pub returns : goal.returns

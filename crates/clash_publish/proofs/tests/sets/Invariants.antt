@@ -1,8 +1,7 @@
 use Rattle.std.proofs.Common.{take}
 use Rattle.std.specs.List.{AllZip}
 use Rattle.bucket_grid.specs.declared.table.Bucket.{Bucket}
-use Rattle.bucket_check.specs.Sets.{SetValue}
-use Rattle.clash_publish.specs.Merged.{IsSetOf}
+use Rattle.bucket_check.specs.Sets.{SetValue, IsSetOf}
 use Rattle.clash_publish.proofs.tests.sets.Given as goal
 
 abbrev pub invariant-loop-bucket : goal.invariant-loop-bucket

@@ -2,7 +2,7 @@ use Rattle.std.proofs.Common.{◌≡◌, ◌+◌, sym, ◌∙◌, ap, subst}
 use Rattle.book_history.specs.declared.replies.BookReply.{BookReply}
 use Rattle.book_history.specs.declared.requests.BookRequest.TheVariants.{TakeWork, Finish}
 use Rattle.book_history.specs.Legal.{IsLegal}
-use Rattle.bim_session.specs.Works.{IsSetOf}
+use Rattle.bim_session.specs.Works.{IsFoundFor}
 use Rattle.bim_server.specs.Loop.{ServerState, with_turn}
 use Rattle.bim_server.specs.Working.{GivesOut}
 use Rattle.bim_server.proofs.Giving.{gives_some, set_legal}
@@ -18,7 +18,7 @@ call-requires-2 c =
     let s : ServerState = c.args.self.now in
     let whole : ServerState = record { settings = c.self.inside.book.settings; history = c.self.inside.book.journal; turns = c.self.inside.turns } in
     let given : GivesOut s c.in-Work.order = sym (ap (λ (r : BookReply). r.body) c.in_ok-receipt.ensures.receipt.1) ∙ c.in-Work.is in
-    let found : IsSetOf c.in-Work.order c.in_ok-set.set = subst (λ o. IsSetOf o c.in_ok-set.set) c.in-Work.order-is c.in_ok-set.ensures.set in
+    let found : IsFoundFor c.in-Work.order c.in_ok-set.set = subst (λ o. IsFoundFor o c.in_ok-set.set) c.in-Work.order-is c.in_ok-set.ensures.set in
     let legal = set_legal s c.in-Work.order c.in_ok-set.set given found c.in_ok-set.ensures.bucket in
     let same : with_turn (TakeWork 0) s ≡ whole = sym c.in_ok-receipt.ensures.receipt.2 ∙ sym c.self.view_is in
     subst (λ (x : ServerState). IsLegal x.settings x.history (Finish c.in_ok-set.set)) same legal

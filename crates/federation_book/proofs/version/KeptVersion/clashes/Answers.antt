@@ -1,12 +1,10 @@
 use Rattle.std.proofs.Common.{subst, sym}
 use Rattle.bucket_grid.specs.Grids.{GridValue}
 use Rattle.clash_publish.specs.Merged.{AreSetsOf}
-use Rattle.federation_book.proofs.Grids.{sets_are}
 use Rattle.federation_book.proofs.version.KeptVersion.clashes.Goals as goal
 
 pub of-requires : goal.of-requires
 of-requires c =
     let g = c.self.inside.grid in
-    let sets = c.in_ok-sets.sets.items in
     subst (λ (x : GridValue). AreSetsOf x c.deref.result.now) (sym c.in_ok-share.ensures)
-    (subst (AreSetsOf g) (sym c.deref.ensures.value) (sets_are g g.buckets sets (c.in_ok-sets.ensures.right g c.self.invariant.1)))
+    (subst (AreSetsOf g) (sym c.deref.ensures.value) (c.in_ok-sets.ensures.right g c.self.invariant.1))
