@@ -1,5 +1,6 @@
 -- What is said of a project: its topics, the comments on them, and their viewpoints (BCF API 3.0).
 use Rattle.std.specs.Prelude.{ℕ, ◌+◌, ◌≤◌, ◌++◌, List, [], ◌∷◌, length, All, Option}
+use Rattle.std.specs.Map.{keys_of}
 use Rattle.bim_model.specs.declared.topic.Author.{Author}
 use Rattle.bcf_topics.specs.declared.body.TopicBody.{TopicBody}
 use Rattle.bcf_topics.specs.declared.topic.Topic.{Topic}
@@ -105,7 +106,7 @@ view_removed board topic serial = record {
 -- the numbers are those of objects that were made, and there are no more objects than were made
 pub record IsBoard (board : BoardState) : Type 0 where
   pub topics : All (λ (t : Topic). t.serial ≤ board.made) board.discussion.topics
-  pub views : All (λ e. e.0.0 ≤ board.made) board.views
+  pub views : All (λ p. p.0 ≤ board.made) (keys_of board.views)
   pub few_topics : length board.discussion.topics ≤ board.made
   pub few_comments : length board.discussion.comments ≤ board.made
   pub few_views : length board.views ≤ board.made
