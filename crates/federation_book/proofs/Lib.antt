@@ -14,3 +14,5 @@ pub mod Finishing
 pub mod Acting
 pub mod Outcomes
 pub mod Changing
+pub mod Finding
+pub mod Noting
