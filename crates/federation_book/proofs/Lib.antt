@@ -16,3 +16,4 @@ pub mod Outcomes
 pub mod Changing
 pub mod Finding
 pub mod Noting
+pub mod Subjects

@@ -26,6 +26,8 @@ pub use book_history::{
 };
 
 #[cfg(test)]
+mod bcf_tests;
+#[cfg(test)]
 mod clash_tests;
 #[cfg(test)]
 mod desk;

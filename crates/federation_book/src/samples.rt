@@ -3,6 +3,7 @@ ghost use Rattle.std.specs.Prelude.{◌<◌, IfOk};
 ghost use Rattle.federation_book.specs.AnyTime.{IsFree};
 
 use bcf_topics::{CommentIn, TopicBody};
+use bcf_viewpoints::{CheckedBody, ViewBody};
 use bim_model::{
     Author, ClassTest, Element, Guid, Items, Model, ModelTest, Moment, PER_MM, Point, Rule,
     RuleKind, Rules, Shared, StoreyTest, Text, Triangle, id_of,
@@ -211,5 +212,16 @@ pub fn said(
     Ok(CommentIn {
         comment: Text::of(alloc, comment)?,
         viewpoint,
+    })
+}
+
+/// A viewpoint that shows everything.
+pub fn seen(alloc: Global) -> CheckedBody {
+    CheckedBody::of(ViewBody {
+        index: None,
+        selection: Items::new(alloc),
+        coloring: Items::new(alloc),
+        default_visibility: true,
+        exceptions: Items::new(alloc),
     })
 }

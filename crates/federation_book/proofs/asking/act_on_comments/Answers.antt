@@ -1,6 +1,7 @@
 use Rattle.book_history.specs.declared.requests.BookRequest.TheVariants as request
 use Rattle.federation_book.specs.Kept.{settings_of}
 use Rattle.federation_book.proofs.Acting.{done_as, told_as}
+use Rattle.federation_book.proofs.Subjects.{comments_only}
 use Rattle.federation_book.proofs.asking.act_on_comments.Goals as goal
 
 pub returns-in-ListComments-clause-done : goal.returns-in-ListComments-clause-done
@@ -25,3 +26,7 @@ pub returns-in-DeleteComment-clause-done : goal.returns-in-DeleteComment-clause-
 returns-in-DeleteComment-clause-done c =
     done_as c.delete_comment.result (settings_of c.args.state.now) c.args.state.now.entries.items c.delete_comment.new.state.entries.items c.args.stamp c.args.request
     (request.DeleteComment c.in-DeleteComment.project c.in-DeleteComment.topic c.in-DeleteComment.comment) c.in-DeleteComment.is c.delete_comment.ensures.done
+
+pub prove-unreachable-requires : goal.prove-unreachable-requires
+prove-unreachable-requires c =
+    comments_only c.args.request c.requires.subject c.in_default.not-ListComments c.in_default.not-ReadComment c.in_default.not-PostComment c.in_default.not-PutComment c.in_default.not-DeleteComment

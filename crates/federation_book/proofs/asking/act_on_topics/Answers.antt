@@ -1,6 +1,7 @@
 use Rattle.book_history.specs.declared.requests.BookRequest.TheVariants as request
 use Rattle.federation_book.specs.Kept.{settings_of}
 use Rattle.federation_book.proofs.Acting.{done_as, told_as}
+use Rattle.federation_book.proofs.Subjects.{topics_only}
 use Rattle.federation_book.proofs.asking.act_on_topics.Goals as goal
 
 pub returns-in-ClashTopic-clause-done : goal.returns-in-ClashTopic-clause-done
@@ -30,3 +31,7 @@ pub returns-in-DeleteTopic-clause-done : goal.returns-in-DeleteTopic-clause-done
 returns-in-DeleteTopic-clause-done c =
     done_as c.delete_topic.result (settings_of c.args.state.now) c.args.state.now.entries.items c.delete_topic.new.state.entries.items c.args.stamp c.args.request
     (request.DeleteTopic c.in-DeleteTopic.project c.in-DeleteTopic.topic) c.in-DeleteTopic.is c.delete_topic.ensures.done
+
+pub prove-unreachable-requires : goal.prove-unreachable-requires
+prove-unreachable-requires c =
+    topics_only c.args.request c.requires.subject c.in_default.not-ClashTopic c.in_default.not-ListTopics c.in_default.not-ReadTopic c.in_default.not-PostTopic c.in_default.not-PutTopic c.in_default.not-DeleteTopic

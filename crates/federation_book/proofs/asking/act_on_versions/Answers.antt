@@ -4,6 +4,7 @@ use Rattle.book_history.specs.Requests.{in_project, changed, removed, version_re
 use Rattle.federation_book.specs.Kept.{settings_of}
 use Rattle.federation_book.proofs.Acting.{number_is, number_there, reply_is, added_is, asked_is, done_of}
 use Rattle.federation_book.proofs.Answering.{read_adds, clashes_add}
+use Rattle.federation_book.proofs.Subjects.{versions_only}
 use Rattle.federation_book.proofs.asking.act_on_versions.Goals as goal
 
 pub upload-requires-clause-number : goal.upload-requires-clause-number
@@ -75,3 +76,7 @@ returns-in-ReadClashes-clause-done c =
     done_of c.read_clashes.result h c.read_clashes.new.state.entries.items c.args.stamp (outcome_of s h c.args.request)
     (reply_is c.read_clashes.result h (in_project c.project_of-in-ReadClashes.result (clashes_read h c.in-ReadClashes.version c.in-ReadClashes.first c.in-ReadClashes.pairs)) (outcome_of s h c.args.request) (ap (λ n. in_project n (clashes_read h c.in-ReadClashes.version c.in-ReadClashes.first c.in-ReadClashes.pairs)) number ∙ ap (outcome_of s h) (sym c.in-ReadClashes.is)) c.read_clashes.ensures.reply)
     (asked_is c.read_clashes.result h (in_project c.project_of-in-ReadClashes.result (clashes_read h c.in-ReadClashes.version c.in-ReadClashes.first c.in-ReadClashes.pairs)) (outcome_of s h c.args.request) (ap (λ n. in_project n (clashes_read h c.in-ReadClashes.version c.in-ReadClashes.first c.in-ReadClashes.pairs)) number ∙ ap (outcome_of s h) (sym c.in-ReadClashes.is)) c.read_clashes.new.state.entries.items c.args.stamp c.read_clashes.ensures.entries (clashes_add c.args.stamp h c.in-ReadClashes.version c.in-ReadClashes.first c.in-ReadClashes.pairs c.project_of-in-ReadClashes.result))
+
+pub prove-unreachable-requires : goal.prove-unreachable-requires
+prove-unreachable-requires c =
+    versions_only c.args.request c.requires.subject c.in_default.not-Upload c.in_default.not-Remove c.in_default.not-SetRules c.in_default.not-ReadVersion c.in_default.not-ReadClashes

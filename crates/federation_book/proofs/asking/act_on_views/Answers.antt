@@ -1,6 +1,7 @@
 use Rattle.book_history.specs.declared.requests.BookRequest.TheVariants as request
 use Rattle.federation_book.specs.Kept.{settings_of}
 use Rattle.federation_book.proofs.Acting.{done_as, told_as}
+use Rattle.federation_book.proofs.Subjects.{views_only}
 use Rattle.federation_book.proofs.asking.act_on_views.Goals as goal
 
 pub returns-in-ListViews-clause-done : goal.returns-in-ListViews-clause-done
@@ -20,3 +21,7 @@ pub returns-in-DeleteView-clause-done : goal.returns-in-DeleteView-clause-done
 returns-in-DeleteView-clause-done c =
     done_as c.delete_view.result (settings_of c.args.state.now) c.args.state.now.entries.items c.delete_view.new.state.entries.items c.args.stamp c.args.request
     (request.DeleteView c.in-DeleteView.project c.in-DeleteView.topic c.in-DeleteView.view) c.in-DeleteView.is c.delete_view.ensures.done
+
+pub prove-unreachable-requires : goal.prove-unreachable-requires
+prove-unreachable-requires c =
+    views_only c.args.request c.requires.subject c.in_default.not-ListViews c.in_default.not-ReadView c.in_default.not-PostView c.in_default.not-DeleteView

@@ -4,6 +4,7 @@ use Rattle.book_history.specs.Legal.{IsLegal}
 use Rattle.federation_book.specs.Kept.{settings_of}
 use Rattle.federation_book.proofs.Acting.{reply_is, added_is, asked_is, done_of}
 use Rattle.federation_book.proofs.Answering.{work_adds}
+use Rattle.federation_book.proofs.Subjects.{work_only}
 use Rattle.federation_book.proofs.asking.act_on_work.Goals as goal
 
 pub returns-in-TakeWork-clause-done : goal.returns-in-TakeWork-clause-done
@@ -26,3 +27,7 @@ returns-in-Finish-clause-done c =
     done_of c.finish.result h k c.args.stamp (outcome_of s h c.args.request)
     (reply_is c.finish.result h (finished h c.in-Finish.set) (outcome_of s h c.args.request) (ap (outcome_of s h) (sym c.in-Finish.is)) c.finish.ensures.reply)
     (added_is c.finish.result h (finished h c.in-Finish.set) (outcome_of s h c.args.request) (ap (outcome_of s h) (sym c.in-Finish.is)) k c.args.stamp c.finish.ensures.added)
+
+pub prove-unreachable-requires : goal.prove-unreachable-requires
+prove-unreachable-requires c =
+    work_only c.args.request c.requires.subject c.in_default.not-TakeWork c.in_default.not-Finish
