@@ -10,7 +10,7 @@ use Rattle.book_history.specs.declared.changes.Entry.{Entry}
 use Rattle.book_history.specs.declared.faults.BookFault.{BookFault}
 use Rattle.book_history.specs.declared.replies.ReplyBody.{ReplyBody}
 use Rattle.book_history.specs.declared.replies.ReplyBody.TheVariants as reply
-use Rattle.book_history.specs.Requests.{Outcome, Refusal, found}
+use Rattle.book_history.specs.Requests.{Outcome, Refusal, Answer, found}
 use Rattle.federation_book.specs.Done.{IsDone, IsTold}
 
 -- ---- a refusal
@@ -19,6 +19,10 @@ refusal_done h stamp fault = record { reply = refl; added = sym (append-nil h) }
 
 pub refusal_told : (h : List Entry) (fault : BookFault) → IsTold h (Refusal fault) (reply.Refused fault)
 refusal_told h fault = record { reply = refl; nothing = λ stamp. refl }
+
+-- ---- an answer
+pub answer_told : (h : List Entry) (body meant : ReplyBody) → body ≡ meant → IsTold h (Answer meant) body
+answer_told h body meant e = record { reply = e; nothing = λ stamp. refl }
 
 -- ---- nothing is found
 pub none_done : {A : Type 0} (h : List Entry) (stamp : Stamp) (fault : BookFault) (o : Option A) (f : A → Outcome) → o ≡ None → IsDone h h stamp (found fault o f) (reply.Refused fault)

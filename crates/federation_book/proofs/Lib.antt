@@ -17,3 +17,4 @@ pub mod Changing
 pub mod Finding
 pub mod Noting
 pub mod Subjects
+pub mod Counts

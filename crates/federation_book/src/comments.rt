@@ -21,11 +21,12 @@ pub fn list_comments(state: &State, project: u128, topic: u128) -> Result<ReplyB
     let Some(number) = state.number_of(project) else {
         return Ok(ReplyBody::Refused(BookFault::NoProject));
     };
-    let Some(topic) = state.board(number).topic_named(number, topic) else {
+    let board = state.board(number);
+    let Some(topic) = board.topic_named(number, topic) else {
         return Ok(ReplyBody::Refused(BookFault::NoTopic));
     };
     let alloc = *state.entries.allocator();
-    let comments = state.board(number).comments(alloc, topic)?;
+    let comments = board.comments(alloc, topic)?;
     Ok(ReplyBody::CommentList(comments))
 }
 
@@ -38,14 +39,15 @@ pub fn read_comment(state: &State, project: u128, topic: u128, comment: u128) ->
     let Some(number) = state.number_of(project) else {
         return Ok(ReplyBody::Refused(BookFault::NoProject));
     };
-    let Some(topic) = state.board(number).topic_named(number, topic) else {
+    let board = state.board(number);
+    let Some(topic) = board.topic_named(number, topic) else {
         return Ok(ReplyBody::Refused(BookFault::NoTopic));
     };
-    let Some(serial) = state.board(number).comment_named(number, topic, comment) else {
+    let Some(serial) = board.comment_named(number, topic, comment) else {
         return Ok(ReplyBody::Refused(BookFault::NoComment));
     };
     let alloc = *state.entries.allocator();
-    match state.board(number).comment(topic, serial) {
+    match board.comment(topic, serial) {
         Some(comment) => Ok(ReplyBody::CommentIs(comment.copy(alloc)?)),
         None => Ok(ReplyBody::Gone),
     }
@@ -72,10 +74,11 @@ pub fn post_comment(
     let Some(number) = state.number_of(project) else {
         return Ok(ReplyBody::Refused(BookFault::NoProject));
     };
-    let Some(topic) = state.board(number).topic_named(number, topic) else {
+    let board = state.board(number);
+    let Some(topic) = board.topic_named(number, topic) else {
         return Ok(ReplyBody::Refused(BookFault::NoTopic));
     };
-    let Some(body) = state.board(number).comment_kept(number, topic, body) else {
+    let Some(body) = board.comment_kept(number, topic, body) else {
         return Ok(ReplyBody::Refused(BookFault::NoViewpoint));
     };
     let change = Change::PostComment {
@@ -109,13 +112,14 @@ pub fn put_comment(
     let Some(number) = state.number_of(project) else {
         return Ok(ReplyBody::Refused(BookFault::NoProject));
     };
-    let Some(topic) = state.board(number).topic_named(number, topic) else {
+    let board = state.board(number);
+    let Some(topic) = board.topic_named(number, topic) else {
         return Ok(ReplyBody::Refused(BookFault::NoTopic));
     };
-    let Some(comment) = state.board(number).comment_named(number, topic, comment) else {
+    let Some(comment) = board.comment_named(number, topic, comment) else {
         return Ok(ReplyBody::Refused(BookFault::NoComment));
     };
-    let Some(body) = state.board(number).comment_kept(number, topic, body) else {
+    let Some(body) = board.comment_kept(number, topic, body) else {
         return Ok(ReplyBody::Refused(BookFault::NoViewpoint));
     };
     let change = Change::PutComment {
@@ -147,10 +151,11 @@ pub fn delete_comment(
     let Some(number) = state.number_of(project) else {
         return Ok(ReplyBody::Refused(BookFault::NoProject));
     };
-    let Some(topic) = state.board(number).topic_named(number, topic) else {
+    let board = state.board(number);
+    let Some(topic) = board.topic_named(number, topic) else {
         return Ok(ReplyBody::Refused(BookFault::NoTopic));
     };
-    let Some(comment) = state.board(number).comment_named(number, topic, comment) else {
+    let Some(comment) = board.comment_named(number, topic, comment) else {
         return Ok(ReplyBody::Refused(BookFault::NoComment));
     };
     let change = Change::DeleteComment { topic, comment };

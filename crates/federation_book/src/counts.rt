@@ -1,5 +1,5 @@
 //! How many topics, comments and viewpoints there may be.
-ghost use Rattle.std.specs.Prelude.{◌≡◌, length};
+ghost use Rattle.std.specs.Prelude.{◌≡◌, ◌<◌, ◌^◌, length};
 ghost use Rattle.book_history.specs.History.{topics_in, comments_in, views_in};
 ghost use Rattle.book_history.specs.Refusals.{first_of, topics_full, comments_full, views_full, too_many};
 ghost use Rattle.federation_book.specs.Kept.{IsKept, settings_of};
@@ -11,7 +11,8 @@ impl State {
     // How many topics all projects have.
     fn topic_count(&self) -> u64
         requires { IsKept self.now }
-        ensures { result ≡ topics_in (length self.now.projects.items) self.now.entries.items }
+        ensures count { result ≡ topics_in (length self.now.projects.items) self.now.entries.items }
+        ensures few { result < 2 ^ 63 }
     {
         let mut count = 0_u64;
         for index in 0..self.projects.len() {
@@ -23,7 +24,8 @@ impl State {
     // .. comments.
     fn comment_count(&self) -> u64
         requires { IsKept self.now }
-        ensures { result ≡ comments_in (length self.now.projects.items) self.now.entries.items }
+        ensures count { result ≡ comments_in (length self.now.projects.items) self.now.entries.items }
+        ensures few { result < 2 ^ 63 }
     {
         let mut count = 0_u64;
         for index in 0..self.projects.len() {
@@ -35,7 +37,8 @@ impl State {
     // .. viewpoints.
     fn view_count(&self) -> u64
         requires { IsKept self.now }
-        ensures { result ≡ views_in (length self.now.projects.items) self.now.entries.items }
+        ensures count { result ≡ views_in (length self.now.projects.items) self.now.entries.items }
+        ensures few { result < 2 ^ 63 }
     {
         let mut count = 0_u64;
         for index in 0..self.projects.len() {

@@ -22,7 +22,8 @@ pub fn list_topics(state: &State, project: u128) -> Result<ReplyBody, AllocError
         return Ok(ReplyBody::Refused(BookFault::NoProject));
     };
     let alloc = *state.entries.allocator();
-    let topics = state.board(number).topics(alloc)?;
+    let board = state.board(number);
+    let topics = board.topics(alloc)?;
     Ok(ReplyBody::TopicList(topics))
 }
 
@@ -35,11 +36,12 @@ pub fn read_topic(state: &State, project: u128, topic: u128) -> Result<ReplyBody
     let Some(number) = state.number_of(project) else {
         return Ok(ReplyBody::Refused(BookFault::NoProject));
     };
-    let Some(serial) = state.board(number).topic_named(number, topic) else {
+    let board = state.board(number);
+    let Some(serial) = board.topic_named(number, topic) else {
         return Ok(ReplyBody::Refused(BookFault::NoTopic));
     };
     let alloc = *state.entries.allocator();
-    match state.board(number).topic(serial) {
+    match board.topic(serial) {
         Some(topic) => Ok(ReplyBody::TopicIs(topic.copy(alloc)?)),
         None => Ok(ReplyBody::Gone),
     }
@@ -94,7 +96,8 @@ pub fn put_topic(
     let Some(number) = state.number_of(project) else {
         return Ok(ReplyBody::Refused(BookFault::NoProject));
     };
-    let Some(topic) = state.board(number).topic_named(number, topic) else {
+    let board = state.board(number);
+    let Some(topic) = board.topic_named(number, topic) else {
         return Ok(ReplyBody::Refused(BookFault::NoTopic));
     };
     let change = Change::PutTopic {
@@ -124,7 +127,8 @@ pub fn delete_topic(
     let Some(number) = state.number_of(project) else {
         return Ok(ReplyBody::Refused(BookFault::NoProject));
     };
-    let Some(topic) = state.board(number).topic_named(number, topic) else {
+    let board = state.board(number);
+    let Some(topic) = board.topic_named(number, topic) else {
         return Ok(ReplyBody::Refused(BookFault::NoTopic));
     };
     note(state, number, stamp, Change::DeleteTopic { topic }, None, 0)

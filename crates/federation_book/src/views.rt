@@ -20,10 +20,11 @@ pub fn list_views(state: &State, project: u128, topic: u128) -> Result<ReplyBody
     let Some(number) = state.number_of(project) else {
         return Ok(ReplyBody::Refused(BookFault::NoProject));
     };
-    let Some(topic) = state.board(number).topic_named(number, topic) else {
+    let board = state.board(number);
+    let Some(topic) = board.topic_named(number, topic) else {
         return Ok(ReplyBody::Refused(BookFault::NoTopic));
     };
-    let views = state.board(number).views(topic)?;
+    let views = board.views(topic)?;
     Ok(ReplyBody::ViewList(views))
 }
 
@@ -36,14 +37,15 @@ pub fn read_view(state: &State, project: u128, topic: u128, view: u128) -> Resul
     let Some(number) = state.number_of(project) else {
         return Ok(ReplyBody::Refused(BookFault::NoProject));
     };
-    let Some(topic) = state.board(number).topic_named(number, topic) else {
+    let board = state.board(number);
+    let Some(topic) = board.topic_named(number, topic) else {
         return Ok(ReplyBody::Refused(BookFault::NoTopic));
     };
-    let Some(serial) = state.board(number).view_named(number, topic, view) else {
+    let Some(serial) = board.view_named(number, topic, view) else {
         return Ok(ReplyBody::Refused(BookFault::NoViewpoint));
     };
     let alloc = *state.entries.allocator();
-    match state.board(number).view(alloc, topic, serial)? {
+    match board.view(alloc, topic, serial)? {
         Some(view) => Ok(ReplyBody::View(view)),
         None => Ok(ReplyBody::Gone),
     }
@@ -69,7 +71,8 @@ pub fn post_view(
     let Some(number) = state.number_of(project) else {
         return Ok(ReplyBody::Refused(BookFault::NoProject));
     };
-    let Some(topic) = state.board(number).topic_named(number, topic) else {
+    let board = state.board(number);
+    let Some(topic) = board.topic_named(number, topic) else {
         return Ok(ReplyBody::Refused(BookFault::NoTopic));
     };
     let change = Change::PostView {
@@ -99,10 +102,11 @@ pub fn delete_view(
     let Some(number) = state.number_of(project) else {
         return Ok(ReplyBody::Refused(BookFault::NoProject));
     };
-    let Some(topic) = state.board(number).topic_named(number, topic) else {
+    let board = state.board(number);
+    let Some(topic) = board.topic_named(number, topic) else {
         return Ok(ReplyBody::Refused(BookFault::NoTopic));
     };
-    let Some(view) = state.board(number).view_named(number, topic, view) else {
+    let Some(view) = board.view_named(number, topic, view) else {
         return Ok(ReplyBody::Refused(BookFault::NoViewpoint));
     };
     let change = Change::DeleteView { topic, view };
