@@ -15,6 +15,7 @@ pub mod Acting
 pub mod Outcomes
 pub mod Changing
 pub mod Finding
-pub mod Noting
+pub mod Noted
 pub mod Subjects
-pub mod Counts
+pub mod Counted
+pub mod Clashing

@@ -3,7 +3,7 @@ use Rattle.book_history.specs.History.{state_of}
 use Rattle.book_history.specs.Refusals.{too_many, store_full}
 use Rattle.book_history.specs.Weights.{told, text_of}
 use Rattle.federation_book.specs.Kept.{settings_of}
-use Rattle.federation_book.proofs.Noting.{behind_some, behind_all, no_triangles, left_stays}
+use Rattle.federation_book.proofs.Noted.{behind_some, behind_all, no_triangles, left_stays}
 use Rattle.federation_book.proofs.noting.not_noted.Goals as goal
 
 pub returns-in-Some : goal.returns-in-Some

@@ -11,7 +11,7 @@ use Rattle.federation_book.specs.declared.state.State.{State}
 use Rattle.federation_book.specs.Kept.{KeepsProject, settings_of}
 use Rattle.federation_book.specs.Noting.{Fits}
 use Rattle.federation_book.proofs.Accepting.{journal_room, text_room, kept_after, kept_asked}
-use Rattle.federation_book.proofs.Noting.{noted_refused, noted_done, store_none, made_room, fits_note, noted_keeps, no_triangles}
+use Rattle.federation_book.proofs.Noted.{noted_refused, noted_done, store_none, made_room, fits_note, noted_keeps, no_triangles}
 use Rattle.federation_book.proofs.Taking.{kept_numbered}
 use Rattle.federation_book.proofs.noting.note.Goals as goal
 
