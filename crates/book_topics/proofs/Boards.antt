@@ -1,5 +1,5 @@
 -- What holds of a board holds of what is made of it.
-use Rattle.std.proofs.Common.{◌≡◌, ◌+◌, ◌<◌, ◌≤◌, ◌==◌, ℕ, Bool, true, false, not, cond, List, [], ◌∷◌, ◌++◌, length, filter, map, Option, Some, None, IsSome, IfSome, refl, sym, ◌∙◌, ap, ap₂, subst, arith, length-append}
+use Rattle.std.proofs.Common.{◌≡◌, ◌+◌, ◌<◌, ◌≤◌, ◌==◌, ℕ, Bool, true, false, not, cond, List, [], ◌∷◌, ◌++◌, length, filter, map, Option, Some, None, is_some, Result, Ok, Err, IsSome, inl, inr, refl, sym, ◌∙◌, ap, ap₂, subst, arith, length-append}
 use Rattle.std.specs.List.{All, find}
 use Rattle.std.specs.declared.cmp.Ordering.{Ordering}
 use Rattle.std.specs.declared.cmp.Ordering.TheVariants.{Less, Equal, Greater}
@@ -10,17 +10,23 @@ use Rattle.std.proofs.lemmas.Bool.{eq-eqb, ne_eqb, le-ltb}
 use Rattle.std.proofs.lemmas.Bool.Decides.{eqb_tells}
 use Rattle.std.proofs.lemmas.List.Elements.{All-nil, All-cons, All-head, All-tail, All-map, All-weaker, All-filter, All-push}
 use Rattle.std.proofs.lemmas.Map.Views.{All-keys-insert_entry, All-map-remove_entry}
+use Rattle.bim_model.specs.declared.guid.Guid.{Guid}
 use Rattle.bim_model.specs.declared.topic.Author.{Author}
+use Rattle.bim_model.specs.Guids.{IsGuid}
 use Rattle.bcf_topics.specs.declared.body.TopicBody.{TopicBody}
 use Rattle.bcf_topics.specs.declared.topic.Topic.{Topic}
 use Rattle.bcf_topics.specs.declared.comment.Comment.{Comment}
 use Rattle.bcf_topics.specs.declared.comment.CommentBody.{CommentBody}
 use Rattle.bcf_topics.specs.Topics.{topic_of, new_topic, topic_put, topics_put, topics_but}
 use Rattle.bcf_topics.specs.Comments.{Comments, by_place, is_place, comment_put, put_over, comment_of, comments_with, comments_put, comments_but, comments_off}
+use Rattle.bcf_topics.specs.Discussions.{Discussion, topic_refusal, comment_refusal, answer_of, IsAnswer}
+use Rattle.bcf_topics.specs.declared.topics.TopicError.{TopicError}
+use Rattle.bcf_topics.specs.declared.topics.TopicError.TheVariants.{NoTopic, NoComment, Memory}
+use Rattle.bcf_viewpoints.specs.Components.{IsComponent, IsColoring}
 use Rattle.bcf_viewpoints.specs.declared.view.ViewBody.{ViewBody}
-use Rattle.bcf_viewpoints.specs.Views.{Views, views_with, views_but, views_off}
+use Rattle.bcf_viewpoints.specs.Views.{Views, IsViewBody, views_with, views_but, views_off}
 use Rattle.book_topics.specs.Boards.{BoardState, blank, next_serial, topic_at, topic_added, topic_replaced, topic_removed, comment_added, comment_replaced, comment_removed, view_added, view_removed, IsBoard}
-use Rattle.book_topics.specs.OfClashes.{clash_body, clash_view, clash_added}
+use Rattle.book_topics.specs.OfClashes.{clash_body, component_of, clash_view, clash_added}
 
 by_bool : {A : Type 0} (P : A → Type 0) (b : Bool) (x y : A) → P x → P y → P (cond b x y)
 by_bool P true x y px py = px
@@ -142,21 +148,21 @@ off_early : (n topic : ℕ) (vs : Views) → All (Early n) (keys_of vs) → All 
 unfolding views_off
 off_early n topic vs h = keys_filter (Early n) (λ e. not (e.0.0 == topic)) vs h
 
+number_here : (n serial : ℕ) (t : Topic) (o : Option Topic) → t.serial ≤ n → (IsSome o → serial ≤ n) → IsSome (cond (t.serial == serial) (Some t) o) → serial ≤ n
+number_here n serial t o below rest there = elim (eqb_tells t.serial serial) [
+  | inl same ↦ let e = same.1 in omega (arith, e, below)
+  | inr other ↦ rest (rw other.0 at there)
+]
+
+number_among : (n serial : ℕ) (ts : List Topic) → All (Below n) ts → IsSome (topic_of serial ts) → serial ≤ n
+unfolding topic_of
+number_among n serial [] h there = absurd there
+number_among n serial (t ∷ ts) h there =
+    number_here n serial t (topic_of serial ts) (All-head (Below n) t ts h) (number_among n serial ts (All-tail (Below n) t ts h)) there
+
 -- the number of a topic that is there is one of an object that was made
 pub topic_made : (b : BoardState) (serial : ℕ) → IsBoard b → IsSome (topic_at b serial) → serial ≤ b.made
-topic_made b serial is there = among b.made serial b.discussion.topics is.topics there
-  where
-    here : (n serial : ℕ) (t : Topic) (o : Option Topic) (below : t.serial ≤ n) → (IsSome o → serial ≤ n) → IsSome (cond (t.serial == serial) (Some t) o) → serial ≤ n
-    here n serial t o below rest there = elim (eqb_tells t.serial serial) [
-      | inl same ↦ let e = same.1 in omega (arith, e, below)
-      | inr other ↦ rest (rw other.0 at there)
-    ]
-
-    among : (n serial : ℕ) (ts : List Topic) → All (Below n) ts → IsSome (topic_of serial ts) → serial ≤ n
-    unfolding topic_of
-    among n serial [] h there = absurd there
-    among n serial (t ∷ ts) h there =
-        here n serial t (topic_of serial ts) (All-head (Below n) t ts h) (among n serial ts (All-tail (Below n) t ts h)) there
+topic_made b serial is there = number_among b.made serial b.discussion.topics is.topics there
 
 -- ---- the boards that are made
 pub blank_is : IsBoard blank
@@ -284,9 +290,50 @@ greater : (a b : ℕ) → b < a → nat_cmp a b ≡ Greater
 greater a b h = rw (le-ltb a b (omega arith), ne_eqb a b (λ e. absurd (omega arith))) refl
 
 pub taken_back : (made serial : ℕ) (body : ViewBody) (vs : Views) → All (λ p. p.0 ≤ made) (keys_of vs) → views_off (made + 1) (views_with (made + 1) serial body vs) ≡ vs
-unfolding views_off, views_with
+unfolding views_off views_with
 taken_back made serial body [] h = rw (eq-eqb (made + 1) (made + 1) refl) refl
 taken_back made serial body (e ∷ es) h =
     let low : e.0.0 ≤ made = All-head (Early made) e.0 (keys_of es) h in
     let rest = taken_back made serial body es (All-tail (Early made) e.0 (keys_of es) h) in
     rw (greater (made + 1) e.0.0 (omega (arith, low)), ne_eqb e.0.0 (made + 1) (λ same. absurd (omega (arith, low, same)))) (ap (λ l. e ∷ l) rest)
+
+-- ---- what calls need
+-- a new number is above all others
+pub below_next : (n : ℕ) (ts : List Topic) → All (λ (t : Topic). t.serial ≤ n) ts → All (λ (t : Topic). t.serial < n + 1) ts
+below_next n ts h = All-weaker (Below n) (λ (t : Topic). t.serial < n + 1) (λ t b. let c : t.serial ≤ n = b in omega (arith, c)) ts h
+
+-- the elements of a model are good components
+pub clash_view_good : (a b : Guid) → IsGuid a.chars → IsGuid b.chars → IsViewBody (clash_view a b)
+unfolding clash_view
+clash_view_good a b first second = record {
+  selection = All-cons IsComponent (component_of a) (component_of b ∷ []) first (All-cons IsComponent (component_of b) [] second (All-nil IsComponent));
+  coloring = All-nil IsColoring;
+  exceptions = All-nil IsComponent;
+}
+
+pub clash_added_is : (b : BoardState) (first second : Guid) (author : Author) → IsBoard b → IsBoard (clash_added b first second author)
+clash_added_is b first second author is =
+    view_added_is (topic_added b (clash_body first second) author) (next_serial b) (clash_view first second) (omega arith)
+    (topic_added_is b (clash_body first second) author is)
+
+-- ---- calls about what is there aren't refused
+there_is : {A : Type 0} (o : Option A) → IsSome o → is_some o ≡ true
+there_is None there = absurd there
+there_is (Some x) there = refl
+
+pub topic_unrefused : (serial : ℕ) (d : Discussion) → IsSome (topic_of serial d.topics) → topic_refusal serial d ≡ None
+topic_unrefused serial d there = ap (λ b. cond b None (Some NoTopic)) (there_is (topic_of serial d.topics) there)
+
+pub comment_unrefused : (topic serial : ℕ) (d : Discussion) → IsSome (topic_of topic d.topics) → IsSome (comment_of topic serial d.comments) → comment_refusal topic serial d ≡ None
+comment_unrefused topic serial d one two =
+    ap (λ b. cond b (cond (is_some (comment_of topic serial d.comments)) None (Some NoComment)) (Some NoTopic)) (there_is (topic_of topic d.topics) one)
+    ∙ ap (λ b. cond b None (Some NoComment)) (there_is (comment_of topic serial d.comments) two)
+
+pub answered_ok : (r : Result (Unit {0}) TopicError) (refusal : Option TopicError) → r ≡ answer_of refusal → refusal ≡ None → r ≡ Ok tt
+answered_ok r refusal is none = is ∙ ap answer_of none
+
+-- .. so that want of memory is their one error
+pub memory_alone : (error : TopicError) (refusal : Option TopicError) → IsAnswer (Err error) refusal → refusal ≡ None → error ≡ Memory
+memory_alone NoTopic refusal is none = cc
+memory_alone NoComment refusal is none = cc
+memory_alone Memory refusal is none = refl

@@ -19,3 +19,4 @@ pub mod Noted
 pub mod Subjects
 pub mod Counted
 pub mod Clashing
+pub mod Applied

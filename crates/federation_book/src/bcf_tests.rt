@@ -36,10 +36,7 @@ fn topic_line(alloc: Global, topic: &Topic) -> Result<String, AllocError> {
 
 fn comment_line(alloc: Global, comment: &Comment) -> Result<String, AllocError> {
     let (serial, topic) = (comment.serial, comment.topic);
-    let (text, maker) = (
-        comment.body.comment.as_str(),
-        comment.created.user.as_str(),
-    );
+    let (text, maker) = (comment.body.comment.as_str(), comment.created.user.as_str());
     match &comment.modified {
         Some(author) => {
             let editor = author.user.as_str();
@@ -211,7 +208,14 @@ fn a_topic_goes_with_what_was_said(rt: HostRuntime) -> Result<(), Fail> {
     let alloc = rt.alloc();
     let mut book = Book::new(alloc, 1, Limits::stated())?;
     talked(&rt, alloc, &mut book)?;
-    says(&rt, alloc, &mut book, 4, list_comments(pipe()), "1 comments")?;
+    says(
+        &rt,
+        alloc,
+        &mut book,
+        4,
+        list_comments(pipe()),
+        "1 comments",
+    )?;
     says(&rt, alloc, &mut book, 5, list_views(pipe()), "1 views")?;
     let gone = BookRequest::DeleteTopic {
         project: project(),
@@ -242,7 +246,13 @@ fn a_comment_outlives_its_viewpoint(rt: HostRuntime) -> Result<(), Fail> {
         comment: id_of(1, 3),
     };
     says(&rt, alloc, &mut book, 6, gone, "gone")?;
-    refuse(&rt, &mut book, 7, read_comment(id_of(1, 3)), BookFault::NoComment)
+    refuse(
+        &rt,
+        &mut book,
+        7,
+        read_comment(id_of(1, 3)),
+        BookFault::NoComment,
+    )
 }
 
 #[test]
@@ -272,12 +282,25 @@ fn too_many_are_refused(rt: HostRuntime) -> Result<(), Fail> {
     limits.comments = 0;
     limits.viewpoints = 0;
     let mut book = Book::new(alloc, 2, limits)?;
-    says(&rt, alloc, &mut book, 1, BookRequest::ListProjects, "2 projects")?;
+    says(
+        &rt,
+        alloc,
+        &mut book,
+        1,
+        BookRequest::ListProjects,
+        "2 projects",
+    )?;
     let post = to_post(alloc, project(), "Pipe")?;
     says(&rt, alloc, &mut book, 2, post, "topic 1 Pipe anna")?;
     let (count, limit) = (2, 1);
     let full = BookFault::TopicsFull { count, limit };
-    refuse(&rt, &mut book, 3, to_post(alloc, id_of(2, 0), "Pipe")?, full)?;
+    refuse(
+        &rt,
+        &mut book,
+        3,
+        to_post(alloc, id_of(2, 0), "Pipe")?,
+        full,
+    )?;
     let (count, limit) = (1, 0);
     let full = BookFault::CommentsFull { count, limit };
     refuse(&rt, &mut book, 4, to_comment(alloc, pipe(), None)?, full)?;

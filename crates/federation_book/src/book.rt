@@ -10,9 +10,7 @@ ghost use Rattle.federation_book.specs.Kept.{IsKept, settings_of};
 use crate::asking::act_on;
 use crate::project::Project;
 use crate::state::State;
-use book_history::{
-    BookReply, BookRequest, Entry, Limits, MOST_PROJECTS, Settings, Stamp,
-};
+use book_history::{BookReply, BookRequest, Entry, Limits, MOST_PROJECTS, Settings, Stamp};
 use std::alloc::{AllocError, Global};
 
 /// The history of the projects, and what follows from it.

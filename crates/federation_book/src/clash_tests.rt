@@ -8,8 +8,8 @@ ghost use Rattle.federation_book.specs.AnyTime.{IsFree};
 use crate::book::Book;
 use crate::desk::{ask, bring, change, is_finished, is_refused, read, refuse, take, work};
 use crate::samples::{
-    author, four_pipes, one_pipe, thousand_beams, to_post, to_read, to_remove, to_set_rules, to_upload,
-    two_pipes,
+    author, four_pipes, one_pipe, thousand_beams, to_post, to_read, to_remove, to_set_rules,
+    to_upload, two_pipes,
 };
 use crate::tests::is_topic;
 use bim_model::{Steps, id_of};

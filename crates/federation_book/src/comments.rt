@@ -31,7 +31,12 @@ pub fn list_comments(state: &State, project: u128, topic: u128) -> Result<ReplyB
 }
 
 /// A comment.
-pub fn read_comment(state: &State, project: u128, topic: u128, comment: u128) -> Result<ReplyBody, AllocError>
+pub fn read_comment(
+    state: &State,
+    project: u128,
+    topic: u128,
+    comment: u128,
+) -> Result<ReplyBody, AllocError>
     requires { IsKept state.now }
     ensures { IfOk result (IsTold state.now.entries.items
         (outcome_of (settings_of state.now) state.now.entries.items (BookRequest.ReadComment project topic comment))) }

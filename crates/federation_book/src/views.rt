@@ -29,7 +29,12 @@ pub fn list_views(state: &State, project: u128, topic: u128) -> Result<ReplyBody
 }
 
 /// A viewpoint.
-pub fn read_view(state: &State, project: u128, topic: u128, view: u128) -> Result<ReplyBody, AllocError>
+pub fn read_view(
+    state: &State,
+    project: u128,
+    topic: u128,
+    view: u128,
+) -> Result<ReplyBody, AllocError>
     requires { IsKept state.now }
     ensures { IfOk result (IsTold state.now.entries.items
         (outcome_of (settings_of state.now) state.now.entries.items (BookRequest.ReadView project topic view))) }
