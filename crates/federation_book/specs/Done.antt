@@ -7,7 +7,8 @@ use Rattle.book_history.specs.declared.replies.ReplyBody.{ReplyBody}
 use Rattle.book_history.specs.Requests.{Outcome, body_of, entry_by}
 
 -- what was answered, and what was added to the history, is what becomes of the request
-pub record IsDone (history after : List Entry) (stamp : Stamp) (outcome : Outcome) (body : ReplyBody) : Type 0 where
+pub record IsDone (history after : List Entry) (stamp : Stamp) (outcome : Outcome) (body : ReplyBody)
+    : Type 0 where
   pub reply : body ≡ body_of history outcome
   pub added : after ≡ history ++ listed (entry_by stamp outcome)
 

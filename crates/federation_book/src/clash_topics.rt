@@ -43,7 +43,8 @@ pub fn clash_topic(
     requires kept { IsKept state.old }
     requires after { IsBefore stamp.turn state.old.entries.items }
     ensures done { IfOk result (IsDone state.old.entries.items state.new.entries.items stamp
-        (outcome_of (settings_of state.old) state.old.entries.items (BookRequest.ClashTopic project wanted place author weight))) }
+        (outcome_of (settings_of state.old) state.old.entries.items
+        (BookRequest.ClashTopic project wanted place author weight))) }
     ensures settings { settings_of state.new ≡ settings_of state.old }
     ensures kept { IsKept state.new }
     ensures err { OnErr result (state.new.entries.items ≡ state.old.entries.items) }

@@ -16,7 +16,8 @@ use std::alloc::AllocError;
 pub fn list_comments(state: &State, project: u128, topic: u128) -> Result<ReplyBody, AllocError>
     requires { IsKept state.now }
     ensures { IfOk result (IsTold state.now.entries.items
-        (outcome_of (settings_of state.now) state.now.entries.items (BookRequest.ListComments project topic))) }
+        (outcome_of (settings_of state.now) state.now.entries.items
+        (BookRequest.ListComments project topic))) }
 {
     let Some(number) = state.number_of(project) else {
         return Ok(ReplyBody::Refused(BookFault::NoProject));
@@ -39,7 +40,8 @@ pub fn read_comment(
 ) -> Result<ReplyBody, AllocError>
     requires { IsKept state.now }
     ensures { IfOk result (IsTold state.now.entries.items
-        (outcome_of (settings_of state.now) state.now.entries.items (BookRequest.ReadComment project topic comment))) }
+        (outcome_of (settings_of state.now) state.now.entries.items
+        (BookRequest.ReadComment project topic comment))) }
 {
     let Some(number) = state.number_of(project) else {
         return Ok(ReplyBody::Refused(BookFault::NoProject));
@@ -71,7 +73,8 @@ pub fn post_comment(
     requires kept { IsKept state.old }
     requires after { IsBefore stamp.turn state.old.entries.items }
     ensures done { IfOk result (IsDone state.old.entries.items state.new.entries.items stamp
-        (outcome_of (settings_of state.old) state.old.entries.items (BookRequest.PostComment project topic body author weight))) }
+        (outcome_of (settings_of state.old) state.old.entries.items
+        (BookRequest.PostComment project topic body author weight))) }
     ensures settings { settings_of state.new ≡ settings_of state.old }
     ensures kept { IsKept state.new }
     ensures err { OnErr result (state.new.entries.items ≡ state.old.entries.items) }
@@ -109,7 +112,8 @@ pub fn put_comment(
     requires kept { IsKept state.old }
     requires after { IsBefore stamp.turn state.old.entries.items }
     ensures done { IfOk result (IsDone state.old.entries.items state.new.entries.items stamp
-        (outcome_of (settings_of state.old) state.old.entries.items (BookRequest.PutComment project topic comment body author weight))) }
+        (outcome_of (settings_of state.old) state.old.entries.items
+        (BookRequest.PutComment project topic comment body author weight))) }
     ensures settings { settings_of state.new ≡ settings_of state.old }
     ensures kept { IsKept state.new }
     ensures err { OnErr result (state.new.entries.items ≡ state.old.entries.items) }
@@ -148,7 +152,8 @@ pub fn delete_comment(
     requires kept { IsKept state.old }
     requires after { IsBefore stamp.turn state.old.entries.items }
     ensures done { IfOk result (IsDone state.old.entries.items state.new.entries.items stamp
-        (outcome_of (settings_of state.old) state.old.entries.items (BookRequest.DeleteComment project topic comment))) }
+        (outcome_of (settings_of state.old) state.old.entries.items
+        (BookRequest.DeleteComment project topic comment))) }
     ensures settings { settings_of state.new ≡ settings_of state.old }
     ensures kept { IsKept state.new }
     ensures err { OnErr result (state.new.entries.items ≡ state.old.entries.items) }

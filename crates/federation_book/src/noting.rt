@@ -116,7 +116,8 @@ fn not_noted(state: &State, number: u32, change: &Change, weight: u64) -> Option
     requires high { number ≤ length state.now.projects.items }
     requires note { IsNote change.now }
     requires weight { weight ≡ text_of change.now }
-    ensures { result ≡ first_of (not_noted (settings_of state.now) state.now.entries.items number change.now) }
+    ensures { result
+        ≡ first_of (not_noted (settings_of state.now) state.now.entries.items number change.now) }
 {
     if let Some(fault) = state.too_many(change) {
         return Some(fault);

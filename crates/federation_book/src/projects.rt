@@ -27,7 +27,8 @@ fn numbers_of(alloc: Global, projects: u32) -> Result<Items<u32>, AllocError>
 pub fn list_projects(state: &State) -> Result<ReplyBody, AllocError>
     requires { IsKept state.now }
     ensures { IfOk result (IsTold state.now.entries.items
-        (outcome_of (settings_of state.now) state.now.entries.items (BookRequest.ListProjects))) }
+        (outcome_of (settings_of state.now) state.now.entries.items
+        (BookRequest.ListProjects))) }
 {
     let alloc = *state.entries.allocator();
     let numbers = numbers_of(alloc, state.projects.len() as u32)?;
@@ -38,7 +39,8 @@ pub fn list_projects(state: &State) -> Result<ReplyBody, AllocError>
 pub fn read_project(state: &State, project: u128) -> Result<ReplyBody, AllocError>
     requires { IsKept state.now }
     ensures { IfOk result (IsTold state.now.entries.items
-        (outcome_of (settings_of state.now) state.now.entries.items (BookRequest.ReadProject project))) }
+        (outcome_of (settings_of state.now) state.now.entries.items
+        (BookRequest.ReadProject project))) }
 {
     match state.number_of(project) {
         Some(number) => Ok(ReplyBody::Project(number)),

@@ -16,7 +16,8 @@ use std::alloc::AllocError;
 pub fn list_topics(state: &State, project: u128) -> Result<ReplyBody, AllocError>
     requires { IsKept state.now }
     ensures { IfOk result (IsTold state.now.entries.items
-        (outcome_of (settings_of state.now) state.now.entries.items (BookRequest.ListTopics project))) }
+        (outcome_of (settings_of state.now) state.now.entries.items
+        (BookRequest.ListTopics project))) }
 {
     let Some(number) = state.number_of(project) else {
         return Ok(ReplyBody::Refused(BookFault::NoProject));
@@ -31,7 +32,8 @@ pub fn list_topics(state: &State, project: u128) -> Result<ReplyBody, AllocError
 pub fn read_topic(state: &State, project: u128, topic: u128) -> Result<ReplyBody, AllocError>
     requires { IsKept state.now }
     ensures { IfOk result (IsTold state.now.entries.items
-        (outcome_of (settings_of state.now) state.now.entries.items (BookRequest.ReadTopic project topic))) }
+        (outcome_of (settings_of state.now) state.now.entries.items
+        (BookRequest.ReadTopic project topic))) }
 {
     let Some(number) = state.number_of(project) else {
         return Ok(ReplyBody::Refused(BookFault::NoProject));
@@ -59,7 +61,8 @@ pub fn post_topic(
     requires kept { IsKept state.old }
     requires after { IsBefore stamp.turn state.old.entries.items }
     ensures done { IfOk result (IsDone state.old.entries.items state.new.entries.items stamp
-        (outcome_of (settings_of state.old) state.old.entries.items (BookRequest.PostTopic project body author weight))) }
+        (outcome_of (settings_of state.old) state.old.entries.items
+        (BookRequest.PostTopic project body author weight))) }
     ensures settings { settings_of state.new ≡ settings_of state.old }
     ensures kept { IsKept state.new }
     ensures err { OnErr result (state.new.entries.items ≡ state.old.entries.items) }
@@ -88,7 +91,8 @@ pub fn put_topic(
     requires kept { IsKept state.old }
     requires after { IsBefore stamp.turn state.old.entries.items }
     ensures done { IfOk result (IsDone state.old.entries.items state.new.entries.items stamp
-        (outcome_of (settings_of state.old) state.old.entries.items (BookRequest.PutTopic project topic body author weight))) }
+        (outcome_of (settings_of state.old) state.old.entries.items
+        (BookRequest.PutTopic project topic body author weight))) }
     ensures settings { settings_of state.new ≡ settings_of state.old }
     ensures kept { IsKept state.new }
     ensures err { OnErr result (state.new.entries.items ≡ state.old.entries.items) }
@@ -119,7 +123,8 @@ pub fn delete_topic(
     requires kept { IsKept state.old }
     requires after { IsBefore stamp.turn state.old.entries.items }
     ensures done { IfOk result (IsDone state.old.entries.items state.new.entries.items stamp
-        (outcome_of (settings_of state.old) state.old.entries.items (BookRequest.DeleteTopic project topic))) }
+        (outcome_of (settings_of state.old) state.old.entries.items
+        (BookRequest.DeleteTopic project topic))) }
     ensures settings { settings_of state.new ≡ settings_of state.old }
     ensures kept { IsKept state.new }
     ensures err { OnErr result (state.new.entries.items ≡ state.old.entries.items) }

@@ -15,7 +15,8 @@ use std::alloc::AllocError;
 pub fn list_views(state: &State, project: u128, topic: u128) -> Result<ReplyBody, AllocError>
     requires { IsKept state.now }
     ensures { IfOk result (IsTold state.now.entries.items
-        (outcome_of (settings_of state.now) state.now.entries.items (BookRequest.ListViews project topic))) }
+        (outcome_of (settings_of state.now) state.now.entries.items
+        (BookRequest.ListViews project topic))) }
 {
     let Some(number) = state.number_of(project) else {
         return Ok(ReplyBody::Refused(BookFault::NoProject));
@@ -37,7 +38,8 @@ pub fn read_view(
 ) -> Result<ReplyBody, AllocError>
     requires { IsKept state.now }
     ensures { IfOk result (IsTold state.now.entries.items
-        (outcome_of (settings_of state.now) state.now.entries.items (BookRequest.ReadView project topic view))) }
+        (outcome_of (settings_of state.now) state.now.entries.items
+        (BookRequest.ReadView project topic view))) }
 {
     let Some(number) = state.number_of(project) else {
         return Ok(ReplyBody::Refused(BookFault::NoProject));
@@ -68,7 +70,8 @@ pub fn post_view(
     requires kept { IsKept state.old }
     requires after { IsBefore stamp.turn state.old.entries.items }
     ensures done { IfOk result (IsDone state.old.entries.items state.new.entries.items stamp
-        (outcome_of (settings_of state.old) state.old.entries.items (BookRequest.PostView project topic body weight))) }
+        (outcome_of (settings_of state.old) state.old.entries.items
+        (BookRequest.PostView project topic body weight))) }
     ensures settings { settings_of state.new ≡ settings_of state.old }
     ensures kept { IsKept state.new }
     ensures err { OnErr result (state.new.entries.items ≡ state.old.entries.items) }
@@ -99,7 +102,8 @@ pub fn delete_view(
     requires kept { IsKept state.old }
     requires after { IsBefore stamp.turn state.old.entries.items }
     ensures done { IfOk result (IsDone state.old.entries.items state.new.entries.items stamp
-        (outcome_of (settings_of state.old) state.old.entries.items (BookRequest.DeleteView project topic view))) }
+        (outcome_of (settings_of state.old) state.old.entries.items
+        (BookRequest.DeleteView project topic view))) }
     ensures settings { settings_of state.new ≡ settings_of state.old }
     ensures kept { IsKept state.new }
     ensures err { OnErr result (state.new.entries.items ≡ state.old.entries.items) }
