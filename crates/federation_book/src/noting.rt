@@ -30,7 +30,8 @@ fn apply(
 {
     match change {
         Change::PostTopic { body, author, .. } => {
-            Ok(ReplyBody::TopicIs(board.post_topic(alloc, body, author)?))
+            let told = board.post_topic(alloc, body, author)?;
+            Ok(ReplyBody::TopicIs(told))
         }
         Change::PutTopic {
             topic,
@@ -47,7 +48,8 @@ fn apply(
         }
         Change::ClashTopic { author, .. } => {
             let Some((a, b)) = pair else { unreachable!() };
-            Ok(ReplyBody::TopicIs(board.post_clash(alloc, &a, &b, author)?))
+            let told = board.post_clash(alloc, &a, &b, author)?;
+            Ok(ReplyBody::TopicIs(told))
         }
         Change::PostComment { .. } => apply_further(board, alloc, change, pair),
         Change::PutComment { .. } => apply_further(board, alloc, change, pair),
@@ -99,7 +101,8 @@ fn apply_further(
             Ok(ReplyBody::Gone)
         }
         Change::PostView { topic, body, .. } => {
-            Ok(ReplyBody::View(board.post_view(alloc, *topic, body)?))
+            let told = board.post_view(alloc, *topic, body)?;
+            Ok(ReplyBody::View(told))
         }
         Change::DeleteView { topic, view } => {
             board.delete_view(*topic, *view);
