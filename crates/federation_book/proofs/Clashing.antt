@@ -23,9 +23,9 @@ use Rattle.book_history.specs.declared.replies.ReplyBody.TheVariants as reply
 use Rattle.book_history.specs.declared.requests.Wanted.{Wanted}
 use Rattle.book_history.specs.Versions.{VersionState, version_at}
 use Rattle.book_history.specs.Projects.{ProjectState, guids_of, clash_at}
-use Rattle.book_history.specs.History.{state_of}
+use Rattle.book_history.specs.History.{state_of, version_of}
 use Rattle.book_history.specs.Refusals.{first_of, wanted_in, not_yet, dropped, pending, no_clash}
-use Rattle.book_history.specs.Requests.{Outcome, Answer, refused_or, noted, clashes_read, clash_noted, body_of}
+use Rattle.book_history.specs.Requests.{Outcome, Answer, refused_or, unless, noted, clashes_read, clash_noted, body_of}
 use Rattle.federation_book.specs.Done.{IsDone}
 use Rattle.federation_book.proofs.Finding.{refusal_done}
 use Rattle.federation_book.proofs.Noted.{behind_some, behind_all}
@@ -130,30 +130,33 @@ module _ (settings : Settings) (h : List Entry) (stamp : Stamp) (n : ℕ) (wante
           apart : reply.Clashes number set first count ≡ reply.Refused f → ⊥
           apart p = cc
 
-  -- there is no such clash
-  pub none_there : (number total : ℕ) (set : Version) → IsReady number set → None ≡ clash_at set place → total ≡ length (clashes set)
-      → IsDone h h stamp (clash_noted settings h wanted place author weight n) (reply.Refused (fault.NoClash place total))
-  none_there number total set is none count =
-      let at : None ≡ clash_at version.content place = none ∙ ap (λ c. clash_at c place) (sym is.set_is) in
-      let total_is : total ≡ length (clashes version.content) = count ∙ ap (λ c. length (clashes c)) (sym is.set_is) in
-      let f = fault.NoClash place (length (clashes version.content)) in
-      let four : first_of (not_yet s v ∷ dropped s v ∷ pending v version ∷ no_clash version place ∷ []) ≡ Some f =
-      behind_all three last is.none ∙ ap (λ o. first_of (o ∷ [])) (no_clash_at version place at) in
-      subst (λ t. IsDone h h stamp (clash_noted settings h wanted place author weight n) (reply.Refused (fault.NoClash place t))) (sym total_is)
-      (subst (λ o. IsDone h h stamp (refused_or o after) (reply.Refused f)) (sym four) (refusal_done h stamp f))
+  -- .. and what is asked of the clash then decides
+  pub then_noted : {E : Type 0} (r : Result ReplyBody E) (k : List Entry) (number : ℕ) (set : Version) → IsReady number set
+      → IfOk r (IsDone h k stamp (unless (no_clash (version_at s.versions number) place ∷ []) (noted settings h n (ClashTopic number place author weight))))
+      → IfOk r (IsDone h k stamp (clash_noted settings h wanted place author weight n))
+  then_noted r k number set is done =
+      subst (λ o. IfOk r (IsDone h k stamp (refused_or o after))) (sym (behind_all three last is.none))
+      (subst (λ m. IfOk r (IsDone h k stamp (unless (no_clash (version_at s.versions m) place ∷ []) (noted settings h n (ClashTopic m place author weight))))) (sym is.number_is) done)
 
-  -- there is
-  pub one_there : {E : Type 0} (r : Result ReplyBody E) (k : List Entry) (number : ℕ) (set : Version) (pair : Guid × Guid) → IsReady number set → Some pair ≡ clash_at set place
-      → IfOk r (IsDone h k stamp (noted settings h n (ClashTopic number place author weight))) → IfOk r (IsDone h k stamp (clash_noted settings h wanted place author weight n))
-  one_there r k number set pair is found done =
-      let at : Some pair ≡ clash_at version.content place = found ∙ ap (λ c. clash_at c place) (sym is.set_is) in
-      let four : first_of (not_yet s v ∷ dropped s v ∷ pending v version ∷ no_clash version place ∷ []) ≡ None =
-      behind_all three last is.none ∙ ap (λ o. first_of (o ∷ [])) (a_clash_at version place pair at) in
-      subst (λ o. IfOk r (IsDone h k stamp (refused_or o after))) (sym four)
-      (subst (λ m. IfOk r (IsDone h k stamp (noted settings h n (ClashTopic m place author weight)))) (sym is.number_is) done)
+-- ---- there is no such clash, or there is
+pub no_clash_done : (h : List Entry) (stamp : Stamp) (version : VersionState) (content : Version) (place total : ℕ) (o : Outcome) → content ≡ version.content → None ≡ clash_at content place → total ≡ length (clashes content)
+    → IsDone h h stamp (unless (no_clash version place ∷ []) o) (reply.Refused (fault.NoClash place total))
+no_clash_done h stamp version content place total o same none count =
+    let at : None ≡ clash_at version.content place = none ∙ ap (λ c. clash_at c place) same in
+    let total_is : total ≡ length (clashes version.content) = count ∙ ap (λ c. length (clashes c)) same in
+    let f = fault.NoClash place (length (clashes version.content)) in
+    subst (λ t. IsDone h h stamp (unless (no_clash version place ∷ []) o) (reply.Refused (fault.NoClash place t))) (sym total_is)
+    (subst (λ x. IsDone h h stamp (unless (x ∷ []) o) (reply.Refused f)) (sym (no_clash_at version place at)) (refusal_done h stamp f))
 
--- the same change at a book that was only asked before
-pub noted_then : {E : Type 0} (r : Result ReplyBody E) (settings settings' : Settings) (h h' k : List Entry) (stamp : Stamp) (n : ℕ) (c : Change) → settings' ≡ settings → h' ≡ h
-    → IfOk r (IsDone h' k stamp (noted settings' h' n c)) → IfOk r (IsDone h k stamp (noted settings h n c))
-noted_then r settings settings' h h' k stamp n c same is done =
-    subst (λ x. IfOk r (IsDone h k stamp (noted x h n c))) same (subst (λ j. IfOk r (IsDone j k stamp (noted settings' j n c))) is done)
+pub clash_done : {E : Type 0} (r : Result ReplyBody E) (h k : List Entry) (stamp : Stamp) (version : VersionState) (content : Version) (place : ℕ) (pair : Guid × Guid) (o : Outcome) → content ≡ version.content
+    → Some pair ≡ clash_at content place → IfOk r (IsDone h k stamp o) → IfOk r (IsDone h k stamp (unless (no_clash version place ∷ []) o))
+clash_done r h k stamp version content place pair o same found done =
+    subst (λ x. IfOk r (IsDone h k stamp (unless (x ∷ []) o))) (sym (a_clash_at version place pair (found ∙ ap (λ c. clash_at c place) same))) done
+
+-- the same at a book that was only asked before
+pub still_done : {E : Type 0} (r : Result ReplyBody E) (settings settings' : Settings) (h h' k : List Entry) (stamp : Stamp) (n number place : ℕ) (c : Change) → settings' ≡ settings → h' ≡ h
+    → IfOk r (IsDone h' k stamp (unless (no_clash (version_of n number h') place ∷ []) (noted settings' h' n c)))
+    → IfOk r (IsDone h k stamp (unless (no_clash (version_of n number h) place ∷ []) (noted settings h n c)))
+still_done r settings settings' h h' k stamp n number place c same is done =
+    subst (λ x. IfOk r (IsDone h k stamp (unless (no_clash (version_of n number h) place ∷ []) (noted x h n c)))) same
+    (subst (λ j. IfOk r (IsDone j k stamp (unless (no_clash (version_of n number j) place ∷ []) (noted settings' j n c)))) is done)

@@ -1,8 +1,9 @@
 //! Topics that are made of clashes.
-ghost use Rattle.std.specs.Prelude.{◌≡◌, IfSome, IfOk, OnErr};
+ghost use Rattle.std.specs.Prelude.{◌≡◌, ◌≤◌, ◌∷◌, [], length, IfSome, IfOk, OnErr};
 ghost use Rattle.book_history.specs.Projects.{clash_at};
-ghost use Rattle.book_history.specs.History.{IsBefore};
-ghost use Rattle.book_history.specs.Requests.{outcome_of};
+ghost use Rattle.book_history.specs.History.{version_of, content_of, IsBefore};
+ghost use Rattle.book_history.specs.Refusals.{no_clash};
+ghost use Rattle.book_history.specs.Requests.{unless, noted, outcome_of};
 ghost use Rattle.federation_book.specs.Kept.{IsKept, settings_of};
 ghost use Rattle.federation_book.specs.Done.{IsDone};
 ghost use Rattle.federation_book.specs.Noting.{AreGuids};
@@ -30,6 +31,43 @@ fn clash_at(published: &Published, place: u64) -> Option<(Guid, Guid)>
     }
 }
 
+// The same of a version whose clashes are these.
+fn note_clash(
+    state: &mut State,
+    stamp: Stamp,
+    number: u32,
+    version: u64,
+    published: &Published,
+    place: u64,
+    author: Author,
+    weight: u64,
+) -> Result<ReplyBody, AllocError>
+    requires kept { IsKept state.old }
+    requires after { IsBefore stamp.turn state.old.entries.items }
+    requires low { 1 ≤ number }
+    requires high { number ≤ length state.old.projects.items }
+    requires published { published.now ≡ content_of number version state.old.entries.items }
+    ensures done { let h = state.old.entries.items in
+        IfOk result (IsDone h state.new.entries.items stamp
+        (unless (no_clash (version_of number version h) place ∷ [])
+        (noted (settings_of state.old) h number (Change.ClashTopic version place author weight)))) }
+    ensures settings { settings_of state.new ≡ settings_of state.old }
+    ensures kept { IsKept state.new }
+    ensures err { OnErr result (state.new.entries.items ≡ state.old.entries.items) }
+{
+    let Some(pair) = clash_at(published, place) else {
+        let total = published.total();
+        return Ok(ReplyBody::Refused(BookFault::NoClash { place, total }));
+    };
+    let change = Change::ClashTopic {
+        version,
+        place,
+        author,
+        weight,
+    };
+    note(state, number, stamp, change, Some(pair), weight)
+}
+
 /// Makes a topic of a clash and its viewpoint, unless something is full. An `Err` leaves all as it was.
 pub fn clash_topic(
     state: &mut State,
@@ -52,19 +90,17 @@ pub fn clash_topic(
     let Some(number) = state.number_of(project) else {
         return Ok(ReplyBody::Refused(BookFault::NoProject));
     };
-    let (version, set) = match read_clashes(state, Some(number), wanted, place, 1)? {
-        ReplyBody::Clashes { version, set, .. } => (version, set),
-        refused => return Ok(refused),
-    };
-    let Some(pair) = clash_at(set.get(), place) else {
-        let total = set.get().total();
-        return Ok(ReplyBody::Refused(BookFault::NoClash { place, total }));
-    };
-    let change = Change::ClashTopic {
-        version,
-        place,
-        author,
-        weight,
-    };
-    note(state, number, stamp, change, Some(pair), weight)
+    match read_clashes(state, Some(number), wanted, place, 1)? {
+        ReplyBody::Clashes { version, set, .. } => note_clash(
+            state,
+            stamp,
+            number,
+            version,
+            set.get(),
+            place,
+            author,
+            weight,
+        ),
+        refused => Ok(refused),
+    }
 }

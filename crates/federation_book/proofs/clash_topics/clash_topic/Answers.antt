@@ -1,11 +1,11 @@
-use Rattle.std.proofs.Common.{◌≡◌, length, Some, None, refl, sym, ◌∙◌, ap, subst}
+use Rattle.std.proofs.Common.{◌≡◌, length, Some, refl, sym, ◌∙◌, ap, subst}
 use Rattle.book_history.specs.declared.changes.Change.TheVariants.{ClashTopic}
 use Rattle.book_history.specs.declared.faults.BookFault.TheVariants.{NoProject}
 use Rattle.book_history.specs.declared.replies.ReplyBody.TheVariants as reply
 use Rattle.book_history.specs.Refusals.{project_of}
 use Rattle.book_history.specs.Requests.{clash_noted}
 use Rattle.federation_book.specs.Kept.{settings_of}
-use Rattle.federation_book.proofs.Clashing.{not_ready, ready, none_there, one_there, noted_then}
+use Rattle.federation_book.proofs.Clashing.{not_ready, ready, then_noted, still_done}
 use Rattle.federation_book.proofs.Finding.{none_done, one_done, some_done}
 use Rattle.federation_book.proofs.clash_topics.clash_topic.Goals as goal
 
