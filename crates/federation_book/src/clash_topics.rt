@@ -90,7 +90,8 @@ pub fn clash_topic(
     let Some(number) = state.number_of(project) else {
         return Ok(ReplyBody::Refused(BookFault::NoProject));
     };
-    match read_clashes(state, Some(number), wanted, place, 1)? {
+    let read = read_clashes(state, Some(number), wanted, place, 1)?;
+    match read {
         ReplyBody::Clashes { version, set, .. } => note_clash(
             state,
             stamp,
