@@ -30,8 +30,8 @@ fn apply(
 {
     match change {
         Change::PostTopic { body, author, .. } => {
-            let told = board.post_topic(alloc, body, author)?;
-            Ok(ReplyBody::TopicIs(told))
+            let made = board.post_topic(alloc, body, author)?;
+            Ok(ReplyBody::TopicIs(made))
         }
         Change::PutTopic {
             topic,
@@ -39,8 +39,8 @@ fn apply(
             author,
             ..
         } => {
-            let told = board.put_topic(alloc, *topic, body, author)?;
-            Ok(ReplyBody::TopicIs(told))
+            let put = board.put_topic(alloc, *topic, body, author)?;
+            Ok(ReplyBody::TopicIs(put))
         }
         Change::DeleteTopic { topic } => {
             board.delete_topic(*topic);
@@ -48,8 +48,8 @@ fn apply(
         }
         Change::ClashTopic { author, .. } => {
             let Some((a, b)) = pair else { unreachable!() };
-            let told = board.post_clash(alloc, &a, &b, author)?;
-            Ok(ReplyBody::TopicIs(told))
+            let noted = board.post_clash(alloc, &a, &b, author)?;
+            Ok(ReplyBody::TopicIs(noted))
         }
         Change::PostComment { .. } => apply_further(board, alloc, change, pair),
         Change::PutComment { .. } => apply_further(board, alloc, change, pair),
@@ -83,8 +83,8 @@ fn apply_further(
             author,
             ..
         } => {
-            let told = board.post_comment(alloc, *topic, body, author)?;
-            Ok(ReplyBody::CommentIs(told))
+            let made = board.post_comment(alloc, *topic, body, author)?;
+            Ok(ReplyBody::CommentIs(made))
         }
         Change::PutComment {
             topic,
@@ -93,16 +93,16 @@ fn apply_further(
             author,
             ..
         } => {
-            let told = board.put_comment(alloc, *topic, *comment, body, author)?;
-            Ok(ReplyBody::CommentIs(told))
+            let put = board.put_comment(alloc, *topic, *comment, body, author)?;
+            Ok(ReplyBody::CommentIs(put))
         }
         Change::DeleteComment { topic, comment } => {
             board.delete_comment(*topic, *comment);
             Ok(ReplyBody::Gone)
         }
         Change::PostView { topic, body, .. } => {
-            let told = board.post_view(alloc, *topic, body)?;
-            Ok(ReplyBody::View(told))
+            let view = board.post_view(alloc, *topic, body)?;
+            Ok(ReplyBody::View(view))
         }
         Change::DeleteView { topic, view } => {
             board.delete_view(*topic, *view);
