@@ -2,7 +2,7 @@ use Rattle.std.proofs.Common.{◌≡◌, ◌+◌, ◌*◌, ◌<◌, ◌≤◌, l
 use Rattle.book_topics.specs.Boards.{BoardState}
 use Rattle.book_history.specs.History.{board_of}
 use Rattle.federation_book.proofs.Counted.{board_kept, count_more, made_few}
-use Rattle.federation_book.proofs.counts.State.comment_count.Goals as goal
+use Rattle.federation_book.proofs.state.State.comment_count.Goals as goal
 
 pub overflow_add-count : goal.overflow_add-count
 overflow_add-count c =
