@@ -6,6 +6,7 @@ use Rattle.std.specs.BTreeMap.{insert_entry}
 use Rattle.bcf_topics.specs.Comments.{by_place, is_place}
 use Rattle.bcf_viewpoints.specs.Components.{IsComponent, IsColoring}
 use Rattle.bcf_viewpoints.specs.declared.view.ViewBody.{ViewBody}
+use Rattle.bcf_viewpoints.specs.declared.view.ViewIs.{ViewIs}
 use Rattle.bcf_viewpoints.specs.declared.viewpoints.ViewError.{ViewError}
 use Rattle.bcf_viewpoints.specs.declared.viewpoints.ViewError.TheVariants.{NoViewpoint}
 
@@ -30,6 +31,14 @@ view_of topic serial views = lookup (is_place topic serial) views
 -- the numbers of a topic's viewpoints, rising
 unfoldable pub views_of : ℕ → Views → List ℕ
 views_of topic views = map (λ e. e.0.1) (filter (λ e. e.0.0 == topic) views)
+
+-- a viewpoint by its number and body
+abbrev pub viewpoint : ℕ → ViewBody → ViewIs
+viewpoint serial body = record { serial = serial; body = body }
+
+-- the viewpoints of a topic, by rising number
+unfoldable pub views_on : ℕ → Views → List ViewIs
+views_on topic views = map (λ e. viewpoint e.0.1 e.1) (filter (λ e. e.0.0 == topic) views)
 
 -- the viewpoints with a new one in its place
 unfoldable pub views_with : ℕ → ℕ → ViewBody → Views → Views

@@ -1,6 +1,7 @@
 //! The viewpoints of a project's topics, as far as they name components (BCF API 3.0, Viewpoint Services).
 #![tactic(auto)]
 
+mod checked;
 mod component;
 mod limits;
 mod part;
@@ -9,6 +10,7 @@ mod tests;
 mod view;
 mod viewpoints;
 
+pub use checked::{CheckedBody, CheckedView};
 pub use component::{Coloring, Component};
 pub use limits::{MOST_COMPONENTS, MOST_SOURCE};
 pub use part::ViewPart;

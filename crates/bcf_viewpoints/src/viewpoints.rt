@@ -1,8 +1,10 @@
 //! The viewpoints of a project.
 ghost use Rattle.std.specs.Prelude.{◌≡◌, ◌<◌, ◌^◌, [], ℕ, length, option_copied, is_ok, is_some, if◌then◌else◌, IfOk, IfSome, OnOk, OnErr};
-ghost use Rattle.bcf_viewpoints.specs.Views.{IsViewBody, AreViews, view_of, views_of, views_with, views_but, views_off, deleted};
+ghost use Rattle.bcf_viewpoints.specs.Views.{IsViewBody, AreViews, view_of, views_of, views_on, views_with, views_but, views_off, deleted};
 
+use crate::checked::CheckedView;
 use crate::view::ViewBody;
+use bim_model::{Duplicate, Items};
 use std::alloc::{AllocError, Global};
 use std::collections::BTreeMap;
 use std::marker::Model;
@@ -83,6 +85,22 @@ fn list(
     Ok(list)
 }
 
+fn listed(
+    alloc: Global,
+    views: &BTreeMap<(u64, u64), ViewBody>,
+    topic: u64,
+) -> Result<Items<CheckedView>, AllocError>
+    requires few { topic < 2 ^ 48 }
+    requires kept { AreViews views.now.entries }
+    ensures { IfOk result (λ list. list ≡ views_on topic views.now.entries) }
+{
+    let mut list = Items::new(alloc);
+    for (place, body) in views.range((topic, 0)..(topic + 1, 0)) {
+        list.push(CheckedView::of(place.1, body.copy(alloc)?))?;
+    }
+    Ok(list)
+}
+
 impl Viewpoints {
     /// No viewpoints.
     pub fn new(alloc: Global) -> Viewpoints
@@ -146,5 +164,12 @@ impl Viewpoints {
         ensures { IfOk result (λ list. list.items ≡ views_of topic self.now) }
     {
         list(self.alloc, &self.views, topic)
+    }
+    /// The viewpoints of a topic by rising serial number, copied; none where there is no such topic.
+    pub fn listed(&self, topic: u64) -> Result<Items<CheckedView>, AllocError>
+        requires { topic < 2 ^ 48 }
+        ensures { IfOk result (λ list. list ≡ views_on topic self.now) }
+    {
+        listed(self.alloc, &self.views, topic)
     }
 }
