@@ -1,8 +1,9 @@
 -- What is made of viewpoints keeps their identifiers.
 use Rattle.std.proofs.Common.{◌≡◌, ℕ, ◌==◌, Bool, true, false, cond, not, [], ◌∷◌, filter, Option, Some, None, IfSome, is_some, Ok, Err, Bor, refl, sym, subst}
+use Rattle.std.specs.List.{All}
 use Rattle.std.specs.Map.{values_of, lookup}
 use Rattle.std.specs.Option.{option_copied}
-use Rattle.std.proofs.lemmas.List.Elements.{All-cons, All-head, All-nil, All-tail}
+use Rattle.std.proofs.lemmas.List.Elements.{All-cons, All-filter, All-head, All-nil, All-tail}
 use Rattle.std.proofs.lemmas.Map.Views.{All-values-insert_entry, All-map-remove_entry}
 use Rattle.bcf_topics.specs.Comments.{by_place, is_place}
 use Rattle.bcf_viewpoints.specs.declared.view.ViewBody.{ViewBody}
@@ -54,3 +55,16 @@ lent_kept topic serial views None e h = tt
 lent_kept topic serial views (Some body) e h =
     let P : Option ViewBody → Type 0 = λ o. IfSome o IsViewBody in
     subst P (sym e) (found_kept topic serial views h)
+
+-- an entry has a good body
+abbrev pub HasGood : (ℕ × ℕ) × ViewBody → Type 0
+HasGood e = IsViewBody e.1
+
+entries_good : (views : Views) → AreViews views → All HasGood views
+entries_good [] h = All-nil HasGood
+entries_good (x ∷ xs) h =
+    All-cons HasGood x xs (All-head IsViewBody x.1 (values_of xs) h) (entries_good xs (All-tail IsViewBody x.1 (values_of xs) h))
+
+-- those of one topic have
+pub topic_good : (topic : ℕ) (views : Views) → AreViews views → All HasGood (filter (λ e. e.0.0 == topic) views)
+topic_good topic views h = All-filter (λ e. e.0.0 == topic) HasGood views (entries_good views h)

@@ -7,12 +7,12 @@ use Rattle.bim_model.specs.declared.guid.Guid.{Guid}
 use Rattle.bim_model.specs.declared.topic.Author.{Author}
 use Rattle.bim_model.specs.Snapshots.{Version}
 use Rattle.bucket_grid.specs.declared.cell.Cell.{Cell}
-use Rattle.book_topics.specs.Boards.{BoardState}
+use Rattle.book_topics.specs.Boards.{BoardState, topic_added, topic_replaced, topic_removed, comment_added, comment_replaced, comment_removed, view_added, view_removed}
 use Rattle.book_history.specs.declared.changes.Entry.{Entry}
 use Rattle.book_history.specs.declared.changes.Change.{Change}
 use Rattle.book_history.specs.declared.changes.Change.TheVariants.{Upload, Remove, SetRules, BucketDone, PostTopic, PutTopic, DeleteTopic, PostComment, PutComment, DeleteComment, PostView, DeleteView, ClashTopic}
 use Rattle.book_history.specs.Versions.{VersionState, nothing, version_at, newest_in, made_after, with_done}
-use Rattle.book_history.specs.Projects.{ProjectState, untouched, with_change, with_version, with_bucket, with_board, with_clash, newest}
+use Rattle.book_history.specs.Projects.{ProjectState, untouched, with_change, with_version, with_bucket, with_board, with_clash, clash_at, newest}
 use Rattle.book_history.specs.History.{state_of, newest_of, content_of, with_entry}
 
 pub state_push : (m : ℕ) (j : List Entry) (e : Entry) → state_of m (j ++ e ∷ []) ≡ with_entry m (state_of m j) e
@@ -69,15 +69,18 @@ change_within s (BucketDone number cell) n m h =
       versions_in = let v = h.versions_in in omega (arith, same, v);
       made_in = let k = h.made_in in omega arith;
     }
-change_within s (PostTopic body author weight) n m h = said_within s _ n m (omega arith) h
-change_within s (PutTopic topic body author weight) n m h = said_within s _ n m (omega arith) h
-change_within s (DeleteTopic topic) n m h = said_within s _ n m (omega arith) h
-change_within s (PostComment topic body author weight) n m h = said_within s _ n m (omega arith) h
-change_within s (PutComment topic comment body author weight) n m h = said_within s _ n m (omega arith) h
-change_within s (DeleteComment topic comment) n m h = said_within s _ n m (omega arith) h
-change_within s (PostView topic body weight) n m h = said_within s _ n m (omega arith) h
-change_within s (DeleteView topic view) n m h = said_within s _ n m (omega arith) h
-change_within s (ClashTopic version place author weight) n m h = said_within s _ n m (clash_few s.board author _) h
+change_within s (PostTopic body author weight) n m h = said_within s (topic_added s.board body author) n m (omega arith) h
+change_within s (PutTopic topic body author weight) n m h = said_within s (topic_replaced s.board topic body author) n m (omega arith) h
+change_within s (DeleteTopic topic) n m h = said_within s (topic_removed s.board topic) n m (omega arith) h
+change_within s (PostComment topic body author weight) n m h = said_within s (comment_added s.board topic body author) n m (omega arith) h
+change_within s (PutComment topic comment body author weight) n m h =
+    said_within s (comment_replaced s.board topic comment body author) n m (omega arith) h
+change_within s (DeleteComment topic comment) n m h = said_within s (comment_removed s.board topic comment) n m (omega arith) h
+change_within s (PostView topic body weight) n m h = said_within s (view_added s.board topic body) n m (omega arith) h
+change_within s (DeleteView topic view) n m h = said_within s (view_removed s.board topic view) n m (omega arith) h
+change_within s (ClashTopic version place author weight) n m h =
+    let pair = clash_at (version_at s.versions version).content place in
+    said_within s (with_clash s.board author pair) n m (clash_few s.board author pair) h
 
 wider : (s : ProjectState) (n m : ℕ) → Within s n m → Within s (n + 1) (m + 2)
 wider s n m h = record { some = h.some; versions_in = let v = h.versions_in in omega arith; made_in = let k = h.made_in in omega arith }

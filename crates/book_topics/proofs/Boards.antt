@@ -24,9 +24,14 @@ use Rattle.bcf_topics.specs.declared.topics.TopicError.{TopicError}
 use Rattle.bcf_topics.specs.declared.topics.TopicError.TheVariants.{NoTopic, NoComment, Memory}
 use Rattle.bcf_viewpoints.specs.Components.{IsComponent, IsColoring}
 use Rattle.bcf_viewpoints.specs.declared.view.ViewBody.{ViewBody}
-use Rattle.bcf_viewpoints.specs.Views.{Views, IsViewBody, views_with, views_but, views_off}
+use Rattle.bcf_viewpoints.specs.declared.viewpoints.ViewError.{ViewError}
+use Rattle.bcf_viewpoints.specs.Views.{Views, IsViewBody, views_with, views_but, views_off, deleted}
 use Rattle.book_topics.specs.Boards.{BoardState, blank, next_serial, topic_at, topic_added, topic_replaced, topic_removed, comment_added, comment_replaced, comment_removed, view_added, view_removed, IsBoard}
 use Rattle.book_topics.specs.OfClashes.{clash_body, component_of, clash_view, clash_added}
+
+-- a board of these
+abbrev pub board : Discussion → Views → ℕ → BoardState
+board discussion views made = record { discussion = discussion; views = views; made = made }
 
 by_bool : {A : Type 0} (P : A → Type 0) (b : Bool) (x y : A) → P x → P y → P (cond b x y)
 by_bool P true x y px py = px
@@ -332,8 +337,15 @@ comment_unrefused topic serial d one two =
 pub answered_ok : (r : Result (Unit {0}) TopicError) (refusal : Option TopicError) → r ≡ answer_of refusal → refusal ≡ None → r ≡ Ok tt
 answered_ok r refusal is none = is ∙ ap answer_of none
 
+pub no_error : (r : Result (Unit {0}) TopicError) (refusal : Option TopicError) (error : TopicError) → r ≡ answer_of refusal → refusal ≡ None → r ≡ Err error → ⊥
+no_error r refusal error is none wrong = let ok : r ≡ Ok tt = answered_ok r refusal is none in cc
+
 -- .. so that want of memory is their one error
 pub memory_alone : (error : TopicError) (refusal : Option TopicError) → IsAnswer (Err error) refusal → refusal ≡ None → error ≡ Memory
 memory_alone NoTopic refusal is none = cc
 memory_alone NoComment refusal is none = cc
 memory_alone Memory refusal is none = refl
+
+pub view_unrefused : (r : Result (Unit {0}) ViewError) (found : Option ViewBody) (error : ViewError) → r ≡ deleted found → IsSome found → r ≡ Err error → ⊥
+view_unrefused r None error is there wrong = absurd there
+view_unrefused r (Some body) error is there wrong = cc
