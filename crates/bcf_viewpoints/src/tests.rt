@@ -1,7 +1,9 @@
 //! Viewpoints come and go.
 ghost use Rattle.bcf_viewpoints.specs.Views.{IsViewBody};
 
-use crate::{Coloring, Component, ViewBody, ViewError, ViewIs, Viewpoints};
+use crate::{
+    CheckedBody, CheckedView, Coloring, Component, ViewBody, ViewError, ViewIs, Viewpoints,
+};
 use bim_model::{Duplicate, Guid, Items, Text};
 use std::alloc::{AllocError, Global};
 use std::process::Abort;
@@ -15,11 +17,11 @@ fn component(alloc: Global, system: &str) -> Result<Component, AllocError> {
     })
 }
 
-fn no_body(alloc: Global) -> ViewBody
+fn no_body(alloc: Global, index: Option<i32>) -> ViewBody
     ensures { IsViewBody result }
 {
     ViewBody {
-        index: None,
+        index,
         selection: Items::new(alloc),
         coloring: Items::new(alloc),
         default_visibility: false,
@@ -31,9 +33,17 @@ fn no_body(alloc: Global) -> ViewBody
 fn made(alloc: Global) -> Result<Viewpoints, AllocError> {
     let mut views = Viewpoints::new(alloc);
     for (serial, topic) in [(9, 1), (3, 1), (4, 2), (12, 1)] {
-        views.post(serial, topic, no_body(alloc))?;
+        views.post(serial, topic, no_body(alloc, None))?;
     }
     Ok(views)
+}
+
+fn serials(alloc: Global, views: &[CheckedView]) -> Result<Vec<u64>, AllocError> {
+    let mut serials = Vec::new(alloc);
+    for view in views {
+        serials.push(view.get().serial)?;
+    }
+    Ok(serials)
 }
 
 #[test]
@@ -41,6 +51,9 @@ fn views_are_listed(rt: HostRuntime) -> Result<(), Fail> {
     let views = made(rt.alloc())?;
     assert_eq!(rt; views.count(), 4);
     assert_eq!(rt; views.list(1)?.as_slice(), [3, 9, 12].as_slice());
+    let listed = views.listed(1)?;
+    let listed = serials(rt.alloc(), listed.as_slice())?;
+    assert_eq!(rt; listed.as_slice(), [3, 9, 12].as_slice());
     assert!(rt; views.get(1, 4).is_none());
     assert!(rt; views.get(2, 4).is_some());
     Ok(())
@@ -99,12 +112,19 @@ fn is_red(rt: &impl Abort, colorings: &[Coloring]) {
 #[test]
 fn views_are_copied(rt: HostRuntime) -> Result<(), Fail> {
     let alloc = rt.alloc();
-    let mut body = no_body(alloc);
+    let mut body = no_body(alloc, Some(-3));
     body.coloring = red(alloc)?;
-    body.index = Some(-3);
     let view = ViewIs { serial: 7, body }.copy(alloc)?;
     assert_eq!(rt; view.serial, 7);
     assert_eq!(rt; view.body.index, Some(-3));
     is_red(&rt, view.body.coloring.as_slice());
+    Ok(())
+}
+
+#[test]
+fn checked_bodies_are_copied(rt: HostRuntime) -> Result<(), Fail> {
+    let alloc = rt.alloc();
+    let body = CheckedBody::of(no_body(alloc, Some(5))).copy(alloc)?;
+    assert_eq!(rt; body.get().index, Some(5));
     Ok(())
 }

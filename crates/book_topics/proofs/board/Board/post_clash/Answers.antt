@@ -67,12 +67,12 @@ pub invariant_of-self-3 : goal.invariant_of-self-3
 invariant_of-self-3 c =
     let n = c.self.inside.made in
     let back = c.drop_topic.ensures ∙ ap (views_off (n + 1)) c.in_ok-post.ensures.ok
-        ∙ taken_back n (n + 1 + 1) c.in_ok-view.view c.self.inside.views c.self.invariant.views in
+    ∙ taken_back n (n + 1 + 1) c.in_ok-view.view c.self.inside.views c.self.invariant.views in
     rw (c.in-Err.ensures.err, back) c.self.invariant
 
 pub returns-in-Err-clause-err : goal.returns-in-Err-clause-err
 returns-in-Err-clause-err c =
     let n = c.self.inside.made in
     let back = c.drop_topic.ensures ∙ ap (views_off (n + 1)) c.in_ok-post.ensures.ok
-        ∙ taken_back n (n + 1 + 1) c.in_ok-view.view c.self.inside.views c.self.invariant.views in
+    ∙ taken_back n (n + 1 + 1) c.in_ok-view.view c.self.inside.views c.self.invariant.views in
     ap₂ (λ (d : Discussion) (v : Views). board d v n) c.in-Err.ensures.err back ∙ c.self.view_is
