@@ -1,8 +1,11 @@
 -- What is answered by what is found, or where nothing is found.
-use Rattle.std.proofs.Common.{◌≡◌, ℕ, List, [], ◌++◌, Option, Some, None, Result, refl, sym, ◌∙◌, subst, append-nil}
+use Rattle.std.proofs.Common.{◌≡◌, ℕ, List, [], ◌++◌, Option, Some, None, option_map, Result, refl, sym, ◌∙◌, subst, append-nil}
 use Rattle.std.specs.Result.{IfOk}
 use Rattle.bcf_topics.specs.declared.comment.CommentBody.{CommentBody}
 use Rattle.bcf_topics.specs.declared.comment.CommentIn.{CommentIn}
+use Rattle.bcf_viewpoints.specs.declared.view.ViewBody.{ViewBody}
+use Rattle.bcf_viewpoints.specs.declared.view.ViewIs.{ViewIs}
+use Rattle.bcf_viewpoints.specs.Views.{viewpoint}
 use Rattle.book_turn.specs.declared.object.Stamp.{Stamp}
 use Rattle.book_topics.specs.Boards.{BoardState}
 use Rattle.book_topics.specs.Named.{topic_named, comment_named, view_named, comment_kept}
@@ -10,7 +13,7 @@ use Rattle.book_history.specs.declared.changes.Entry.{Entry}
 use Rattle.book_history.specs.declared.faults.BookFault.{BookFault}
 use Rattle.book_history.specs.declared.replies.ReplyBody.{ReplyBody}
 use Rattle.book_history.specs.declared.replies.ReplyBody.TheVariants as reply
-use Rattle.book_history.specs.Requests.{Outcome, Refusal, Answer, found}
+use Rattle.book_history.specs.Requests.{Outcome, Refusal, Answer, found, view_told}
 use Rattle.federation_book.specs.Done.{IsDone, IsTold}
 
 -- ---- a refusal
@@ -53,3 +56,12 @@ view_is b c number topic id o r same is got = subst (λ (d : BoardState). view_n
 
 pub body_is : (b c : BoardState) (number topic : ℕ) (sent : CommentIn) (o r : Option CommentBody) → b ≡ c → o ≡ comment_kept number b topic sent → o ≡ r → comment_kept number c topic sent ≡ r
 body_is b c number topic sent o r same is got = subst (λ (d : BoardState). comment_kept number d topic sent ≡ r) same (sym is ∙ got)
+
+-- ---- a viewpoint as it is told
+pub view_some : (serial : ℕ) (o : Option ViewBody) (v : ViewIs) → Some v ≡ option_map (viewpoint serial) o → reply.View v ≡ view_told serial o
+view_some serial None v e = cc
+view_some serial (Some body) v e = cc
+
+pub view_none : (serial : ℕ) (o : Option ViewBody) → None ≡ option_map (viewpoint serial) o → reply.Gone ≡ view_told serial o
+view_none serial None e = refl
+view_none serial (Some body) e = cc

@@ -52,7 +52,8 @@ pub fn read_view(
         return Ok(ReplyBody::Refused(BookFault::NoViewpoint));
     };
     let alloc = *state.entries.allocator();
-    match board.view(alloc, topic, serial)? {
+    let found = board.view(alloc, topic, serial)?;
+    match found {
         Some(view) => Ok(ReplyBody::View(view)),
         None => Ok(ReplyBody::Gone),
     }
