@@ -165,6 +165,7 @@ impl Viewpoints {
     {
         list(self.alloc, &self.views, topic)
     }
+
     /// The viewpoints of a topic by rising serial number, copied; none where there is no such topic.
     pub fn listed(&self, topic: u64) -> Result<Items<CheckedView>, AllocError>
         requires { topic < 2 ^ 48 }
