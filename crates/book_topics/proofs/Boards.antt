@@ -6,7 +6,7 @@ use Rattle.std.specs.declared.cmp.Ordering.TheVariants.{Less, Equal, Greater}
 use Rattle.std.specs.Ordering.{nat_cmp, match_ordering}
 use Rattle.std.specs.Map.{keys_of, lookup, remove_entry, set_value}
 use Rattle.std.specs.BTreeMap.{insert_entry}
-use Rattle.std.proofs.lemmas.Bool.{eq-eqb, ne_eqb, le-ltb}
+use Rattle.std.proofs.lemmas.Bool.{eq-eqb, ne_eqb, le-ltb, false≢true}
 use Rattle.std.proofs.lemmas.Bool.Decides.{eqb_tells}
 use Rattle.std.proofs.lemmas.List.Elements.{All-nil, All-cons, All-head, All-tail, All-map, All-weaker, All-filter, All-push}
 use Rattle.std.proofs.lemmas.Map.Views.{All-keys-insert_entry, All-map-remove_entry}
@@ -161,7 +161,7 @@ number_here n serial t o below rest there = elim (eqb_tells t.serial serial) [
 
 number_among : (n serial : ℕ) (ts : List Topic) → All (Below n) ts → IsSome (topic_of serial ts) → serial ≤ n
 unfolding topic_of
-number_among n serial [] h there = absurd there
+number_among n serial [] h there = absurd (false≢true there)
 number_among n serial (t ∷ ts) h there =
     number_here n serial t (topic_of serial ts) (All-head (Below n) t ts h) (number_among n serial ts (All-tail (Below n) t ts h)) there
 
@@ -322,17 +322,13 @@ clash_added_is b first second author is =
     (topic_added_is b (clash_body first second) author is)
 
 -- ---- calls about what is there aren't refused
-there_is : {A : Type 0} (o : Option A) → IsSome o → is_some o ≡ true
-there_is None there = absurd there
-there_is (Some x) there = refl
-
 pub topic_unrefused : (serial : ℕ) (d : Discussion) → IsSome (topic_of serial d.topics) → topic_refusal serial d ≡ None
-topic_unrefused serial d there = ap (λ b. cond b None (Some NoTopic)) (there_is (topic_of serial d.topics) there)
+topic_unrefused serial d there = ap (λ b. cond b None (Some NoTopic)) there
 
 pub comment_unrefused : (topic serial : ℕ) (d : Discussion) → IsSome (topic_of topic d.topics) → IsSome (comment_of topic serial d.comments) → comment_refusal topic serial d ≡ None
 comment_unrefused topic serial d one two =
-    ap (λ b. cond b (cond (is_some (comment_of topic serial d.comments)) None (Some NoComment)) (Some NoTopic)) (there_is (topic_of topic d.topics) one)
-    ∙ ap (λ b. cond b None (Some NoComment)) (there_is (comment_of topic serial d.comments) two)
+    ap (λ b. cond b (cond (is_some (comment_of topic serial d.comments)) None (Some NoComment)) (Some NoTopic)) one
+    ∙ ap (λ b. cond b None (Some NoComment)) two
 
 pub answered_ok : (r : Result (Unit {0}) TopicError) (refusal : Option TopicError) → r ≡ answer_of refusal → refusal ≡ None → r ≡ Ok tt
 answered_ok r refusal is none = is ∙ ap answer_of none
@@ -347,5 +343,5 @@ memory_alone NoComment refusal is none = cc
 memory_alone Memory refusal is none = refl
 
 pub view_unrefused : (r : Result (Unit {0}) ViewError) (found : Option ViewBody) (error : ViewError) → r ≡ deleted found → IsSome found → r ≡ Err error → ⊥
-view_unrefused r None error is there wrong = absurd there
+view_unrefused r None error is there wrong = absurd (false≢true there)
 view_unrefused r (Some body) error is there wrong = cc

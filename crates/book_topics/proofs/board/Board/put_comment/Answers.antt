@@ -1,4 +1,5 @@
 use Rattle.std.proofs.Common.{◌≡◌, Option, Some, None, IsSome, option_map, option_copied, sym, ap, ap₂, ◌∙◌, subst}
+use Rattle.std.proofs.lemmas.Bool.{false≢true}
 use Rattle.bcf_topics.specs.declared.comment.Comment.{Comment}
 use Rattle.bcf_topics.specs.Comments.{comment_put}
 use Rattle.bcf_topics.specs.Discussions.{Discussion}
@@ -9,7 +10,7 @@ use Rattle.book_topics.proofs.board.Board.put_comment.Goals as goal
 pub unreachable-requires : goal.unreachable-requires
 unreachable-requires c =
     let there = subst (λ (b : BoardState). IsSome (comment_at b c.args.topic c.args.serial)) (sym c.self.view_is) c.requires.there in
-    subst (λ (o : Option Comment). IsSome o) (sym c.comment-comment.ensures ∙ ap option_copied c.in_default.is) there
+    false≢true (subst (λ (o : Option Comment). IsSome o) (sym c.comment-comment.ensures ∙ ap option_copied c.in_default.is) there)
 
 pub unreachable-in_default-put_comment-requires : goal.unreachable-in_default-put_comment-requires
 unreachable-in_default-put_comment-requires c =

@@ -1,4 +1,5 @@
 use Rattle.std.proofs.Common.{◌≡◌, Option, Some, None, IsSome, option_map, option_copied, sym, ap, ap₂, ◌∙◌, subst}
+use Rattle.std.proofs.lemmas.Bool.{false≢true}
 use Rattle.bcf_topics.specs.declared.topic.Topic.{Topic}
 use Rattle.bcf_topics.specs.Topics.{topic_of, topic_put, topics_put}
 use Rattle.bcf_topics.specs.Discussions.{Discussion, with_topics}
@@ -9,7 +10,7 @@ use Rattle.book_topics.proofs.board.Board.put_topic.Goals as goal
 pub unreachable-requires : goal.unreachable-requires
 unreachable-requires c =
     let there = subst (λ (b : BoardState). IsSome (topic_at b c.args.serial)) (sym c.self.view_is) c.requires in
-    subst (λ (o : Option Topic). IsSome o) (sym c.topic.ensures ∙ ap option_copied c.in_default.is) there
+    false≢true (subst (λ (o : Option Topic). IsSome o) (sym c.topic.ensures ∙ ap option_copied c.in_default.is) there)
 
 pub unreachable-in_default-put_topic-requires : goal.unreachable-in_default-put_topic-requires
 unreachable-in_default-put_topic-requires c =
