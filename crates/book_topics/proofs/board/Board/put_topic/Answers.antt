@@ -1,4 +1,5 @@
-use Rattle.std.proofs.Common.{◌≡◌, Option, Some, None, IsSome, option_map, option_copied, sym, ap, ap₂, ◌∙◌, subst}
+use Rattle.std.proofs.Common.{◌≡◌, Option, Some, None, IsSome, sym, ap, ap₂, ◌∙◌, subst}
+use Rattle.std.specs.Option.{option_map, option_copied}
 use Rattle.std.proofs.lemmas.Bool.{false≢true}
 use Rattle.bcf_topics.specs.declared.topic.Topic.{Topic}
 use Rattle.bcf_topics.specs.Topics.{topic_of, topic_put, topics_put}

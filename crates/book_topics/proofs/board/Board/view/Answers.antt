@@ -1,4 +1,5 @@
-use Rattle.std.proofs.Common.{Some, option_map, sym, ap, ◌∙◌, subst}
+use Rattle.std.proofs.Common.{Some, sym, ap, ◌∙◌, subst}
+use Rattle.std.specs.Option.{option_map}
 use Rattle.bcf_viewpoints.specs.declared.view.ViewBody.{ViewBody}
 use Rattle.bcf_viewpoints.specs.declared.view.ViewIs.{ViewIs}
 use Rattle.bcf_viewpoints.specs.Views.{IsViewBody, viewpoint}
