@@ -1,6 +1,7 @@
 #!/usr/bin/env python3
 """Runs the cases over the built program. cases/NAME/ has the words (args, one a line), the input (stdin), the exact
-output (stdout) and the exit status (status). Two more files are there where a case wants them:
+output (stdout) and the exit status (status). More is there where a case wants it:
+- files, a folder: the program is run in it;
 - filled, a number: the body of the one request in stdin is filled up with blanks to so many bytes;
 - clock, a date: it stands in stdout for each date that the program takes from the system's clock. Such a date lies
   between the moments before and after the run, and none is before the one that stands in front of it.
@@ -40,7 +41,9 @@ def failure_of(program, folder):
     wanted = read(folder, "stdout")
     status = int(read(folder, "status"))
     before = now()
-    run = subprocess.run([program] + words, input=input_of(folder), stdout=subprocess.PIPE, timeout=60)
+    files = os.path.join(folder, "files")
+    run = subprocess.run([program] + words, input=input_of(folder), stdout=subprocess.PIPE, timeout=60,
+                         cwd=files if os.path.isdir(files) else folder)
     output = run.stdout
     if has(folder, "clock"):
         moments = [before] + DATE.findall(output) + [now()]

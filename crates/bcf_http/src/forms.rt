@@ -3,15 +3,15 @@ ghost use Rattle.std.specs.Prelude.{◌≡◌, option_map};
 ghost use Rattle.std.specs.List.{list_all};
 ghost use Rattle.std.specs.Char.{is_ascii};
 ghost use Rattle.matchit.specs.Params.{AllText};
-ghost use Rattle.bcf_http.specs.Forms.{identifier_in, is_name_char, is_name, wanted_in};
+ghost use Rattle.bcf_http.specs.Forms.{identifier_in, wanted_in};
 ghost use Rattle.bcf_http.specs.Places.{place_lent, parts_of, project_in, name_in, version_in, place_for, place_by};
 
 use crate::numbers::number_in;
 use crate::paths::{RoutePath, is_same};
 use crate::resource::Resource;
-use bim_model::MOST_NAME;
 use book_history::Wanted;
 use matchit::Params;
+use model_names::is_model_name;
 use uuid::Uuid;
 
 /// Whether a path has ASCII characters alone.
@@ -29,25 +29,6 @@ fn identifier_in(text: &str) -> Option<u128>
         Ok(id) => Some(id.as_u128()),
         Err(_) => None,
     }
-}
-
-fn is_name_char(byte: u8) -> bool
-    ensures { result ≡ is_name_char byte }
-{
-    byte.is_ascii_alphanumeric() || byte == b'_' || byte == b'.' || byte == b'-'
-}
-
-fn are_name_chars(text: &[u8]) -> bool
-    ensures { result ≡ list_all is_name_char text.now }
-{
-    text.iter().all(|byte| is_name_char(*byte))
-}
-
-#[tactic(auto, unfolding(crate::specs::Forms::is_name))]
-fn is_name(text: &[u8]) -> bool
-    ensures { result ≡ is_name text.now }
-{
-    !text.is_empty() && text.len() <= MOST_NAME && are_name_chars(text)
 }
 
 fn wanted_in(text: &str) -> Option<Wanted>
@@ -80,7 +61,7 @@ fn name_in<'t>(params: &Params<'_, 't>) -> Option<&'t str>
 {
     match params.get("name") {
         Some(text) => {
-            if is_name(text.as_bytes()) {
+            if is_model_name(text.as_bytes()) {
                 Some(text)
             } else {
                 None

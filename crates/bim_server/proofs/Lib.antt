@@ -1,4 +1,3 @@
-pub mod Known
 pub mod SoFar
 pub mod Growing
 pub mod Events
@@ -8,8 +7,6 @@ pub mod Owed
 pub mod Stepping
 pub mod Behind
 pub mod Running
-pub mod Numbers
-pub mod Taking
 pub mod Grammar
 pub mod Statuses
 pub mod Calling

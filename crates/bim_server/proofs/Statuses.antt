@@ -1,10 +1,16 @@
--- The status where nothing was read, or nothing written.
-use Rattle.std.proofs.Common.{◌≡◌, ℕ, refl, arith}
-use Rattle.bim_io.specs.Causes.{Rose, ComesOfFault}
-use Rattle.bim_server.proofs.Ending.{no_fault}
+-- `generate` never answers 4.
+use Rattle.std.proofs.Common.{◌≡◌, ℕ, Bool, true, false, Option, Some, None, inl, inr, arith}
+use Rattle.bim_io.specs.Seen.{SinkSeen}
+use Rattle.batch_commands.specs.declared.generate_words.GenerateWords.{GenerateWords}
+use Rattle.batch_commands.specs.Commands.{Generates, GeneratesAs}
+use Rattle.batch_commands.proofs.Blocks.{prints_not_four}
 
-pub unread_status : (n status known : ℕ) → status ≡ known → (known ≡ 4 → ⊥) → ComesOfFault n n (status ≡ 4)
-unread_status n status known is other = no_fault n n (status ≡ 4) refl (λ four. other (omega (arith, is, four)))
+generates_as_not_four : (file : Bool) (number count : ℕ) (a b : SinkSeen) (status : ℕ) → GeneratesAs file number count a b status → status ≡ 4 → ⊥
+generates_as_not_four true number count a b status prints = prints_not_four a b _ 0 status prints (λ e. omega (arith, e))
+generates_as_not_four false number count a b status x = prints_not_four a b x.0 0 status x.2 (λ e. omega (arith, e))
 
-pub unwritten_status : (n n' status known : ℕ) → status ≡ known → (known ≡ 5 → ⊥) → status ≡ 5 → Rose n n'
-unwritten_status n n' status known is other five = absurd (other (omega (arith, is, five)))
+pub generates_not_four : (said : Option GenerateWords) (a b : SinkSeen) (status : ℕ) → Generates said a b status → status ≡ 4 → ⊥
+generates_not_four None a b status (inl usage) four = let two = usage.status_is in omega (arith, two, four)
+generates_not_four None a b status (inr wants) four = let six = wants.status_is in omega (arith, six, four)
+generates_not_four (Some said) a b status (inl by) four = generates_as_not_four said.file said.number said.count a b status by four
+generates_not_four (Some said) a b status (inr wants) four = let six = wants.status_is in omega (arith, six, four)

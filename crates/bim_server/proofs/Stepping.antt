@@ -22,7 +22,7 @@ use Rattle.bim_session.specs.Session as session
 use Rattle.bim_session.specs.Replay.{Replays, IsReadFault, IsWriteFault}
 use Rattle.bim_session.specs.Talking.{TalkState, BookReceipt, Wants, LacksNext, Continues, AnswersOne, AnswersFault, TakesRequest, MeetsEnd, IsOwnWant, AnswersAlone, AnswersCall, with_answer, with_call, with_framer, leaving_after, asks_change, waiting_for}
 use Rattle.bim_server.specs.Loop.{ServerState, Reading, StopsReading, Writing, Called, StopsAnswering, Calls, Does, StepsOn, with_turn, stamp_of}
-use Rattle.bim_server.specs.Writes.{WritesFront}
+use Rattle.batch_commands.specs.Writes.{WritesLess}
 use Rattle.bim_server.specs.declared.session.Progress.{Progress}
 use Rattle.bim_server.specs.declared.session.Progress.TheVariants.{Again, End}
 use Rattle.bim_server.proofs.SoFar.{SoFar, Owes, Goes, IsQuiet, LeavesBy, start_of, stop_of}
@@ -281,7 +281,7 @@ wrote_fault buckets w a b old mid server so moments bytes here x gave quiet over
 
 -- a front of what comes next was written
 wrote_part : (buckets : Option ℕ) (w a b : Outside) (old : TalkState) (server : ServerState) (so : SoFar buckets w a old server) (moments bytes : List ℕ) → old.leaving ≡ None
-    → ClockGives a.clock b.clock moments → b.source ≡ a.source → (front : WritesFront a.sink b.sink bytes) → EndsEmpty b.source
+    → ClockGives a.clock b.clock moments → b.source ≡ a.source → (front : WritesLess a.sink b.sink bytes) → EndsEmpty b.source
     → IsNext (stop_at buckets w a b old server so moments front.0) bytes → Replays server.settings buckets w b (end.WriteFault old.served)
 wrote_part buckets w a b old server so moments bytes here told source front empty next =
     let goes = open_of buckets w a old server so here in
@@ -545,7 +545,7 @@ lacked_called buckets w a b old mid server server' so call waiting (Err error) x
 -- the answer to a call was not written whole
 cut_called : (buckets : Option ℕ) (w a b : Outside) (old mid : TalkState) (server server' : ServerState) (so : SoFar buckets w a old server) (call : BookRequest) (waiting : Waiting)
     (receipt : Result BookReceipt AllocError) (bytes : List ℕ) → Asks buckets w a b old mid server so call waiting → Calls call server receipt server' → AnswersCall receipt waiting bytes
-    → WritesFront a.sink b.sink bytes → b.source ≡ a.source → EndsEmpty b.source → Replays server'.settings buckets w b (end.WriteFault old.served)
+    → WritesLess a.sink b.sink bytes → b.source ≡ a.source → EndsEmpty b.source → Replays server'.settings buckets w b (end.WriteFault old.served)
 cut_called buckets w a b old mid server server' so call waiting (Ok receipt) bytes x calls answers front source empty =
     let goes = open_of buckets w a old server so x.here in
     let close : AnswersCall (Ok receipt) (waiting_for x.one.request (0 + requests so.events + 1) (asks_change call)) bytes =

@@ -1,25 +1,22 @@
 -- What the commands do and answer.
-use Rattle.std.specs.Prelude.{◌≡◌, ◌≢◌, ◌⊎◌, ℕ, ◌++◌, List, [], ◌∷◌, if◌then◌else◌, Option, Some, None, codes}
+use Rattle.std.specs.Prelude.{◌≡◌, ◌⊎◌, ℕ, List, [], ◌∷◌, if◌then◌else◌, Option, Some, None, codes}
 use Rattle.std.specs.Str.{bytes_eq}
-use Rattle.bim_io.specs.Causes.{ComesOfFault}
-use Rattle.bim_io.specs.Seen.{ClockSeen, Outside, outside, SinkTakes}
+use Rattle.bim_io.specs.Seen.{ClockSeen, Outside, outside}
 use Rattle.bim_session.specs.declared.end.SessionEnd.{SessionEnd}
 use Rattle.bim_session.specs.Replay.{Replays, stated_settings, status_of}
 use Rattle.bim_server.specs.declared.words.ReplayWords.{ReplayWords}
 use Rattle.bim_server.specs.declared.words.Time.{Time}
 use Rattle.bim_server.specs.declared.words.Time.TheVariants.{OfClock, At}
-use Rattle.bim_server.specs.Words.{replay_words, usage_line}
+use Rattle.bim_files.specs.Files.{FilesSeen}
+use Rattle.batch_commands.specs.CheckWords.{check_words}
+use Rattle.batch_commands.specs.GenerateWords.{generate_words}
+use Rattle.batch_commands.specs.Commands.{Checks, Generates}
+use Rattle.batch_commands.specs.Writes.{PrintsUsage, WantsMemory}
+use Rattle.bim_server.specs.Words.{replay_words}
 
--- the usage line is written, or a front of it exactly where a write failed; nothing was read, and the clock was not asked
-pub record PrintsUsage (before after : Outside) (status : ℕ) : Type 0 where
-  pub status_is : status ≡ 2
-  pub front : List ℕ
-  pub more : List ℕ
-  pub line : usage_line ≡ front ++ more
-  pub source : after.source ≡ before.source
-  pub clock : after.clock ≡ before.clock
-  pub wrote : SinkTakes before.sink after.sink front
-  pub short : ComesOfFault before.sink.faults after.sink.faults (more ≢ [])
+-- nothing was read, and the clock was not asked
+abbrev pub ReadsNothing : Outside → Outside → Type 0
+ReadsNothing before after = (after.source ≡ before.source) × (after.clock ≡ before.clock)
 
 -- a session over so many projects is replayed, with so much work behind each answer, and its end decides the status
 pub record ReplaysTo (buckets : Option ℕ) (projects : ℕ) (before after : Outside) (status : ℕ) : Type 0 where
@@ -43,21 +40,46 @@ ReplaysBy OfClock buckets projects before after status = ReplaysTo buckets proje
 ReplaysBy (At moment) buckets projects before after status =
     ReplaysAt buckets projects moment before after status
 
--- memory was wanting for the words: nothing was read or written, and the clock was not asked
-pub record WantsMemory (before after : Outside) (status : ℕ) : Type 0 where
-  pub status_is : status ≡ 6
-  pub same : after ≡ before
-
 -- what `replay` does by what its words say: outside its grammar it prints the usage line, else it replays a session
 abbrev pub DoesBy : Option ReplayWords → Outside → Outside → ℕ → Type 0
-DoesBy None before after status = PrintsUsage before after status
+DoesBy None before after status = PrintsUsage before.sink after.sink status × ReadsNothing before after
 DoesBy (Some said) before after status = ReplaysBy said.time said.buckets said.projects before after status
+
+-- memory was wanting for the words, and nothing was done
+abbrev pub LacksWords : Outside → Outside → ℕ → Type 0
+LacksWords before after status = WantsMemory before.sink after.sink status × ReadsNothing before after
 
 -- what `replay` does, or memory was wanting before it could
 abbrev pub Does : Option ReplayWords → Outside → Outside → ℕ → Type 0
-Does said before after status = DoesBy said before after status ⊎ WantsMemory before after status
+Does said before after status = DoesBy said before after status ⊎ LacksWords before after status
 
--- the words behind the name of a command, where it is `replay`; nothing for a command that is not built
-abbrev pub command_words : List (List ℕ) → Option ReplayWords
-command_words [] = None
-command_words (name ∷ words) = if bytes_eq name (codes "replay") then replay_words words else None
+-- a command that is built, with the words behind its name
+pub data Command : Type 0 where
+  Replay : List (List ℕ) → Command
+  Check : List (List ℕ) → Command
+  Generate : List (List ℕ) → Command
+
+-- the command of a name, where it is one that is built
+abbrev pub command_named : List ℕ → List (List ℕ) → Option Command
+command_named name words =
+    if bytes_eq name (codes "replay") then Some (Replay words)
+    else (if bytes_eq name (codes "check") then Some (Check words)
+    else (if bytes_eq name (codes "generate") then Some (Generate words) else None))
+
+-- the command that words ask for
+abbrev pub command_of : List (List ℕ) → Option Command
+command_of [] = None
+command_of (name ∷ words) = command_named name words
+
+-- what a command does: `replay` leaves the files alone, `check` the source and the clock, and `generate` all three.
+-- Without a command the usage line is printed.
+abbrev pub Runs : Option Command → Outside → Outside → FilesSeen → FilesSeen → ℕ → Type 0
+Runs None before after files files' status =
+    PrintsUsage before.sink after.sink status × ReadsNothing before after × (files' ≡ files)
+Runs (Some (Replay words)) before after files files' status =
+    Does (replay_words words) before after status × (files' ≡ files)
+Runs (Some (Check words)) before after files files' status =
+    Checks (check_words words) files files' before.sink after.sink status × ReadsNothing before after
+Runs (Some (Generate words)) before after files files' status =
+    Generates (generate_words words) before.sink after.sink status × ReadsNothing before after
+    × (files' ≡ files)

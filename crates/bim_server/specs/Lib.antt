@@ -1,4 +1,3 @@
-pub mod Writes
 pub mod Loop
 pub mod Working
 pub mod Words

@@ -16,7 +16,7 @@ use Rattle.bim_session.specs.declared.want.Want.{Want}
 use Rattle.bim_session.specs.declared.want.Want.TheVariants.{More, Write, Call, Leave}
 use Rattle.bim_session.specs.Replay.{IsOneRead}
 use Rattle.bim_session.specs.Talking.{TalkState, BookReceipt, Feeds, Wants, LacksNext, IsOwnWant, AnswersCall, with_answer}
-use Rattle.bim_server.specs.Writes.{WritesFront}
+use Rattle.batch_commands.specs.Writes.{WritesLess}
 use Rattle.bim_server.specs.declared.session.Progress.{Progress}
 use Rattle.bim_server.specs.declared.session.Progress.TheVariants.{Again, End}
 
@@ -72,7 +72,7 @@ Reading source source' old (End e) new =
 -- the bytes were written, or a front of them, which ends the session
 abbrev pub Writing : ℕ → SinkSeen → SinkSeen → List ℕ → Progress → Type 0
 Writing served sink sink' bytes Again = SinkTakes sink sink' bytes × (sink'.faults ≡ sink.faults)
-Writing served sink sink' bytes (End e) = (e ≡ end.WriteFault served) × WritesFront sink sink' bytes
+Writing served sink sink' bytes (End e) = (e ≡ end.WriteFault served) × WritesLess sink sink' bytes
 
 -- how the answer to a call ends a session: memory was wanting for it, or it was not written whole
 abbrev pub StopsAnswering : SinkSeen → SinkSeen → ℕ → Result BookReceipt AllocError → Waiting
@@ -80,7 +80,7 @@ abbrev pub StopsAnswering : SinkSeen → SinkSeen → ℕ → Result BookReceipt
 StopsAnswering sink sink' served receipt waiting e =
     ((e ≡ end.Memory served) × (sink' ≡ sink))
     ⊎ ((bytes : List ℕ) × AnswersCall receipt waiting bytes × (e ≡ end.WriteFault served)
-    × WritesFront sink sink' bytes)
+    × WritesLess sink sink' bytes)
 
 -- the book was called for the request that waits, and its response written; or that ended the session
 abbrev pub Called : BookRequest → SinkSeen → SinkSeen → TalkState → ServerState → Progress → TalkState

@@ -1,30 +1,21 @@
 //! The commands.
-ghost use Rattle.std.specs.Prelude.{◌≡◌};
+ghost use Rattle.std.specs.Prelude.{◌≡◌, ◌<◌, ◌⊎◌};
 ghost use Rattle.bim_io.specs.Causes.{Rose, ComesOfFault};
-ghost use Rattle.bim_io.specs.Seen.{SourceSeen, ClockSeen, outside};
+ghost use Rattle.bim_io.specs.Seen.{outside};
 ghost use Rattle.bim_server.specs.Words.{replay_words, IsReplay};
-ghost use Rattle.bim_server.specs.Commands.{Does, PrintsUsage, ReplaysBy, command_words};
+ghost use Rattle.bim_server.specs.Commands.{Does, ReplaysBy, Runs, command_of};
 
 use crate::session::{run_session, status_of};
-use crate::sinks::write_whole;
-use crate::words::{ReplayWords, Time, is_word, replay_words};
+use crate::words::{ReplayWords, Time, replay_words};
+use batch_commands::{print_usage, run_check, run_generate};
+use bim_files::Files;
 use bim_io::{Clock, MemClock, Sink, Source};
 use bim_model::Text;
+use command_words::is_word;
 use std::alloc::Global;
-
-const USAGE: &str = "usage: bim_server replay|check|generate|serve\n";
 
 /// The exit status for want of memory.
 const NO_MEMORY: u8 = 6;
-
-fn print_usage<K: Sink>(sink: &mut K) -> u8
-    ensures { (source : SourceSeen) (clock : ClockSeen)
-        → PrintsUsage (outside source (K.seen sink.old) clock)
-        (outside source (K.seen sink.new) clock) result }
-{
-    let _written = write_whole(sink, USAGE.as_bytes());
-    2
-}
 
 // Replays one recorded session by what the words say.
 fn replay<S: Source, K: Sink, C: Clock>(
@@ -87,24 +78,33 @@ pub fn run_replay<S: Source, K: Sink, C: Clock>(
 
 /// Does what the command of the first word does, and answers its status. A command that is not built is outside the
 /// grammar, so it prints the usage line and answers 2.
-pub fn run<S: Source, K: Sink, C: Clock>(
+pub fn run<S: Source, K: Sink, F: Files, C: Clock>(
     alloc: Global,
     words: &[Text],
     source: &mut S,
     sink: &mut K,
+    files: &mut F,
     clock: &mut C,
 ) -> u8
-    ensures does { Does (command_words words.now)
+    ensures does { Runs (command_of words.now)
         (outside (S.seen source.old) (K.seen sink.old) (C.seen clock.old))
-        (outside (S.seen source.new) (K.seen sink.new) (C.seen clock.new)) result }
-    ensures read { ComesOfFault (S.seen source.old).faults (S.seen source.new).faults (result ≡ 4) }
+        (outside (S.seen source.new) (K.seen sink.new) (C.seen clock.new))
+        (F.seen files.old) (F.seen files.new) result }
+    ensures read { result ≡ 4 → Rose (S.seen source.old).faults (S.seen source.new).faults
+        ⊎ Rose (F.seen files.old).faults (F.seen files.new).faults }
+    ensures source { (S.seen source.old).faults < (S.seen source.new).faults → result ≡ 4 }
+    ensures files { (F.seen files.old).faults < (F.seen files.new).faults → result ≡ 4 }
     ensures write { result ≡ 5 → Rose (K.seen sink.old).faults (K.seen sink.new).faults }
 {
     match words {
         [] => print_usage(sink),
         [name, rest @ ..] => {
-            if is_word(name, "replay") {
+            if is_word(name.as_str(), "replay") {
                 run_replay(alloc, rest, source, sink, clock)
+            } else if is_word(name.as_str(), "check") {
+                run_check(alloc, rest, files, sink)
+            } else if is_word(name.as_str(), "generate") {
+                run_generate(alloc, rest, sink)
             } else {
                 print_usage(sink)
             }

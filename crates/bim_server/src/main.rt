@@ -4,11 +4,11 @@
 mod commands;
 mod one_thread;
 mod session;
-mod sinks;
 #[cfg(test)]
 mod tests;
 mod words;
 
+use bim_files::StdFiles;
 use bim_io::{StdSink, StdSource, SystemClock};
 use bim_model::Text;
 use commands::run;
@@ -42,7 +42,16 @@ fn main(rt: HostRuntime) -> ExitCode {
     };
     let mut source = StdSource::new(rt.reader());
     let mut sink = StdSink::new(io::writer(&rt));
+    let mut files = StdFiles::new(rt);
     let mut clock = SystemClock::new(rt);
     let alloc = rt.alloc();
-    ExitCode::from(run(alloc, words.as_slice(), &mut source, &mut sink, &mut clock))
+    let status = run(
+        alloc,
+        words.as_slice(),
+        &mut source,
+        &mut sink,
+        &mut files,
+        &mut clock,
+    );
+    ExitCode::from(status)
 }

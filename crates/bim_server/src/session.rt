@@ -8,7 +8,7 @@ ghost use Rattle.bim_server.specs.Loop.{Reading, Writing, Called, StepsOn};
 ghost use Rattle.bim_server.specs.Working.{WorksBehind, StepsAndWorks};
 
 use crate::one_thread::OneThread;
-use crate::sinks::write_whole;
+use batch_commands::write_whole;
 use bim_io::{Clock, Sink, Source};
 use bim_session::{MOST_READ, SessionEnd, Talk, Want};
 use book_history::{BookRequest, MOST_PROJECTS};

@@ -2,6 +2,7 @@
 ghost use Rattle.std.specs.Prelude.{◌≤◌};
 
 use crate::commands::{run, run_replay};
+use bim_files::MemFiles;
 use bim_io::{ListClock, MemClock, MemSink, MemSource, SureSink, SureSource};
 use bim_model::{Bytes, Items, Moment, Text};
 use std::alloc::Global;
@@ -189,7 +190,15 @@ fn assert_words(
     let mut source = SureSource::new(Bytes::of(alloc, b"")?, 100)?;
     let mut sink = SureSink::new(alloc, 100)?;
     let mut clock = MemClock::new(0);
-    let answered = run(alloc, words.as_slice(), &mut source, &mut sink, &mut clock);
+    let mut files = MemFiles::new(alloc, Vec::new(alloc), 100, Items::new(alloc))?;
+    let answered = run(
+        alloc,
+        words.as_slice(),
+        &mut source,
+        &mut sink,
+        &mut files,
+        &mut clock,
+    );
     assert_eq!(rt; answered, status);
     assert_eq!(rt; sink.bytes(), output);
     Ok(())
@@ -210,5 +219,14 @@ fn words_outside_the_grammar_print_the_usage(rt: HostRuntime) -> Result<(), Fail
     assert_words(&rt, alloc, &["replay", "--at", "5", "--at", "6"], 2, usage)?;
     assert_words(&rt, alloc, &["replay", "--help"], 2, usage)?;
     assert_words(&rt, alloc, &["check"], 2, usage)?;
+    assert_words(&rt, alloc, &["check", "--rules", "r", "m=f"], 4, b"")?;
+    assert_words(
+        &rt,
+        alloc,
+        &["generate", "--count=1"],
+        0,
+        b"elements 1\ntriangles 12\nclashes 0\n",
+    )?;
+    assert_words(&rt, alloc, &["serve"], 2, usage)?;
     assert_words(&rt, alloc, &[], 2, usage)
 }

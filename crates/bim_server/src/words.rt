@@ -1,15 +1,13 @@
 //! The words of the command line. A parser of command lines takes them apart; what their values say is judged here.
-ghost use Rattle.std.specs.Prelude.{◌≡◌, ◌≤◌, ℕ, false, map, option_map, IfOk, IfSome};
-ghost use Rattle.std.specs.List.{list_all};
-ghost use Rattle.std.specs.Char.{is_ascii_digit};
-ghost use Rattle.std.specs.Str.{bytes_eq};
-ghost use Rattle.clap.specs.Words.{app_of, found_of, rows_of, rule_of};
-ghost use Rattle.bim_server.specs.Words.{is_number, within, number_word, option_of, replay_command, IsPlainCommand, IsParse, time_said, buckets_said, projects_said, all_said, replay_said, replay_words, IsTime, IsCount, IsReplay};
+ghost use Rattle.std.specs.Prelude.{◌≡◌, option_map, IfOk, IfSome};
+ghost use Rattle.clap.specs.Words.{app_of, found_of, rows_of};
+ghost use Rattle.bim_server.specs.Words.{replay_command, time_said, buckets_said, projects_said, all_said};
+ghost use Rattle.bim_server.specs.Words.{replay_said, replay_words, IsTime, IsCount, IsReplay};
 
 use bim_model::{Moment, Text};
 use book_history::MOST_PROJECTS;
-use clap::error::ErrorKind;
-use clap::{Arg, ArgAction, ArgMatches, Command};
+use clap::{ArgMatches, Command};
+use command_words::{lent_words, number_word, parse, plain_command, with_option};
 use std::alloc::{AllocError, Global};
 
 /// The most buckets that words may say.
@@ -34,96 +32,14 @@ pub struct ReplayWords {
     pub projects: u32,
 }
 
-/// Whether a word is this one.
-pub fn is_word(word: &Text, wanted: &str) -> bool
-    ensures { result ≡ bytes_eq word.now wanted.now }
-{
-    word.as_str() == wanted
-}
-
-fn are_digits(text: &[u8]) -> bool
-    ensures { result ≡ list_all is_ascii_digit text.now }
-{
-    text.iter().all(|b| b.is_ascii_digit())
-}
-
-// Whether a text is 1 to 20 digits.
-fn is_number(text: &str) -> bool
-    ensures { result ≡ is_number text.now }
-{
-    1 <= text.len() && text.len() <= 20 && are_digits(text.as_bytes())
-}
-
-fn within(least: u64, most: u64, number: u64) -> Option<u64>
-    ensures value { result ≡ within least most number }
-    ensures low { IfSome result (λ n. least ≤ n) }
-    ensures high { IfSome result (λ n. n ≤ most) }
-{
-    if least <= number && number <= most {
-        Some(number)
-    } else {
-        None
-    }
-}
-
-// The number that 1 to 20 digits write, where it is one of these.
-fn number_word(least: u64, most: u64, text: &str) -> Option<u64>
-    ensures value { result ≡ number_word least most text.now }
-    ensures low { IfSome result (λ n. least ≤ n) }
-    ensures high { IfSome result (λ n. n ≤ most) }
-{
-    if !is_number(text) {
-        return None;
-    }
-    match text.parse::<u64>() {
-        Ok(number) => within(least, most, number),
-        Err(_) => None,
-    }
-}
-
-// An option that takes a value: `--name V` or `--name=V`.
-fn option_of<'a>(alloc: Global, name: &'a str) -> Arg<'a>
-    ensures rule { rule_of result ≡ option_of name.entry.now }
-    ensures local { result.global ≡ false }
-{
-    Arg::new(alloc, name).long(name).action(ArgAction::Set)
-}
-
 // The command `replay`, of the words behind its name, without help.
 fn replay_command<'a>(alloc: Global) -> Result<Command<'a>, AllocError>
     ensures { IfOk result (λ command. app_of command ≡ replay_command) }
 {
-    let plain = Command::new(alloc, "replay")
-        .no_binary_name(true)
-        .disable_help_flag(true);
-    let timed = plain.arg(option_of(alloc, "at"))?;
-    let worked = timed.arg(option_of(alloc, "buckets"))?;
-    worked.arg(option_of(alloc, "projects"))
-}
-
-// The words as texts, lent.
-fn lent_words<'a>(alloc: Global, words: &'a [Text]) -> Result<Vec<&'a str>, AllocError>
-    ensures { IfOk result (λ lent. map (λ s. s.now) lent.items ≡ words.entry.now) }
-{
-    let mut lent = Vec::new(alloc);
-    for word in words {
-        lent.push(word.as_str())?;
-    }
-    Ok(lent)
-}
-
-// What a parse finds in words, where the command takes them.
-fn parse<'a>(command: Command<'a>, words: &'a [&str]) -> Result<Option<ArgMatches<'a>>, AllocError>
-    requires { IsPlainCommand (app_of command) }
-    ensures { IfOk result (IsParse (app_of command.entry) (map (λ s. s.now) words.entry.now)) }
-{
-    match command.try_get_matches_from(words) {
-        Ok(matches) => Ok(Some(matches)),
-        Err(error) => match error.kind() {
-            ErrorKind::OutOfMemory => Err(AllocError),
-            _ => Ok(None),
-        },
-    }
+    let plain = plain_command(alloc, "replay");
+    let timed = with_option(alloc, plain, "at")?;
+    let worked = with_option(alloc, timed, "buckets")?;
+    with_option(alloc, worked, "projects")
 }
 
 fn time_said(text: Option<&str>) -> Option<Time>

@@ -1,12 +1,14 @@
 -- What no call of a book changes.
 use Rattle.std.specs.Prelude.{◌≤◌}
 use Rattle.book_history.specs.declared.limits.Limits.{Limits}
-use Rattle.book_history.specs.declared.limits.TheConstants.{MOST_VERSION_ELEMENTS, MOST_VERSION_MEMBERSHIPS, MOST_STORED_TRIANGLES, MOST_TEXT, MOST_ENTRIES, MOST_TOPICS, MOST_COMMENTS, MOST_VIEWPOINTS}
+use Rattle.bucket_grid.specs.declared.grid.TheConstants.{MOST_MEMBERSHIPS}
+use Rattle.clash_check.specs.declared.fault.TheConstants.{MOST_VERSION_ELEMENTS}
+use Rattle.book_history.specs.declared.limits.TheConstants.{MOST_STORED_TRIANGLES, MOST_TEXT, MOST_ENTRIES, MOST_TOPICS, MOST_COMMENTS, MOST_VIEWPOINTS}
 
 -- each limit is at most the one of the program
 pub record IsWithinStated (limits : Limits) : Type 0 where
   pub elements : limits.elements ≤ MOST_VERSION_ELEMENTS
-  pub memberships : limits.memberships ≤ MOST_VERSION_MEMBERSHIPS
+  pub memberships : limits.memberships ≤ MOST_MEMBERSHIPS
   pub triangles : limits.triangles ≤ MOST_STORED_TRIANGLES
   pub text : limits.text ≤ MOST_TEXT
   pub journal : limits.journal ≤ MOST_ENTRIES
@@ -18,7 +20,7 @@ pub record IsWithinStated (limits : Limits) : Type 0 where
 abbrev pub stated_limits : Limits
 stated_limits = record {
   elements = MOST_VERSION_ELEMENTS;
-  memberships = MOST_VERSION_MEMBERSHIPS;
+  memberships = MOST_MEMBERSHIPS;
   triangles = MOST_STORED_TRIANGLES;
   text = MOST_TEXT;
   journal = MOST_ENTRIES;

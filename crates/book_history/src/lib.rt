@@ -18,7 +18,7 @@ pub use faults::{BookFault, StoreWhat};
 pub use laws::{grids_are_one, requests_stay_legal, work_stays_given};
 pub use limits::{
     Limits, MOST_COMMENTS, MOST_ENTRIES, MOST_PROJECTS, MOST_STORED_TRIANGLES, MOST_TEXT,
-    MOST_TOPICS, MOST_VERSION_ELEMENTS, MOST_VERSION_MEMBERSHIPS, MOST_VIEWPOINTS, Settings,
+    MOST_TOPICS, MOST_VIEWPOINTS, Settings,
 };
 pub use replies::{BookReply, ReplyBody};
 pub use requests::{BookRequest, Wanted};

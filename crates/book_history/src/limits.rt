@@ -2,14 +2,11 @@
 ghost use Rattle.std.specs.Prelude.{◌≡◌};
 ghost use Rattle.book_history.specs.Settings.{IsWithinStated, stated_limits};
 
+use bucket_grid::MOST_MEMBERSHIPS;
+use clash_check::MOST_VERSION_ELEMENTS;
+
 /// The most projects of a book.
 pub const MOST_PROJECTS: u32 = 8;
-
-/// The most elements of a version.
-pub const MOST_VERSION_ELEMENTS: u64 = 100_000;
-
-/// The most pairs of a cell and an element in it, of a version.
-pub const MOST_VERSION_MEMBERSHIPS: u64 = 2_000_000;
 
 /// The most triangles of all accepted uploads.
 pub const MOST_STORED_TRIANGLES: u64 = 40_000_000;
@@ -58,7 +55,7 @@ impl Limits {
     {
         Limits {
             elements: MOST_VERSION_ELEMENTS,
-            memberships: MOST_VERSION_MEMBERSHIPS,
+            memberships: MOST_MEMBERSHIPS,
             triangles: MOST_STORED_TRIANGLES,
             text: MOST_TEXT,
             journal: MOST_ENTRIES,

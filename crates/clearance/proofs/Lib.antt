@@ -11,3 +11,5 @@ pub mod Parted
 pub mod Decided
 pub mod Surfaces
 pub mod Computed
+pub mod PartedLists
+pub mod Sixteenths

@@ -20,7 +20,7 @@ pub any_map : {X : Type 0} (P Q : X → Type 0) (xs : List X) → ((x : X) → P
 any_map P Q xs f (k, x, lt, e, p) = (k, x, lt, e, f x p)
 
 -- ---- the first n of a list, and those behind them
-by_lt : {P : Type 0} (a b : ℕ) → (a < b → P) → (b ≤ a → P) → P
+pub by_lt : {P : Type 0} (a b : ℕ) → (a < b → P) → (b ≤ a → P) → P
 by_lt a b f g = by_lt_z (pos a) (pos b) (λ h. f (omega (arith, ints, h))) (λ h. g (omega (arith, ints, h)))
 
 below : (k n m l : ℕ) → m ≡ min n l → k < m → k < n

@@ -6,3 +6,4 @@ pub mod Boxes
 pub mod Runs
 pub mod Apart
 pub mod Decided
+pub mod Projections

@@ -11,13 +11,13 @@ use tri_exact::{Normal, V3};
 
 /// The longer of two edges.
 #[inline(always)]
-fn longer(a: V3, b: V3) -> V3 {
+pub fn longer(a: V3, b: V3) -> V3 {
     if scalar(a, a) < scalar(b, b) { b } else { a }
 }
 
 /// The longest edge of t.
 #[inline(always)]
-fn longest_edge(t: Corners) -> V3
+pub fn longest_edge(t: Corners) -> V3
     requires { InGrid t }
 {
     let first = longer(difference(t.b, t.a), difference(t.c, t.b));
@@ -26,7 +26,7 @@ fn longest_edge(t: Corners) -> V3
 
 /// The lowest of three places across a direction.
 #[inline(always)]
-fn lowest(a: i128, b: i128, c: i128) -> i128
+pub fn lowest(a: i128, b: i128, c: i128) -> i128
     requires a_in { unsigned_abs a ≤ height_limit }
     requires b_in { unsigned_abs b ≤ height_limit }
     requires c_in { unsigned_abs c ≤ height_limit }
@@ -46,7 +46,7 @@ fn lowest(a: i128, b: i128, c: i128) -> i128
 
 /// The highest of three places across a direction.
 #[inline(always)]
-fn highest(a: i128, b: i128, c: i128) -> i128
+pub fn highest(a: i128, b: i128, c: i128) -> i128
     requires a_in { unsigned_abs a ≤ height_limit }
     requires b_in { unsigned_abs b ≤ height_limit }
     requires c_in { unsigned_abs c ≤ height_limit }
@@ -65,7 +65,7 @@ fn highest(a: i128, b: i128, c: i128) -> i128
 }
 
 /// The greatest height that is asked for.
-const LIMIT: i128 = 24576000000000000000000;
+pub const HEIGHT: i128 = 24576000000000000000000;
 
 /// A gap, or the limit.
 #[inline(always)]
@@ -76,12 +76,12 @@ fn capped(gap: i128) -> i128
     ensures some { pos 0 <ℤ result }
     ensures small { unsigned_abs result ≤ height_limit }
 {
-    if gap <= LIMIT { gap } else { LIMIT }
+    if gap <= HEIGHT { gap } else { HEIGHT }
 }
 
 /// Whether three places are more than d above three others; a `false` says nothing.
 #[inline(always)]
-fn is_gap(high: i128, low: i128, square: i128, d: u32) -> bool
+pub fn is_gap(high: i128, low: i128, square: i128, d: u32) -> bool
     requires high_in { unsigned_abs high ≤ height_limit }
     requires low_in { unsigned_abs low ≤ height_limit }
     requires square_in { unsigned_abs square ≤ square_limit }

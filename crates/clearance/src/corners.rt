@@ -15,8 +15,9 @@ pub struct Corners {
     pub c: V3,
 }
 
+/// A point as a vector.
 #[inline(always)]
-fn vector_at(p: Point) -> V3
+pub fn vector_at(p: Point) -> V3
     requires { IsGridPoint p }
     ensures value { at result ≡ vector_of p }
     ensures small { IsPoint result }

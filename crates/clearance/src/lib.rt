@@ -4,8 +4,10 @@
 mod apart;
 mod boxes;
 mod corners;
+mod directions;
 mod laws;
 mod planes;
+mod projections;
 mod rows;
 mod runs;
 mod sides;

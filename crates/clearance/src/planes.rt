@@ -63,7 +63,7 @@ pub fn heights_over(plane: Plane, t: Corners, s: Corners) -> Heights
 
 /// The lesser of two heights.
 #[inline(always)]
-fn lesser(a: i128, b: i128) -> i128
+pub fn lesser(a: i128, b: i128) -> i128
     requires a_in { unsigned_abs a ≤ height_limit }
     requires b_in { unsigned_abs b ≤ height_limit }
     ensures a { result ≤ℤ a }

@@ -1,13 +1,14 @@
 // Lists of triangles in runs of sixteen, each run with its box, so that most runs are passed over at once.
 // The boxes of up to 512 triangles lie on the stack.
-ghost use Rattle.std.specs.Prelude.{◌≡◌, ◌≤◌, ◌↔◌, ◌⊎◌, IsTrue, All, length, take, drop};
+ghost use Rattle.std.specs.Prelude.{false, ◌≡◌, ◌<◌, ◌≤◌, ◌↔◌, ◌⊎◌, IsTrue, All, length, take, drop};
 ghost use Rattle.tri_exact.specs.Limits.{distance_limit};
 ghost use Rattle.bim_model.specs.Points.{IsInGrid, shape_of};
 ghost use Rattle.clearance.specs.Near.{Near, NearAny, ListsNear};
 ghost use Rattle.clearance.specs.Boxes.{InExtent, IsExtent, Wider, IsOff};
-ghost use Rattle.clearance.specs.Runs.{AllIn, AllReach, RunsIn};
+ghost use Rattle.clearance.specs.Runs.{AllIn, AllReach, RunsIn, NoneInRow};
 
 use crate::boxes::{extent_of, extent_of_all, is_off, join, no_extent};
+use crate::projections::lists_apart;
 use crate::triangles::test_near;
 use bim_model::{Extent, Triangle};
 
@@ -212,7 +213,42 @@ fn run_extents(qs: &[Triangle], around: Extent, d: u32) -> [Extent; RUNS]
     runs
 }
 
+/// Whether one of the triangles of ps at a place, sixteen on and so on, and one of qs are near. A `false` speaks of
+/// these alone; ps lie in the box `around`, and the boxes are for qs and its runs.
+fn row_near(
+    ps: &[Triangle],
+    start: usize,
+    qs: &[Triangle],
+    runs: &[Extent],
+    reached: Extent,
+    around: Extent,
+    d: u32,
+) -> bool
+    requires ps_in { All IsInGrid ps.now }
+    requires start_in { start < 16 }
+    requires inside { AllIn around ps.now }
+    requires qs_in { All IsInGrid qs.now }
+    requires runs_in { RunsIn around d runs.now qs.now }
+    requires reached_in { AllReach around d reached qs.now }
+    requires small { IsExtent reached }
+    requires d_in { d ≤ distance_limit }
+    ensures near { IsTrue result → ListsNear ps.now qs.now d }
+    ensures far { result ≡ false → NoneInRow ps.now start qs.now d }
+{
+    for j in 0..ps.len() / RUN + 1 {
+        let at = RUN * j + start;
+        if at >= ps.len() {
+            return false;
+        }
+        if runs_near(&ps[at], qs, runs, reached, around, d) {
+            return true;
+        }
+    }
+    false
+}
+
 /// Whether a triangle of ps, which lie in the box `around`, and one of qs are near; the boxes are for qs and its runs.
+/// Neighbours in a list mostly lie near each other, so that every sixteenth is asked first.
 fn all_near(
     ps: &[Triangle],
     qs: &[Triangle],
@@ -230,8 +266,8 @@ fn all_near(
     requires d_in { d ≤ distance_limit }
     ensures { IsTrue result ↔ ListsNear ps.now qs.now d }
 {
-    for p in ps {
-        if runs_near(p, qs, runs, reached, around, d) {
+    for start in 0..RUN {
+        if row_near(ps, start, qs, runs, reached, around, d) {
             return true;
         }
     }
@@ -249,6 +285,9 @@ pub fn block_near(ps: &[Triangle], qs: &[Triangle], d: u32) -> bool
     let around = extent_of_all(ps);
     let reached = reached_extent(qs, around, d);
     if is_off(around, reached, d) {
+        return false;
+    }
+    if lists_apart(ps, qs, around, reached, d) {
         return false;
     }
     let runs = run_extents(qs, around, d);

@@ -11,7 +11,8 @@ use clash_rules::RuleFault;
 use serde_json::Value;
 use std::alloc::{AllocError, Global};
 
-fn many_word(many: Many) -> &'static str
+/// What is too many, as a word.
+pub fn many_word(many: Many) -> &'static str
     ensures { result.now ≡ many_word many }
 {
     match many {

@@ -58,8 +58,8 @@ Fits board pair (change.ClashTopic version place author weight) = IsClashing pai
 Fits board pair _ = ⊥
 
 -- what is told, and what became of the board, are those of the change of every project of which it was the board
-pub record IsApplied (pair : Option (Guid × Guid)) (change : Change) (before after : BoardState) (body : ReplyBody)
-    : Type 0 where
+pub record IsApplied (pair : Option (Guid × Guid)) (change : Change) (before after : BoardState)
+    (body : ReplyBody) : Type 0 where
   pub told :
       (project : ProjectState) → project.board ≡ before → pair ≡ clash_of project change
       → body ≡ reply_to project change (with_change project change)

@@ -1,7 +1,6 @@
-use Rattle.std.proofs.Common.{All, take}
-use Rattle.bim_model.specs.declared.geometry.Triangle.{Triangle}
-use Rattle.clearance.specs.Near.{NearAny}
+use Rattle.std.proofs.Common.{ℕ, ◌<◌}
+use Rattle.clearance.specs.Runs.{NoneInRow}
 use Rattle.clearance.proofs.runs.all_near.Given as goal
 
-abbrev pub invariant-loop-p : goal.invariant-loop-p
-invariant-loop-p l = All (λ (p : Triangle). NearAny p l.qs l.fn.d → ⊥) (take l.p-index l.ps)
+abbrev pub invariant-loop-start : goal.invariant-loop-start
+invariant-loop-start l = (i : ℕ) → i < l.start → NoneInRow l.ps i l.qs l.fn.d

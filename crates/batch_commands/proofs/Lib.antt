@@ -1,0 +1,10 @@
+pub mod Reading
+pub mod Written
+pub mod Blocks
+pub mod Printed
+pub mod Pieces
+pub mod Plain
+pub mod Saying
+pub mod Each
+pub mod Judged
+pub mod Answered

@@ -1,0 +1,5 @@
+use Rattle.std.proofs.Common.{◌≡◌, ◌++◌}
+use Rattle.batch_commands.proofs.generate.all_bytes.Given as goal
+
+abbrev pub invariant-asks : goal.invariant-asks
+invariant-asks l = l.initial.pieces ≡ l.bytes.items ++ l.pieces

@@ -1,0 +1,5 @@
+use Rattle.batch_commands.proofs.Pieces.{PutOf}
+use Rattle.batch_commands.proofs.generate.put_pieces.Given as goal
+
+abbrev pub invariant-asks : goal.invariant-asks
+invariant-asks g l = PutOf (g.K.Sink.seen l.initial.sink) (g.K.Sink.seen l.sink) l.initial.block.items l.block.items l.initial.pieces l.pieces

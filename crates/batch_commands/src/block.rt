@@ -1,0 +1,80 @@
+//! Writing in blocks.
+ghost use Rattle.std.specs.Prelude.{◌≡◌, ◌≤◌, [], length, drop, OnOk};
+ghost use Rattle.batch_commands.specs.Writes.{WritesWhole, Puts, Flushes};
+
+use bim_io::{Failed, Sink};
+use std::alloc::{AllocError, Global};
+
+/// Why what is printed stops.
+#[derive(Clone, Copy, Debug, PartialEq, Eq)]
+pub enum Stop {
+    /// A write failed.
+    Write,
+    Memory,
+}
+
+impl From<AllocError> for Stop {
+    ghost from_gives = { λ _ e. e ≡ Memory };
+
+    ghost use Rattle.std.specs.Prelude.{◌≡◌};
+    ghost use Rattle.batch_commands.specs.declared.block.Stop.TheVariants.{Memory};
+
+    fn from(_: AllocError) -> Stop {
+        Stop::Memory
+    }
+}
+
+// How many bytes are gathered before they are written.
+const BLOCK: usize = 65_536;
+
+fn tail(bytes: &[u8], at: usize) -> &[u8]
+    requires { at ≤ length bytes.now }
+    ensures { result.now ≡ drop at bytes.now }
+{
+    &bytes[at..]
+}
+
+/// Writes all the bytes, or a front of them where a write fails.
+pub fn write_whole<K: Sink>(sink: &mut K, bytes: &[u8]) -> Result<(), Failed>
+    ensures { WritesWhole (K.seen sink.old) (K.seen sink.new) bytes.now result }
+{
+    let mut at = 0;
+    while at < bytes.len() {
+        match sink.write(tail(bytes, at)) {
+            Ok(count) => at += count,
+            Err(failed) => return Err(failed),
+        }
+    }
+    Ok(())
+}
+
+/// The same, where a failure is a reason to stop.
+pub fn write_bytes<K: Sink>(sink: &mut K, bytes: &[u8]) -> Result<(), Stop>
+    ensures { Flushes (K.seen sink.old) (K.seen sink.new) bytes.now result }
+{
+    match write_whole(sink, bytes) {
+        Ok(()) => Ok(()),
+        Err(_) => Err(Stop::Write),
+    }
+}
+
+/// Writes what the block holds, and empties it.
+pub fn flush<K: Sink>(sink: &mut K, block: &mut Vec<u8>) -> Result<(), Stop>
+    ensures wrote { Flushes (K.seen sink.old) (K.seen sink.new) block.old.items result }
+    ensures empty { OnOk result (block.new.items ≡ []) }
+{
+    let written = write_bytes(sink, block.as_slice());
+    block.clear();
+    written
+}
+
+/// Puts a text behind what the block holds, and writes the block once it is full.
+pub fn put<K: Sink>(sink: &mut K, block: &mut Vec<u8>, text: &str) -> Result<(), Stop>
+    ensures { Puts (K.seen sink.old) (K.seen sink.new) block.old.items block.new.items text.now result }
+{
+    block.extend_from_slice(text.as_bytes())?;
+    if block.len() < BLOCK {
+        return Ok(());
+    }
+    flush(sink, block)
+}

@@ -1,0 +1,21 @@
+//! The commands that end by themselves: the clashes of files, and models that are made up.
+#![tactic(auto)]
+
+mod block;
+mod check;
+mod check_words;
+mod faults;
+mod generate;
+mod generate_words;
+mod judge;
+mod refusal;
+mod report;
+mod rules_file;
+mod statuses;
+#[cfg(test)]
+mod tests;
+
+pub use block::write_whole;
+pub use check::run_check;
+pub use generate::run_generate;
+pub use statuses::print_usage;

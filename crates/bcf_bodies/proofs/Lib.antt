@@ -1,0 +1,4 @@
+pub mod Identifiers
+pub mod Lists
+pub mod Guids
+pub mod LastMembers

@@ -1,0 +1,24 @@
+//! Topics, comments and viewpoints from JSON and as JSON (BCF API 3.0).
+#![tactic(auto)]
+
+mod comment_bodies;
+mod comment_trees;
+mod components;
+mod fault;
+mod members;
+mod objects;
+mod shapes;
+#[cfg(test)]
+mod tests;
+mod topic_bodies;
+mod topic_trees;
+mod view_bodies;
+mod view_trees;
+
+pub use comment_bodies::comment_in;
+pub use comment_trees::comment_out;
+pub use fault::{BodyError, BodyFault};
+pub use topic_bodies::topic_in;
+pub use topic_trees::topic_out;
+pub use view_bodies::view_in;
+pub use view_trees::view_out;

@@ -1,0 +1,5 @@
+use Rattle.clearance.specs.Projections.{IsInterval}
+use Rattle.clearance.proofs.projections.sampled_interval.Given as goal
+
+abbrev pub invariant-loop-k : goal.invariant-loop-k
+invariant-loop-k l = IsInterval l.found
