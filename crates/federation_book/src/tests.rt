@@ -4,7 +4,8 @@ ghost use Rattle.book_history.specs.History.{IsBefore};
 
 use crate::book::Book;
 use crate::samples::to_post;
-use bim_model::{Model, NamedModel, Shared, Text, Topic, id_of};
+use bcf_topics::Topic;
+use bim_model::{Model, NamedModel, Shared, Text, id_of};
 use book_history::{BookFault, BookRequest, Change, Entry, Limits, ReplyBody, Stamp, Wanted};
 use std::alloc::{AllocError, Global};
 use std::process::Abort;
