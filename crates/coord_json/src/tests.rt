@@ -1,6 +1,8 @@
 //! What routes answer, against texts written by hand. Clashes are written by the sessions of the program's own tests.
 use crate::clashes::pending_out;
-use crate::errors::{error_full, error_newest, error_out, error_store, error_version};
+use crate::errors::{
+    error_full, error_newest, error_out, error_place, error_store, error_version,
+};
 use crate::faults::{rule_fault_out, upload_fault_out};
 use crate::versions::{changed_out, version_out};
 use bim_model::{Many, Rules, Shared, Snapshot, UploadFault};
@@ -44,6 +46,10 @@ fn writes_errors_of_the_book(rt: HostRuntime) -> Result<(), Fail> {
         (
             error_full(alloc, "K8", "TooSpread", 4, 3)?,
             r#"{"code":"K8","count":4,"limit":3,"message":"K8 TooSpread"}"#,
+        ),
+        (
+            error_place(alloc, "K12", "NoClash", 5, 4)?,
+            r#"{"code":"K12","message":"K12 NoClash","place":5,"total":4}"#,
         ),
         (pending_out(alloc, 1, 2)?, r#"{"left":1,"version":2}"#),
     ];
