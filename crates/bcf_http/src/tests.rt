@@ -4,7 +4,9 @@ use crate::calls::{HttpCall, Refusal, ReplyKind, RequestFault, kind_of, to_call}
 use crate::paths::RoutePath;
 use crate::query::QueryName;
 use crate::routes::Routes;
-use bim_model::{Author, Bytes, Items, Mode, Moment, Text, Topic, TopicBody, id_of};
+use bcf_topics::{Topic, TopicBody};
+use bcf_viewpoints::ViewPart;
+use bim_model::{Author, Bytes, Items, Mode, Moment, Text, id_of};
 use book_history::{BookFault, BookReply, BookRequest, Horizon, ReplyBody, Wanted};
 use clash_rules::RuleFault;
 use http_frame::{FrameFault, HttpRequest};
@@ -39,6 +41,7 @@ fn asks_the_book(rt: HostRuntime) -> Result<(), Fail> {
         project: 2,
         created: true,
         head: false,
+        part: ViewPart::Whole,
     };
     assert_eq!(rt; kind_of(&routes, &post), made);
     is_post(&rt, to_call(alloc, &routes, post, 1_714_564_800));
@@ -212,7 +215,7 @@ fn refuses(rt: HostRuntime) -> Result<(), Fail> {
     };
     let head = request(alloc, "HEAD", target, b"")?;
     is_refused(&rt, to_call(alloc, &routes, head, 0), lacks);
-    let other = request(alloc, "GET", "/bcf/3.0/projects", b"")?;
+    let other = request(alloc, "GET", "/bcf/3.0/projects/7", b"")?;
     is_refused(
         &rt,
         to_call(alloc, &routes, other, 0),
@@ -233,11 +236,21 @@ fn pipe(alloc: Global) -> Result<Topic, AllocError> {
         serial: 1,
         body: TopicBody {
             title: Text::of(alloc, "Pipe")?,
+            topic_type: None,
+            topic_status: None,
+            priority: None,
+            index: None,
+            labels: Items::new(alloc),
+            assigned_to: None,
+            stage: None,
+            description: None,
+            due: None,
         },
         created: Author {
             user: Text::of(alloc, "anonymous")?,
             moment: Moment::new(1_714_564_800),
         },
+        modified: None,
     })
 }
 
@@ -269,6 +282,7 @@ fn writes_topics(rt: HostRuntime) -> Result<(), Fail> {
         project: 1,
         created: true,
         head: false,
+        part: ViewPart::Whole,
     };
     let wanted =
         "HTTP/1.1 201 Created\r\nContent-Type: application/json\r\nX-Book-Turn: 1\r\nContent-Length: 156\r\n\r\n{\"creation_author\":\"anonymous\",\"creation_date\":\"2024-05-01T12:00:00Z\",\"guid\":\"00000001-0000-8000-8000-000000000001\",\"server_assigned_id\":\"1\",\"title\":\"Pipe\"}";
@@ -288,6 +302,7 @@ fn writes_no_body_to_head(rt: HostRuntime) -> Result<(), Fail> {
         project: 1,
         created: false,
         head: true,
+        part: ViewPart::Whole,
     };
     let wanted =
         "HTTP/1.1 405 Method Not Allowed\r\nContent-Type: application/json\r\nAllow: GET, POST\r\nContent-Length: 35\r\n\r\n";

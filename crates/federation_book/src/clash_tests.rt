@@ -16,7 +16,7 @@ use bim_model::{Steps, id_of};
 use book_history::{BookFault, BookRequest, Limits, ReplyBody, StoreWhat, Wanted};
 use bucket_check::{BucketWork, Room, SetPair, check};
 use bucket_grid::Cell;
-use std::alloc::Global;
+use std::alloc::{AllocError, Global};
 use std::marker::Brand;
 use std::process::Abort;
 use std::sync::ledger::{Blank, Ledger};
