@@ -58,8 +58,8 @@ with_fault (Err fault) = Err (Body fault)
 
 -- what a body is read as, or its first fault: no object, then what its members say
 abbrev pub asked_as : {A : Type 0} → (Data → Result A BodyFault) → Option Data → Result A RequestFault
-asked_as read None = Err BadJson
-asked_as read (Some tree) = with_fault (read tree)
+asked_as reading None = Err BadJson
+asked_as reading (Some tree) = with_fault (reading tree)
 
 -- the call that a body asks for, or its fault
 abbrev pub call_with : {A : Type 0} → (A → BookRequest) → Result A RequestFault → Result HttpCall RequestFault
@@ -141,14 +141,14 @@ call_of_topic moment request p t (place.View w part) = Ok (Ask (view_call reques
 -- what is asked of a model: by PUT it is to be built of the body and put into the project under its name, else it is
 -- removed
 abbrev pub put_call : HttpRequest → ℕ → List ℕ → Mode → Result HttpCall RequestFault
-put_call request project name mode =
-    if bytes_eq request.method (codes "PUT") then Ok (Build project name mode request.body)
-    else Ok (Ask (Remove project name))
+put_call request p name mode =
+    if bytes_eq request.method (codes "PUT") then Ok (Build p name mode request.body)
+    else Ok (Ask (Remove p name))
 
 -- the same, where the query says well how lengths come on the grid
 abbrev pub model_call : HttpRequest → ℕ → List ℕ → Option Mode → Result HttpCall RequestFault
-model_call request project name None = Err (Query Grid)
-model_call request project name (Some mode) = put_call request project name mode
+model_call request p name None = Err (Query Grid)
+model_call request p name (Some mode) = put_call request p name mode
 
 -- a fault of clash rules as one of its request
 abbrev pub with_rule_fault : Result (List Rule) RuleFault → Result (List Rule) RequestFault
@@ -162,13 +162,13 @@ rules_asked (Some tree) = with_rule_fault (rules_of tree)
 
 -- the call that sets clash rules, or the fault of the body
 abbrev pub rules_call : HttpRequest → ℕ → Result (List Rule) RequestFault → Result HttpCall RequestFault
-rules_call request project (Ok asked) = Ok (Ask (SetRules project asked (length request.body)))
-rules_call request project (Err fault) = Err fault
+rules_call request p (Ok asked) = Ok (Ask (SetRules p asked (length request.body)))
+rules_call request p (Err fault) = Err fault
 
 -- the clashes of a version that the query asks for
 abbrev pub clashes_call : ℕ → Wanted → Result Page QueryName → Result HttpCall RequestFault
-clashes_call project wanted (Ok page) = Ok (Ask (ReadClashes project wanted page.first page.count))
-clashes_call project wanted (Err name) = Err (Query name)
+clashes_call p wanted (Ok page) = Ok (Ask (ReadClashes p wanted page.first page.count))
+clashes_call p wanted (Err name) = Err (Query name)
 
 -- what is asked for at a place, by a method of its row; the body is passed over where a topic is made of a clash, and
 -- weighs its length
@@ -217,7 +217,7 @@ is_model other = false
 
 -- success is answered 201: something is made by POST, or a model is put
 abbrev pub creates : List ℕ → RoutePath → Bool
-creates method row = bytes_eq method (codes "POST") || (is_model row && bytes_eq method (codes "PUT"))
+creates method path = bytes_eq method (codes "POST") || (is_model path && bytes_eq method (codes "PUT"))
 
 -- the method is HEAD
 abbrev pub is_head : HttpRequest → Bool
@@ -261,4 +261,4 @@ BringsNone call = (set : SetValue) → call ≢ Finish set
 -- the same of what a request asks for
 abbrev pub AsksNone : HttpCall → Type 0
 AsksNone (Ask call) = BringsNone call
-AsksNone (Build project name mode body) = Unit {0}
+AsksNone (Build p name mode body) = Unit {0}
