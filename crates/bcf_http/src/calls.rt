@@ -313,9 +313,7 @@ fn asked_by(
             project,
             wanted,
             place,
-        } => Ok(HttpCall::Ask(clash_topic(
-            request, moment, project, wanted, place,
-        ))),
+        } => Ok(HttpCall::Ask(clash_topic(request, moment, project, wanted, place))),
     }
 }
 

@@ -134,11 +134,7 @@ fn in_topic<'t>(
 }
 
 // The clash of a version that the parameters name.
-fn in_clashes<'t>(
-    params: &Params<'_, 't>,
-    project: u128,
-    wanted: Wanted,
-) -> Option<Resource<'t>>
+fn in_clashes<'t>(params: &Params<'_, 't>, project: u128, wanted: Wanted) -> Option<Resource<'t>>
     requires { AllText (parts_of params.now) }
     ensures { option_map place_lent result ≡ in_clashes (parts_of params.now) project wanted }
 {

@@ -9,9 +9,13 @@ pub enum Resource<'t> {
     /// The projects.
     Projects,
     /// A project.
-    Project { project: u128 },
+    Project {
+        project: u128,
+    },
     /// The topics of a project.
-    Topics { project: u128 },
+    Topics {
+        project: u128,
+    },
     /// What belongs to a topic of a project.
     OfTopic {
         project: u128,
@@ -19,13 +23,24 @@ pub enum Resource<'t> {
         place: TopicPlace,
     },
     /// A model of a project.
-    Model { project: u128, name: &'t str },
+    Model {
+        project: u128,
+        name: &'t str,
+    },
     /// The clash rules of a project.
-    Rules { project: u128 },
+    Rules {
+        project: u128,
+    },
     /// A version of a project.
-    Version { project: u128, wanted: Wanted },
+    Version {
+        project: u128,
+        wanted: Wanted,
+    },
     /// The clashes of a version of a project.
-    Clashes { project: u128, wanted: Wanted },
+    Clashes {
+        project: u128,
+        wanted: Wanted,
+    },
     /// The clash at a place of these, from 0.
     Clash {
         project: u128,

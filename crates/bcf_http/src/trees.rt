@@ -5,14 +5,14 @@ ghost use Rattle.bcf_http.specs.Answers.{query_text, store_text, body_fault_tree
 
 use crate::answers::Answer;
 use crate::calls::RequestFault;
-use crate::query::QueryName;
 use crate::lists::{comments_out, project_out, projects_out, topics_out, views_out};
+use crate::query::QueryName;
 use bcf_bodies::{BodyFault, comment_out, topic_out, view_out};
 use bcf_viewpoints::ViewPart;
 use book_history::{BookFault, ReplyBody, StoreWhat};
 use coord_json::{
-    changed_out, clashes_out, error_full, error_named, error_newest, error_out, error_place, error_store,
-    error_version, pending_out, rule_fault_out, upload_fault_out, version_out,
+    changed_out, clashes_out, error_full, error_named, error_newest, error_out, error_place,
+    error_store, error_version, pending_out, rule_fault_out, upload_fault_out, version_out,
 };
 use http_frame::FrameFault;
 use serde_json::{Map, Value};

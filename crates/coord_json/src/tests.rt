@@ -1,8 +1,6 @@
 //! What routes answer, against texts written by hand. Clashes are written by the sessions of the program's own tests.
 use crate::clashes::pending_out;
-use crate::errors::{
-    error_full, error_newest, error_out, error_place, error_store, error_version,
-};
+use crate::errors::{error_full, error_newest, error_out, error_place, error_store, error_version};
 use crate::faults::{rule_fault_out, upload_fault_out};
 use crate::versions::{changed_out, version_out};
 use bim_model::{Many, Rules, Shared, Snapshot, UploadFault};
