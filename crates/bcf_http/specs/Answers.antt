@@ -123,8 +123,10 @@ IsReplyTree project part (reply.ViewList views) tree = tree ≡ array (listed (w
 IsReplyTree project part reply.Gone tree = tree ≡ object no_members
 IsReplyTree project part (reply.Changed version elements triangles left) tree =
     tree ≡ changed_tree version elements triangles left
-IsReplyTree project part (reply.Version version newest snapshot) tree = IsVersionTree version newest snapshot tree
-IsReplyTree project part (reply.Clashes version set first count) tree = tree ≡ clashes_tree version set first count
+IsReplyTree project part (reply.Version version newest snapshot) tree =
+    IsVersionTree version newest snapshot tree
+IsReplyTree project part (reply.Clashes version set first count) tree =
+    tree ≡ clashes_tree version set first count
 IsReplyTree project part (reply.Work order) tree = tree ≡ null
 IsReplyTree project part (reply.Finished left) tree = tree ≡ null
 IsReplyTree project part (reply.Refused fault) tree = tree ≡ book_fault_tree fault

@@ -123,7 +123,8 @@ comment_call moment request p t c =
 abbrev pub views_call : HttpRequest → ℕ → ℕ → Result HttpCall RequestFault
 views_call request p t =
     if is_method request (codes "POST")
-    then call_with (λ body. PostView p t body (view_weight body)) (asked_as view_body (object_of request.body))
+    then call_with (λ body. PostView p t body (view_weight body))
+    (asked_as view_body (object_of request.body))
     else Ok (Ask (ListViews p t))
 
 -- what is asked of a viewpoint: to delete it, else to read it; which part is printed is the response's

@@ -21,7 +21,8 @@ topic_address topic.Views = codes "/bcf/3.0/projects/{p}/topics/{t}/viewpoints"
 topic_address (topic.View part.Whole) = codes "/bcf/3.0/projects/{p}/topics/{t}/viewpoints/{w}"
 topic_address (topic.View part.Selection) = codes "/bcf/3.0/projects/{p}/topics/{t}/viewpoints/{w}/selection"
 topic_address (topic.View part.Coloring) = codes "/bcf/3.0/projects/{p}/topics/{t}/viewpoints/{w}/coloring"
-topic_address (topic.View part.Visibility) = codes "/bcf/3.0/projects/{p}/topics/{t}/viewpoints/{w}/visibility"
+topic_address (topic.View part.Visibility) =
+    codes "/bcf/3.0/projects/{p}/topics/{t}/viewpoints/{w}/visibility"
 
 -- the address of a row, with its parameters in braces
 abbrev pub address_of : RoutePath → List ℕ
