@@ -139,6 +139,7 @@ view_has_none project v part.Visibility = member_has_none _ _ (visibility_has_no
 -- trees that stand for the elements of a list, of which none has one
 pub trees_have_none : {A : Type 0} (IsTree : A → Data → Type 0) → ((x : A) (tree : Data) → IsTree x tree → has_float tree ≡ false)
     → (xs : List A) (items : Items) → AreTrees IsTree xs items → items_have_float items ≡ false
-trees_have_none IsTree none [] items are = ap items_have_float are
-trees_have_none IsTree none (x ∷ xs) items (tree, rest, one, others, same) =
-    ap items_have_float same ∙ rw (none x tree one, trees_have_none IsTree none xs rest others) refl
+trees_have_none IsTree none [] no_items are = refl
+trees_have_none IsTree none [] (item d ds) are = absurd are
+trees_have_none IsTree none (x ∷ xs) no_items are = absurd are
+trees_have_none IsTree none (x ∷ xs) (item d ds) are = rw (none x d are.0, trees_have_none IsTree none xs ds are.1) refl

@@ -3,6 +3,7 @@ pub mod Texts
 pub mod Routers
 pub mod Parts
 pub mod Rows
+pub mod Lists
 pub mod BodyFloats
 pub mod Floats
 pub mod Numerals

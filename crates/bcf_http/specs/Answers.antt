@@ -102,9 +102,10 @@ project_tree n =
 
 -- an array of one tree for each of a list
 abbrev pub AreTrees : {A : Type 0} → (A → Data → Type 0) → List A → Items → Type 0
-AreTrees IsTree [] items = items ≡ no_items
-AreTrees IsTree (x ∷ xs) items =
-    (tree : Data) × (rest : Items) × IsTree x tree × AreTrees IsTree xs rest × (items ≡ item tree rest)
+AreTrees IsTree [] no_items = Unit {0}
+AreTrees IsTree [] (item d ds) = ⊥
+AreTrees IsTree (x ∷ xs) no_items = ⊥
+AreTrees IsTree (x ∷ xs) (item d ds) = IsTree x d × AreTrees IsTree xs ds
 
 -- an array of such trees
 abbrev pub IsArrayOf : {A : Type 0} → (A → Data → Type 0) → List A → Data → Type 0
