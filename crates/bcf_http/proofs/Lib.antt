@@ -3,6 +3,8 @@ pub mod Texts
 pub mod Routers
 pub mod Parts
 pub mod Rows
+pub mod Lists
+pub mod BodyFloats
 pub mod Floats
 pub mod Numerals
 pub mod Plain

@@ -38,7 +38,8 @@ parts_are_text pattern text path (name ∷ rest) token at t p =
 
 table_is_plain : AllKeys (λ (route : RouteOf RoutePath). list_all is_ascii route.text ≡ true) table
 unfolding table matchit_on_literals
-table_is_plain = (refl, (refl, (refl, (refl, (refl, tt)))))
+table_is_plain =
+    (refl, (refl, (refl, (refl, (refl, (refl, (refl, (refl, (refl, (refl, (refl, (refl, (refl, (refl, (refl, (refl, tt))))))))))))))))
 
 pub parts_of_found : (path : List ℕ) (route : RouteOf RoutePath)
     → first table path ≡ Some route → IsAscii path → AllText (parts_by route path)

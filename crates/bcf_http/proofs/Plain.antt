@@ -1,6 +1,5 @@
 -- What a request asks for brings no set of a bucket.
 use Rattle.std.proofs.Common.{◌≡◌, ℕ, List, Bool, true, false, not, if◌then◌else◌, Option, Some, None, Result, Ok, Err, IfOk, codes, bytes_eq, subst}
-use Rattle.bim_model.specs.declared.topic.TopicBody.{TopicBody}
 use Rattle.bim_model.specs.declared.upload.Mode.{Mode}
 use Rattle.bim_model.specs.declared.rules.Rule.{Rule}
 use Rattle.book_history.specs.declared.requests.Wanted.{Wanted}
@@ -13,52 +12,95 @@ use Rattle.bcf_http.specs.declared.calls.Refusal.{Refusal}
 use Rattle.bcf_http.specs.declared.calls.Refusal.TheVariants.{Fault, Memory}
 use Rattle.bcf_http.specs.declared.calls.HttpCall.{HttpCall}
 use Rattle.bcf_http.specs.declared.calls.HttpCall.TheVariants.{Ask, Build}
-use Rattle.book_history.specs.declared.requests.BookRequest.TheVariants.{ListTopics, Remove}
+use Rattle.book_history.specs.declared.requests.BookRequest.{BookRequest}
+use Rattle.book_history.specs.declared.requests.BookRequest.TheVariants.{ReadTopic, DeleteTopic, ReadComment, DeleteComment, ReadView, DeleteView, Remove}
+use Rattle.bcf_bodies.specs.TopicBodies.{topic_body}
+use Rattle.bcf_bodies.specs.CommentBodies.{comment_body}
+use Rattle.bcf_bodies.specs.ViewBodies.{view_body}
 use Rattle.bcf_http.specs.Paths.{has_method}
 use Rattle.bcf_http.specs.Targets.{query_of}
 use Rattle.bcf_http.specs.Queries.{grid_asked, page_asked}
-use Rattle.bcf_http.specs.Places.{Place, topics, model, rules, version, clashes, row_of, place_of}
-use Rattle.bcf_http.specs.Calls.{object_of, topic_asked, post_call, topics_call, put_call, model_call, rules_asked, rules_call, clashes_call, call_at, asked_at, asked_by, IsAskedAs, AsksNone}
+use Rattle.bcf_http.specs.declared.resource.TopicPlace.{TopicPlace}
+use Rattle.bcf_http.specs.declared.resource.TopicPlace.TheVariants as place
+use Rattle.bcf_http.specs.Places.{Place, projects, project, topics, of_topic, model, rules, version, clashes, clash, row_of, place_of}
+use Rattle.bcf_http.specs.Calls.{object_of, is_method, asked_as, call_with, topics_call, topic_call, comments_call, comment_call, views_call, call_of_topic, put_call, model_call, rules_asked, rules_call, clashes_call, call_at, asked_at, asked_by, IsAskedAs, BringsNone, AsksNone}
 
 abbrev AllNone : Result HttpCall RequestFault → Type 0
 AllNone r = IfOk r AsksNone
 
-post_none : (moment : ℕ) (request : HttpRequest) (project : ℕ) (r : Result TopicBody RequestFault) → AllNone (post_call moment request project r)
-post_none moment request project (Ok body) = λ set e. cc
-post_none moment request project (Err fault) = tt
+-- of two, one
+either_none : (b : Bool) (x y : Result HttpCall RequestFault) → AllNone x → AllNone y → AllNone (if b then x else y)
+either_none true x y one other = one
+either_none false x y one other = other
 
-topics_none : (moment : ℕ) (request : HttpRequest) (project : ℕ) → AllNone (topics_call moment request project)
-topics_none moment request project = by (bytes_eq request.method (codes "POST"))
-  where
-    by : (b : Bool) → AllNone (if b then post_call moment request project (topic_asked (object_of request.body)) else Ok (Ask (ListTopics project)))
-    by true = post_none moment request project (topic_asked (object_of request.body))
-    by false = λ set e. cc
+one_none : (b : Bool) (x y : BookRequest) → BringsNone x → BringsNone y → BringsNone (if b then x else y)
+one_none true x y one other = one
+one_none false x y one other = other
 
-put_none : (request : HttpRequest) (project : ℕ) (name : List ℕ) (mode : Mode) → AllNone (put_call request project name mode)
-put_none request project name mode = by (bytes_eq request.method (codes "PUT"))
+-- what a body asks for
+with_none : {A : Type 0} (ask : A → BookRequest) (r : Result A RequestFault) → ((body : A) → BringsNone (ask body)) → AllNone (call_with ask r)
+with_none ask (Ok body) none = none body
+with_none ask (Err fault) none = tt
+
+topics_none : (moment : ℕ) (request : HttpRequest) (p : ℕ) → AllNone (topics_call moment request p)
+topics_none moment request p =
+    either_none (is_method request (codes "POST")) _ _ (with_none _ (asked_as topic_body (object_of request.body)) (λ body set e. cc)) (λ set e. cc)
+
+topic_none : (moment : ℕ) (request : HttpRequest) (p t : ℕ) → AllNone (topic_call moment request p t)
+topic_none moment request p t =
+    either_none (is_method request (codes "PUT")) _ _ (with_none _ (asked_as topic_body (object_of request.body)) (λ body set e. cc))
+    (one_none (is_method request (codes "DELETE")) (DeleteTopic p t) (ReadTopic p t) (λ set e. cc) (λ set e. cc))
+
+comments_none : (moment : ℕ) (request : HttpRequest) (p t : ℕ) → AllNone (comments_call moment request p t)
+comments_none moment request p t =
+    either_none (is_method request (codes "POST")) _ _ (with_none _ (asked_as comment_body (object_of request.body)) (λ body set e. cc)) (λ set e. cc)
+
+comment_none : (moment : ℕ) (request : HttpRequest) (p t c : ℕ) → AllNone (comment_call moment request p t c)
+comment_none moment request p t c =
+    either_none (is_method request (codes "PUT")) _ _ (with_none _ (asked_as comment_body (object_of request.body)) (λ body set e. cc))
+    (one_none (is_method request (codes "DELETE")) (DeleteComment p t c) (ReadComment p t c) (λ set e. cc) (λ set e. cc))
+
+views_none : (request : HttpRequest) (p t : ℕ) → AllNone (views_call request p t)
+views_none request p t =
+    either_none (is_method request (codes "POST")) _ _ (with_none _ (asked_as view_body (object_of request.body)) (λ body set e. cc)) (λ set e. cc)
+
+of_topic_none : (moment : ℕ) (request : HttpRequest) (p t : ℕ) (named : TopicPlace) → AllNone (call_of_topic moment request p t named)
+of_topic_none moment request p t place.Whole = topic_none moment request p t
+of_topic_none moment request p t place.Comments = comments_none moment request p t
+of_topic_none moment request p t (place.Comment c) = comment_none moment request p t c
+of_topic_none moment request p t place.Views = views_none request p t
+of_topic_none moment request p t (place.View w part) =
+    one_none (is_method request (codes "DELETE")) (DeleteView p t w) (ReadView p t w) (λ set e. cc) (λ set e. cc)
+
+put_none : (request : HttpRequest) (p : ℕ) (name : List ℕ) (mode : Mode) → AllNone (put_call request p name mode)
+put_none request p name mode = by (bytes_eq request.method (codes "PUT"))
   where
-    by : (b : Bool) → AllNone (if b then Ok (Build project name mode request.body) else Ok (Ask (Remove project name)))
+    by : (b : Bool) → AllNone (if b then Ok (Build p name mode request.body) else Ok (Ask (Remove p name)))
     by true = tt
     by false = λ set e. cc
 
-model_none : (request : HttpRequest) (project : ℕ) (name : List ℕ) (mode : Option Mode) → AllNone (model_call request project name mode)
-model_none request project name None = tt
-model_none request project name (Some mode) = put_none request project name mode
+model_none : (request : HttpRequest) (p : ℕ) (name : List ℕ) (mode : Option Mode) → AllNone (model_call request p name mode)
+model_none request p name None = tt
+model_none request p name (Some mode) = put_none request p name mode
 
-rules_none : (request : HttpRequest) (project : ℕ) (r : Result (List Rule) RequestFault) → AllNone (rules_call request project r)
-rules_none request project (Ok rs) = λ set e. cc
-rules_none request project (Err fault) = tt
+rules_none : (request : HttpRequest) (p : ℕ) (r : Result (List Rule) RequestFault) → AllNone (rules_call request p r)
+rules_none request p (Ok rs) = λ set e. cc
+rules_none request p (Err fault) = tt
 
-clashes_none : (project : ℕ) (wanted : Wanted) (r : Result Page QueryName) → AllNone (clashes_call project wanted r)
-clashes_none project wanted (Ok page) = λ set e. cc
-clashes_none project wanted (Err name) = tt
+clashes_none : (p : ℕ) (wanted : Wanted) (r : Result Page QueryName) → AllNone (clashes_call p wanted r)
+clashes_none p wanted (Ok page) = λ set e. cc
+clashes_none p wanted (Err name) = tt
 
 at_none : (moment : ℕ) (request : HttpRequest) (place : Place) → AllNone (call_at moment request place)
-at_none moment request (topics project) = topics_none moment request project
-at_none moment request (model project name) = model_none request project name (grid_asked (query_of request.target))
-at_none moment request (rules project) = rules_none request project (rules_asked (object_of request.body))
-at_none moment request (version project wanted) = λ set e. cc
-at_none moment request (clashes project wanted) = clashes_none project wanted (page_asked (query_of request.target))
+at_none moment request projects = λ set e. cc
+at_none moment request (project p) = λ set e. cc
+at_none moment request (topics p) = topics_none moment request p
+at_none moment request (of_topic p t named) = of_topic_none moment request p t named
+at_none moment request (model p name) = model_none request p name (grid_asked (query_of request.target))
+at_none moment request (rules p) = rules_none request p (rules_asked (object_of request.body))
+at_none moment request (version p wanted) = λ set e. cc
+at_none moment request (clashes p wanted) = clashes_none p wanted (page_asked (query_of request.target))
+at_none moment request (clash p wanted n) = λ set e. cc
 
 asked_at_none : (moment : ℕ) (request : HttpRequest) (place : Option Place) → AllNone (asked_at moment request place)
 asked_at_none moment request None = tt

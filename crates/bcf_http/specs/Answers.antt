@@ -1,15 +1,21 @@
 -- The tree and the status of each answer.
-use Rattle.std.specs.Prelude.{◌≡◌, ℕ, List, Bool, if◌then◌else◌, Option, Some, None, codes}
+use Rattle.std.specs.Prelude.{◌≡◌, ℕ, List, [], ◌∷◌, ◌++◌, Bool, if◌then◌else◌, Option, Some, None, codes, decimal}
 use Rattle.serde_json.specs.Written.{compact_text}
-use Rattle.serde_json.specs.Data.{Data, null, array, Items}
+use Rattle.serde_json.specs.Data.{Data, null, string, array, object, Items, no_items, item, member, no_members}
 use Rattle.book_history.specs.declared.faults.BookFault.{BookFault}
 use Rattle.book_history.specs.declared.faults.BookFault.TheVariants as refusal
 use Rattle.book_history.specs.declared.faults.StoreWhat.{StoreWhat}
 use Rattle.book_history.specs.declared.faults.StoreWhat.TheVariants as store
 use Rattle.book_history.specs.declared.replies.ReplyBody.{ReplyBody}
 use Rattle.book_history.specs.declared.replies.ReplyBody.TheVariants as reply
-use Rattle.bcf_json.specs.declared.body.BodyFault.TheVariants.{Title}
-use Rattle.bcf_json.specs.Trees.{IsTopicTree, AreTopicTrees}
+use Rattle.bcf_json.specs.Trees.{identifier_text}
+use Rattle.bcf_viewpoints.specs.declared.part.ViewPart.{ViewPart}
+use Rattle.bcf_bodies.specs.declared.fault.BodyFault.{BodyFault}
+use Rattle.bcf_bodies.specs.declared.fault.BodyFault.TheVariants.{Title, BadMember, BadComponent}
+use Rattle.bcf_bodies.specs.Objects.{listed}
+use Rattle.bcf_bodies.specs.TopicTrees.{IsTopicTree}
+use Rattle.bcf_bodies.specs.CommentTrees.{IsCommentTree}
+use Rattle.bcf_bodies.specs.ViewTrees.{whole_tree, view_tree}
 use Rattle.bcf_http.specs.declared.calls.RequestFault.{RequestFault}
 use Rattle.bcf_http.specs.declared.calls.RequestFault.TheVariants.{NoRoute, Method, Encoding, Query, BadJson, Rules, Body}
 use Rattle.bcf_http.specs.declared.paths.RoutePath.{RoutePath}
@@ -20,7 +26,7 @@ use Rattle.http_frame.specs.declared.types.FrameFault.TheVariants as frame
 use Rattle.bcf_http.specs.declared.calls.ReplyKind.{ReplyKind}
 use Rattle.bcf_http.specs.declared.answers.Answer.{Answer}
 use Rattle.bcf_http.specs.declared.answers.Answer.TheVariants as answer
-use Rattle.coord_json.specs.Errors.{error_tree, error_named, error_newest, error_version, error_store, error_full}
+use Rattle.coord_json.specs.Errors.{error_tree, error_named, error_newest, error_version, error_store, error_full, error_place}
 use Rattle.coord_json.specs.Faults.{upload_fault_tree, rule_fault_tree}
 use Rattle.coord_json.specs.Versions.{changed_tree, IsVersionTree}
 use Rattle.coord_json.specs.Clashes.{clashes_tree, pending_tree}
@@ -37,6 +43,12 @@ abbrev pub store_text : StoreWhat → List ℕ
 store_text store.Triangles = codes "triangles"
 store_text store.Text = codes "text"
 
+-- a fault of the body of a topic, a comment or a viewpoint
+abbrev pub body_fault_tree : BodyFault → Data
+body_fault_tree Title = error_tree (codes "B3") (codes "Title")
+body_fault_tree (BadMember name) = error_named (codes "B4") (codes "BadMember") name
+body_fault_tree BadComponent = error_tree (codes "B8") (codes "BadComponent")
+
 -- a fault that the request alone decides
 abbrev pub request_fault_tree : RequestFault → Data
 request_fault_tree NoRoute = error_tree (codes "H7") (codes "NoRoute")
@@ -45,7 +57,7 @@ request_fault_tree Encoding = error_tree (codes "H12") (codes "Encoding")
 request_fault_tree (Query name) = error_named (codes "H11") (codes "Query") (query_text name)
 request_fault_tree BadJson = error_tree (codes "H9") (codes "BadJson")
 request_fault_tree (Rules fault) = rule_fault_tree fault
-request_fault_tree (Body Title) = error_tree (codes "B3") (codes "Title")
+request_fault_tree (Body fault) = body_fault_tree fault
 
 -- a fault of framing
 abbrev pub frame_fault_tree : FrameFault → Data
@@ -72,27 +84,61 @@ book_fault_tree (refusal.TooSpread count limit) = error_full (codes "K8") (codes
 book_fault_tree (refusal.JournalFull count limit) = error_full (codes "K9") (codes "JournalFull") count limit
 book_fault_tree refusal.AlreadyDone = error_tree (codes "K10") (codes "AlreadyDone")
 book_fault_tree refusal.NoWork = error_tree (codes "K11") (codes "NoWork")
+book_fault_tree (refusal.NoClash place total) = error_place (codes "K12") (codes "NoClash") place total
+book_fault_tree refusal.NoTopic = error_tree (codes "B1") (codes "NoTopic")
+book_fault_tree refusal.NoComment = error_tree (codes "B2") (codes "NoComment")
+book_fault_tree (refusal.TopicsFull count limit) = error_full (codes "B5") (codes "TopicsFull") count limit
+book_fault_tree (refusal.CommentsFull count limit) =
+    error_full (codes "B6") (codes "CommentsFull") count limit
+book_fault_tree refusal.NoViewpoint = error_tree (codes "B7") (codes "NoViewpoint")
+book_fault_tree (refusal.ViewpointsFull count limit) =
+    error_full (codes "B9") (codes "ViewpointsFull") count limit
 
--- the tree of a reply of the book, for a project; no client is given work
-abbrev pub IsReplyTree : ℕ → ReplyBody → Data → Type 0
-IsReplyTree project (reply.TopicIs topic) tree = IsTopicTree project topic tree
-IsReplyTree project (reply.TopicList topics) tree =
-    (items : Items) × AreTopicTrees project topics items × (tree ≡ array items)
-IsReplyTree project (reply.Changed version elements triangles left) tree =
+-- a project, which is named by its number
+abbrev pub project_tree : ℕ → Data
+project_tree n =
+    object (member (codes "name") (string (codes "Project " ++ decimal n))
+    (member (codes "project_id") (string (identifier_text n 0)) no_members))
+
+-- an array of one tree for each of a list
+abbrev pub AreTrees : {A : Type 0} → (A → Data → Type 0) → List A → Items → Type 0
+AreTrees IsTree [] no_items = Unit {0}
+AreTrees IsTree [] (item d ds) = ⊥
+AreTrees IsTree (x ∷ xs) no_items = ⊥
+AreTrees IsTree (x ∷ xs) (item d ds) = IsTree x d × AreTrees IsTree xs ds
+
+-- an array of such trees
+abbrev pub IsArrayOf : {A : Type 0} → (A → Data → Type 0) → List A → Data → Type 0
+IsArrayOf IsTree xs tree = (items : Items) × AreTrees IsTree xs items × (tree ≡ array items)
+
+-- the tree of a reply of the book, for a project and a part of a viewpoint; no client is given work
+abbrev pub IsReplyTree : ℕ → ViewPart → ReplyBody → Data → Type 0
+IsReplyTree project part (reply.Projects numbers) tree = tree ≡ array (listed project_tree numbers)
+IsReplyTree project part (reply.Project number) tree = tree ≡ project_tree number
+IsReplyTree project part (reply.TopicIs topic) tree = IsTopicTree project topic tree
+IsReplyTree project part (reply.TopicList topics) tree = IsArrayOf (IsTopicTree project) topics tree
+IsReplyTree project part (reply.CommentIs comment) tree = IsCommentTree project comment tree
+IsReplyTree project part (reply.CommentList comments) tree = IsArrayOf (IsCommentTree project) comments tree
+IsReplyTree project part (reply.View view) tree = tree ≡ view_tree project view part
+IsReplyTree project part (reply.ViewList views) tree = tree ≡ array (listed (whole_tree project) views)
+IsReplyTree project part reply.Gone tree = tree ≡ object no_members
+IsReplyTree project part (reply.Changed version elements triangles left) tree =
     tree ≡ changed_tree version elements triangles left
-IsReplyTree project (reply.Version version newest snapshot) tree = IsVersionTree version newest snapshot tree
-IsReplyTree project (reply.Clashes version set first count) tree = tree ≡ clashes_tree version set first count
-IsReplyTree project (reply.Work order) tree = tree ≡ null
-IsReplyTree project (reply.Finished left) tree = tree ≡ null
-IsReplyTree project (reply.Refused fault) tree = tree ≡ book_fault_tree fault
+IsReplyTree project part (reply.Version version newest snapshot) tree =
+    IsVersionTree version newest snapshot tree
+IsReplyTree project part (reply.Clashes version set first count) tree =
+    tree ≡ clashes_tree version set first count
+IsReplyTree project part (reply.Work order) tree = tree ≡ null
+IsReplyTree project part (reply.Finished left) tree = tree ≡ null
+IsReplyTree project part (reply.Refused fault) tree = tree ≡ book_fault_tree fault
 
--- the tree of an answer, for a project
-abbrev pub IsAnswerTree : ℕ → Answer → Data → Type 0
-IsAnswerTree project (answer.Book reply) tree = IsReplyTree project reply.body tree
-IsAnswerTree project (answer.Refused fault) tree = tree ≡ request_fault_tree fault
-IsAnswerTree project (answer.Built fault) tree = tree ≡ upload_fault_tree fault
-IsAnswerTree project (answer.Frame fault) tree = tree ≡ frame_fault_tree fault
-IsAnswerTree project answer.Memory tree = tree ≡ error_tree (codes "M1") (codes "Memory")
+-- the tree of an answer, for a project and a part of a viewpoint
+abbrev pub IsAnswerTree : ℕ → ViewPart → Answer → Data → Type 0
+IsAnswerTree project part (answer.Book reply) tree = IsReplyTree project part reply.body tree
+IsAnswerTree project part (answer.Refused fault) tree = tree ≡ request_fault_tree fault
+IsAnswerTree project part (answer.Built fault) tree = tree ≡ upload_fault_tree fault
+IsAnswerTree project part (answer.Frame fault) tree = tree ≡ frame_fault_tree fault
+IsAnswerTree project part answer.Memory tree = tree ≡ error_tree (codes "M1") (codes "Memory")
 
 -- the status of a refusal of the book
 abbrev pub refusal_status : BookFault → ℕ
@@ -107,11 +153,25 @@ refusal_status (refusal.TooSpread count limit) = 507
 refusal_status (refusal.JournalFull count limit) = 507
 refusal_status refusal.AlreadyDone = 404
 refusal_status refusal.NoWork = 404
+refusal_status (refusal.NoClash place total) = 404
+refusal_status refusal.NoTopic = 404
+refusal_status refusal.NoComment = 404
+refusal_status (refusal.TopicsFull count limit) = 507
+refusal_status (refusal.CommentsFull count limit) = 507
+refusal_status refusal.NoViewpoint = 404
+refusal_status (refusal.ViewpointsFull count limit) = 507
 
 -- the status of a reply of the book, where success is answered 201 or not
 abbrev pub reply_status : Bool → ReplyBody → ℕ
+reply_status created (reply.Projects numbers) = 200
+reply_status created (reply.Project number) = 200
 reply_status created (reply.TopicIs topic) = if created then 201 else 200
 reply_status created (reply.TopicList topics) = 200
+reply_status created (reply.CommentIs comment) = if created then 201 else 200
+reply_status created (reply.CommentList comments) = 200
+reply_status created (reply.View view) = if created then 201 else 200
+reply_status created (reply.ViewList views) = 200
+reply_status created reply.Gone = 200
 reply_status created (reply.Changed version elements triangles left) = if created then 201 else 200
 reply_status created (reply.Version version newest snapshot) = 200
 reply_status created (reply.Clashes version set first count) = 200
@@ -127,7 +187,7 @@ fault_status Encoding = 415
 fault_status (Query name) = 400
 fault_status BadJson = 400
 fault_status (Rules fault) = 422
-fault_status (Body Title) = 422
+fault_status (Body fault) = 422
 
 -- the status of a fault of framing
 abbrev pub frame_status : FrameFault → ℕ
@@ -154,10 +214,10 @@ allow_of other = None
 -- the bytes are the response to a request of this kind that is so answered
 abbrev pub IsResponse : Answer → ReplyKind → Option ℕ → Bool → List ℕ → Type 0
 IsResponse answer kind turn close bytes =
-    (tree : Data) × IsAnswerTree kind.project answer tree
+    (tree : Data) × IsAnswerTree kind.project kind.part answer tree
     × (bytes ≡ response_bytes turn close kind.head (status_of kind.created answer) (allow_of answer) tree)
 
 -- the tree of an answer as compact text
-abbrev pub IsAnswerText : ℕ → Answer → List ℕ → Type 0
-IsAnswerText project answer text =
-    (tree : Data) × IsAnswerTree project answer tree × (text ≡ compact_text tree)
+abbrev pub IsAnswerText : ℕ → ViewPart → Answer → List ℕ → Type 0
+IsAnswerText project part answer text =
+    (tree : Data) × IsAnswerTree project part answer tree × (text ≡ compact_text tree)

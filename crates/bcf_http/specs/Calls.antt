@@ -1,12 +1,11 @@
 -- What a request asks for, of the request alone.
-use Rattle.std.specs.Prelude.{◌≡◌, ◌≢◌, ℕ, ◌/◌, ◌^◌, ◌==◌, List, length, Bool, false, not, if◌then◌else◌, Option, Some, None, Result, Ok, Err, option_and_then, codes, bytes_eq, ⊤}
+use Rattle.std.specs.Prelude.{◌≡◌, ◌≢◌, ℕ, ◌+◌, ◌*◌, ◌/◌, ◌^◌, ◌==◌, ◌&&◌, ◌||◌, List, length, sum_by, Bool, true, false, not, min, ◌-◌, if◌then◌else◌, Option, Some, None, Result, Ok, Err, option_and_then, codes, bytes_eq, ⊤}
 use Rattle.std.specs.Str.{is_utf8}
 use Rattle.serde_json.specs.Data.{Data}
 use Rattle.serde_json.specs.Read.{read}
 use Rattle.serde_json.specs.View.{view}
 use Rattle.serde_json.specs.declared.value.Value.{Value}
 use Rattle.bim_model.specs.Identifiers.{identifier}
-use Rattle.bim_model.specs.declared.topic.TopicBody.{TopicBody}
 use Rattle.bim_model.specs.declared.topic.Author.{Author}
 use Rattle.bim_model.specs.declared.upload.Mode.{Mode}
 use Rattle.bim_model.specs.declared.rules.Rule.{Rule}
@@ -15,10 +14,16 @@ use Rattle.clash_rules.specs.Json.{rules_of}
 use Rattle.bucket_check.specs.Sets.{SetValue}
 use Rattle.http_frame.specs.declared.types.HttpRequest.{HttpRequest}
 use Rattle.book_history.specs.declared.requests.BookRequest.{BookRequest}
-use Rattle.book_history.specs.declared.requests.BookRequest.TheVariants.{ListTopics, PostTopic, Remove, SetRules, ReadVersion, ReadClashes, Finish}
+use Rattle.book_history.specs.declared.requests.BookRequest.TheVariants.{ListProjects, ReadProject, ListTopics, ReadTopic, PostTopic, PutTopic, DeleteTopic, ListComments, ReadComment, PostComment, PutComment, DeleteComment, ListViews, ReadView, PostView, DeleteView, ClashTopic, Remove, SetRules, ReadVersion, ReadClashes, Finish}
 use Rattle.book_history.specs.declared.requests.Wanted.{Wanted}
-use Rattle.bcf_json.specs.declared.body.BodyFault.{BodyFault}
-use Rattle.bcf_json.specs.Bodies.{is_object, topic_body}
+use Rattle.bcf_json.specs.Bodies.{is_object}
+use Rattle.bcf_viewpoints.specs.declared.component.Coloring.{Coloring}
+use Rattle.bcf_viewpoints.specs.declared.view.ViewBody.{ViewBody}
+use Rattle.bcf_viewpoints.specs.declared.part.ViewPart.TheVariants as part
+use Rattle.bcf_bodies.specs.declared.fault.BodyFault.{BodyFault}
+use Rattle.bcf_bodies.specs.TopicBodies.{topic_body}
+use Rattle.bcf_bodies.specs.CommentBodies.{comment_body}
+use Rattle.bcf_bodies.specs.ViewBodies.{view_body}
 use Rattle.bcf_http.specs.declared.paths.RoutePath.{RoutePath}
 use Rattle.bcf_http.specs.declared.paths.RoutePath.TheVariants as row
 use Rattle.bcf_http.specs.declared.query.QueryName.{QueryName}
@@ -34,7 +39,9 @@ use Rattle.bcf_http.specs.declared.calls.ReplyKind.{ReplyKind}
 use Rattle.bcf_http.specs.Paths.{has_method}
 use Rattle.bcf_http.specs.Targets.{query_of}
 use Rattle.bcf_http.specs.Queries.{grid_asked, page_asked}
-use Rattle.bcf_http.specs.Places.{Place, topics, model, rules, version, clashes, row_of, project_at, place_of}
+use Rattle.bcf_http.specs.declared.resource.TopicPlace.{TopicPlace}
+use Rattle.bcf_http.specs.declared.resource.TopicPlace.TheVariants as place
+use Rattle.bcf_http.specs.Places.{Place, projects, project, topics, of_topic, model, rules, version, clashes, clash, row_of, project_at, part_at, place_of}
 
 -- the tree, where it is an object
 abbrev pub if_object : Data → Option Data
@@ -45,43 +52,104 @@ unfoldable pub object_of : List ℕ → Option Data
 object_of body = if is_utf8 body then option_and_then if_object (read body) else None
 
 -- a fault of a body as one of its request
-abbrev pub with_fault : Result TopicBody BodyFault → Result TopicBody RequestFault
+abbrev pub with_fault : {A : Type 0} → Result A BodyFault → Result A RequestFault
 with_fault (Ok body) = Ok body
 with_fault (Err fault) = Err (Body fault)
 
--- the topic that a body asks for, or its first fault: no object, then the title
-abbrev pub topic_asked : Option Data → Result TopicBody RequestFault
-topic_asked None = Err BadJson
-topic_asked (Some tree) = with_fault (topic_body tree)
+-- what a body is read as, or its first fault: no object, then what its members say
+abbrev pub asked_as : {A : Type 0} → (Data → Result A BodyFault) → Option Data → Result A RequestFault
+asked_as reading None = Err BadJson
+asked_as reading (Some tree) = with_fault (reading tree)
+
+-- the call that a body asks for, or its fault
+abbrev pub call_with : {A : Type 0} → (A → BookRequest) → Result A RequestFault → Result HttpCall RequestFault
+call_with ask (Ok body) = Ok (Ask (ask body))
+call_with ask (Err fault) = Err fault
 
 -- who asks, and when
 abbrev pub author_of : ℕ → HttpRequest → Author
 author_of moment request = record { user = request.user; moment = moment }
 
--- the call that makes a topic, or the fault of the body
-abbrev pub post_call : ℕ → HttpRequest → ℕ → Result TopicBody RequestFault → Result HttpCall RequestFault
-post_call moment request project (Ok body) =
-    Ok (Ask (PostTopic project body (author_of moment request) (length request.body)))
-post_call moment request project (Err fault) = Err fault
+-- the greatest weight
+abbrev pub greatest : ℕ
+greatest = 2 ^ 64 - 1
+
+-- how many colorings there are, and components that have their colors
+abbrev pub colored_weight : List Coloring → ℕ
+colored_weight colorings = sum_by (λ (c : Coloring). 1 + length c.components) colorings
+
+-- the weight of a viewpoint: 256 for each of its components and each of its colorings, or the greatest
+abbrev pub view_weight : ViewBody → ℕ
+view_weight body =
+    min greatest (256 * (colored_weight body.coloring + length body.selection + length body.exceptions))
+
+-- the request has that method
+abbrev pub is_method : HttpRequest → List ℕ → Bool
+is_method request name = bytes_eq request.method name
 
 -- what is asked of the topics of a project: one more by POST, else all of them
 abbrev pub topics_call : ℕ → HttpRequest → ℕ → Result HttpCall RequestFault
-topics_call moment request project =
-    if bytes_eq request.method (codes "POST")
-    then post_call moment request project (topic_asked (object_of request.body))
-    else Ok (Ask (ListTopics project))
+topics_call moment request p =
+    if is_method request (codes "POST")
+    then call_with (λ body. PostTopic p body (author_of moment request) (length request.body))
+    (asked_as topic_body (object_of request.body))
+    else Ok (Ask (ListTopics p))
+
+-- what is asked of a topic: to put another body in its place, to delete it, else to read it
+abbrev pub topic_call : ℕ → HttpRequest → ℕ → ℕ → Result HttpCall RequestFault
+topic_call moment request p t =
+    if is_method request (codes "PUT")
+    then call_with (λ body. PutTopic p t body (author_of moment request) (length request.body))
+    (asked_as topic_body (object_of request.body))
+    else Ok (Ask (if is_method request (codes "DELETE") then DeleteTopic p t else ReadTopic p t))
+
+-- what is asked of the comments on a topic: one more by POST, else all of them
+abbrev pub comments_call : ℕ → HttpRequest → ℕ → ℕ → Result HttpCall RequestFault
+comments_call moment request p t =
+    if is_method request (codes "POST")
+    then call_with (λ body. PostComment p t body (author_of moment request) (length request.body))
+    (asked_as comment_body (object_of request.body))
+    else Ok (Ask (ListComments p t))
+
+-- what is asked of a comment on a topic: to put another body in its place, to delete it, else to read it
+abbrev pub comment_call : ℕ → HttpRequest → ℕ → ℕ → ℕ → Result HttpCall RequestFault
+comment_call moment request p t c =
+    if is_method request (codes "PUT")
+    then call_with (λ body. PutComment p t c body (author_of moment request) (length request.body))
+    (asked_as comment_body (object_of request.body))
+    else Ok (Ask (if is_method request (codes "DELETE") then DeleteComment p t c else ReadComment p t c))
+
+-- what is asked of the viewpoints of a topic: one more by POST, else all of them
+abbrev pub views_call : HttpRequest → ℕ → ℕ → Result HttpCall RequestFault
+views_call request p t =
+    if is_method request (codes "POST")
+    then call_with (λ body. PostView p t body (view_weight body))
+    (asked_as view_body (object_of request.body))
+    else Ok (Ask (ListViews p t))
+
+-- what is asked of a viewpoint: to delete it, else to read it; which part is printed is the response's
+abbrev pub view_call : HttpRequest → ℕ → ℕ → ℕ → BookRequest
+view_call request p t w = if is_method request (codes "DELETE") then DeleteView p t w else ReadView p t w
+
+-- what is asked of what belongs to a topic
+abbrev pub call_of_topic : ℕ → HttpRequest → ℕ → ℕ → TopicPlace → Result HttpCall RequestFault
+call_of_topic moment request p t place.Whole = topic_call moment request p t
+call_of_topic moment request p t place.Comments = comments_call moment request p t
+call_of_topic moment request p t (place.Comment c) = comment_call moment request p t c
+call_of_topic moment request p t place.Views = views_call request p t
+call_of_topic moment request p t (place.View w part) = Ok (Ask (view_call request p t w))
 
 -- what is asked of a model: by PUT it is to be built of the body and put into the project under its name, else it is
 -- removed
 abbrev pub put_call : HttpRequest → ℕ → List ℕ → Mode → Result HttpCall RequestFault
-put_call request project name mode =
-    if bytes_eq request.method (codes "PUT") then Ok (Build project name mode request.body)
-    else Ok (Ask (Remove project name))
+put_call request p name mode =
+    if bytes_eq request.method (codes "PUT") then Ok (Build p name mode request.body)
+    else Ok (Ask (Remove p name))
 
 -- the same, where the query says well how lengths come on the grid
 abbrev pub model_call : HttpRequest → ℕ → List ℕ → Option Mode → Result HttpCall RequestFault
-model_call request project name None = Err (Query Grid)
-model_call request project name (Some mode) = put_call request project name mode
+model_call request p name None = Err (Query Grid)
+model_call request p name (Some mode) = put_call request p name mode
 
 -- a fault of clash rules as one of its request
 abbrev pub with_rule_fault : Result (List Rule) RuleFault → Result (List Rule) RequestFault
@@ -95,23 +163,27 @@ rules_asked (Some tree) = with_rule_fault (rules_of tree)
 
 -- the call that sets clash rules, or the fault of the body
 abbrev pub rules_call : HttpRequest → ℕ → Result (List Rule) RequestFault → Result HttpCall RequestFault
-rules_call request project (Ok asked) = Ok (Ask (SetRules project asked (length request.body)))
-rules_call request project (Err fault) = Err fault
+rules_call request p (Ok asked) = Ok (Ask (SetRules p asked (length request.body)))
+rules_call request p (Err fault) = Err fault
 
 -- the clashes of a version that the query asks for
 abbrev pub clashes_call : ℕ → Wanted → Result Page QueryName → Result HttpCall RequestFault
-clashes_call project wanted (Ok page) = Ok (Ask (ReadClashes project wanted page.first page.count))
-clashes_call project wanted (Err name) = Err (Query name)
+clashes_call p wanted (Ok page) = Ok (Ask (ReadClashes p wanted page.first page.count))
+clashes_call p wanted (Err name) = Err (Query name)
 
--- what is asked for at a place, by a method of its row
+-- what is asked for at a place, by a method of its row; the body is passed over where a topic is made of a clash, and
+-- weighs its length
 abbrev pub call_at : ℕ → HttpRequest → Place → Result HttpCall RequestFault
-call_at moment request (topics project) = topics_call moment request project
-call_at moment request (model project name) =
-    model_call request project name (grid_asked (query_of request.target))
-call_at moment request (rules project) = rules_call request project (rules_asked (object_of request.body))
-call_at moment request (version project wanted) = Ok (Ask (ReadVersion project wanted))
-call_at moment request (clashes project wanted) =
-    clashes_call project wanted (page_asked (query_of request.target))
+call_at moment request projects = Ok (Ask ListProjects)
+call_at moment request (project p) = Ok (Ask (ReadProject p))
+call_at moment request (topics p) = topics_call moment request p
+call_at moment request (of_topic p t named) = call_of_topic moment request p t named
+call_at moment request (model p name) = model_call request p name (grid_asked (query_of request.target))
+call_at moment request (rules p) = rules_call request p (rules_asked (object_of request.body))
+call_at moment request (version p wanted) = Ok (Ask (ReadVersion p wanted))
+call_at moment request (clashes p wanted) = clashes_call p wanted (page_asked (query_of request.target))
+call_at moment request (clash p wanted n) =
+    Ok (Ask (ClashTopic p wanted n (author_of moment request) (length request.body)))
 
 -- what is asked for where a place is named: the method is judged first, then the encoding, then the rest
 abbrev pub asked_at : ℕ → HttpRequest → Option Place → Result HttpCall RequestFault
@@ -134,13 +206,19 @@ IsAskedAs (Err Memory) meant = ⊤
 unfoldable pub number_of : ℕ → ℕ
 number_of id = let n = id / 2 ^ 96 in if id == identifier n 0 then n else 0
 
--- success is answered 201: something is made
+-- the number of a project, where one is named, or 0
+abbrev pub number_if : Option ℕ → ℕ
+number_if None = 0
+number_if (Some id) = number_of id
+
+-- the row is a model's
+abbrev pub is_model : RoutePath → Bool
+is_model row.Model = true
+is_model other = false
+
+-- success is answered 201: something is made by POST, or a model is put
 abbrev pub creates : List ℕ → RoutePath → Bool
-creates method row.Topics = bytes_eq method (codes "POST")
-creates method row.Model = bytes_eq method (codes "PUT")
-creates method row.Rules = false
-creates method row.Version = false
-creates method row.Clashes = false
+creates method path = bytes_eq method (codes "POST") || (is_model path && bytes_eq method (codes "PUT"))
 
 -- the method is HEAD
 abbrev pub is_head : HttpRequest → Bool
@@ -148,12 +226,13 @@ is_head request = bytes_eq request.method (codes "HEAD")
 
 -- what a response needs of its request, by the place that this names
 abbrev pub kind_at : HttpRequest → Option Place → ReplyKind
-kind_at request None = record { project = 0; created = false; head = is_head request }
-kind_at request (Some place) =
+kind_at request None = record { project = 0; created = false; head = is_head request; part = part.Whole }
+kind_at request (Some named) =
     record {
-      project = number_of (project_at place);
-      created = creates request.method (row_of place);
+      project = number_if (project_at named);
+      created = creates request.method (row_of named);
       head = is_head request;
+      part = part_at named;
     }
 
 -- what a response needs of its request
@@ -162,7 +241,7 @@ kind_of request = kind_at request (place_of request.target)
 
 -- what it needs where there is no request
 abbrev pub no_kind : ReplyKind
-no_kind = record { project = 0; created = false; head = false }
+no_kind = record { project = 0; created = false; head = false; part = part.Whole }
 
 -- the value is the one that is there, or nothing is there, or want of memory
 abbrev pub IsTreeOf : Result Value Refusal → Option Data → Type 0
@@ -183,4 +262,4 @@ BringsNone call = (set : SetValue) → call ≢ Finish set
 -- the same of what a request asks for
 abbrev pub AsksNone : HttpCall → Type 0
 AsksNone (Ask call) = BringsNone call
-AsksNone (Build project name mode body) = Unit {0}
+AsksNone (Build p name mode body) = Unit {0}

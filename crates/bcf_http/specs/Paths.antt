@@ -7,23 +7,57 @@ use Rattle.matchit.specs.Route.{Scan, parse_route}
 use Rattle.matchit.specs.Router.{RouteOf, route_from}
 use Rattle.matchit.specs.declared.error.InsertError.{InsertError}
 use Rattle.bcf_http.specs.declared.paths.RoutePath.{RoutePath}
-use Rattle.bcf_http.specs.declared.paths.RoutePath.TheVariants.{Topics, Model, Rules, Version, Clashes}
+use Rattle.bcf_http.specs.declared.paths.RoutePath.TheVariants.{Projects, Project, Topics, OfTopic, Model, Rules, Version, Clashes, ClashTopic}
+use Rattle.bcf_http.specs.declared.paths.TopicRow.{TopicRow}
+use Rattle.bcf_http.specs.declared.paths.TopicRow.TheVariants as topic
+use Rattle.bcf_viewpoints.specs.declared.part.ViewPart.TheVariants as part
 
--- the address of a row, each part in braces being a parameter
+-- the address of a row for what belongs to a topic
+abbrev pub topic_address : TopicRow → List ℕ
+topic_address topic.Whole = codes "/bcf/3.0/projects/{p}/topics/{t}"
+topic_address topic.Comments = codes "/bcf/3.0/projects/{p}/topics/{t}/comments"
+topic_address topic.Comment = codes "/bcf/3.0/projects/{p}/topics/{t}/comments/{c}"
+topic_address topic.Views = codes "/bcf/3.0/projects/{p}/topics/{t}/viewpoints"
+topic_address (topic.View part.Whole) = codes "/bcf/3.0/projects/{p}/topics/{t}/viewpoints/{w}"
+topic_address (topic.View part.Selection) = codes "/bcf/3.0/projects/{p}/topics/{t}/viewpoints/{w}/selection"
+topic_address (topic.View part.Coloring) = codes "/bcf/3.0/projects/{p}/topics/{t}/viewpoints/{w}/coloring"
+topic_address (topic.View part.Visibility) =
+    codes "/bcf/3.0/projects/{p}/topics/{t}/viewpoints/{w}/visibility"
+
+-- the address of a row, with its parameters in braces
 abbrev pub address_of : RoutePath → List ℕ
+address_of Projects = codes "/bcf/3.0/projects"
+address_of Project = codes "/bcf/3.0/projects/{p}"
 address_of Topics = codes "/bcf/3.0/projects/{p}/topics"
+address_of (OfTopic row) = topic_address row
 address_of Model = codes "/coord/1/projects/{p}/models/{name}"
 address_of Rules = codes "/coord/1/projects/{p}/rules"
 address_of Version = codes "/coord/1/projects/{p}/versions/{v}"
 address_of Clashes = codes "/coord/1/projects/{p}/versions/{v}/clashes"
+address_of ClashTopic = codes "/coord/1/projects/{p}/versions/{v}/clashes/{n}/topic"
+
+-- the methods of such a row, in the order in which they are told
+abbrev pub topic_methods : TopicRow → List (List ℕ)
+topic_methods topic.Whole = codes "GET" ∷ codes "PUT" ∷ codes "DELETE" ∷ []
+topic_methods topic.Comments = codes "GET" ∷ codes "POST" ∷ []
+topic_methods topic.Comment = codes "GET" ∷ codes "PUT" ∷ codes "DELETE" ∷ []
+topic_methods topic.Views = codes "GET" ∷ codes "POST" ∷ []
+topic_methods (topic.View part.Whole) = codes "GET" ∷ codes "DELETE" ∷ []
+topic_methods (topic.View part.Selection) = codes "GET" ∷ []
+topic_methods (topic.View part.Coloring) = codes "GET" ∷ []
+topic_methods (topic.View part.Visibility) = codes "GET" ∷ []
 
 -- its methods, in the order in which they are told
 abbrev pub methods_of : RoutePath → List (List ℕ)
+methods_of Projects = codes "GET" ∷ []
+methods_of Project = codes "GET" ∷ []
 methods_of Topics = codes "GET" ∷ codes "POST" ∷ []
+methods_of (OfTopic row) = topic_methods row
 methods_of Model = codes "PUT" ∷ codes "DELETE" ∷ []
 methods_of Rules = codes "PUT" ∷ []
 methods_of Version = codes "GET" ∷ []
 methods_of Clashes = codes "GET" ∷ []
+methods_of ClashTopic = codes "POST" ∷ []
 
 -- the row has the method
 abbrev pub has_method : RoutePath → List ℕ → Bool
@@ -45,6 +79,17 @@ with_read routes path (Err error) = routes
 abbrev pub with_row : RowsOf (RouteOf RoutePath) → RoutePath → RowsOf (RouteOf RoutePath)
 with_row routes path = with_read routes path (parse_route (address_of path))
 
+-- the rows for what belongs to a topic, in their order
+abbrev pub topic_rows : List RoutePath
+topic_rows =
+    OfTopic topic.Whole ∷ OfTopic topic.Comments ∷ OfTopic topic.Comment ∷ OfTopic topic.Views
+    ∷ OfTopic (topic.View part.Whole) ∷ OfTopic (topic.View part.Selection)
+    ∷ OfTopic (topic.View part.Coloring) ∷ OfTopic (topic.View part.Visibility) ∷ []
+
+-- the rows of the table, in their order
+abbrev pub rows : List RoutePath
+rows = Projects ∷ Project ∷ Topics ∷ topic_rows ++ Model ∷ Rules ∷ Version ∷ Clashes ∷ ClashTopic ∷ []
+
 -- the routes of the table, its rows put in in their order
 unfoldable pub table : RowsOf (RouteOf RoutePath)
-table = fold with_row [] (Topics ∷ Model ∷ Rules ∷ Version ∷ Clashes ∷ [])
+table = fold with_row [] rows

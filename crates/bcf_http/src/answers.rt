@@ -6,7 +6,7 @@ use crate::calls::{ReplyKind, RequestFault};
 use crate::paths::RoutePath;
 use crate::responses::response;
 use crate::trees::answer_out;
-use bcf_json::BodyFault;
+use bcf_viewpoints::ViewPart;
 use bim_model::{Bytes, UploadFault};
 use book_history::{BookFault, BookReply, ReplyBody};
 use http::StatusCode;
@@ -39,28 +39,35 @@ fn refusal_status(fault: BookFault) -> StatusCode
         BookFault::JournalFull { .. } => StatusCode::INSUFFICIENT_STORAGE,
         BookFault::AlreadyDone => StatusCode::NOT_FOUND,
         BookFault::NoWork => StatusCode::NOT_FOUND,
+        BookFault::NoClash { .. } => StatusCode::NOT_FOUND,
+        BookFault::NoTopic => StatusCode::NOT_FOUND,
+        BookFault::NoComment => StatusCode::NOT_FOUND,
+        BookFault::TopicsFull { .. } => StatusCode::INSUFFICIENT_STORAGE,
+        BookFault::CommentsFull { .. } => StatusCode::INSUFFICIENT_STORAGE,
+        BookFault::NoViewpoint => StatusCode::NOT_FOUND,
+        BookFault::ViewpointsFull { .. } => StatusCode::INSUFFICIENT_STORAGE,
     }
 }
 
 fn reply_status(created: bool, reply: &ReplyBody) -> StatusCode
     ensures { result ≡ reply_status created reply.now }
 {
+    let made = if created {
+        StatusCode::CREATED
+    } else {
+        StatusCode::OK
+    };
     match reply {
-        ReplyBody::TopicIs(_) => {
-            if created {
-                StatusCode::CREATED
-            } else {
-                StatusCode::OK
-            }
-        }
+        ReplyBody::Projects(_) => StatusCode::OK,
+        ReplyBody::Project(_) => StatusCode::OK,
+        ReplyBody::TopicIs(_) => made,
         ReplyBody::TopicList(_) => StatusCode::OK,
-        ReplyBody::Changed { .. } => {
-            if created {
-                StatusCode::CREATED
-            } else {
-                StatusCode::OK
-            }
-        }
+        ReplyBody::CommentIs(_) => made,
+        ReplyBody::CommentList(_) => StatusCode::OK,
+        ReplyBody::View(_) => made,
+        ReplyBody::ViewList(_) => StatusCode::OK,
+        ReplyBody::Gone => StatusCode::OK,
+        ReplyBody::Changed { .. } => made,
         ReplyBody::Version { .. } => StatusCode::OK,
         ReplyBody::Clashes { .. } => StatusCode::OK,
         ReplyBody::Work(_) => StatusCode::OK,
@@ -69,8 +76,8 @@ fn reply_status(created: bool, reply: &ReplyBody) -> StatusCode
     }
 }
 
-fn fault_status(fault: RequestFault) -> StatusCode
-    ensures { result ≡ fault_status fault }
+fn fault_status(fault: &RequestFault) -> StatusCode
+    ensures { result ≡ fault_status fault.now }
 {
     match fault {
         RequestFault::NoRoute => StatusCode::NOT_FOUND,
@@ -79,7 +86,7 @@ fn fault_status(fault: RequestFault) -> StatusCode
         RequestFault::Query { .. } => StatusCode::BAD_REQUEST,
         RequestFault::BadJson => StatusCode::BAD_REQUEST,
         RequestFault::Rules(_) => StatusCode::UNPROCESSABLE_ENTITY,
-        RequestFault::Body(BodyFault::Title) => StatusCode::UNPROCESSABLE_ENTITY,
+        RequestFault::Body(_) => StatusCode::UNPROCESSABLE_ENTITY,
     }
 }
 
@@ -101,7 +108,7 @@ fn status_of(created: bool, answer: &Answer) -> StatusCode
 {
     match answer {
         Answer::Book(reply) => reply_status(created, &reply.body),
-        Answer::Refused(fault) => fault_status(*fault),
+        Answer::Refused(fault) => fault_status(fault),
         Answer::Built(_) => StatusCode::UNPROCESSABLE_ENTITY,
         Answer::Frame(fault) => frame_status(*fault),
         Answer::Memory => StatusCode::SERVICE_UNAVAILABLE,
@@ -130,10 +137,15 @@ fn allow_of(answer: &Answer) -> Option<RoutePath>
 }
 
 // The tree of an answer as compact text.
-fn text_of(alloc: Global, project: u32, answer: &Answer) -> Result<String, AllocError>
-    ensures { IfOk result (λ s. IsAnswerText project answer.now (string_bytes s)) }
+fn text_of(
+    alloc: Global,
+    project: u32,
+    part: ViewPart,
+    answer: &Answer,
+) -> Result<String, AllocError>
+    ensures { IfOk result (λ s. IsAnswerText project part answer.now (string_bytes s)) }
 {
-    let tree = answer_out(alloc, project, answer)?;
+    let tree = answer_out(alloc, project, part, answer)?;
     tree.to_string(alloc)
 }
 
@@ -149,7 +161,7 @@ pub fn to_response(
 ) -> Result<Bytes, AllocError>
     ensures { IfOk result (IsResponse answer.now kind turn close) }
 {
-    let text = text_of(alloc, kind.project, answer)?;
+    let text = text_of(alloc, kind.project, kind.part, answer)?;
     let status = status_of(kind.created, answer);
     let allow = allow_of(answer);
     response(alloc, turn, close, kind.head, status, allow, text.as_str())

@@ -1,21 +1,23 @@
 //! From requests to calls of the book.
-ghost use Rattle.std.specs.Prelude.{◌≡◌, option_and_then, IfOk};
+ghost use Rattle.std.specs.Prelude.{◌≡◌, length, IfOk};
 ghost use Rattle.serde_json.specs.View.{view};
-ghost use Rattle.serde_json.specs.Read.{read};
+ghost use Rattle.book_history.specs.declared.requests.BookRequest.TheVariants.{ClashTopic};
 ghost use Rattle.bim_model.specs.Moments.{IsMoment};
 ghost use Rattle.bcf_http.specs.Queries.{grid_asked, page_asked};
 ghost use Rattle.bcf_http.specs.Targets.{query_of};
-ghost use Rattle.bcf_http.specs.Calls.{object_of, if_object, with_fault, topic_asked, post_call, topics_call, put_call, model_call, with_rule_fault, rules_asked, rules_call, clashes_call, asked_by, number_of, creates, IsAskedAs, IsTreeOf, IsMeantAs, AsksNone, kind_of, no_kind};
-ghost use Rattle.bcf_json.specs.Bodies.{topic_body};
+ghost use Rattle.bcf_http.specs.Calls.{object_of, author_of, put_call, model_call, with_rule_fault, rules_asked, rules_call, clashes_call, asked_by, number_of, number_if, creates, IsAskedAs, IsMeantAs, AsksNone, kind_of, no_kind};
 ghost use Rattle.clash_rules.specs.Json.{rules_of};
 
+use crate::board_calls::{call_of_topic, topics_call};
+use crate::bodies::object_of;
 use crate::paths::{RoutePath, has_method, is_same};
 use crate::query::{PageError, QueryName, grid_asked, page_asked};
 use crate::resource::Resource;
 use crate::routes::Routes;
 use crate::target::split_target;
-use bcf_json::{BodyError, BodyFault, topic_in};
-use bim_model::{Author, Bytes, Mode, Moment, Rules, Text, TopicBody, id_of};
+use bcf_bodies::BodyFault;
+use bcf_viewpoints::ViewPart;
+use bim_model::{Author, Bytes, Mode, Moment, Rules, Text, id_of};
 use book_history::{BookRequest, Wanted};
 use clash_rules::{RuleError, RuleFault, from_json};
 use http_frame::HttpRequest;
@@ -23,7 +25,7 @@ use serde_json::Value;
 use std::alloc::Global;
 
 /// A fault of a request that the request alone decides.
-#[derive(Clone, Copy, Debug, PartialEq, Eq)]
+#[derive(Debug, PartialEq, Eq, Drop)]
 pub enum RequestFault {
     /// H7: the target names nothing.
     NoRoute,
@@ -42,7 +44,7 @@ pub enum RequestFault {
 }
 
 /// Why a request is not made a call.
-#[derive(Clone, Copy, Debug, PartialEq, Eq)]
+#[derive(Debug, PartialEq, Eq, Drop)]
 pub enum Refusal {
     Fault(RequestFault),
     Memory,
@@ -71,6 +73,8 @@ pub struct ReplyKind {
     pub created: bool,
     /// Whether the method is HEAD.
     pub head: bool,
+    /// The part of a viewpoint that the path names, or a whole one.
+    pub part: ViewPart,
 }
 
 impl ReplyKind {
@@ -82,6 +86,7 @@ impl ReplyKind {
             project: 0,
             created: false,
             head: false,
+            part: ViewPart::Whole,
         }
     }
 }
@@ -98,12 +103,16 @@ fn number_of(id: u128) -> u32
 fn creates(method: &[u8], row: RoutePath) -> bool
     ensures { result ≡ creates method.now row }
 {
-    match row {
-        RoutePath::Topics => is_same(method, "POST"),
-        RoutePath::Model => is_same(method, "PUT"),
-        RoutePath::Rules => false,
-        RoutePath::Version => false,
-        RoutePath::Clashes => false,
+    is_same(method, "POST") || (row == RoutePath::Model && is_same(method, "PUT"))
+}
+
+// The number of a project, if one is named.
+fn number_if(id: Option<u128>) -> u32
+    ensures { result ≡ number_if id }
+{
+    match id {
+        Some(id) => number_of(id),
+        None => 0,
     }
 }
 
@@ -116,116 +125,18 @@ pub fn kind_of(routes: &Routes, request: &HttpRequest) -> ReplyKind
     let head = is_same(method, "HEAD");
     match routes.resource_of(request.target.as_slice()) {
         Some(resource) => ReplyKind {
-            project: number_of(resource.project()),
+            project: number_if(resource.project()),
             created: creates(method, resource.row()),
             head,
+            part: resource.part(),
         },
         None => ReplyKind {
             project: 0,
             created: false,
             head,
+            part: ViewPart::Whole,
         },
     }
-}
-
-// The value that a text spells as JSON.
-fn value_of(alloc: Global, text: &str) -> Result<Value, Refusal>
-    ensures { IsTreeOf result (read text.now) }
-{
-    match Value::from_str(alloc, text) {
-        Ok(tree) => Ok(tree),
-        Err(error) => {
-            if error.is_memory() {
-                Err(Refusal::Memory)
-            } else {
-                Err(Refusal::Fault(RequestFault::BadJson))
-            }
-        }
-    }
-}
-
-// The object that a body spells as JSON.
-#[tactic(auto, using(crate::proofs::Reading::of_text, crate::proofs::Reading::not_text))]
-fn object_of(alloc: Global, body: &[u8]) -> Result<Value, Refusal>
-    ensures { IsTreeOf result (object_of body.now) }
-{
-    match str::from_utf8(body) {
-        Ok(text) => object_in(alloc, text),
-        Err(_) => Err(Refusal::Fault(RequestFault::BadJson)),
-    }
-}
-
-fn object_in(alloc: Global, text: &str) -> Result<Value, Refusal>
-    ensures { IsTreeOf result (option_and_then if_object (read text.now)) }
-{
-    let tree = value_of(alloc, text)?;
-    if tree.is_object() {
-        Ok(tree)
-    } else {
-        Err(Refusal::Fault(RequestFault::BadJson))
-    }
-}
-
-// The topic that an object asks for.
-fn topic_of(alloc: Global, tree: &Value) -> Result<TopicBody, Refusal>
-    ensures { IsMeantAs result (with_fault (topic_body (view tree.now))) }
-{
-    match topic_in(alloc, tree) {
-        Ok(body) => Ok(body),
-        Err(BodyError::Fault(fault)) => Err(Refusal::Fault(RequestFault::Body(fault))),
-        Err(BodyError::Memory) => Err(Refusal::Memory),
-    }
-}
-
-// The topic that a body asks for.
-fn topic_asked(alloc: Global, body: &[u8]) -> Result<TopicBody, Refusal>
-    ensures { IsMeantAs result (topic_asked (object_of body.now)) }
-{
-    match object_of(alloc, body) {
-        Ok(tree) => topic_of(alloc, &tree),
-        Err(refusal) => Err(refusal),
-    }
-}
-
-// The call that makes a topic of the body.
-fn post_call(
-    alloc: Global,
-    request: HttpRequest,
-    moment: u64,
-    project: u128,
-) -> Result<HttpCall, Refusal>
-    requires { IsMoment moment }
-    ensures { IsAskedAs result (post_call moment request project (topic_asked (object_of request.body))) }
-{
-    let HttpRequest { user, body, .. } = request;
-    match topic_asked(alloc, body.as_slice()) {
-        Ok(topic) => Ok(HttpCall::Ask(BookRequest::PostTopic {
-            project,
-            body: topic,
-            author: Author {
-                user,
-                moment: Moment::new(moment),
-            },
-            weight: body.len() as u64,
-        })),
-        Err(refusal) => Err(refusal),
-    }
-}
-
-// What is asked of the topics of a project.
-fn topics_call(
-    alloc: Global,
-    request: HttpRequest,
-    moment: u64,
-    project: u128,
-) -> Result<HttpCall, Refusal>
-    requires { IsMoment moment }
-    ensures { IsAskedAs result (topics_call moment request project) }
-{
-    if is_same(request.method.as_slice(), "POST") {
-        return post_call(alloc, request, moment, project);
-    }
-    Ok(HttpCall::Ask(BookRequest::ListTopics { project }))
 }
 
 // The model that is to be built of the body.
@@ -380,7 +291,14 @@ fn asked_by(
         return Err(Refusal::Fault(RequestFault::Encoding));
     }
     match resource {
+        Resource::Projects => Ok(HttpCall::Ask(BookRequest::ListProjects)),
+        Resource::Project { project } => Ok(HttpCall::Ask(BookRequest::ReadProject { project })),
         Resource::Topics { project } => topics_call(alloc, request, moment, project),
+        Resource::OfTopic {
+            project,
+            topic,
+            place,
+        } => call_of_topic(alloc, request, moment, project, topic, place),
         Resource::Model { project, name } => match Text::of(alloc, name) {
             Ok(name) => model_call(alloc, request, project, name),
             Err(_) => Err(Refusal::Memory),
@@ -391,5 +309,34 @@ fn asked_by(
             version: wanted,
         })),
         Resource::Clashes { project, wanted } => clashes_call(alloc, &request, project, wanted),
+        Resource::Clash {
+            project,
+            wanted,
+            place,
+        } => Ok(HttpCall::Ask(clash_topic(request, moment, project, wanted, place))),
+    }
+}
+
+// The call that makes a topic of a clash.
+fn clash_topic(
+    request: HttpRequest,
+    moment: u64,
+    project: u128,
+    version: Wanted,
+    place: u64,
+) -> BookRequest
+    requires { IsMoment moment }
+    ensures { result ≡ ClashTopic project version place (author_of moment request) (length request.body) }
+{
+    let HttpRequest { user, body, .. } = request;
+    BookRequest::ClashTopic {
+        project,
+        version,
+        place,
+        author: Author {
+            user,
+            moment: Moment::new(moment),
+        },
+        weight: body.len() as u64,
     }
 }

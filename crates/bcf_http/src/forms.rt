@@ -4,11 +4,11 @@ ghost use Rattle.std.specs.List.{list_all};
 ghost use Rattle.std.specs.Char.{is_ascii};
 ghost use Rattle.matchit.specs.Params.{AllText};
 ghost use Rattle.bcf_http.specs.Forms.{identifier_in, wanted_in};
-ghost use Rattle.bcf_http.specs.Places.{place_lent, parts_of, project_in, name_in, version_in, place_for, place_by};
+ghost use Rattle.bcf_http.specs.Places.{place_lent, parts_of, id_in, name_in, version_in, clash_in, topic_place, in_topic, in_clashes, place_for, place_by};
 
 use crate::numbers::number_in;
-use crate::paths::{RoutePath, is_same};
-use crate::resource::Resource;
+use crate::paths::{RoutePath, TopicRow, is_same};
+use crate::resource::{Resource, TopicPlace};
 use book_history::Wanted;
 use matchit::Params;
 use model_names::is_model_name;
@@ -43,12 +43,12 @@ fn wanted_in(text: &str) -> Option<Wanted>
     }
 }
 
-// The identifier of the project.
-fn project_in(params: &Params<'_, '_>) -> Option<u128>
+// The identifier under that name.
+fn id_in(params: &Params<'_, '_>, name: &str) -> Option<u128>
     requires { AllText (parts_of params.now) }
-    ensures { result ≡ project_in (parts_of params.now) }
+    ensures { result ≡ id_in name.now (parts_of params.now) }
 {
-    match params.get("p") {
+    match params.get(name) {
         Some(text) => identifier_in(text),
         None => None,
     }
@@ -82,13 +82,85 @@ fn version_in(params: &Params<'_, '_>) -> Option<Wanted>
     }
 }
 
+// The place of a clash.
+fn clash_in(params: &Params<'_, '_>) -> Option<u64>
+    requires { AllText (parts_of params.now) }
+    ensures { result ≡ clash_in (parts_of params.now) }
+{
+    match params.get("n") {
+        Some(text) => number_in(text),
+        None => None,
+    }
+}
+
+// What the parameters name of a topic on a row.
+fn topic_place(row: TopicRow, params: &Params<'_, '_>) -> Option<TopicPlace>
+    requires { AllText (parts_of params.now) }
+    ensures { result ≡ topic_place row (parts_of params.now) }
+{
+    match row {
+        TopicRow::Whole => Some(TopicPlace::Whole),
+        TopicRow::Comments => Some(TopicPlace::Comments),
+        TopicRow::Comment => match id_in(params, "c") {
+            Some(comment) => Some(TopicPlace::Comment(comment)),
+            None => None,
+        },
+        TopicRow::Views => Some(TopicPlace::Views),
+        TopicRow::View(part) => match id_in(params, "w") {
+            Some(view) => Some(TopicPlace::View(view, part)),
+            None => None,
+        },
+    }
+}
+
+// What the parameters name on a row for a topic of a project.
+fn in_topic<'t>(
+    row: TopicRow,
+    params: &Params<'_, 't>,
+    project: u128,
+    topic: u128,
+) -> Option<Resource<'t>>
+    requires { AllText (parts_of params.now) }
+    ensures { option_map place_lent result ≡ in_topic row (parts_of params.now) project topic }
+{
+    match topic_place(row, params) {
+        Some(place) => Some(Resource::OfTopic {
+            project,
+            topic,
+            place,
+        }),
+        None => None,
+    }
+}
+
+// The clash of a version that the parameters name.
+fn in_clashes<'t>(params: &Params<'_, 't>, project: u128, wanted: Wanted) -> Option<Resource<'t>>
+    requires { AllText (parts_of params.now) }
+    ensures { option_map place_lent result ≡ in_clashes (parts_of params.now) project wanted }
+{
+    match clash_in(params) {
+        Some(place) => Some(Resource::Clash {
+            project,
+            wanted,
+            place,
+        }),
+        None => None,
+    }
+}
+
 // What the parameters name on a row for a project.
 fn resource_for<'t>(row: RoutePath, params: &Params<'_, 't>, project: u128) -> Option<Resource<'t>>
     requires { AllText (parts_of params.now) }
     ensures { option_map place_lent result ≡ place_for row (parts_of params.now) project }
 {
     match row {
+        RoutePath::Projects => Some(Resource::Projects),
+        RoutePath::Project => Some(Resource::Project { project }),
         RoutePath::Topics => Some(Resource::Topics { project }),
+        RoutePath::OfTopic(row) => match id_in(params, "t") {
+            Some(topic) => in_topic(row, params, project, topic),
+            None => None,
+        },
         RoutePath::Model => match name_in(params) {
             Some(name) => Some(Resource::Model { project, name }),
             None => None,
@@ -102,16 +174,23 @@ fn resource_for<'t>(row: RoutePath, params: &Params<'_, 't>, project: u128) -> O
             Some(wanted) => Some(Resource::Clashes { project, wanted }),
             None => None,
         },
+        RoutePath::ClashTopic => match version_in(params) {
+            Some(wanted) => in_clashes(params, project, wanted),
+            None => None,
+        },
     }
 }
 
 /// What the parameters name on a row, where each has its form: an identifier that `uuid` reads, a name of
-/// 1 to 64 characters of `A-Za-z0-9_.-`, `newest` or 1 to 15 digits.
+/// 1 to 64 characters of `A-Za-z0-9_.-`, `newest` or 1 to 15 digits, a place of 1 to 15 digits.
 pub fn resource_by<'t>(row: RoutePath, params: &Params<'_, 't>) -> Option<Resource<'t>>
     requires { AllText (parts_of params.now) }
     ensures { option_map place_lent result ≡ place_by row (parts_of params.now) }
 {
-    match project_in(params) {
+    if row == RoutePath::Projects {
+        return Some(Resource::Projects);
+    }
+    match id_in(params, "p") {
         Some(project) => resource_for(row, params, project),
         None => None,
     }

@@ -2,8 +2,11 @@
 #![tactic(auto)]
 
 mod answers;
+mod board_calls;
+mod bodies;
 mod calls;
 mod forms;
+mod lists;
 mod numbers;
 mod paths;
 mod query;
@@ -15,6 +18,6 @@ mod trees;
 
 pub use answers::{Answer, to_response};
 pub use calls::{HttpCall, Refusal, ReplyKind, RequestFault, kind_of, to_call};
-pub use paths::RoutePath;
+pub use paths::{RoutePath, TopicRow};
 pub use query::{MOST_PAIRS, QueryName};
 pub use routes::Routes;

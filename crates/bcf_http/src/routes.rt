@@ -6,9 +6,10 @@ ghost use Rattle.bcf_http.specs.Paths.{table, with_row};
 ghost use Rattle.bcf_http.specs.Places.{place_lent, place_on, place_at, place_of};
 
 use crate::forms::{are_ascii, resource_by};
-use crate::paths::{RoutePath, address_of};
+use crate::paths::{RoutePath, TopicRow, address_of};
 use crate::resource::Resource;
 use crate::target::{path_in, split_target};
+use bcf_viewpoints::ViewPart;
 use matchit::Router;
 use std::alloc::{AllocError, Global};
 use std::marker::Model;
@@ -29,6 +30,26 @@ impl Model for Routes {
 
     ghost invariant = { λ r. r.router ≡ table };
 }
+
+// The rows, in the order in which they are put in.
+const ROWS: [RoutePath; 16] = [
+    RoutePath::Projects,
+    RoutePath::Project,
+    RoutePath::Topics,
+    RoutePath::OfTopic(TopicRow::Whole),
+    RoutePath::OfTopic(TopicRow::Comments),
+    RoutePath::OfTopic(TopicRow::Comment),
+    RoutePath::OfTopic(TopicRow::Views),
+    RoutePath::OfTopic(TopicRow::View(ViewPart::Whole)),
+    RoutePath::OfTopic(TopicRow::View(ViewPart::Selection)),
+    RoutePath::OfTopic(TopicRow::View(ViewPart::Coloring)),
+    RoutePath::OfTopic(TopicRow::View(ViewPart::Visibility)),
+    RoutePath::Model,
+    RoutePath::Rules,
+    RoutePath::Version,
+    RoutePath::Clashes,
+    RoutePath::ClashTopic,
+];
 
 // Puts in a row.
 #[tactic(auto, using(crate::proofs::Routers::put))]
@@ -72,11 +93,9 @@ impl Routes {
     #[tactic(auto, unfolding(crate::specs::Paths::table))]
     pub fn new(alloc: Global) -> Result<Routes, AllocError> {
         let mut router = Router::new(alloc);
-        put_row(&mut router, RoutePath::Topics)?;
-        put_row(&mut router, RoutePath::Model)?;
-        put_row(&mut router, RoutePath::Rules)?;
-        put_row(&mut router, RoutePath::Version)?;
-        put_row(&mut router, RoutePath::Clashes)?;
+        for row in ROWS {
+            put_row(&mut router, row)?;
+        }
         Ok(Routes { router })
     }
 

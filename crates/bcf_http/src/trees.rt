@@ -1,19 +1,21 @@
 //! Answers as JSON values.
 ghost use Rattle.std.specs.Prelude.{◌≡◌, IfOk};
 ghost use Rattle.serde_json.specs.View.{view};
-ghost use Rattle.bcf_http.specs.Answers.{query_text, store_text, request_fault_tree, book_fault_tree, frame_fault_tree, IsReplyTree, IsAnswerTree};
+ghost use Rattle.bcf_http.specs.Answers.{query_text, store_text, body_fault_tree, request_fault_tree, book_fault_tree, frame_fault_tree, IsReplyTree, IsAnswerTree};
 
 use crate::answers::Answer;
 use crate::calls::RequestFault;
+use crate::lists::{comments_out, project_out, projects_out, topics_out, views_out};
 use crate::query::QueryName;
-use bcf_json::{BodyFault, topic_out, topics_out};
+use bcf_bodies::{BodyFault, comment_out, topic_out, view_out};
+use bcf_viewpoints::ViewPart;
 use book_history::{BookFault, ReplyBody, StoreWhat};
 use coord_json::{
-    changed_out, clashes_out, error_full, error_named, error_newest, error_out, error_store,
-    error_version, pending_out, rule_fault_out, upload_fault_out, version_out,
+    changed_out, clashes_out, error_full, error_named, error_newest, error_out, error_place,
+    error_store, error_version, pending_out, rule_fault_out, upload_fault_out, version_out,
 };
 use http_frame::FrameFault;
-use serde_json::Value;
+use serde_json::{Map, Value};
 use std::alloc::{AllocError, Global};
 
 fn query_text(name: QueryName) -> &'static str
@@ -35,17 +37,27 @@ fn store_text(what: StoreWhat) -> &'static str
     }
 }
 
-fn fault_out(alloc: Global, fault: RequestFault) -> Result<Value, AllocError>
-    ensures { IfOk result (λ v. view v ≡ request_fault_tree fault) }
+fn body_fault_out(alloc: Global, fault: &BodyFault) -> Result<Value, AllocError>
+    ensures { IfOk result (λ v. view v ≡ body_fault_tree fault.now) }
+{
+    match fault {
+        BodyFault::Title => error_out(alloc, "B3", "Title"),
+        BodyFault::BadMember { name } => error_named(alloc, "B4", "BadMember", name.as_str()),
+        BodyFault::BadComponent => error_out(alloc, "B8", "BadComponent"),
+    }
+}
+
+fn fault_out(alloc: Global, fault: &RequestFault) -> Result<Value, AllocError>
+    ensures { IfOk result (λ v. view v ≡ request_fault_tree fault.now) }
 {
     match fault {
         RequestFault::NoRoute => error_out(alloc, "H7", "NoRoute"),
         RequestFault::Method { .. } => error_out(alloc, "H8", "Method"),
         RequestFault::Encoding => error_out(alloc, "H12", "Encoding"),
-        RequestFault::Query { name } => error_named(alloc, "H11", "Query", query_text(name)),
+        RequestFault::Query { name } => error_named(alloc, "H11", "Query", query_text(*name)),
         RequestFault::BadJson => error_out(alloc, "H9", "BadJson"),
-        RequestFault::Rules(fault) => rule_fault_out(alloc, fault),
-        RequestFault::Body(BodyFault::Title) => error_out(alloc, "B3", "Title"),
+        RequestFault::Rules(fault) => rule_fault_out(alloc, *fault),
+        RequestFault::Body(fault) => body_fault_out(alloc, fault),
     }
 }
 
@@ -85,18 +97,40 @@ fn refusal_out(alloc: Global, fault: BookFault) -> Result<Value, AllocError>
         }
         BookFault::AlreadyDone => error_out(alloc, "K10", "AlreadyDone"),
         BookFault::NoWork => error_out(alloc, "K11", "NoWork"),
+        BookFault::NoClash { place, total } => error_place(alloc, "K12", "NoClash", place, total),
+        BookFault::NoTopic => error_out(alloc, "B1", "NoTopic"),
+        BookFault::NoComment => error_out(alloc, "B2", "NoComment"),
+        BookFault::TopicsFull { count, limit } => {
+            error_full(alloc, "B5", "TopicsFull", count, limit)
+        }
+        BookFault::CommentsFull { count, limit } => {
+            error_full(alloc, "B6", "CommentsFull", count, limit)
+        }
+        BookFault::NoViewpoint => error_out(alloc, "B7", "NoViewpoint"),
+        BookFault::ViewpointsFull { count, limit } => {
+            error_full(alloc, "B9", "ViewpointsFull", count, limit)
+        }
     }
 }
 
-fn reply_out(alloc: Global, project: u32, reply: &ReplyBody) -> Result<Value, AllocError>
-    ensures { IfOk result (λ v. IsReplyTree project reply.now (view v)) }
+fn reply_out(
+    alloc: Global,
+    project: u32,
+    part: ViewPart,
+    reply: &ReplyBody,
+) -> Result<Value, AllocError>
+    ensures { IfOk result (λ v. IsReplyTree project part reply.now (view v)) }
 {
     match reply {
+        ReplyBody::Projects(numbers) => projects_out(alloc, numbers.as_slice()),
+        ReplyBody::Project(number) => project_out(alloc, *number),
         ReplyBody::TopicIs(topic) => topic_out(alloc, project, topic),
-        ReplyBody::TopicList(topics) => {
-            let trees = topics_out(alloc, project, topics.as_slice())?;
-            Ok(Value::Array(trees))
-        }
+        ReplyBody::TopicList(topics) => topics_out(alloc, project, topics.as_slice()),
+        ReplyBody::CommentIs(comment) => comment_out(alloc, project, comment),
+        ReplyBody::CommentList(comments) => comments_out(alloc, project, comments.as_slice()),
+        ReplyBody::View(view) => view_out(alloc, project, view.get(), part),
+        ReplyBody::ViewList(views) => views_out(alloc, project, views.as_slice()),
+        ReplyBody::Gone => Ok(Value::Object(Map::new(alloc))),
         ReplyBody::Changed {
             version,
             elements,
@@ -121,13 +155,18 @@ fn reply_out(alloc: Global, project: u32, reply: &ReplyBody) -> Result<Value, Al
     }
 }
 
-/// The tree of an answer, for a project.
-pub fn answer_out(alloc: Global, project: u32, answer: &Answer) -> Result<Value, AllocError>
-    ensures { IfOk result (λ v. IsAnswerTree project answer.now (view v)) }
+/// The tree of an answer, for a project and a part of a viewpoint.
+pub fn answer_out(
+    alloc: Global,
+    project: u32,
+    part: ViewPart,
+    answer: &Answer,
+) -> Result<Value, AllocError>
+    ensures { IfOk result (λ v. IsAnswerTree project part answer.now (view v)) }
 {
     match answer {
-        Answer::Book(reply) => reply_out(alloc, project, &reply.body),
-        Answer::Refused(fault) => fault_out(alloc, *fault),
+        Answer::Book(reply) => reply_out(alloc, project, part, &reply.body),
+        Answer::Refused(fault) => fault_out(alloc, fault),
         Answer::Built(fault) => upload_fault_out(alloc, *fault),
         Answer::Frame(fault) => frame_out(alloc, *fault),
         Answer::Memory => error_out(alloc, "M1", "Memory"),

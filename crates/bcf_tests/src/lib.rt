@@ -2,6 +2,8 @@
 #![tactic(auto)]
 
 #[cfg(test)]
+mod board_tests;
+#[cfg(test)]
 mod body_tests;
 #[cfg(test)]
 mod json_tests;

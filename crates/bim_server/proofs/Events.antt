@@ -8,19 +8,22 @@ use Rattle.book_history.specs.declared.limits.Settings.{Settings}
 use Rattle.book_history.specs.declared.changes.Entry.{Entry}
 use Rattle.book_history.specs.declared.changes.Change.{Change}
 use Rattle.book_history.specs.declared.changes.Change.TheVariants as change
+use Rattle.bcf_topics.specs.declared.topic.Topic.{Topic}
+use Rattle.bcf_topics.specs.declared.comment.Comment.{Comment}
 use Rattle.book_history.specs.declared.faults.BookFault.{BookFault}
+use Rattle.book_history.specs.declared.faults.BookFault.TheVariants.{NoTopic, NoComment, NoViewpoint}
 use Rattle.book_history.specs.declared.replies.ReplyBody.{ReplyBody}
 use Rattle.book_history.specs.declared.replies.ReplyBody.TheVariants as reply
 use Rattle.book_history.specs.declared.requests.Wanted.{Wanted}
 use Rattle.book_history.specs.declared.replies.BookReply.{BookReply}
 use Rattle.book_history.specs.declared.requests.BookRequest.{BookRequest}
-use Rattle.book_history.specs.declared.requests.BookRequest.TheVariants.{ListTopics, PostTopic, Upload, Remove, SetRules, ReadVersion, ReadClashes, TakeWork, Finish}
+use Rattle.book_history.specs.declared.requests.BookRequest.TheVariants.{ListProjects, ReadProject, Upload, Remove, SetRules, ReadVersion, ReadClashes, ClashTopic, ListTopics, ReadTopic, PostTopic, PutTopic, DeleteTopic, ListComments, ReadComment, PostComment, PutComment, DeleteComment, ListViews, ReadView, PostView, DeleteView, TakeWork, Finish}
 use Rattle.book_history.specs.Orders.{OrderValue}
 use Rattle.book_history.specs.Versions.{VersionState, version_at}
 use Rattle.book_history.specs.Projects.{ProjectState, newest, with_change}
 use Rattle.book_history.specs.History.{state_of, at_turn, IsBefore}
 use Rattle.book_history.specs.Refusals.{project_of, wanted_in, not_yet, dropped, pending}
-use Rattle.book_history.specs.Requests.{Outcome, Refusal, Answer, Accepted, unless, in_project, order_for, all_orders, version_read, clashes_read, outcome_of, reply_to, body_of, entry_by, reply_of, added_by}
+use Rattle.book_history.specs.Requests.{Outcome, Refusal, Answer, Accepted, unless, found, in_project, topic_told, comment_told, clash_told, order_for, all_orders, version_read, clashes_read, outcome_of, reply_to, body_of, entry_by, reply_of, added_by}
 use Rattle.book_history.specs.Runs.{Step, IsRun, IsOneThread}
 use Rattle.book_history.proofs.Histories.{AreOf, added_of, above_of, at_turn-new, of_turn-new, Runs_push, follows_one, one_push}
 use Rattle.bcf_http.specs.declared.answers.Answer.TheVariants as answer
@@ -62,12 +65,29 @@ idle_added stamp (Refusal fault) idle = refl
 idle_added stamp (Answer body) idle = refl
 idle_added stamp (Accepted number change) idle = absurd idle
 
+-- what is told of a topic, and of a comment, is no refusal
+topic_unrefused : (o : Option Topic) → IsTrue (is_refusal (topic_told o)) → ⊥
+topic_unrefused None is = cc
+topic_unrefused (Some topic) is = cc
+
+comment_unrefused : (o : Option Comment) → IsTrue (is_refusal (comment_told o)) → ⊥
+comment_unrefused None is = cc
+comment_unrefused (Some comment) is = cc
+
 never_refused : (before after : ProjectState) (c : Change) → IsTrue (is_refusal (reply_to before c after)) → ⊥
 never_refused before after (change.PostTopic body author weight) is = cc
 never_refused before after (change.Upload name model) is = cc
 never_refused before after (change.Remove name) is = cc
 never_refused before after (change.SetRules rules weight) is = cc
 never_refused before after (change.BucketDone version cell) is = cc
+never_refused before after (change.PutTopic topic body author weight) is = topic_unrefused _ is
+never_refused before after (change.DeleteTopic topic) is = cc
+never_refused before after (change.PostComment topic body author weight) is = cc
+never_refused before after (change.PutComment topic comment body author weight) is = comment_unrefused _ is
+never_refused before after (change.DeleteComment topic comment) is = cc
+never_refused before after (change.PostView topic body weight) is = cc
+never_refused before after (change.DeleteView topic view) is = cc
+never_refused before after (change.ClashTopic version place author weight) is = topic_unrefused _ is
 
 refused_idle : (h : List Entry) (o : Outcome) → IsTrue (is_refusal (body_of h o)) → IsIdle o
 refused_idle h (Refusal fault) is = tt
@@ -82,6 +102,10 @@ idle_unless (None ∷ refusals) body = idle_unless refusals body
 idle_in : (o : Option ℕ) (f : ℕ → Outcome) → ((n : ℕ) → IsIdle (f n)) → IsIdle (in_project o f)
 idle_in None f idle = tt
 idle_in (Some n) f idle = idle n
+
+idle_found : {A : Type 0} (fault : BookFault) (o : Option A) (f : A → Outcome) → ((x : A) → IsIdle (f x)) → IsIdle (found fault o f)
+idle_found fault None f idle = tt
+idle_found fault (Some x) f idle = idle x
 
 idle_order : (h : List Entry) (orders : List OrderValue) (seat : ℕ) → IsIdle (order_for orders seat)
 idle_order h [] seat = tt
@@ -102,14 +126,31 @@ clashes_idle h wanted first count n =
 
 -- a call that asks for no change
 reads_idle : (settings : Settings) (h : List Entry) (call : BookRequest) → asks_change call ≡ false → IsIdle (outcome_of settings h call)
-reads_idle settings h (ListTopics id) reads = idle_in (project_of settings.projects id) _ (λ n. tt)
-reads_idle settings h (PostTopic id body author weight) reads = cc
+reads_idle settings h ListProjects reads = tt
+reads_idle settings h (ReadProject id) reads = idle_in (project_of settings.projects id) _ (λ n. tt)
 reads_idle settings h (Upload id name model) reads = cc
 reads_idle settings h (Remove id name) reads = cc
 reads_idle settings h (SetRules id rules weight) reads = cc
 reads_idle settings h (ReadVersion id wanted) reads = idle_in (project_of settings.projects id) (version_read h wanted) (λ n. version_idle h wanted n)
 reads_idle settings h (ReadClashes id wanted first count) reads =
     idle_in (project_of settings.projects id) (clashes_read h wanted first count) (λ n. clashes_idle h wanted first count n)
+reads_idle settings h (ClashTopic id wanted place author weight) reads = cc
+reads_idle settings h (ListTopics id) reads = idle_in (project_of settings.projects id) _ (λ n. tt)
+reads_idle settings h (ReadTopic id topic) reads = idle_in (project_of settings.projects id) _ (λ n. idle_found NoTopic _ _ (λ t. tt))
+reads_idle settings h (PostTopic id body author weight) reads = cc
+reads_idle settings h (PutTopic id topic body author weight) reads = cc
+reads_idle settings h (DeleteTopic id topic) reads = cc
+reads_idle settings h (ListComments id topic) reads = idle_in (project_of settings.projects id) _ (λ n. idle_found NoTopic _ _ (λ t. tt))
+reads_idle settings h (ReadComment id topic comment) reads =
+    idle_in (project_of settings.projects id) _ (λ n. idle_found NoTopic _ _ (λ t. idle_found NoComment _ _ (λ c. tt)))
+reads_idle settings h (PostComment id topic body author weight) reads = cc
+reads_idle settings h (PutComment id topic comment body author weight) reads = cc
+reads_idle settings h (DeleteComment id topic comment) reads = cc
+reads_idle settings h (ListViews id topic) reads = idle_in (project_of settings.projects id) _ (λ n. idle_found NoTopic _ _ (λ t. tt))
+reads_idle settings h (ReadView id topic view) reads =
+    idle_in (project_of settings.projects id) _ (λ n. idle_found NoTopic _ _ (λ t. idle_found NoViewpoint _ _ (λ v. tt)))
+reads_idle settings h (PostView id topic body weight) reads = cc
+reads_idle settings h (DeleteView id topic view) reads = cc
 reads_idle settings h (TakeWork seat) reads = idle_order h (all_orders settings.projects h) seat
 reads_idle settings h (Finish set) reads = cc
 

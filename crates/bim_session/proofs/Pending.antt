@@ -14,17 +14,21 @@ use Rattle.book_history.specs.declared.changes.Entry.{Entry}
 use Rattle.book_history.specs.declared.changes.Change.{Change}
 use Rattle.book_history.specs.declared.changes.Change.TheVariants as change
 use Rattle.book_history.specs.declared.faults.BookFault.{BookFault}
-use Rattle.book_history.specs.declared.faults.BookFault.TheVariants.{Pending, NoModel}
+use Rattle.bim_model.specs.declared.topic.Author.{Author}
+use Rattle.bcf_topics.specs.declared.topic.Topic.{Topic}
+use Rattle.bcf_topics.specs.declared.comment.Comment.{Comment}
+use Rattle.bcf_viewpoints.specs.declared.view.ViewBody.{ViewBody}
+use Rattle.book_history.specs.declared.faults.BookFault.TheVariants.{Pending, NoModel, NoProject, NoTopic, NoComment, NoViewpoint}
 use Rattle.book_history.specs.declared.replies.ReplyBody.TheVariants as reply
 use Rattle.book_history.specs.declared.requests.Wanted.{Wanted}
 use Rattle.book_history.specs.declared.requests.BookRequest.{BookRequest}
-use Rattle.book_history.specs.declared.requests.BookRequest.TheVariants.{ListTopics, PostTopic, Upload, Remove, SetRules, ReadVersion, ReadClashes, TakeWork, Finish}
+use Rattle.book_history.specs.declared.requests.BookRequest.TheVariants.{ListProjects, ReadProject, Upload, Remove, SetRules, ReadVersion, ReadClashes, ClashTopic, ListTopics, ReadTopic, PostTopic, PutTopic, DeleteTopic, ListComments, ReadComment, PostComment, PutComment, DeleteComment, ListViews, ReadView, PostView, DeleteView, TakeWork, Finish}
 use Rattle.book_history.specs.Orders.{OrderValue}
 use Rattle.book_history.specs.Versions.{VersionState, nothing, version_at, live_in}
 use Rattle.book_history.specs.Projects.{ProjectState, newest, with_change}
 use Rattle.book_history.specs.History.{state_of, at_turn, left_in, live_of, left_all, project_numbers}
-use Rattle.book_history.specs.Refusals.{project_of, wanted_in, not_yet, dropped, pending, done_before, no_model, full}
-use Rattle.book_history.specs.Requests.{Outcome, Answer, Accepted, unless, in_project, changed, version_read, clashes_read, order_for, all_orders, finished, outcome_of, reply_to, body_of, reply_of, added_by}
+use Rattle.book_history.specs.Refusals.{project_of, wanted_in, not_yet, dropped, pending, no_clash, done_before, no_model, full, not_noted}
+use Rattle.book_history.specs.Requests.{Outcome, Answer, Accepted, unless, found, in_project, in_topic, in_comment, in_view, with_body, changed, noted, version_read, clashes_read, clash_noted, topic_told, comment_told, view_told, order_for, all_orders, finished, outcome_of, reply_to, body_of, reply_of, added_by}
 use Rattle.book_history.specs.Runs.{Step, Runs, IsRun}
 use Rattle.book_history.proofs.Live.{gone, live_length, live_at}
 use Rattle.book_history.proofs.States.{within, nothing_yet}
@@ -66,12 +70,37 @@ calm_in : (h : List Entry) (o : Option ℕ) (f : ℕ → Outcome) → ((n : ℕ)
 calm_in h None f calm = λ p. (let e = p.2 in cc)
 calm_in h (Some n) f calm = calm n refl
 
+calm_found : {A : Type 0} (h : List Entry) (fault : BookFault) (o : Option A) (f : A → Outcome) → ((v l : ℕ) → fault ≢ Pending v l) → ((x : A) → IsCalm h (f x)) → IsCalm h (found fault o f)
+calm_found h fault None f other calm = λ p. other p.0 p.1 (fault_is fault _ p.2)
+calm_found h fault (Some x) f other calm = calm x
+
+-- what is told of a topic, and of a comment, isn't that buckets are pending
+calm_topic : (o : Option Topic) → IsPending (topic_told o) → ⊥
+calm_topic None p = let e = p.2 in cc
+calm_topic (Some topic) p = let e = p.2 in cc
+
+calm_comment : (o : Option Comment) → IsPending (comment_told o) → ⊥
+calm_comment None p = let e = p.2 in cc
+calm_comment (Some comment) p = let e = p.2 in cc
+
+calm_view : (serial : ℕ) (o : Option ViewBody) → IsPending (view_told serial o) → ⊥
+calm_view serial None p = let e = p.2 in cc
+calm_view serial (Some body) p = let e = p.2 in cc
+
 calm_accepted : (h : List Entry) (n : ℕ) (before after : ProjectState) (c : Change) → IsPending (reply_to before c after) → ⊥
 calm_accepted h n before after (change.PostTopic body author weight) p = let e = p.2 in cc
 calm_accepted h n before after (change.Upload name model) p = let e = p.2 in cc
 calm_accepted h n before after (change.Remove name) p = let e = p.2 in cc
 calm_accepted h n before after (change.SetRules rules weight) p = let e = p.2 in cc
 calm_accepted h n before after (change.BucketDone number cell) p = let e = p.2 in cc
+calm_accepted h n before after (change.PutTopic topic body author weight) p = calm_topic _ p
+calm_accepted h n before after (change.DeleteTopic topic) p = let e = p.2 in cc
+calm_accepted h n before after (change.PostComment topic body author weight) p = let e = p.2 in cc
+calm_accepted h n before after (change.PutComment topic comment body author weight) p = calm_comment _ p
+calm_accepted h n before after (change.DeleteComment topic comment) p = let e = p.2 in cc
+calm_accepted h n before after (change.PostView topic body weight) p = let e = p.2 in cc
+calm_accepted h n before after (change.DeleteView topic view) p = let e = p.2 in cc
+calm_accepted h n before after (change.ClashTopic version place author weight) p = calm_topic _ p
 
 full_other : (settings : Settings) (h : List Entry) (n : ℕ) (c : Change) → AreOther (full settings h n c)
 full_other settings h n (change.PostTopic body author weight) =
@@ -84,6 +113,54 @@ full_other settings h n (change.SetRules rules weight) =
     (other_if _ _ (λ v l e. cc), (other_if _ _ (λ v l e. cc), (other_if _ _ (λ v l e. cc), (other_if _ _ (λ v l e. cc), (other_if _ _ (λ v l e. cc), tt)))))
 full_other settings h n (change.BucketDone version cell) =
     (tt, (tt, (other_if _ _ (λ v l e. cc), (other_if _ _ (λ v l e. cc), (other_if _ _ (λ v l e. cc), tt)))))
+full_other settings h n (change.PutTopic topic body author weight) =
+    (tt, (tt, (other_if _ _ (λ v l e. cc), (other_if _ _ (λ v l e. cc), (other_if _ _ (λ v l e. cc), tt)))))
+full_other settings h n (change.DeleteTopic topic) =
+    (tt, (tt, (other_if _ _ (λ v l e. cc), (other_if _ _ (λ v l e. cc), (other_if _ _ (λ v l e. cc), tt)))))
+full_other settings h n (change.PostComment topic body author weight) =
+    (tt, (tt, (other_if _ _ (λ v l e. cc), (other_if _ _ (λ v l e. cc), (other_if _ _ (λ v l e. cc), tt)))))
+full_other settings h n (change.PutComment topic comment body author weight) =
+    (tt, (tt, (other_if _ _ (λ v l e. cc), (other_if _ _ (λ v l e. cc), (other_if _ _ (λ v l e. cc), tt)))))
+full_other settings h n (change.DeleteComment topic comment) =
+    (tt, (tt, (other_if _ _ (λ v l e. cc), (other_if _ _ (λ v l e. cc), (other_if _ _ (λ v l e. cc), tt)))))
+full_other settings h n (change.PostView topic body weight) =
+    (tt, (tt, (other_if _ _ (λ v l e. cc), (other_if _ _ (λ v l e. cc), (other_if _ _ (λ v l e. cc), tt)))))
+full_other settings h n (change.DeleteView topic view) =
+    (tt, (tt, (other_if _ _ (λ v l e. cc), (other_if _ _ (λ v l e. cc), (other_if _ _ (λ v l e. cc), tt)))))
+full_other settings h n (change.ClashTopic version place author weight) =
+    (tt, (tt, (other_if _ _ (λ v l e. cc), (other_if _ _ (λ v l e. cc), (other_if _ _ (λ v l e. cc), tt)))))
+
+noted_other : (settings : Settings) (h : List Entry) (n : ℕ) (c : Change) → AreOther (not_noted settings h n c)
+noted_other settings h n (change.Upload name model) =
+    (other_if _ _ (λ v l e. cc), (other_if _ _ (λ v l e. cc), (other_if _ _ (λ v l e. cc), tt)))
+noted_other settings h n (change.Remove name) =
+    (other_if _ _ (λ v l e. cc), (other_if _ _ (λ v l e. cc), (other_if _ _ (λ v l e. cc), tt)))
+noted_other settings h n (change.SetRules rules weight) =
+    (other_if _ _ (λ v l e. cc), (other_if _ _ (λ v l e. cc), (other_if _ _ (λ v l e. cc), tt)))
+noted_other settings h n (change.BucketDone version cell) =
+    (other_if _ _ (λ v l e. cc), (other_if _ _ (λ v l e. cc), (other_if _ _ (λ v l e. cc), tt)))
+noted_other settings h n (change.PostTopic body author weight) =
+    (other_if _ _ (λ v l e. cc), (other_if _ _ (λ v l e. cc), (other_if _ _ (λ v l e. cc), (other_if _ _ (λ v l e. cc), tt))))
+noted_other settings h n (change.PutTopic topic body author weight) =
+    (other_if _ _ (λ v l e. cc), (other_if _ _ (λ v l e. cc), (other_if _ _ (λ v l e. cc), tt)))
+noted_other settings h n (change.DeleteTopic topic) =
+    (other_if _ _ (λ v l e. cc), (other_if _ _ (λ v l e. cc), (other_if _ _ (λ v l e. cc), tt)))
+noted_other settings h n (change.PostComment topic body author weight) =
+    (other_if _ _ (λ v l e. cc), (other_if _ _ (λ v l e. cc), (other_if _ _ (λ v l e. cc), (other_if _ _ (λ v l e. cc), tt))))
+noted_other settings h n (change.PutComment topic comment body author weight) =
+    (other_if _ _ (λ v l e. cc), (other_if _ _ (λ v l e. cc), (other_if _ _ (λ v l e. cc), tt)))
+noted_other settings h n (change.DeleteComment topic comment) =
+    (other_if _ _ (λ v l e. cc), (other_if _ _ (λ v l e. cc), (other_if _ _ (λ v l e. cc), tt)))
+noted_other settings h n (change.PostView topic body weight) =
+    (other_if _ _ (λ v l e. cc), (other_if _ _ (λ v l e. cc), (other_if _ _ (λ v l e. cc), (other_if _ _ (λ v l e. cc), tt))))
+noted_other settings h n (change.DeleteView topic view) =
+    (other_if _ _ (λ v l e. cc), (other_if _ _ (λ v l e. cc), (other_if _ _ (λ v l e. cc), tt)))
+noted_other settings h n (change.ClashTopic version place author weight) =
+    (other_if _ _ (λ v l e. cc), (other_if _ _ (λ v l e. cc), (other_if _ _ (λ v l e. cc), (other_if _ _ (λ v l e. cc), (other_if _ _ (λ v l e. cc), tt)))))
+
+calm_noted : (settings : Settings) (h : List Entry) (c : Change) (n : ℕ) → IsCalm h (noted settings h n c)
+calm_noted settings h c n =
+    calm_unless h (not_noted settings h n c) (Accepted n c) (noted_other settings h n c) (calm_accepted h n (state_of n h) (with_change (state_of n h) c) c)
 
 calm_changed : (settings : Settings) (h : List Entry) (c : Change) (n : ℕ) → IsCalm h (changed settings h c n)
 calm_changed settings h c n =
@@ -144,13 +221,13 @@ none_undone settings h n v none low high made live =
     let same : length (get_or (live_in vs) (v - gone vs) nothing).undone ≡ length (get_or vs v nothing).undone = ap (λ (s : VersionState). length s.undone) at in
     omega (arith, none, own, all, same)
 
-by_tests : (h : List Entry) (p : ProjectState) (v first count : ℕ) (version : VersionState) (a b c : Bool) → nat_lt (newest p) v ≡ a → nat_le (v + 16) (newest p) ≡ b
-    → nat_lt 0 (length version.undone) ≡ c → (a ≡ false → b ≡ false → c ≡ false)
-    → IsCalm h (unless (not_yet p v ∷ dropped p v ∷ pending v version ∷ []) (Answer (reply.Clashes v version.content first count)))
-by_tests h p v first count version true b c ea eb ec none = rw ea (λ q. let e = q.2 in cc)
-by_tests h p v first count version false true c ea eb ec none = rw (ea, eb) (λ q. let e = q.2 in cc)
-by_tests h p v first count version false false false ea eb ec none = rw (ea, eb, ec) (λ q. let e = q.2 in cc)
-by_tests h p v first count version false false true ea eb ec none = absurd (let e : true ≡ false = none refl refl in cc)
+by_tests : (h : List Entry) (p : ProjectState) (v : ℕ) (version : VersionState) (rest : List (Option BookFault)) (o : Outcome) (a b c : Bool) → nat_lt (newest p) v ≡ a → nat_le (v + 16) (newest p) ≡ b
+    → nat_lt 0 (length version.undone) ≡ c → (a ≡ false → b ≡ false → c ≡ false) → IsCalm h (unless rest o)
+    → IsCalm h (unless (not_yet p v ∷ dropped p v ∷ pending v version ∷ rest) o)
+by_tests h p v version rest o true b c ea eb ec none calm = rw ea (λ q. let e = q.2 in cc)
+by_tests h p v version rest o false true c ea eb ec none calm = rw (ea, eb) (λ q. let e = q.2 in cc)
+by_tests h p v version rest o false false false ea eb ec none calm = rw (ea, eb, ec) calm
+by_tests h p v version rest o false false true ea eb ec none calm = absurd (let e : true ≡ false = none refl refl in cc)
 
 low_enough : (n v : ℕ) → nat_lt n v ≡ false → v ≤ n
 low_enough n v e = grind (arith, nat_tests, e)
@@ -161,14 +238,40 @@ high_enough n v e = grind (arith, nat_tests, e)
 none_above : (n : ℕ) → n ≡ 0 → nat_lt 0 n ≡ false
 none_above n is = rw is refl
 
-calm_clashes : (settings : Settings) (h : List Entry) (wanted : Wanted) (first count n : ℕ) → left_all settings.projects h ≡ 0 → 1 ≤ n → n ≤ settings.projects
-    → IsCalm h (clashes_read h wanted first count n)
-calm_clashes settings h wanted first count n none low high =
+-- what is asked of the clashes of a version that is live, whose buckets are all checked
+calm_checked : (settings : Settings) (h : List Entry) (wanted : Wanted) (n : ℕ) (rest : List (Option BookFault)) (o : Outcome) → left_all settings.projects h ≡ 0 → 1 ≤ n → n ≤ settings.projects
+    → IsCalm h (unless rest o)
+    → IsCalm h (unless (not_yet (state_of n h) (wanted_in (state_of n h) wanted) ∷ dropped (state_of n h) (wanted_in (state_of n h) wanted)
+    ∷ pending (wanted_in (state_of n h) wanted) (version_at (state_of n h).versions (wanted_in (state_of n h) wanted)) ∷ rest) o)
+calm_checked settings h wanted n rest o none low high calm =
     let p : ProjectState = state_of n h in
     let v : ℕ = wanted_in p wanted in
-    by_tests h p v first count (version_at p.versions v) (nat_lt (newest p) v) (nat_le (v + 16) (newest p)) (nat_lt 0 (length (version_at p.versions v).undone)) refl refl refl
+    by_tests h p v (version_at p.versions v) rest o (nat_lt (newest p) v) (nat_le (v + 16) (newest p)) (nat_lt 0 (length (version_at p.versions v).undone)) refl refl refl
     (λ made live. none_above (length (version_at p.versions v).undone)
-    (none_undone settings h n v none low high (low_enough (newest p) v made) (high_enough (newest p) v live)))
+    (none_undone settings h n v none low high (low_enough (newest p) v made) (high_enough (newest p) v live))) calm
+
+calm_clashes : (settings : Settings) (h : List Entry) (wanted : Wanted) (first count n : ℕ) → left_all settings.projects h ≡ 0 → 1 ≤ n → n ≤ settings.projects
+    → IsCalm h (clashes_read h wanted first count n)
+calm_clashes settings h wanted first count n none low high = calm_checked settings h wanted n [] _ none low high (λ q. let e = q.2 in cc)
+
+no_clash_other : (version : VersionState) (place : ℕ) → IsOther (no_clash version place)
+no_clash_other version place = other_if _ _ (λ v l e. cc)
+
+calm_clash_topic : (settings : Settings) (h : List Entry) (wanted : Wanted) (place : ℕ) (author : Author) (weight n : ℕ) → left_all settings.projects h ≡ 0 → 1 ≤ n → n ≤ settings.projects
+    → IsCalm h (clash_noted settings h wanted place author weight n)
+calm_clash_topic settings h wanted place author weight n none low high = calm_all_of
+  where
+    v : ℕ
+    v = wanted_in (state_of n h) wanted
+
+    made : Outcome
+    made = noted settings h n (change.ClashTopic v place author weight)
+
+    calm_all_of : IsCalm h (clash_noted settings h wanted place author weight n)
+    calm_all_of =
+        calm_checked settings h wanted n (no_clash (version_at (state_of n h).versions v) place ∷ []) made none low high
+        (calm_unless h (no_clash (version_at (state_of n h).versions v) place ∷ []) made
+        (no_clash_other (version_at (state_of n h).versions v) place, tt) (calm_noted settings h (change.ClashTopic v place author weight) n))
 
 -- ---- calls
 
@@ -193,8 +296,8 @@ calm_version h wanted n =
 
 -- where nothing is left to check, no call is answered so
 calm_call : (settings : Settings) (h : List Entry) (call : BookRequest) → left_all settings.projects h ≡ 0 → IsCalm h (outcome_of settings h call)
-calm_call settings h (ListTopics id) none = calm_in h (project_of settings.projects id) _ (λ n is p. let e = p.2 in cc)
-calm_call settings h (PostTopic id body author weight) none = calm_in h (project_of settings.projects id) _ (λ n is. calm_changed settings h (change.PostTopic body author weight) n)
+calm_call settings h ListProjects none = λ p. (let e = p.2 in cc)
+calm_call settings h (ReadProject id) none = calm_in h (project_of settings.projects id) _ (λ n is p. let e = p.2 in cc)
 calm_call settings h (Upload id name model) none = calm_in h (project_of settings.projects id) _ (λ n is. calm_changed settings h (change.Upload name model) n)
 calm_call settings h (Remove id name) none =
     calm_in h (project_of settings.projects id) _
@@ -214,6 +317,29 @@ calm_call settings h (ReadVersion id wanted) none =
 calm_call settings h (ReadClashes id wanted first count) none =
     calm_in h (project_of settings.projects id) _
     (λ n is. let range = project_within settings.projects id n is in calm_clashes settings h wanted first count n none range.0 range.1)
+calm_call settings h (ClashTopic id wanted place author weight) none =
+    calm_in h (project_of settings.projects id) _
+    (λ n is. let range = project_within settings.projects id n is in calm_clash_topic settings h wanted place author weight n none range.0 range.1)
+calm_call settings h (ListTopics id) none = calm_in h (project_of settings.projects id) _ (λ n is p. let e = p.2 in cc)
+calm_call settings h (ReadTopic id topic) none = calm_in h (project_of settings.projects id) _ (λ n is. calm_found h NoTopic _ _ (λ v l e. cc) (λ t. calm_topic _))
+calm_call settings h (PostTopic id body author weight) none = calm_in h (project_of settings.projects id) _ (λ n is. calm_noted settings h (change.PostTopic body author weight) n)
+calm_call settings h (PutTopic id topic body author weight) none =
+    calm_in h (project_of settings.projects id) _ (λ n is. calm_found h NoTopic _ _ (λ v l e. cc) (λ t. calm_noted settings h (change.PutTopic t body author weight) n))
+calm_call settings h (DeleteTopic id topic) none = calm_in h (project_of settings.projects id) _ (λ n is. calm_found h NoTopic _ _ (λ v l e. cc) (λ t. calm_noted settings h (change.DeleteTopic t) n))
+calm_call settings h (ListComments id topic) none = calm_in h (project_of settings.projects id) _ (λ n is. calm_found h NoTopic _ _ (λ v l e. cc) (λ t p. let e = p.2 in cc))
+calm_call settings h (ReadComment id topic comment) none =
+    calm_in h (project_of settings.projects id) _ (λ n is. calm_found h NoTopic _ _ (λ v l e. cc) (λ t. calm_found h NoComment _ _ (λ v l e. cc) (λ c. calm_comment _)))
+calm_call settings h (PostComment id topic body author weight) none =
+    calm_in h (project_of settings.projects id) _ (λ n is. calm_found h NoTopic _ _ (λ v l e. cc) (λ t. calm_found h NoViewpoint _ _ (λ v l e. cc) (λ b. calm_noted settings h (change.PostComment t b author weight) n)))
+calm_call settings h (PutComment id topic comment body author weight) none =
+    calm_in h (project_of settings.projects id) _ (λ n is. calm_found h NoTopic _ _ (λ v l e. cc) (λ t. calm_found h NoComment _ _ (λ v l e. cc) (λ c. calm_found h NoViewpoint _ _ (λ v l e. cc) (λ b. calm_noted settings h (change.PutComment t c b author weight) n))))
+calm_call settings h (DeleteComment id topic comment) none =
+    calm_in h (project_of settings.projects id) _ (λ n is. calm_found h NoTopic _ _ (λ v l e. cc) (λ t. calm_found h NoComment _ _ (λ v l e. cc) (λ c. calm_noted settings h (change.DeleteComment t c) n)))
+calm_call settings h (ListViews id topic) none = calm_in h (project_of settings.projects id) _ (λ n is. calm_found h NoTopic _ _ (λ v l e. cc) (λ t p. let e = p.2 in cc))
+calm_call settings h (ReadView id topic view) none = calm_in h (project_of settings.projects id) _ (λ n is. calm_found h NoTopic _ _ (λ v l e. cc) (λ t. calm_found h NoViewpoint _ _ (λ v l e. cc) (λ v. calm_view v _)))
+calm_call settings h (PostView id topic body weight) none = calm_in h (project_of settings.projects id) _ (λ n is. calm_found h NoTopic _ _ (λ v l e. cc) (λ t. calm_noted settings h (change.PostView t body weight) n))
+calm_call settings h (DeleteView id topic view) none =
+    calm_in h (project_of settings.projects id) _ (λ n is. calm_found h NoTopic _ _ (λ v l e. cc) (λ t. calm_found h NoViewpoint _ _ (λ v l e. cc) (λ v. calm_noted settings h (change.DeleteView t v) n)))
 calm_call settings h (TakeWork seat) none = calm_order h (all_orders settings.projects h) seat
 calm_call settings h (Finish set) none = calm_finish h set
 

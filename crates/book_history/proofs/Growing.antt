@@ -8,7 +8,7 @@ use Rattle.bim_model.specs.Snapshots.{Version}
 use Rattle.bucket_grid.specs.declared.cell.Cell.{Cell}
 use Rattle.book_history.specs.declared.changes.Entry.{Entry}
 use Rattle.book_history.specs.declared.changes.Change.{Change}
-use Rattle.book_history.specs.declared.changes.Change.TheVariants.{PostTopic, Upload, Remove, SetRules, BucketDone}
+use Rattle.book_history.specs.declared.changes.Change.TheVariants.{Upload, Remove, SetRules, BucketDone}
 use Rattle.book_history.specs.Versions.{VersionState, nothing, version_at, with_done}
 use Rattle.book_history.specs.Projects.{ProjectState, untouched, with_change}
 use Rattle.book_history.specs.History.{state_of, content_of, with_entry}
@@ -32,7 +32,6 @@ done_holds vs n cell number lt (inl e) =
 done_holds vs n cell number lt (inr ne) = ap (λ (x : VersionState). x.content) (get_or-set_other vs n number (with_done cell (version_at vs n)) nothing (λ e. ne (sym e)))
 
 change_holds : (s : ProjectState) (c : Change) (number : ℕ) (content : Version) → Holds s number content → Holds (with_change s c) number content
-change_holds s (PostTopic body author weight) number content h = record { there = h.there; is = h.is }
 change_holds s (Upload name model) number content h = let r = push_holds s.versions _ number content h.there h.is in record { there = r.0; is = r.1 }
 change_holds s (Remove name) number content h = let r = push_holds s.versions _ number content h.there h.is in record { there = r.0; is = r.1 }
 change_holds s (SetRules rules weight) number content h = let r = push_holds s.versions _ number content h.there h.is in record { there = r.0; is = r.1 }
@@ -40,6 +39,7 @@ change_holds s (BucketDone n cell) number content h =
     let same = length-set s.versions n (with_done cell (version_at s.versions n)) in
     let there = h.there in
     record { there = omega (arith, same, there); is = done_holds s.versions n cell number h.there (cases_eq n number) ∙ h.is }
+change_holds s _ number content h = record { there = h.there; is = h.is }
 
 entry_holds : (p : ℕ) (s : ProjectState) (e : Entry) (number : ℕ) (content : Version) → Holds s number content → Holds (with_entry p s e) number content
 entry_holds p s e number content h = elim (eqb_tells e.project p) [ inl is ↦ rw is.0 (change_holds s e.change number content h) | inr none ↦ rw none.0 h ]

@@ -32,15 +32,8 @@ given_later s h more w g =
     }
 
 pub legal_later : (s : Settings) (h more : List Entry) (r : BookRequest) → IsLegal s h r → IsLegal s (h ++ more) r
-legal_later s h more (request.ListTopics id) l = tt
-legal_later s h more (request.PostTopic id body author weight) l = tt
-legal_later s h more (request.Upload id name model) l = tt
-legal_later s h more (request.Remove id name) l = tt
-legal_later s h more (request.SetRules id rules weight) l = tt
-legal_later s h more (request.ReadVersion id wanted) l = tt
-legal_later s h more (request.ReadClashes id wanted first count) l = tt
-legal_later s h more (request.TakeWork seat) l = tt
 legal_later s h more (request.Finish set) l = given_later s h more set.work l
+legal_later s h more _ l = tt
 
 stamped_by : (stamp : Stamp) (o : Outcome) (e : Entry) → entry_by stamp o ≡ Some e → e.stamp ≡ stamp
 stamped_by stamp (Refusal f) e is = cc

@@ -1,10 +1,10 @@
 -- Histories, and what follows of them for each project.
 use Rattle.std.specs.Prelude.{ℕ, ◌+◌, ◌-◌, ◌<◌, ◌==◌, List, [], ◌∷◌, length, map, fold, filter, sum_by, nat_lt, nat_le, All, AllPairs, if◌then◌else◌}
-use Rattle.bim_model.specs.declared.topic.Topic.{Topic}
 use Rattle.bim_model.specs.Snapshots.{Version}
 use Rattle.bucket_grid.specs.declared.cell.Cell.{Cell}
 use Rattle.bucket_grid.specs.Table.{upto}
 use Rattle.clash_publish.specs.declared.horizon.Horizon.{Horizon}
+use Rattle.book_topics.specs.Boards.{BoardState}
 use Rattle.book_history.specs.declared.changes.Entry.{Entry}
 use Rattle.book_history.specs.Versions.{VersionState, version_at, live_in}
 use Rattle.book_history.specs.Projects.{ProjectState, untouched, with_change, newest}
@@ -33,9 +33,9 @@ with_entry project s entry = if entry.project == project then with_change s entr
 unfoldable pub state_of : ℕ → List Entry → ProjectState
 state_of project history = fold (with_entry project) untouched history
 
--- its topics, by rising serial number
-abbrev pub topics_of : ℕ → List Entry → List Topic
-topics_of project history = (state_of project history).topics
+-- its topics, comments and viewpoints
+abbrev pub board_of : ℕ → List Entry → BoardState
+board_of project history = (state_of project history).board
 
 -- the number of its newest version: how many uploads, removals and rules it has accepted
 abbrev pub newest_of : ℕ → List Entry → ℕ
@@ -56,6 +56,20 @@ live_of project history = live_in (state_of project history).versions
 -- the numbers of a book's projects
 abbrev pub project_numbers : ℕ → List ℕ
 project_numbers projects = map (λ n. n + 1) (upto projects)
+
+-- how many topics all projects have
+abbrev pub topics_in : ℕ → List Entry → ℕ
+topics_in projects history =
+    sum_by (λ n. length (board_of n history).discussion.topics) (project_numbers projects)
+
+-- .. comments
+abbrev pub comments_in : ℕ → List Entry → ℕ
+comments_in projects history =
+    sum_by (λ n. length (board_of n history).discussion.comments) (project_numbers projects)
+
+-- .. viewpoints
+abbrev pub views_in : ℕ → List Entry → ℕ
+views_in projects history = sum_by (λ n. length (board_of n history).views) (project_numbers projects)
 
 -- how many buckets of some versions are to be checked
 abbrev pub left_in : List VersionState → ℕ

@@ -1,17 +1,19 @@
 -- Why requests are refused at a history. The first refusal of a list that holds is the one that is answered.
-use Rattle.std.specs.Prelude.{ℕ, ◌+◌, ◌/◌, ◌^◌, ◌==◌, ◌&&◌, nat_lt, nat_le, List, [], ◌∷◌, length, sum_by, Option, Some, None, if◌then◌else◌}
+use Rattle.std.specs.Prelude.{ℕ, ◌+◌, ◌/◌, ◌^◌, ◌==◌, ◌&&◌, nat_lt, nat_le, List, [], ◌∷◌, ◌++◌, length, sum_by, Option, Some, None, if◌then◌else◌}
 use Rattle.std.specs.List.{list_any}
 use Rattle.std.specs.Str.{bytes_eq}
 use Rattle.bim_model.specs.Identifiers.{identifier}
 use Rattle.bim_model.specs.Snapshots.{Version}
 use Rattle.bim_model.specs.declared.named_model.NamedModel.{NamedModel}
 use Rattle.bucket_grid.specs.declared.cell.Cell.{Cell}
+use Rattle.bucket_check.specs.Clashes.{clashes}
 use Rattle.clash_publish.specs.declared.horizon.TheConstants.{LIVE_VERSIONS}
 use Rattle.book_history.specs.declared.limits.Limits.{Limits}
 use Rattle.book_history.specs.declared.limits.Settings.{Settings}
 use Rattle.book_history.specs.declared.requests.Wanted.{Wanted}
 use Rattle.book_history.specs.declared.requests.Wanted.TheVariants.{Newest, Number}
 use Rattle.book_history.specs.declared.changes.Change.{Change}
+use Rattle.book_history.specs.declared.changes.Change.TheVariants as change
 use Rattle.book_history.specs.declared.changes.Entry.{Entry}
 use Rattle.book_history.specs.declared.faults.BookFault.{BookFault}
 use Rattle.book_history.specs.declared.faults.BookFault.TheVariants as fault
@@ -19,7 +21,7 @@ use Rattle.book_history.specs.declared.faults.StoreWhat.TheVariants.{Triangles, 
 use Rattle.book_history.specs.Buckets.{memberships_of}
 use Rattle.book_history.specs.Versions.{VersionState, is_done, live_in}
 use Rattle.book_history.specs.Projects.{ProjectState, newest, newest_content, next_content, with_change}
-use Rattle.book_history.specs.History.{state_of, live_of, left_in, project_numbers}
+use Rattle.book_history.specs.History.{state_of, live_of, left_in, project_numbers, topics_in, comments_in, views_in}
 use Rattle.book_history.specs.Weights.{told, text_of, triangles_of, text_in, triangles_in, elements_in}
 
 -- the first that holds
@@ -58,6 +60,12 @@ pending number version =
 -- the bucket is done
 abbrev pub done_before : VersionState → Cell → Option BookFault
 done_before version cell = if is_done version cell then Some fault.AlreadyDone else None
+
+-- the version has no clash at that place, from 0
+abbrev pub no_clash : VersionState → ℕ → Option BookFault
+no_clash version place =
+    let total = length (clashes version.content) in
+    if nat_le total place then Some (fault.NoClash place total) else None
 
 -- the newest version has no model of the name
 abbrev pub no_model : ProjectState → List ℕ → Option BookFault
@@ -117,7 +125,41 @@ store_full settings history project change =
     ∷ journal_if settings history (left_after settings.projects history project change)
     ∷ []
 
--- why a change of a project isn't accepted, in this order. A removal and new rules make no version larger and
+-- all projects would have too many topics with one more
+abbrev pub topics_full : Settings → List Entry → Option BookFault
+topics_full settings history =
+    let count = topics_in settings.projects history + 1 in
+    if nat_lt settings.limits.topics count then Some (fault.TopicsFull count settings.limits.topics) else None
+
+-- .. comments
+abbrev pub comments_full : Settings → List Entry → Option BookFault
+comments_full settings history =
+    let count = comments_in settings.projects history + 1 in
+    if nat_lt settings.limits.comments count
+    then Some (fault.CommentsFull count settings.limits.comments) else None
+
+-- .. viewpoints
+abbrev pub views_full : Settings → List Entry → Option BookFault
+views_full settings history =
+    let count = views_in settings.projects history + 1 in
+    if nat_lt settings.limits.viewpoints count
+    then Some (fault.ViewpointsFull count settings.limits.viewpoints) else None
+
+-- .. of what a change makes
+abbrev pub too_many : Settings → List Entry → Change → List (Option BookFault)
+too_many settings history (change.PostTopic body author weight) = topics_full settings history ∷ []
+too_many settings history (change.PostComment topic body author weight) = comments_full settings history ∷ []
+too_many settings history (change.PostView topic body weight) = views_full settings history ∷ []
+too_many settings history (change.ClashTopic version place author weight) =
+    topics_full settings history ∷ views_full settings history ∷ []
+too_many settings history _ = []
+
+-- why a change of topics, comments or viewpoints isn't accepted, in this order
+abbrev pub not_noted : Settings → List Entry → ℕ → Change → List (Option BookFault)
+not_noted settings history project change =
+    too_many settings history change ++ store_full settings history project change
+
+-- why a change that makes a version isn't accepted, in this order. A removal and new rules make no version larger and
 -- add no triangles, so that they meet the last two alone.
 abbrev pub full : Settings → List Entry → ℕ → Change → List (Option BookFault)
 full settings history project change =

@@ -21,21 +21,22 @@ element_text element =
 abbrev pub model_text : List Element → ℕ
 model_text elements = sum_by element_text elements
 
--- the bytes of the texts that a change adds
+-- the bytes of the texts that a change adds: what is removed or deleted, and a bucket, adds none
 abbrev pub text_of : Change → ℕ
-text_of (change.PostTopic body author weight) = weight
 text_of (change.Upload name model) = model_text model
-text_of (change.Remove name) = 0
 text_of (change.SetRules rules weight) = weight
-text_of (change.BucketDone version cell) = 0
+text_of (change.PostTopic body author weight) = weight
+text_of (change.PutTopic topic body author weight) = weight
+text_of (change.PostComment topic body author weight) = weight
+text_of (change.PutComment topic comment body author weight) = weight
+text_of (change.PostView topic body weight) = weight
+text_of (change.ClashTopic version place author weight) = weight
+text_of _ = 0
 
 -- the triangles that it adds
 abbrev pub triangles_of : Change → ℕ
-triangles_of (change.PostTopic body author weight) = 0
 triangles_of (change.Upload name model) = triangle_count model
-triangles_of (change.Remove name) = 0
-triangles_of (change.SetRules rules weight) = 0
-triangles_of (change.BucketDone version cell) = 0
+triangles_of _ = 0
 
 -- .. that all entries add
 abbrev pub text_in : List Entry → ℕ

@@ -46,6 +46,32 @@ pub enum BookFault {
     AlreadyDone,
     /// K11: no bucket of a live version is to be checked.
     NoWork,
+    /// K12: the version has so many clashes, and none at that place.
+    NoClash {
+        place: u64,
+        total: u64,
+    },
+    /// B1: the project has no topic of that identifier.
+    NoTopic,
+    /// B2: the topic has no comment of that identifier.
+    NoComment,
+    /// B5: all projects would have so many topics with the new one, more than the limit.
+    TopicsFull {
+        count: u64,
+        limit: u64,
+    },
+    /// B6: .. so many comments.
+    CommentsFull {
+        count: u64,
+        limit: u64,
+    },
+    /// B7: the topic has no viewpoint of that identifier.
+    NoViewpoint,
+    /// B9: all projects would have so many viewpoints with the new one, more than the limit.
+    ViewpointsFull {
+        count: u64,
+        limit: u64,
+    },
 }
 
 /// What all accepted changes hold together.

@@ -2,15 +2,29 @@
 
 use crate::faults::BookFault;
 use crate::work::WorkOrder;
-use bim_model::{Items, Shared, Snapshot, Topic};
+use bcf_topics::{Comment, Topic};
+use bcf_viewpoints::CheckedView;
+use bim_model::{Items, Shared, Snapshot};
 use clash_publish::{Horizon, Published};
 
 /// What is answered, without the turn that it is printed with.
 #[derive(Drop)]
 pub enum ReplyBody {
+    /// The numbers of the projects, from 1.
+    Projects(Items<u32>),
+    /// The number of a project.
+    Project(u32),
     /// The topics of a project by rising serial number.
     TopicList(Items<Topic>),
     TopicIs(Topic),
+    /// The comments on a topic by rising serial number.
+    CommentList(Items<Comment>),
+    CommentIs(Comment),
+    /// The viewpoints of a topic by rising serial number.
+    ViewList(Items<CheckedView>),
+    View(CheckedView),
+    /// It was deleted.
+    Gone,
     /// A change made a version.
     Changed {
         /// Its number.

@@ -1,6 +1,8 @@
-//! Tests of the book: its projects, versions and their clashes, and calls that take turns.
+//! Tests of the book: its projects, topics, comments and viewpoints, versions and their clashes, and calls that take turns.
 #![tactic(auto)]
 
+#[cfg(test)]
+mod board_tests;
 #[cfg(test)]
 mod desk;
 #[cfg(test)]

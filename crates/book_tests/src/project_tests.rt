@@ -3,7 +3,8 @@ ghost use Rattle.std.specs.Prelude.{◌≡◌, ◌+◌, OnOk};
 ghost use Rattle.book_history.specs.History.{IsBefore};
 
 use crate::samples::to_post;
-use bim_model::{Model, NamedModel, Shared, Text, Topic, id_of};
+use bcf_topics::Topic;
+use bim_model::{Model, NamedModel, Shared, Text, id_of};
 use book_history::{BookFault, BookRequest, Change, Entry, Limits, ReplyBody, Stamp, Wanted};
 use federation_book::Book;
 use std::alloc::{AllocError, Global};

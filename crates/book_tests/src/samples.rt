@@ -2,9 +2,11 @@
 ghost use Rattle.std.specs.Prelude.{◌<◌, IfOk};
 ghost use Rattle.federation_book.specs.AnyTime.{IsFree};
 
+use bcf_topics::{CommentIn, TopicBody};
+use bcf_viewpoints::{CheckedBody, ViewBody};
 use bim_model::{
     Author, ClassTest, Element, Guid, Items, Model, ModelTest, Moment, PER_MM, Point, Rule,
-    RuleKind, Rules, Shared, StoreyTest, Text, TopicBody, Triangle, id_of,
+    RuleKind, Rules, Shared, StoreyTest, Text, Triangle, id_of,
 };
 use book_history::{BookRequest, Wanted};
 use std::alloc::{AllocError, Global};
@@ -166,19 +168,61 @@ pub fn to_read(version: Wanted) -> BookRequest
     }
 }
 
+/// Who asks in the tests.
+pub fn author(alloc: Global, user: &str) -> Result<Author, AllocError> {
+    Ok(Author {
+        user: Text::of(alloc, user)?,
+        moment: Moment::new(1_714_564_800),
+    })
+}
+
+/// A topic of which only the title is said.
+pub fn titled(alloc: Global, title: &str) -> Result<TopicBody, AllocError> {
+    Ok(TopicBody {
+        title: Text::of(alloc, title)?,
+        topic_type: None,
+        topic_status: None,
+        priority: None,
+        index: None,
+        labels: Items::new(alloc),
+        assigned_to: None,
+        stage: None,
+        description: None,
+        due: None,
+    })
+}
+
 /// A topic is made.
 pub fn to_post(alloc: Global, project: u128, title: &str) -> Result<BookRequest, AllocError>
     ensures { IfOk result IsFree }
 {
     Ok(BookRequest::PostTopic {
         project,
-        body: TopicBody {
-            title: Text::of(alloc, title)?,
-        },
-        author: Author {
-            user: Text::of(alloc, "anna")?,
-            moment: Moment::new(1_714_564_800),
-        },
+        body: titled(alloc, title)?,
+        author: author(alloc, "anna")?,
         weight: 17,
+    })
+}
+
+/// A comment as it is sent.
+pub fn said(
+    alloc: Global,
+    comment: &str,
+    viewpoint: Option<u128>,
+) -> Result<CommentIn, AllocError> {
+    Ok(CommentIn {
+        comment: Text::of(alloc, comment)?,
+        viewpoint,
+    })
+}
+
+/// A viewpoint that shows everything.
+pub fn seen(alloc: Global) -> CheckedBody {
+    CheckedBody::of(ViewBody {
+        index: None,
+        selection: Items::new(alloc),
+        coloring: Items::new(alloc),
+        default_visibility: true,
+        exceptions: Items::new(alloc),
     })
 }

@@ -6,16 +6,17 @@ ghost use Rattle.book_history.specs.Settings.{IsWithinStated};
 ghost use Rattle.federation_book.specs.AnyTime.{IsFree};
 
 use crate::desk::{ask, bring, change, is_finished, is_refused, read, refuse, take, work};
+use crate::project_tests::is_topic;
 use crate::samples::{
-    four_pipes, one_pipe, thousand_beams, to_post, to_read, to_remove, to_set_rules, to_upload,
-    two_pipes,
+    author, four_pipes, one_pipe, thousand_beams, to_post, to_read, to_remove, to_set_rules,
+    to_upload, two_pipes,
 };
 use bim_model::{Steps, id_of};
-use book_history::{BookFault, BookRequest, Limits, StoreWhat, Wanted};
+use book_history::{BookFault, BookRequest, Limits, ReplyBody, StoreWhat, Wanted};
 use bucket_check::{BucketWork, Room, SetPair, check};
 use bucket_grid::Cell;
 use federation_book::Book;
-use std::alloc::Global;
+use std::alloc::{AllocError, Global};
 use std::marker::Brand;
 use std::process::Abort;
 use std::sync::ledger::{Blank, Ledger};
@@ -98,6 +99,46 @@ fn carried<L: Ledger>(
     change(rt, book, 14, to_set_rules(alloc, 49)?, (5, 5, 5, 2))
 }
 
+// The clash at a place of the version 2.
+fn to_note(alloc: Global, place: u64) -> Result<BookRequest, AllocError>
+    ensures { IfOk result IsFree }
+{
+    Ok(BookRequest::ClashTopic {
+        project: id_of(1, 0),
+        version: Wanted::Number(2),
+        place,
+        author: author(alloc, "anna")?,
+        weight: 2,
+    })
+}
+
+// A topic is made of the clash, and none of another one.
+fn noted<L: Ledger>(rt: &impl Abort, alloc: Global, blank: Blank) -> Result<(), Fail>
+    requires name { blank.name ≡ L.name }
+    requires parts { blank.parts ≡ L.parts }
+    requires some { 0 < blank.parts }
+{
+    let mut steps = Steps::<L>::new(blank);
+    let mut book = Book::new(alloc, 1, Limits::stated())?;
+    two_buckets(rt, alloc, &mut book, &mut steps)?;
+    let body = ask(&mut book, 9, to_note(alloc, 0)?)?;
+    let title = "Clash of 0000000000000000000011 and 0000000000000000000012";
+    is_topic(rt, &body, 1, title);
+    let (place, total) = (1, 1);
+    let none = BookFault::NoClash { place, total };
+    refuse(rt, &mut book, 10, to_note(alloc, 1)?, none)?;
+    let views = BookRequest::ListViews {
+        project: id_of(1, 0),
+        topic: id_of(1, 1),
+    };
+    let body = ask(&mut book, 11, views)?;
+    match &body {
+        ReplyBody::ViewList(list) => assert_eq!(rt; list.len(), 1),
+        _ => assert!(rt; false),
+    }
+    Ok(())
+}
+
 // What changed is checked, and what didn't isn't.
 fn what_changed<L: Ledger>(rt: &impl Abort, alloc: Global, blank: Blank) -> Result<(), Fail>
     requires name { blank.name ≡ L.name }
@@ -113,6 +154,11 @@ fn what_changed<L: Ledger>(rt: &impl Abort, alloc: Global, blank: Blank) -> Resu
 #[test]
 fn what_changed_is_checked(rt: HostRuntime) -> Result<(), Fail> {
     what_changed::<Brand>(&rt, rt.alloc(), Blank::new(1))
+}
+
+#[test]
+fn topics_of_clashes_are_made(rt: HostRuntime) -> Result<(), Fail> {
+    noted::<Brand>(&rt, rt.alloc(), Blank::new(1))
 }
 
 // What stays is carried.

@@ -15,7 +15,7 @@ use Rattle.bucket_check.specs.declared.pair.SetPair.{SetPair}
 use Rattle.clash_rules.specs.declared.fault.RuleFault.{RuleFault}
 use Rattle.clash_rules.specs.declared.fault.RuleFault.TheVariants.{TooManyRules, BadRule, Distance}
 use Rattle.coord_json.specs.Rules.{storey_tree, class_text, storeys_text, models_text, clash_tree, ignore_tree, kind_tree, rule_items}
-use Rattle.coord_json.specs.Errors.{error_tree, error_at, error_of, error_to, error_many, error_named, error_index, error_count, error_full, error_store, error_newest, error_version}
+use Rattle.coord_json.specs.Errors.{error_tree, error_at, error_of, error_to, error_many, error_named, error_index, error_count, error_full, error_place, error_store, error_newest, error_version}
 use Rattle.coord_json.specs.Faults.{upload_fault_tree, rule_fault_tree}
 use Rattle.coord_json.specs.Versions.{length_tree, box_tree, element_tree, model_tree, version_tree, changed_tree, AreElementTrees, AreModelTrees}
 use Rattle.coord_json.specs.Clashes.{side_tree, pair_tree, pair_items, part_tree, clashes_tree, pending_tree}
@@ -55,6 +55,10 @@ count_has_none code name count = refl
 pub full_has_none : (code name : List ℕ) (count limit : ℕ) → has_float (error_full code name count limit) ≡ false
 unfolding error_full
 full_has_none code name count limit = refl
+
+pub place_has_none : (code name : List ℕ) (place total : ℕ) → has_float (error_place code name place total) ≡ false
+unfolding error_place
+place_has_none code name place total = refl
 
 pub store_has_none : (code name : List ℕ) (count limit : ℕ) (what : List ℕ) → has_float (error_store code name count limit what) ≡ false
 unfolding error_store

@@ -62,6 +62,14 @@ error_count code name count =
     (member (codes "count") (number (unsigned count))
     (member (codes "message") (string (message code name)) no_members)))
 
+-- an error of a place, of so many
+unfoldable pub error_place : List ℕ → List ℕ → ℕ → ℕ → Data
+error_place code name place total =
+    object (member (codes "code") (string code)
+    (member (codes "message") (string (message code name))
+    (member (codes "place") (number (unsigned place))
+    (member (codes "total") (number (unsigned total)) no_members))))
+
 -- an error of more than there may be
 unfoldable pub error_full : List ℕ → List ℕ → ℕ → ℕ → Data
 error_full code name count limit =

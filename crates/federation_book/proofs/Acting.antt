@@ -12,10 +12,11 @@ use Rattle.book_history.specs.History.{IsBefore}
 use Rattle.book_history.specs.Legal.{IsGiven}
 use Rattle.book_history.specs.declared.replies.ReplyBody.{ReplyBody}
 use Rattle.book_history.specs.Refusals.{project_of}
-use Rattle.book_history.specs.Requests.{BookState, Outcome, added_by, entry_by, body_of}
+use Rattle.book_history.specs.Requests.{BookState, Outcome, added_by, entry_by, body_of, outcome_of}
 use Rattle.book_history.proofs.Histories.{AreOf, added_of, none_before}
 use Rattle.book_history.proofs.Legality.{given_later}
 use Rattle.federation_book.specs.AnyTime.{GivenStays}
+use Rattle.federation_book.specs.Done.{IsDone, IsTold}
 use Rattle.federation_book.specs.declared.project.Project.{Project}
 use Rattle.federation_book.proofs.Answering.{numbered, nothing_added}
 
@@ -49,6 +50,23 @@ on_ok (Err e) P h = tt
 pub on_err : {A E : Type 0} (r : Result A E) (P : Type 0) → P → OnErr r P
 on_err (Ok x) P h = tt
 on_err (Err e) P h = h
+
+-- what was answered and what was added
+pub done_of : {E : Type 0} (r : Result ReplyBody E) (h k : List Entry) (stamp : Stamp) (o : Outcome) → IfOk r (λ body. body ≡ body_of h o) → OnOk r (k ≡ h ++ listed (entry_by stamp o)) → IfOk r (IsDone h k stamp o)
+done_of (Ok body) h k stamp o reply added = record { reply = reply; added = added }
+done_of (Err e) h k stamp o reply added = tt
+
+-- .. where nothing is added
+pub told_done : {E : Type 0} (r : Result ReplyBody E) (h : List Entry) (stamp : Stamp) (o : Outcome) → IfOk r (IsTold h o) → IfOk r (IsDone h h stamp o)
+told_done (Ok body) h stamp o told = record { reply = told.reply; added = nothing_added h (listed (entry_by stamp o)) (told.nothing stamp) }
+told_done (Err e) h stamp o told = tt
+
+-- .. of a request that is this one
+pub done_as : {E : Type 0} (r : Result ReplyBody E) (settings : Settings) (h k : List Entry) (stamp : Stamp) (a b : BookRequest) → a ≡ b → IfOk r (IsDone h k stamp (outcome_of settings h b)) → IfOk r (IsDone h k stamp (outcome_of settings h a))
+done_as r settings h k stamp a b is done = subst (λ q. IfOk r (IsDone h k stamp (outcome_of settings h q))) (sym is) done
+
+pub told_as : {E : Type 0} (r : Result ReplyBody E) (settings : Settings) (h : List Entry) (stamp : Stamp) (a b : BookRequest) → a ≡ b → IfOk r (IsTold h (outcome_of settings h b)) → IfOk r (IsDone h h stamp (outcome_of settings h a))
+told_as r settings h stamp a b is told = done_as r settings h h stamp a b is (told_done r h stamp (outcome_of settings h b) told)
 
 -- ---- what becomes of a request, by what becomes of it in its project
 pub number_is : (number : Option ℕ) (count : ℕ) (ps : List Project) (id : ℕ) → number ≡ project_of count id → count ≡ length ps → number ≡ project_of (length ps) id

@@ -3,7 +3,7 @@ use Rattle.std.proofs.Common.{◌≡◌, ◌+◌, ◌-◌, ◌<◌, ◌≤◌, �
 use Rattle.std.proofs.lemmas.List.{drop-append-le}
 use Rattle.bim_model.specs.Snapshots.{Version}
 use Rattle.book_history.specs.declared.changes.Change.{Change}
-use Rattle.book_history.specs.declared.changes.Change.TheVariants.{PostTopic, Upload, Remove, SetRules, BucketDone}
+use Rattle.book_history.specs.declared.changes.Change.TheVariants.{Upload, Remove, SetRules}
 use Rattle.book_history.specs.declared.faults.BookFault.{BookFault}
 use Rattle.book_history.specs.declared.limits.Limits.{Limits}
 use Rattle.book_history.specs.Versions.{VersionState, nothing, version_at, live_in, made_after}
@@ -21,11 +21,10 @@ none_some v e = cc
 
 -- a change that makes a version adds it
 pub advances : (s : ProjectState) (c : Change) (v : Version) → next_content (newest_content s) c ≡ Some v → with_change s c ≡ with_version s v
-advances s (PostTopic body author weight) v e = absurd (none_some v e)
 advances s (Upload name model) v e = ap (with_next s) e
 advances s (Remove name) v e = ap (with_next s) e
 advances s (SetRules rules weight) v e = ap (with_next s) e
-advances s (BucketDone number cell) v e = absurd (none_some v e)
+advances s _ v e = absurd (none_some v e)
 
 -- the newest version of a kept project
 pub last_is : (p : Project) (s : ProjectState) (v : VersionState) → KeepsProject p s → 0 < length s.versions → ((d : VersionState) → v ≡ get_or p.live.items (length p.live.items - 1) d) → v ≡ version_at s.versions (newest s)
@@ -38,14 +37,13 @@ last_is p s v k some is =
 
 -- a project after one more version
 pub keeps_next : (p q : Project) (s : ProjectState) (v : VersionState) (content : Version) → KeepsProject p s
-    → q.live.items ≡ live_in (p.live.items ++ v ∷ []) → q.newest ≡ p.newest + 1 → q.topics ≡ p.topics → q.made ≡ p.made
+    → q.live.items ≡ live_in (p.live.items ++ v ∷ []) → q.newest ≡ p.newest + 1 → q.board ≡ p.board
     → v ≡ made_after (version_at s.versions (newest s)) content → KeepsProject q (with_version s content)
-keeps_next p q s v content k live number topics made is =
+keeps_next p q s v content k live number board is =
     let one = length-append s.versions (made_after (version_at s.versions (newest s)) content ∷ []) in
     let n = k.newest in
     record {
-      topics = topics ∙ k.topics;
-      made = made ∙ k.made;
+      board = board ∙ k.board;
       newest = omega (arith, one, n, number);
       live = live ∙ ap₂ (λ vs w. live_in (vs ++ w ∷ [])) k.live is ∙ live_push s.versions (made_after (version_at s.versions (newest s)) content);
     }
@@ -92,8 +90,8 @@ module _ (p : Project) (s : ProjectState) (change : Change) (before v : VersionS
       e ∙ ap (λ n. told (left_in (drop (length p.live.items + 1 - 16) p.live.items) + n)) is
       ∙ ap told (left_next p s v content k newer live_some ∙ ap (λ (t : ProjectState). left_in (live_in t.versions)) (sym (advances s change content next)))
 
-  pub keeps_then : (q r : Project) → KeepsProject q s → r.live.items ≡ live_in (q.live.items ++ v ∷ []) → r.newest ≡ q.newest + 1 → r.topics ≡ q.topics → r.made ≡ q.made → KeepsProject r (with_change s change)
-  keeps_then q r l live number topics same = subst (KeepsProject r) (sym (advances s change content next)) (keeps_next q r s v content l live number topics same newer)
+  pub keeps_then : (q r : Project) → KeepsProject q s → r.live.items ≡ live_in (q.live.items ++ v ∷ []) → r.newest ≡ q.newest + 1 → r.board ≡ q.board → KeepsProject r (with_change s change)
+  keeps_then q r l live number board = subst (KeepsProject r) (sym (advances s change content next)) (keeps_next q r s v content l live number board newer)
 
   pub full_then : (limits : Limits) (rest : List (Option BookFault)) (r : Option BookFault) → first_of (elements_full limits (Some content) ∷ too_spread limits (Some content) ∷ []) ≡ None → r ≡ first_of rest
       → r ≡ first_of (elements_full limits (next_content (newest_content s) change) ∷ too_spread limits (next_content (newest_content s) change) ∷ rest)

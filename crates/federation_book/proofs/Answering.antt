@@ -95,10 +95,6 @@ unless_adds : (stamp : Stamp) (f : Option BookFault) (body : ReplyBody) → list
 unless_adds stamp None body = refl
 unless_adds stamp (Some f) body = refl
 
-pub topics_add : (stamp : Stamp) (number : Option ℕ) (body : ℕ → ReplyBody) → listed (entry_by stamp (in_project number (λ n. Answer (body n)))) ≡ []
-topics_add stamp None body = refl
-topics_add stamp (Some n) body = refl
-
 pub read_adds : (stamp : Stamp) (j : List Entry) (wanted : Wanted) (number : Option ℕ) → listed (entry_by stamp (in_project number (version_read j wanted))) ≡ []
 read_adds stamp j wanted None = refl
 read_adds stamp j wanted (Some n) = unless_adds stamp _ _

@@ -58,13 +58,12 @@ module _ (p : Project) (s : ProjectState) (number place : ℕ) (c : Cell) (k : K
   abbrev w : VersionState
   w = with_done c (version_at s.versions number)
 
-  pub keeps_done : (q : Project) (v : VersionState) → q.topics ≡ p.topics → q.made ≡ p.made → q.newest ≡ p.newest → q.live.items ≡ set p.live.items place v → v ≡ w → KeepsProject q (with_bucket s number c)
-  keeps_done q v topics made newest live is =
+  pub keeps_done : (q : Project) (v : VersionState) → q.board ≡ p.board → q.newest ≡ p.newest → q.live.items ≡ set p.live.items place v → v ≡ w → KeepsProject q (with_bucket s number c)
+  keeps_done q v board newest live is =
       let same = length-set s.versions number w in
       let n = k.newest in
       record {
-        topics = topics ∙ k.topics;
-        made = made ∙ k.made;
+        board = board ∙ k.board;
         newest = omega (arith, same, n, newest);
         live = live ∙ ap (set p.live.items place) is ∙ sym (at.set w);
       }

@@ -14,3 +14,9 @@ pub mod Finishing
 pub mod Acting
 pub mod Outcomes
 pub mod Changing
+pub mod Finding
+pub mod Noted
+pub mod Subjects
+pub mod Counted
+pub mod Clashing
+pub mod Applied

@@ -89,13 +89,12 @@ live_place p s number k made live =
     omega (arith, n, count, all, made, live)
 
 -- a project of which a version was only asked
-pub keeps_same : (p q : Project) (s : ProjectState) (place : ℕ) (v : VersionState) → KeepsProject p s → q.topics ≡ p.topics → q.made ≡ p.made → q.newest ≡ p.newest
+pub keeps_same : (p q : Project) (s : ProjectState) (place : ℕ) (v : VersionState) → KeepsProject p s → q.board ≡ p.board → q.newest ≡ p.newest
     → q.live.items ≡ set p.live.items place v → v ≡ get_or p.live.items place v → KeepsProject q s
-keeps_same p q s place v k topics made newest live is =
+keeps_same p q s place v k board newest live is =
     let n = k.newest in
     record {
-      topics = topics ∙ k.topics;
-      made = made ∙ k.made;
+      board = board ∙ k.board;
       newest = omega (arith, n, newest);
       live = live ∙ ap (λ x. set p.live.items place x) is ∙ set-get_or p.live.items place v ∙ k.live;
     }

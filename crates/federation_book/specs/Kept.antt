@@ -12,10 +12,9 @@ use Rattle.book_history.specs.Weights.{triangles_in, text_in}
 use Rattle.federation_book.specs.declared.project.Project.{Project}
 use Rattle.federation_book.specs.declared.state.State.{State}
 
--- a project keeps its topics and its last versions, and counts what else was
+-- a project keeps its topics, comments, viewpoints and last versions, and counts what else was
 pub record KeepsProject (p : Project) (s : ProjectState) : Type 0 where
-  pub topics : p.topics ≡ s.topics
-  pub made : p.made ≡ s.made
+  pub board : p.board ≡ s.board
   pub newest : p.newest + 1 ≡ length s.versions
   pub live : p.live.items ≡ live_in s.versions
 

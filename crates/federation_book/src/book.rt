@@ -3,20 +3,14 @@ ghost use Rattle.std.specs.Prelude.{◌≡◌, ◌≤◌, ◌+◌, ◌++◌, [],
 ghost use Rattle.book_history.specs.declared.limits.TheConstants.{MOST_PROJECTS};
 ghost use Rattle.book_history.specs.Settings.{IsWithinStated};
 ghost use Rattle.book_history.specs.History.{left_all, IsBefore, IsHistory};
-ghost use Rattle.book_turn.specs.Entries.{listed};
-ghost use Rattle.book_history.specs.Requests.{reply_of, added_by, body_of, entry_by, outcome_of};
+ghost use Rattle.book_history.specs.Requests.{reply_of, added_by};
 ghost use Rattle.book_history.specs.Legal.{IsLegal};
 ghost use Rattle.federation_book.specs.Kept.{IsKept, settings_of};
 
-use crate::answers::{project_of, read_clashes, read_version};
-use crate::making::{remove, set_rules, upload};
+use crate::asking::act_on;
 use crate::project::Project;
 use crate::state::State;
-use crate::topics::{list_topics, post_topic};
-use crate::working::{finish, take_work};
-use book_history::{
-    BookReply, BookRequest, Entry, Limits, MOST_PROJECTS, ReplyBody, Settings, Stamp,
-};
+use book_history::{BookReply, BookRequest, Entry, Limits, MOST_PROJECTS, Settings, Stamp};
 use std::alloc::{AllocError, Global};
 
 /// The history of the projects, and what follows from it.
@@ -104,61 +98,5 @@ impl Book {
             body,
             horizon: self.state.horizon(),
         })
-    }
-}
-
-// Answers a request by all that is kept.
-fn act_on(state: &mut State, stamp: Stamp, request: BookRequest) -> Result<ReplyBody, AllocError>
-    requires kept { IsKept state.old }
-    requires after { IsBefore stamp.turn state.old.entries.items }
-    requires legal { IsLegal (settings_of state.old) state.old.entries.items request }
-    ensures reply { let outcome = outcome_of (settings_of state.old) state.old.entries.items request in
-        IfOk result (λ body. body ≡ body_of state.old.entries.items outcome) }
-    ensures added { let outcome = outcome_of (settings_of state.old) state.old.entries.items request in
-        OnOk result (state.new.entries.items ≡ state.old.entries.items ++ listed (entry_by stamp outcome)) }
-    ensures settings { settings_of state.new ≡ settings_of state.old }
-    ensures kept { IsKept state.new }
-    ensures err { OnErr result (state.new.entries.items ≡ state.old.entries.items) }
-{
-    let count = state.projects.len();
-    match request {
-        BookRequest::ListTopics { project } => list_topics(state, project_of(count, project)),
-        BookRequest::PostTopic {
-            project,
-            body,
-            author,
-            weight,
-        } => post_topic(
-            state,
-            project_of(count, project),
-            stamp,
-            body,
-            author,
-            weight,
-        ),
-        BookRequest::Upload {
-            project,
-            name,
-            model,
-        } => upload(state, project_of(count, project), stamp, name, model),
-        BookRequest::Remove { project, name } => {
-            remove(state, project_of(count, project), stamp, name)
-        }
-        BookRequest::SetRules {
-            project,
-            rules,
-            weight,
-        } => set_rules(state, project_of(count, project), stamp, rules, weight),
-        BookRequest::ReadVersion { project, version } => {
-            read_version(state, project_of(count, project), version)
-        }
-        BookRequest::ReadClashes {
-            project,
-            version,
-            first,
-            count: pairs,
-        } => read_clashes(state, project_of(count, project), version, first, pairs),
-        BookRequest::TakeWork { seat } => take_work(state, seat),
-        BookRequest::Finish { set } => finish(state, stamp, set),
     }
 }

@@ -2,13 +2,21 @@
 #![tactic(auto)]
 
 mod answers;
+mod asking;
 mod book;
+mod clash_topics;
+mod comments;
+mod counts;
 mod making;
+mod noting;
 mod project;
+mod projects;
 mod sequence;
 mod state;
+mod subject;
 mod topics;
 mod version;
+mod views;
 mod working;
 
 pub use book::Book;

@@ -2,23 +2,21 @@
 ghost use Rattle.std.specs.Prelude.{◌≡◌, ◌≤◌, ◌<◌, ◌+◌, ◌-◌, ◌^◌, ◌++◌, ◌∷◌, [], ℕ, length, drop, slice_index_or, vec_len, vec_capacity, IfOk};
 ghost use Rattle.clash_publish.specs.declared.horizon.TheConstants.{LIVE_VERSIONS};
 ghost use Rattle.book_history.specs.Versions.{VersionState, live_in};
-ghost use Rattle.book_history.specs.Projects.{untouched, new_topic};
+ghost use Rattle.book_history.specs.Projects.{untouched};
 ghost use Rattle.book_history.specs.History.{left_in};
 ghost use Rattle.book_history.specs.Weights.{told};
 ghost use Rattle.federation_book.specs.Kept.{KeepsProject};
 
 use crate::version::KeptVersion;
-use bim_model::{Author, Duplicate, Items, Topic, TopicBody};
+use book_topics::Board;
 use clash_publish::LIVE_VERSIONS;
 use std::alloc::{AllocError, Global};
 
 /// What follows of the journal for a project.
 #[derive(Drop)]
 pub struct Project {
-    /// Its topics by rising serial number.
-    pub topics: Items<Topic>,
-    /// How many objects were made in it.
-    pub made: u64,
+    /// Its topics, comments and viewpoints.
+    pub board: Board,
     /// The number of its newest version.
     pub newest: u64,
     /// Its last sixteen versions, oldest first.
@@ -54,27 +52,9 @@ impl Project {
         let mut live = Vec::new(alloc);
         live.push(KeptVersion::nothing(alloc)?)?;
         Ok(Project {
-            topics: Items::new(alloc),
-            made: 0,
+            board: Board::new(alloc),
             newest: 0,
             live,
-        })
-    }
-
-    /// The topic that such a body makes.
-    pub fn new_topic(
-        &self,
-        alloc: Global,
-        body: &TopicBody,
-        author: &Author,
-    ) -> Result<Topic, AllocError>
-        requires { self.now.made + 1 < 2 ^ 64 }
-        ensures { IfOk result (λ topic. topic ≡ new_topic self.now.made body.now author.now) }
-    {
-        Ok(Topic {
-            serial: self.made + 1,
-            body: body.copy(alloc)?,
-            created: author.copy(alloc)?,
         })
     }
 
@@ -108,8 +88,7 @@ impl Project {
         requires number { self.old.newest + 1 < 2 ^ 64 }
         ensures live { self.new.live.items ≡ live_in (self.old.live.items ++ version ∷ []) }
         ensures newest { self.new.newest ≡ self.old.newest + 1 }
-        ensures topics { self.new.topics ≡ self.old.topics }
-        ensures made { self.new.made ≡ self.old.made }
+        ensures board { self.new.board ≡ self.old.board }
     {
         self.live.push_reserved(version);
         keep_sixteen(&mut self.live);

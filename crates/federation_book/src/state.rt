@@ -1,15 +1,17 @@
 //! All that the book keeps.
-ghost use Rattle.std.specs.Prelude.{◌≡◌, ◌≤◌, ℕ, if◌then◌else◌, nat_le, length, sum_by};
+ghost use Rattle.std.specs.Prelude.{◌≡◌, ◌≤◌, ℕ, if◌then◌else◌, nat_le, length, sum_by, IfSome};
 ghost use Rattle.book_history.specs.declared.changes.Change.{Change};
 ghost use Rattle.book_history.specs.Versions.{live_in};
 ghost use Rattle.book_history.specs.Projects.{with_change};
-ghost use Rattle.book_history.specs.History.{state_of, newest_of, left_in, left_all, horizon_of, project_numbers};
+ghost use Rattle.book_history.specs.History.{state_of, board_of, newest_of, left_in, left_all, horizon_of, project_numbers};
 ghost use Rattle.book_history.specs.Weights.{told, text_of, triangles_of};
-ghost use Rattle.book_history.specs.Refusals.{first_of, triangles_if, text_if, journal_if, left_if, store_full};
+ghost use Rattle.book_history.specs.Refusals.{first_of, project_of, triangles_if, text_if, journal_if, left_if, store_full};
 ghost use Rattle.federation_book.specs.Kept.{KeepsProject, IsKept, settings_of};
 
+use crate::answers::project_of;
 use crate::project::{Project, left_in};
 use book_history::{BookFault, Entry, Horizon, Limits, StoreWhat};
+use book_topics::Board;
 
 /// The projects and the journal, with the sums of what its changes hold.
 #[derive(Drop)]
@@ -24,6 +26,15 @@ pub struct State {
 }
 
 impl State {
+    /// The number of the project that has the identifier.
+    pub fn number_of(&self, project: u128) -> Option<u32>
+        requires { IsKept self.now }
+        ensures is { result ≡ project_of (length self.now.projects.items) project }
+        ensures there { IfSome result (λ n. (1 ≤ n) × (n ≤ length self.now.projects.items)) }
+    {
+        project_of(self.projects.len(), project)
+    }
+
     /// The project of this number, lent.
     pub fn project(&self, number: u32) -> &Project
         requires kept { IsKept self.now }
@@ -33,6 +44,16 @@ impl State {
     {
         let _count = self.entries.len();
         &self.projects[number as usize - 1]
+    }
+
+    /// Its topics, comments and viewpoints, lent.
+    pub fn board(&self, number: u32) -> &Board
+        requires kept { IsKept self.now }
+        requires low { 1 ≤ number }
+        requires high { number ≤ length self.now.projects.items }
+        ensures { result.now ≡ board_of number self.now.entries.items }
+    {
+        &self.project(number).board
     }
 
     /// How many buckets of live versions are to be checked.

@@ -1,9 +1,12 @@
 //! Requests as calls, and responses against bytes written by hand.
+use bcf_bodies::BodyFault;
 use bcf_http::{
     Answer, HttpCall, QueryName, Refusal, ReplyKind, RequestFault, RoutePath, Routes, kind_of,
     to_call, to_response,
 };
-use bim_model::{Author, Bytes, Items, Mode, Moment, Text, Topic, TopicBody, id_of};
+use bcf_topics::{Topic, TopicBody};
+use bcf_viewpoints::ViewPart;
+use bim_model::{Author, Bytes, Items, Mode, Moment, Text, id_of};
 use book_history::{BookFault, BookReply, BookRequest, Horizon, ReplyBody, Wanted};
 use clash_rules::RuleFault;
 use http_frame::{FrameFault, HttpRequest};
@@ -38,6 +41,7 @@ fn requests_ask_the_book(rt: HostRuntime) -> Result<(), Fail> {
         project: 2,
         created: true,
         head: false,
+        part: ViewPart::Whole,
     };
     assert_eq!(rt; kind_of(&routes, &post), made);
     is_post(&rt, to_call(alloc, &routes, post, 1_714_564_800));
@@ -63,6 +67,65 @@ fn is_post(rt: &impl Abort, call: Result<HttpCall, Refusal>) {
         }
         _ => assert!(rt; false),
     }
+}
+
+// The identifiers that a call for a comment names, and what is said.
+fn puts_comment(rt: &impl Abort, call: Result<HttpCall, Refusal>) {
+    match call {
+        Ok(
+            HttpCall::Ask(
+                BookRequest::PutComment {
+                    project,
+                    topic,
+                    comment,
+                    body,
+                    author,
+                    weight,
+                },
+            ),
+        ) => {
+            assert_eq!(rt;
+                (project, topic, comment),
+                (id_of(1, 0), id_of(1, 1), id_of(1, 2))
+            );
+            assert_eq!(rt; body.comment.as_str(), "Moved");
+            assert_eq!(rt; body.viewpoint, Some(id_of(1, 3)));
+            assert_eq!(rt; author.user.as_str(), "anna");
+            assert_eq!(rt; weight, 75);
+        }
+        _ => assert!(rt; false),
+    }
+}
+
+const TOPIC: &str =
+    "/bcf/3.0/projects/00000001-0000-8000-8000-000000000000/topics/00000001-0000-8000-8000-000000000001";
+
+#[test]
+fn asks_for_comments(rt: HostRuntime) -> Result<(), Fail> {
+    let alloc = rt.alloc();
+    let routes = Routes::new(alloc)?;
+    let target = format!(in alloc; "{TOPIC}/comments/%30")?;
+    let unread = request(alloc, "PUT", target.as_str(), b"")?;
+    is_refused(
+        &rt,
+        to_call(alloc, &routes, unread, 0),
+        RequestFault::NoRoute,
+    );
+    let target = format!(in alloc; "{TOPIC}/comments/00000001-0000-8000-8000-000000000002")?;
+    let said = br#"{"comment":"Moved","viewpoint_guid":"00000001-0000-8000-8000-000000000003"}"#;
+    let put = request(alloc, "PUT", target.as_str(), said)?;
+    assert!(rt; !kind_of(&routes, &put).created);
+    puts_comment(&rt, to_call(alloc, &routes, put, 0));
+    let name = Text::of(alloc, "comment")?;
+    let empty = request(alloc, "PUT", target.as_str(), br#"{"comment":""}"#)?;
+    let fault = RequestFault::Body(BodyFault::BadMember { name });
+    is_refused(&rt, to_call(alloc, &routes, empty, 0), fault);
+    let target = format!(in alloc;
+        "{TOPIC}/viewpoints/00000001-0000-8000-8000-000000000002/coloring"
+    )?;
+    let read = request(alloc, "GET", target.as_str(), b"")?;
+    assert_eq!(rt; kind_of(&routes, &read).part, ViewPart::Coloring);
+    Ok(())
 }
 
 #[test]
@@ -211,7 +274,7 @@ fn bad_requests_are_refused(rt: HostRuntime) -> Result<(), Fail> {
     };
     let head = request(alloc, "HEAD", target, b"")?;
     is_refused(&rt, to_call(alloc, &routes, head, 0), lacks);
-    let other = request(alloc, "GET", "/bcf/3.0/projects", b"")?;
+    let other = request(alloc, "GET", "/bcf/3.0/projects/7", b"")?;
     is_refused(
         &rt,
         to_call(alloc, &routes, other, 0),
@@ -232,11 +295,21 @@ fn pipe(alloc: Global) -> Result<Topic, AllocError> {
         serial: 1,
         body: TopicBody {
             title: Text::of(alloc, "Pipe")?,
+            topic_type: None,
+            topic_status: None,
+            priority: None,
+            index: None,
+            labels: Items::new(alloc),
+            assigned_to: None,
+            stage: None,
+            description: None,
+            due: None,
         },
         created: Author {
             user: Text::of(alloc, "anonymous")?,
             moment: Moment::new(1_714_564_800),
         },
+        modified: None,
     })
 }
 
@@ -268,10 +341,40 @@ fn topics_are_written(rt: HostRuntime) -> Result<(), Fail> {
         project: 1,
         created: true,
         head: false,
+        part: ViewPart::Whole,
     };
     let wanted =
         "HTTP/1.1 201 Created\r\nContent-Type: application/json\r\nX-Book-Turn: 1\r\nContent-Length: 156\r\n\r\n{\"creation_author\":\"anonymous\",\"creation_date\":\"2024-05-01T12:00:00Z\",\"guid\":\"00000001-0000-8000-8000-000000000001\",\"server_assigned_id\":\"1\",\"title\":\"Pipe\"}";
     try_answer(&rt, alloc, &made(alloc)?, (kind, Some(1), false), wanted)?;
+    Ok(())
+}
+
+#[test]
+fn writes_what_is_not_there(rt: HostRuntime) -> Result<(), Fail> {
+    let alloc = rt.alloc();
+    let fault = BookFault::NoClash { place: 1, total: 0 };
+    let wanted =
+        "HTTP/1.1 404 Not Found\r\nContent-Type: application/json\r\nX-Book-Turn: 2\r\nContent-Length: 58\r\n\r\n{\"code\":\"K12\",\"message\":\"K12 NoClash\",\"place\":1,\"total\":0}";
+    let refused = replied(ReplyBody::Refused(fault));
+    try_answer(
+        &rt,
+        alloc,
+        &refused,
+        (ReplyKind::none(), Some(2), false),
+        wanted,
+    )?;
+    let mut topics = Items::new(alloc);
+    topics.push(pipe(alloc)?)?;
+    let kind = ReplyKind {
+        project: 1,
+        created: false,
+        head: false,
+        part: ViewPart::Whole,
+    };
+    let wanted =
+        "HTTP/1.1 200 OK\r\nContent-Type: application/json\r\nX-Book-Turn: 2\r\nContent-Length: 158\r\n\r\n[{\"creation_author\":\"anonymous\",\"creation_date\":\"2024-05-01T12:00:00Z\",\"guid\":\"00000001-0000-8000-8000-000000000001\",\"server_assigned_id\":\"1\",\"title\":\"Pipe\"}]";
+    let list = replied(ReplyBody::TopicList(topics));
+    try_answer(&rt, alloc, &list, (kind, Some(2), false), wanted)?;
     Ok(())
 }
 
@@ -287,6 +390,7 @@ fn head_has_no_body(rt: HostRuntime) -> Result<(), Fail> {
         project: 1,
         created: false,
         head: true,
+        part: ViewPart::Whole,
     };
     let wanted =
         "HTTP/1.1 405 Method Not Allowed\r\nContent-Type: application/json\r\nAllow: GET, POST\r\nContent-Length: 35\r\n\r\n";

@@ -2,8 +2,8 @@
 use bim_model::{Many, Rules, Shared, Snapshot, UploadFault};
 use clash_rules::RuleFault;
 use coord_json::{
-    changed_out, error_full, error_newest, error_out, error_store, error_version, pending_out,
-    rule_fault_out, upload_fault_out, version_out,
+    changed_out, error_full, error_newest, error_out, error_place, error_store, error_version,
+    pending_out, rule_fault_out, upload_fault_out, version_out,
 };
 use serde_json::Value;
 use std::alloc::{AllocError, Global};
@@ -44,6 +44,10 @@ fn errors_of_the_book_are_written(rt: HostRuntime) -> Result<(), Fail> {
         (
             error_full(alloc, "K8", "TooSpread", 4, 3)?,
             r#"{"code":"K8","count":4,"limit":3,"message":"K8 TooSpread"}"#,
+        ),
+        (
+            error_place(alloc, "K12", "NoClash", 5, 4)?,
+            r#"{"code":"K12","message":"K12 NoClash","place":5,"total":4}"#,
         ),
         (pending_out(alloc, 1, 2)?, r#"{"left":1,"version":2}"#),
     ];

@@ -154,12 +154,12 @@ returns-clause-kept c =
     let s = state_of n h in
     let number = subst (λ o. IfSome o (λ n. (1 ≤ n) × (n ≤ length c.args.state.now.projects.items))) c.in-Some.is c.requires.number in
     let l : KeepsProject q s = kept_numbered old.projects.items h n q c.requires.kept.states number.0 number.1 c.index_mut-project.ensures.value in
-    let asked : Project = record { topics = q.topics; made = q.made; newest = q.newest; live = with_item q.live c.place_of-place.result c.clashes.new.self } in
+    let asked : Project = record { board = q.board; newest = q.newest; live = with_item q.live c.place_of-place.result c.clashes.new.self } in
     let after : State = record { limits = old.limits; projects = with_item old.projects (n - 1) asked; entries = old.entries; triangles = old.triangles; text = old.text } in
     let value : c.clashes.new.self ≡ get_or q.live.items c.place_of-place.result c.clashes.new.self =
     c.in_ok-set.ensures.same ∙ c.index_mut.ensures.value ∙ ap (λ x. get_or q.live.items c.place_of-place.result x) (sym c.in_ok-set.ensures.same) in
     kept_asked old after n asked c.requires.kept number.0 number.1
-    (keeps_same q asked s c.place_of-place.result c.clashes.new.self l refl refl refl refl value)
+    (keeps_same q asked s c.place_of-place.result c.clashes.new.self l refl refl refl value)
     refl refl refl refl refl
 
 pub returns-in_err-set-clause-settings : goal.returns-in_err-set-clause-settings
@@ -175,10 +175,10 @@ returns-in_err-set-clause-kept c =
     let s = state_of n h in
     let number = subst (λ o. IfSome o (λ n. (1 ≤ n) × (n ≤ length c.args.state.now.projects.items))) c.in-Some.is c.requires.number in
     let l : KeepsProject q s = kept_numbered old.projects.items h n q c.requires.kept.states number.0 number.1 c.index_mut-project.ensures.value in
-    let asked : Project = record { topics = q.topics; made = q.made; newest = q.newest; live = with_item q.live c.place_of-place.result c.clashes.new.self } in
+    let asked : Project = record { board = q.board; newest = q.newest; live = with_item q.live c.place_of-place.result c.clashes.new.self } in
     let after : State = record { limits = old.limits; projects = with_item old.projects (n - 1) asked; entries = old.entries; triangles = old.triangles; text = old.text } in
     let value : c.clashes.new.self ≡ get_or q.live.items c.place_of-place.result c.clashes.new.self =
     c.in_err-set.ensures.same ∙ c.index_mut.ensures.value ∙ ap (λ x. get_or q.live.items c.place_of-place.result x) (sym c.in_err-set.ensures.same) in
     kept_asked old after n asked c.requires.kept number.0 number.1
-    (keeps_same q asked s c.place_of-place.result c.clashes.new.self l refl refl refl refl value)
+    (keeps_same q asked s c.place_of-place.result c.clashes.new.self l refl refl refl value)
     refl refl refl refl refl

@@ -55,9 +55,9 @@ returns-in_err-reserve-2-clause-kept c =
     let n = c.args.number in
     let q = c.index_mut-project.result.now in
     let l : KeepsProject q (state_of n j) = kept_numbered old.projects.items j n q c.requires.kept.states c.requires.low c.requires.high c.index_mut-project.ensures.value in
-    let asked : Project = record { topics = q.topics; made = q.made; newest = q.newest; live = c.reserve-2.new.self } in
+    let asked : Project = record { board = q.board; newest = q.newest; live = c.reserve-2.new.self } in
     let after : State = record { limits = old.limits; projects = with_item old.projects (n - 1) asked; entries = c.reserve.new.self; triangles = old.triangles; text = old.text } in
-    let keeps : KeepsProject asked (state_of n j) = record { topics = l.topics; made = l.made; newest = l.newest; live = c.in_err-reserve-2.ensures.items ∙ l.live } in
+    let keeps : KeepsProject asked (state_of n j) = record { board = l.board; newest = l.newest; live = c.in_err-reserve-2.ensures.items ∙ l.live } in
     kept_asked old after n asked c.requires.kept c.requires.low c.requires.high keeps refl c.in_ok-reserve.ensures.items refl refl refl
 
 pub push_version-requires-clause-few : goal.push_version-requires-clause-few
@@ -157,7 +157,7 @@ returns-clause-kept c =
     (sym (c.store_full-full.ensures c.args.change c.requires.triangles c.requires.text left) ∙ not_some c.store_full-full.result c.is_some.result c.is_some.ensures c.if-is_some.false) in
     let l : KeepsProject q s = kept_numbered old.projects.items j n q c.requires.kept.states c.requires.low c.requires.high c.index_mut-project.ensures.value in
     let live = c.push_version.ensures.live ∙ ap (λ vs. live_in (vs ++ v ∷ [])) c.in_ok-reserve-2.ensures.items in
-    let keeps = keeps_then p s c.args.change before v c.args.snapshot k (within n j).some c.newest_version-before.ensures is.1 c.requires.next q r l live c.push_version.ensures.newest c.push_version.ensures.topics c.push_version.ensures.made in
+    let keeps = keeps_then p s c.args.change before v c.args.snapshot k (within n j).some c.newest_version-before.ensures is.1 c.requires.next q r l live c.push_version.ensures.newest c.push_version.ensures.board in
     let after : State = record { limits = old.limits; projects = with_item old.projects (n - 1) r; entries = c.push_reserved.new.self; triangles = old.triangles + c.args.triangles; text = old.text + c.args.text } in
     let e : Entry = entry_of c.args.stamp n c.args.change in
     let pushed : c.push_reserved.new.self.items ≡ j ++ e ∷ [] = c.push_reserved.ensures.items ∙ ap (λ es. es ++ e ∷ []) c.in_ok-reserve.ensures.items in

@@ -228,13 +228,13 @@ returns-clause-kept c =
     let bucket = subst (λ (g : GridValue). IsBucket g.boxes w.cell) (sym c.get-2.ensures) given.bucket in
     let less = left_less (version_at s.versions w.version) c.get-2.result.now w.cell c.know.ensures content bucket open_ in
     let fewer = left_done q s w.version c.place_of-place.result w.cell l second there less in
-    let done : Project = record { topics = q.topics; made = q.made; newest = q.newest; live = with_item q.live c.place_of-place.result c.put-left.new.self } in
+    let done : Project = record { board = q.board; newest = q.newest; live = with_item q.live c.place_of-place.result c.put-left.new.self } in
     let after : State = record { limits = old.limits; projects = with_item old.projects (w.project - 1) done; entries = c.push_reserved.new.self; triangles = old.triangles; text = old.text } in
     let e : Entry = entry_of c.args.stamp w.project (BucketDone w.version w.cell) in
     let pushed : c.push_reserved.new.self.items ≡ h ++ e ∷ [] = c.push_reserved.ensures.items ∙ ap (λ es. es ++ e ∷ []) c.in_ok-reserve.ensures.items in
     let more : old.triangles ≡ old.triangles + 0 = omega arith in
     let longer : old.text ≡ old.text + 0 = omega arith in
     kept_after old after e done c.requires.kept c.requires.after given.low given.high
-    (keeps_done q s w.version c.place_of-place.result w.cell l second there done c.put-left.new.self refl refl refl refl put)
+    (keeps_done q s w.version c.place_of-place.result w.cell l second there done c.put-left.new.self refl refl refl put)
     refl pushed more longer refl
     (room_done (length old.projects.items) old.limits.journal h w.project w.version w.cell c.requires.kept.room given.low given.high fewer)

@@ -39,19 +39,19 @@ invariant_of-self-2 c = c.act_on.ensures.kept
 
 pub returns-clause-added : goal.returns-clause-added
 returns-clause-added c =
-    subst (λ (b : BookState). c.act_on.new.state.entries.items ≡ b.journal ++ added_by b.settings b.journal c.args.stamp c.args.request) c.self.view_is c.in_ok-body.ensures.added
+    subst (λ (b : BookState). c.act_on.new.state.entries.items ≡ b.journal ++ added_by b.settings b.journal c.args.stamp c.args.request) c.self.view_is c.in_ok-body.ensures.done.added
 
 pub returns-clause-settings : goal.returns-clause-settings
 returns-clause-settings c = c.act_on.ensures.settings ∙ ap (λ (b : BookState). b.settings) c.self.view_is
 
 pub returns-clause-reply : goal.returns-clause-reply
 returns-clause-reply c =
-    let body = subst (λ (b : BookState). c.in_ok-body.body ≡ body_of b.journal (outcome_of b.settings b.journal c.args.request)) c.self.view_is c.in_ok-body.ensures.reply in
-    let added = subst (λ (b : BookState). c.act_on.new.state.entries.items ≡ b.journal ++ added_by b.settings b.journal c.args.stamp c.args.request) c.self.view_is c.in_ok-body.ensures.added in
+    let body = subst (λ (b : BookState). c.in_ok-body.body ≡ body_of b.journal (outcome_of b.settings b.journal c.args.request)) c.self.view_is c.in_ok-body.ensures.done.reply in
+    let added = subst (λ (b : BookState). c.act_on.new.state.entries.items ≡ b.journal ++ added_by b.settings b.journal c.args.stamp c.args.request) c.self.view_is c.in_ok-body.ensures.done.added in
     let projects : length c.act_on.new.state.projects.items ≡ c.args.self.now.settings.projects = ap (λ (s : Settings). s.projects) (c.act_on.ensures.settings ∙ ap (λ (b : BookState). b.settings) c.self.view_is) in
     ap₂ (λ (b : ReplyBody) (h : Horizon). (let r : BookReply = record { body = b; horizon = h } in r)) body (c.horizon.ensures ∙ ap₂ horizon_of projects added)
 
 pub returns-clause-after : goal.returns-clause-after
 returns-clause-after c =
     after_call c.args.self.now.settings c.args.self.now.journal c.act_on.new.state.entries.items c.args.stamp c.args.request c.requires.after
-    (subst (λ (b : BookState). c.act_on.new.state.entries.items ≡ b.journal ++ added_by b.settings b.journal c.args.stamp c.args.request) c.self.view_is c.in_ok-body.ensures.added)
+    (subst (λ (b : BookState). c.act_on.new.state.entries.items ≡ b.journal ++ added_by b.settings b.journal c.args.stamp c.args.request) c.self.view_is c.in_ok-body.ensures.done.added)

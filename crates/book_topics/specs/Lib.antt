@@ -1,0 +1,3 @@
+pub mod Boards
+pub mod Named
+pub mod OfClashes

@@ -1,0 +1,14 @@
+//! What is said of a project: its topics, the comments on them and their viewpoints (BCF API 3.0), with the serial
+//! numbers that they share.
+#![tactic(auto)]
+
+mod board;
+mod clashes;
+mod comments;
+mod named;
+mod topics;
+mod views;
+
+pub use bcf_topics::{Author, Comment, CommentBody, CommentIn, Topic, TopicBody};
+pub use bcf_viewpoints::{CheckedBody, CheckedView, Component, ViewBody, ViewIs};
+pub use board::Board;

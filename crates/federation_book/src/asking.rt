@@ -1,0 +1,260 @@
+//! Each request by what it is about.
+ghost use Rattle.std.specs.Prelude.{◌≡◌, IfOk, OnErr};
+ghost use Rattle.book_history.specs.History.{IsBefore};
+ghost use Rattle.book_history.specs.Requests.{outcome_of};
+ghost use Rattle.book_history.specs.Legal.{IsLegal};
+ghost use Rattle.federation_book.specs.Kept.{IsKept, settings_of};
+ghost use Rattle.federation_book.specs.Done.{IsDone};
+ghost use Rattle.federation_book.specs.Subjects.{subject_of};
+
+use crate::answers::{project_of, read_clashes, read_version};
+use crate::clash_topics::clash_topic;
+use crate::comments::{delete_comment, list_comments, post_comment, put_comment, read_comment};
+use crate::making::{remove, set_rules, upload};
+use crate::projects::{list_projects, read_project};
+use crate::state::State;
+use crate::subject::{Subject, subject_of};
+use crate::topics::{delete_topic, list_topics, post_topic, put_topic, read_topic};
+use crate::views::{delete_view, list_views, post_view, read_view};
+use crate::working::{finish, take_work};
+use book_history::{BookRequest, ReplyBody, Stamp};
+use std::alloc::AllocError;
+
+/// Answers a request by all that is kept.
+pub fn act_on(
+    state: &mut State,
+    stamp: Stamp,
+    request: BookRequest,
+) -> Result<ReplyBody, AllocError>
+    requires kept { IsKept state.old }
+    requires after { IsBefore stamp.turn state.old.entries.items }
+    requires legal { IsLegal (settings_of state.old) state.old.entries.items request }
+    ensures done { IfOk result (IsDone state.old.entries.items state.new.entries.items stamp
+        (outcome_of (settings_of state.old) state.old.entries.items request)) }
+    ensures settings { settings_of state.new ≡ settings_of state.old }
+    ensures kept { IsKept state.new }
+    ensures err { OnErr result (state.new.entries.items ≡ state.old.entries.items) }
+{
+    match subject_of(&request) {
+        Subject::Projects => act_on_projects(state, stamp, request),
+        Subject::Versions => act_on_versions(state, stamp, request),
+        Subject::Topics => act_on_topics(state, stamp, request),
+        Subject::Comments => act_on_comments(state, stamp, request),
+        Subject::Views => act_on_views(state, stamp, request),
+        Subject::Work => act_on_work(state, stamp, request),
+    }
+}
+
+// Those about projects.
+fn act_on_projects(
+    state: &mut State,
+    stamp: Stamp,
+    request: BookRequest,
+) -> Result<ReplyBody, AllocError>
+    requires kept { IsKept state.old }
+    requires after { IsBefore stamp.turn state.old.entries.items }
+    requires subject { subject_of request ≡ Subject.Projects }
+    ensures done { IfOk result (IsDone state.old.entries.items state.new.entries.items stamp
+        (outcome_of (settings_of state.old) state.old.entries.items request)) }
+    ensures settings { settings_of state.new ≡ settings_of state.old }
+    ensures kept { IsKept state.new }
+    ensures err { OnErr result (state.new.entries.items ≡ state.old.entries.items) }
+{
+    match request {
+        BookRequest::ListProjects => list_projects(state),
+        BookRequest::ReadProject { project } => read_project(state, project),
+        _ => unreachable!(),
+    }
+}
+
+// Those about versions.
+fn act_on_versions(
+    state: &mut State,
+    stamp: Stamp,
+    request: BookRequest,
+) -> Result<ReplyBody, AllocError>
+    requires kept { IsKept state.old }
+    requires after { IsBefore stamp.turn state.old.entries.items }
+    requires subject { subject_of request ≡ Subject.Versions }
+    ensures done { IfOk result (IsDone state.old.entries.items state.new.entries.items stamp
+        (outcome_of (settings_of state.old) state.old.entries.items request)) }
+    ensures settings { settings_of state.new ≡ settings_of state.old }
+    ensures kept { IsKept state.new }
+    ensures err { OnErr result (state.new.entries.items ≡ state.old.entries.items) }
+{
+    let count = state.projects.len();
+    match request {
+        BookRequest::Upload {
+            project,
+            name,
+            model,
+        } => upload(state, project_of(count, project), stamp, name, model),
+        BookRequest::Remove { project, name } => {
+            remove(state, project_of(count, project), stamp, name)
+        }
+        BookRequest::SetRules {
+            project,
+            rules,
+            weight,
+        } => set_rules(state, project_of(count, project), stamp, rules, weight),
+        BookRequest::ReadVersion { project, version } => {
+            read_version(state, project_of(count, project), version)
+        }
+        BookRequest::ReadClashes {
+            project,
+            version,
+            first,
+            count: pairs,
+        } => read_clashes(state, project_of(count, project), version, first, pairs),
+        _ => unreachable!(),
+    }
+}
+
+// Those about topics.
+fn act_on_topics(
+    state: &mut State,
+    stamp: Stamp,
+    request: BookRequest,
+) -> Result<ReplyBody, AllocError>
+    requires kept { IsKept state.old }
+    requires after { IsBefore stamp.turn state.old.entries.items }
+    requires subject { subject_of request ≡ Subject.Topics }
+    ensures done { IfOk result (IsDone state.old.entries.items state.new.entries.items stamp
+        (outcome_of (settings_of state.old) state.old.entries.items request)) }
+    ensures settings { settings_of state.new ≡ settings_of state.old }
+    ensures kept { IsKept state.new }
+    ensures err { OnErr result (state.new.entries.items ≡ state.old.entries.items) }
+{
+    match request {
+        BookRequest::ClashTopic {
+            project,
+            version,
+            place,
+            author,
+            weight,
+        } => clash_topic(state, stamp, project, version, place, author, weight),
+        BookRequest::ListTopics { project } => list_topics(state, project),
+        BookRequest::ReadTopic { project, topic } => read_topic(state, project, topic),
+        BookRequest::PostTopic {
+            project,
+            body,
+            author,
+            weight,
+        } => post_topic(state, stamp, project, body, author, weight),
+        BookRequest::PutTopic {
+            project,
+            topic,
+            body,
+            author,
+            weight,
+        } => put_topic(state, stamp, project, topic, body, author, weight),
+        BookRequest::DeleteTopic { project, topic } => delete_topic(state, stamp, project, topic),
+        _ => unreachable!(),
+    }
+}
+
+// Those about comments.
+fn act_on_comments(
+    state: &mut State,
+    stamp: Stamp,
+    request: BookRequest,
+) -> Result<ReplyBody, AllocError>
+    requires kept { IsKept state.old }
+    requires after { IsBefore stamp.turn state.old.entries.items }
+    requires subject { subject_of request ≡ Subject.Comments }
+    ensures done { IfOk result (IsDone state.old.entries.items state.new.entries.items stamp
+        (outcome_of (settings_of state.old) state.old.entries.items request)) }
+    ensures settings { settings_of state.new ≡ settings_of state.old }
+    ensures kept { IsKept state.new }
+    ensures err { OnErr result (state.new.entries.items ≡ state.old.entries.items) }
+{
+    match request {
+        BookRequest::ListComments { project, topic } => list_comments(state, project, topic),
+        BookRequest::ReadComment {
+            project,
+            topic,
+            comment,
+        } => read_comment(state, project, topic, comment),
+        BookRequest::PostComment {
+            project,
+            topic,
+            body,
+            author,
+            weight,
+        } => post_comment(state, stamp, project, topic, body, author, weight),
+        BookRequest::PutComment {
+            project,
+            topic,
+            comment,
+            body,
+            author,
+            weight,
+        } => put_comment(state, stamp, project, topic, comment, body, author, weight),
+        BookRequest::DeleteComment {
+            project,
+            topic,
+            comment,
+        } => delete_comment(state, stamp, project, topic, comment),
+        _ => unreachable!(),
+    }
+}
+
+// Those about viewpoints.
+fn act_on_views(
+    state: &mut State,
+    stamp: Stamp,
+    request: BookRequest,
+) -> Result<ReplyBody, AllocError>
+    requires kept { IsKept state.old }
+    requires after { IsBefore stamp.turn state.old.entries.items }
+    requires subject { subject_of request ≡ Subject.Views }
+    ensures done { IfOk result (IsDone state.old.entries.items state.new.entries.items stamp
+        (outcome_of (settings_of state.old) state.old.entries.items request)) }
+    ensures settings { settings_of state.new ≡ settings_of state.old }
+    ensures kept { IsKept state.new }
+    ensures err { OnErr result (state.new.entries.items ≡ state.old.entries.items) }
+{
+    match request {
+        BookRequest::ListViews { project, topic } => list_views(state, project, topic),
+        BookRequest::ReadView {
+            project,
+            topic,
+            view,
+        } => read_view(state, project, topic, view),
+        BookRequest::PostView {
+            project,
+            topic,
+            body,
+            weight,
+        } => post_view(state, stamp, project, topic, body, weight),
+        BookRequest::DeleteView {
+            project,
+            topic,
+            view,
+        } => delete_view(state, stamp, project, topic, view),
+        _ => unreachable!(),
+    }
+}
+
+// Those about buckets to be checked.
+fn act_on_work(
+    state: &mut State,
+    stamp: Stamp,
+    request: BookRequest,
+) -> Result<ReplyBody, AllocError>
+    requires kept { IsKept state.old }
+    requires after { IsBefore stamp.turn state.old.entries.items }
+    requires subject { subject_of request ≡ Subject.Work }
+    requires legal { IsLegal (settings_of state.old) state.old.entries.items request }
+    ensures done { IfOk result (IsDone state.old.entries.items state.new.entries.items stamp
+        (outcome_of (settings_of state.old) state.old.entries.items request)) }
+    ensures settings { settings_of state.new ≡ settings_of state.old }
+    ensures kept { IsKept state.new }
+    ensures err { OnErr result (state.new.entries.items ≡ state.old.entries.items) }
+{
+    match request {
+        BookRequest::TakeWork { seat } => take_work(state, seat),
+        BookRequest::Finish { set } => finish(state, stamp, set),
+        _ => unreachable!(),
+    }
+}
