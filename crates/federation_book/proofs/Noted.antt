@@ -1,10 +1,13 @@
 -- Changes of topics, comments and viewpoints.
 use Rattle.std.proofs.Common.{◌≡◌, ◌+◌, ◌*◌, ◌<◌, ◌≤◌, ◌^◌, ℕ, List, [], ◌∷◌, ◌++◌, length, Option, Some, None, refl, sym, ◌∙◌, ap, subst, arith}
 use Rattle.bim_model.specs.declared.guid.Guid.{Guid}
+use Rattle.bim_model.specs.declared.topic.Author.{Author}
+use Rattle.bcf_topics.specs.declared.comment.CommentBody.{CommentBody}
+use Rattle.bcf_viewpoints.specs.declared.view.ViewBody.{ViewBody}
 use Rattle.book_turn.specs.declared.object.Stamp.{Stamp}
 use Rattle.book_topics.specs.Boards.{BoardState}
 use Rattle.book_history.specs.declared.changes.Change.{Change}
-use Rattle.book_history.specs.declared.changes.Change.TheVariants.{Upload, Remove, SetRules, BucketDone}
+use Rattle.book_history.specs.declared.changes.Change.TheVariants.{Upload, Remove, SetRules, BucketDone, PostComment, PutComment, DeleteComment, PostView, DeleteView}
 use Rattle.book_history.specs.declared.changes.Entry.{Entry}
 use Rattle.book_history.specs.declared.faults.BookFault.{BookFault}
 use Rattle.book_history.specs.declared.limits.Settings.{Settings}
@@ -20,7 +23,7 @@ use Rattle.book_history.proofs.States.{within}
 use Rattle.federation_book.specs.declared.project.Project.{Project}
 use Rattle.federation_book.specs.Kept.{KeepsProject}
 use Rattle.federation_book.specs.Done.{IsDone}
-use Rattle.federation_book.specs.Noting.{IsNote, IsApplied, clash_of, Fits}
+use Rattle.federation_book.specs.Noting.{IsNote, IsFurther, IsApplied, clash_of, Fits}
 use Rattle.federation_book.proofs.Accepting.{AreNone, none_of}
 use Rattle.federation_book.proofs.Finding.{refusal_done}
 
@@ -43,6 +46,21 @@ fits_note b pair (Remove name) fits = absurd fits
 fits_note b pair (SetRules rules weight) fits = absurd fits
 fits_note b pair (BucketDone version cell) fits = absurd fits
 fits_note b pair _ fits = tt
+
+-- one of comments or viewpoints is one of these
+pub further_only : (c : Change) → IsFurther c
+    → ((topic : ℕ) (body : CommentBody) (author : Author) (weight : ℕ) → c ≡ PostComment topic body author weight → ⊥)
+    → ((topic : ℕ) (comment : ℕ) (body : CommentBody) (author : Author) (weight : ℕ) → c ≡ PutComment topic comment body author weight → ⊥)
+    → ((topic : ℕ) (comment : ℕ) → c ≡ DeleteComment topic comment → ⊥)
+    → ((topic : ℕ) (body : ViewBody) (weight : ℕ) → c ≡ PostView topic body weight → ⊥)
+    → ((topic : ℕ) (view : ℕ) → c ≡ DeleteView topic view → ⊥)
+    → ⊥
+further_only (PostComment topic body author weight) is h0 h1 h2 h3 h4 = h0 topic body author weight refl
+further_only (PutComment topic comment body author weight) is h0 h1 h2 h3 h4 = h1 topic comment body author weight refl
+further_only (DeleteComment topic comment) is h0 h1 h2 h3 h4 = h2 topic comment refl
+further_only (PostView topic body weight) is h0 h1 h2 h3 h4 = h3 topic body weight refl
+further_only (DeleteView topic view) is h0 h1 h2 h3 h4 = h4 topic view refl
+further_only _ is h0 h1 h2 h3 h4 = is
 
 pub left_stays : (p : Project) (s : ProjectState) (c : Change) (left : ℕ) → KeepsProject p s → IsNote c → left ≡ told (left_in p.live.items)
     → left ≡ told (left_in (live_in (with_change s c).versions))
