@@ -1,5 +1,5 @@
 -- What becomes of a change of a project.
-use Rattle.std.proofs.Common.{◌≡◌, ℕ, List, [], ◌∷◌, ◌++◌, Option, Some, None, length, sym, ◌∙◌, ap, ap₂, subst, arith}
+use Rattle.std.proofs.Common.{◌≡◌, ℕ, List, ◌++◌, Option, Some, None, length, sym, ◌∙◌, ap, ap₂, subst, arith}
 use Rattle.book_turn.specs.declared.object.Stamp.{Stamp}
 use Rattle.book_turn.specs.Entries.{listed}
 use Rattle.book_history.specs.declared.changes.Change.{Change}
@@ -13,7 +13,7 @@ use Rattle.book_history.specs.Weights.{triangles_in, text_in}
 use Rattle.book_history.specs.Settings.{IsWithinStated}
 use Rattle.book_history.specs.declared.limits.Limits.{Limits}
 use Rattle.book_history.specs.Refusals.{first_of}
-use Rattle.book_history.specs.Requests.{Outcome, Refusal, Accepted, refused_or, unless, in_project, body_of, entry_by, entry_of, reply_to}
+use Rattle.book_history.specs.Requests.{Outcome, Refusal, Accepted, refused_or, unless, in_project, body_of, entry_by, reply_to}
 use Rattle.federation_book.specs.declared.state.State.{State}
 use Rattle.federation_book.specs.Kept.{KeepStates, IsKept}
 use Rattle.federation_book.proofs.Answering.{nothing_added}
@@ -36,9 +36,6 @@ module _ (j : List Entry) (stamp : Stamp) (n : Option ℕ) (number : ℕ) (is : 
 
   pub accepted_reply : (change : Change) (body : ReplyBody) → f number ≡ Accepted number change → body ≡ reply_to (state_of number j) change (with_change (state_of number j) change) → body ≡ body_of j (in_project n f)
   accepted_reply change body e b = b ∙ sym (ap (body_of j) (asked ∙ e))
-
-  pub accepted_adds : (change : Change) (k : List Entry) → f number ≡ Accepted number change → k ≡ j ++ entry_of stamp number change ∷ [] → k ≡ j ++ listed (entry_by stamp (in_project n f))
-  accepted_adds change k e p = p ∙ ap (λ o. j ++ listed (entry_by stamp o)) (sym (asked ∙ e))
 
 -- a state of the same parts is kept
 pub kept_still : (s t : State) → IsKept s → t.projects.items ≡ s.projects.items → t.entries.items ≡ s.entries.items → t.triangles ≡ s.triangles → t.text ≡ s.text → t.limits ≡ s.limits → IsKept t
