@@ -17,6 +17,10 @@ use Rattle.federation_book.proofs.Keeping.{kept_at}
 numbers_suc : (k : ℕ) → project_numbers (suc k) ≡ project_numbers k ++ (k + 1) ∷ []
 numbers_suc k = map-append (λ n. n + 1) (upto k) (k ∷ [])
 
+-- one more number
+pub one_number : (index : ℕ) (numbers more : List ℕ) → numbers ≡ project_numbers index → more ≡ numbers ++ (index + 1) ∷ [] → more ≡ project_numbers (index + 1)
+one_number index numbers more is pushed = pushed ∙ ap (λ ns. ns ++ (index + 1) ∷ []) is ∙ sym (ap project_numbers (add-one index) ∙ numbers_suc index)
+
 -- one more project
 pub sum_more : (f : ℕ → ℕ) (k : ℕ) → sum_by f (project_numbers (k + 1)) ≡ sum_by f (project_numbers k) + f (k + 1)
 sum_more f k = ap (λ n. sum_by f (project_numbers n)) (add-one k) ∙ ap (sum_by f) (numbers_suc k) ∙ sum_by_push f (project_numbers k) (k + 1)

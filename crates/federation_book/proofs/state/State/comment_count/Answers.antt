@@ -10,7 +10,7 @@ overflow_add-count c =
     let i = c.loop-index.index in
     let within : i < length s.projects.items = omega arith in
     let board = board_kept s.projects.items s.entries.items i c.index.result.now c.requires.states within c.index.ensures in
-    let part = made_few s (i + 1) c.index.result.now.board c.comment_count.result c.requires board c.comment_count.ensures.few in
+    let part = made_few s (i + 1) c.index.result.now.board c.comment_count-count.result c.requires board c.comment_count-count.ensures.few in
     let few = c.loop-index.invariant.few in
     let projects = c.requires.few in
     omega (arith, part, few, projects, within)
@@ -21,9 +21,9 @@ loop-index-preserved c =
     let i = c.loop-index.index in
     let within : i < length s.projects.items = omega arith in
     let board = board_kept s.projects.items s.entries.items i c.index.result.now c.requires.states within c.index.ensures in
-    let part = made_few s (i + 1) c.index.result.now.board c.comment_count.result c.requires board c.comment_count.ensures.few in
+    let part = made_few s (i + 1) c.index.result.now.board c.comment_count-count.result c.requires board c.comment_count-count.ensures.few in
     let few = c.loop-index.invariant.few in
     record {
-      is = count_more (λ n. length (board_of n s.entries.items).discussion.comments) i c.loop-index.count c.comment_count.result _ c.loop-index.invariant.is (c.comment_count.ensures.count ∙ ap (λ (b : BoardState). length b.discussion.comments) board) refl;
+      is = count_more (λ n. length (board_of n s.entries.items).discussion.comments) i c.loop-index.count c.comment_count-count.result _ c.loop-index.invariant.is (c.comment_count-count.ensures.count ∙ ap (λ (b : BoardState). length b.discussion.comments) board) refl;
       few = omega (arith, part, few);
     }
