@@ -2,12 +2,13 @@
 use Rattle.std.proofs.Common.{◌≡◌, ◌+◌, ◌*◌, ◌<◌, ◌≤◌, ◌^◌, ℕ, List, [], ◌∷◌, ◌++◌, length, Option, Some, None, refl, sym, ◌∙◌, ap, subst, arith}
 use Rattle.bim_model.specs.declared.guid.Guid.{Guid}
 use Rattle.bim_model.specs.declared.topic.Author.{Author}
+use Rattle.bcf_topics.specs.declared.body.TopicBody.{TopicBody}
 use Rattle.bcf_topics.specs.declared.comment.CommentBody.{CommentBody}
 use Rattle.bcf_viewpoints.specs.declared.view.ViewBody.{ViewBody}
 use Rattle.book_turn.specs.declared.object.Stamp.{Stamp}
 use Rattle.book_topics.specs.Boards.{BoardState}
 use Rattle.book_history.specs.declared.changes.Change.{Change}
-use Rattle.book_history.specs.declared.changes.Change.TheVariants.{Upload, Remove, SetRules, BucketDone, PostComment, PutComment, DeleteComment, PostView, DeleteView}
+use Rattle.book_history.specs.declared.changes.Change.TheVariants.{Upload, Remove, SetRules, BucketDone, PostTopic, PutTopic, DeleteTopic, ClashTopic, PostComment, PutComment, DeleteComment, PostView, DeleteView}
 use Rattle.book_history.specs.declared.changes.Entry.{Entry}
 use Rattle.book_history.specs.declared.faults.BookFault.{BookFault}
 use Rattle.book_history.specs.declared.limits.Settings.{Settings}
@@ -46,6 +47,23 @@ fits_note b pair (Remove name) fits = absurd fits
 fits_note b pair (SetRules rules weight) fits = absurd fits
 fits_note b pair (BucketDone version cell) fits = absurd fits
 fits_note b pair _ fits = tt
+
+-- one that is not about topics is about comments or viewpoints
+pub fits_further : (b : BoardState) (pair : Option (Guid × Guid)) (c : Change) → Fits b pair c
+    → ((body : TopicBody) (author : Author) (weight : ℕ) → c ≡ PostTopic body author weight → ⊥)
+    → ((topic : ℕ) (body : TopicBody) (author : Author) (weight : ℕ) → c ≡ PutTopic topic body author weight → ⊥)
+    → ((topic : ℕ) → c ≡ DeleteTopic topic → ⊥)
+    → ((version : ℕ) (place : ℕ) (author : Author) (weight : ℕ) → c ≡ ClashTopic version place author weight → ⊥)
+    → IsFurther c
+fits_further b pair (PostTopic body author weight) fits h0 h1 h2 h3 = absurd (h0 body author weight refl)
+fits_further b pair (PutTopic topic body author weight) fits h0 h1 h2 h3 = absurd (h1 topic body author weight refl)
+fits_further b pair (DeleteTopic topic) fits h0 h1 h2 h3 = absurd (h2 topic refl)
+fits_further b pair (ClashTopic version place author weight) fits h0 h1 h2 h3 = absurd (h3 version place author weight refl)
+fits_further b pair (Upload name model) fits h0 h1 h2 h3 = absurd fits
+fits_further b pair (Remove name) fits h0 h1 h2 h3 = absurd fits
+fits_further b pair (SetRules rules weight) fits h0 h1 h2 h3 = absurd fits
+fits_further b pair (BucketDone version cell) fits h0 h1 h2 h3 = absurd fits
+fits_further b pair _ fits h0 h1 h2 h3 = tt
 
 -- one of comments or viewpoints is one of these
 pub further_only : (c : Change) → IsFurther c

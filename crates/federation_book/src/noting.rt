@@ -51,15 +51,7 @@ fn apply(
             let noted = board.post_clash(alloc, &a, &b, author)?;
             Ok(ReplyBody::TopicIs(noted))
         }
-        Change::PostComment { .. } => apply_further(board, alloc, change, pair),
-        Change::PutComment { .. } => apply_further(board, alloc, change, pair),
-        Change::DeleteComment { .. } => apply_further(board, alloc, change, pair),
-        Change::PostView { .. } => apply_further(board, alloc, change, pair),
-        Change::DeleteView { .. } => apply_further(board, alloc, change, pair),
-        Change::Upload { .. } => unreachable!(),
-        Change::Remove { .. } => unreachable!(),
-        Change::SetRules { .. } => unreachable!(),
-        Change::BucketDone { .. } => unreachable!(),
+        _ => apply_further(board, alloc, change, pair),
     }
 }
 
