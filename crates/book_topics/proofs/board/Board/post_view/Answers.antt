@@ -11,11 +11,8 @@ overflow_add-serial c =
     let room = c.requires.room in
     omega (arith, made, room)
 
-pub of-told-requires : goal.of-told-requires
-of-told-requires c = subst (λ (body : ViewBody). IsViewBody body) (sym c.in_ok-said.ensures) c.get.ensures.good
-
 pub post-requires : goal.post-requires
-post-requires c = subst (λ (body : ViewBody). IsViewBody body) (sym c.in_ok-body.ensures) c.get-2.ensures.good
+post-requires c = subst (λ (body : ViewBody). IsViewBody body) (sym c.in_ok-bodies.ensures.first) c.get.ensures.good
 
 pub invariant_of-self : goal.invariant_of-self
 invariant_of-self c = rw c.in_err-post.ensures.err c.self.invariant
@@ -29,16 +26,19 @@ invariant_of-self-2 c =
     let b = board c.self.inside.topics c.self.inside.views c.self.inside.made in
     let there = subst (λ (x : BoardState). IsSome (topic_at x c.args.topic)) (sym c.self.view_is) c.requires.there in
     let known = topic_made b c.args.topic c.self.invariant there in
-    rw c.in_ok-post.ensures.ok (view_added_is b c.args.topic c.in_ok-body.body known c.self.invariant)
+    rw c.in_ok-post.ensures.ok (view_added_is b c.args.topic c.in_ok-bodies.bodies.0 known c.self.invariant)
+
+pub of-requires : goal.of-requires
+of-requires c = subst (λ (body : ViewBody). IsViewBody body) (sym c.in_ok-bodies.ensures.second) c.get.ensures.good
 
 pub returns-clause-told : goal.returns-clause-told
 returns-clause-told c =
-    c.of-told.ensures ∙ ap (viewpoint (c.self.inside.made + 1)) (c.in_ok-said.ensures ∙ c.get.ensures.same)
+    c.of.ensures ∙ ap (viewpoint (c.self.inside.made + 1)) (c.in_ok-bodies.ensures.second ∙ c.get.ensures.same)
     ∙ ap (λ (b : BoardState). viewpoint (next_serial b) c.args.body.now) c.self.view_is
 
 pub returns-clause-ok : goal.returns-clause-ok
 returns-clause-ok c =
     let b = board c.self.inside.topics c.self.inside.views c.self.inside.made in
     ap (λ (v : Views). board b.discussion v (b.made + 1)) c.in_ok-post.ensures.ok
-    ∙ ap (view_added b c.args.topic) (c.in_ok-body.ensures ∙ c.get-2.ensures.same)
+    ∙ ap (view_added b c.args.topic) (c.in_ok-bodies.ensures.first ∙ c.get.ensures.same)
     ∙ ap (λ (x : BoardState). view_added x c.args.topic c.args.body.now) c.self.view_is
