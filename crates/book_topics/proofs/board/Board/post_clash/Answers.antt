@@ -5,6 +5,7 @@ use Rattle.bcf_viewpoints.specs.Views.{Views, IsViewBody, views_off}
 use Rattle.book_topics.specs.Boards.{BoardState, next_serial, topic_added, view_added}
 use Rattle.book_topics.specs.OfClashes.{clash_body, clash_topic, clash_added}
 use Rattle.book_topics.proofs.Boards.{board, below_next, clash_view_good, clash_added_is, taken_back}
+use Rattle.book_topics.proofs.Errors.{on_err}
 use Rattle.book_topics.proofs.board.Board.post_clash.Goals as goal
 
 pub overflow_add-serial : goal.overflow_add-serial
@@ -29,7 +30,7 @@ invariant_of-self c = rw c.in_err-post.ensures.err c.self.invariant
 
 pub returns-in_err-post-clause-err : goal.returns-in_err-post-clause-err
 returns-in_err-post-clause-err c =
-    ap (λ (v : Views). board c.self.inside.topics v c.self.inside.made) c.in_err-post.ensures.err ∙ c.self.view_is
+    on_err c.from_residual-in_err-post.result (ap (λ (v : Views). board c.self.inside.topics v c.self.inside.made) c.in_err-post.ensures.err ∙ c.self.view_is)
 
 pub add_clash-requires : goal.add_clash-requires
 add_clash-requires c = record {

@@ -3,6 +3,7 @@ use Rattle.bcf_topics.specs.Comments.{new_comment}
 use Rattle.bcf_topics.specs.Discussions.{Discussion}
 use Rattle.book_topics.specs.Boards.{BoardState, next_serial, topic_at, comment_added}
 use Rattle.book_topics.proofs.Boards.{board, comment_added_is}
+use Rattle.book_topics.proofs.Errors.{on_err}
 use Rattle.book_topics.proofs.board.Board.post_comment.Goals as goal
 
 pub overflow_add-serial : goal.overflow_add-serial
@@ -19,7 +20,7 @@ invariant_of-self c = rw c.in_err-told.ensures.err c.self.invariant
 
 pub returns-in_err-told-clause-err : goal.returns-in_err-told-clause-err
 returns-in_err-told-clause-err c =
-    ap (λ (d : Discussion). board d c.self.inside.views c.self.inside.made) c.in_err-told.ensures.err ∙ c.self.view_is
+    on_err c.from_residual.result (ap (λ (d : Discussion). board d c.self.inside.views c.self.inside.made) c.in_err-told.ensures.err ∙ c.self.view_is)
 
 pub invariant_of-self-2 : goal.invariant_of-self-2
 invariant_of-self-2 c =

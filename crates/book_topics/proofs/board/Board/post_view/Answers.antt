@@ -3,6 +3,7 @@ use Rattle.bcf_viewpoints.specs.declared.view.ViewBody.{ViewBody}
 use Rattle.bcf_viewpoints.specs.Views.{Views, IsViewBody, viewpoint}
 use Rattle.book_topics.specs.Boards.{BoardState, next_serial, topic_at, view_added}
 use Rattle.book_topics.proofs.Boards.{board, topic_made, view_added_is}
+use Rattle.book_topics.proofs.Errors.{on_err}
 use Rattle.book_topics.proofs.board.Board.post_view.Goals as goal
 
 pub overflow_add-serial : goal.overflow_add-serial
@@ -19,7 +20,7 @@ invariant_of-self c = rw c.in_err-post.ensures.err c.self.invariant
 
 pub returns-in_err-post-clause-err : goal.returns-in_err-post-clause-err
 returns-in_err-post-clause-err c =
-    ap (λ (v : Views). board c.self.inside.topics v c.self.inside.made) c.in_err-post.ensures.err ∙ c.self.view_is
+    on_err c.from_residual-in_err-post.result (ap (λ (v : Views). board c.self.inside.topics v c.self.inside.made) c.in_err-post.ensures.err ∙ c.self.view_is)
 
 pub invariant_of-self-2 : goal.invariant_of-self-2
 invariant_of-self-2 c =
