@@ -1,11 +1,11 @@
-use Rattle.std.proofs.Common.{◌≡◌, Option, Some, None, IsSome, sym, ap, ap₂, ◌∙◌, subst}
+use Rattle.std.proofs.Common.{Option, Some, IsSome, sym, ap, ap₂, ◌∙◌, subst}
 use Rattle.std.specs.Option.{option_map, option_copied}
 use Rattle.std.proofs.lemmas.Bool.{false≢true}
 use Rattle.bcf_topics.specs.declared.topic.Topic.{Topic}
-use Rattle.bcf_topics.specs.Topics.{topic_of, topic_put, topics_put}
-use Rattle.bcf_topics.specs.Discussions.{Discussion, with_topics}
+use Rattle.bcf_topics.specs.Topics.{topic_put}
+use Rattle.bcf_topics.specs.Discussions.{Discussion}
 use Rattle.book_topics.specs.Boards.{BoardState, topic_at, topic_replaced}
-use Rattle.book_topics.proofs.Boards.{board, topic_replaced_is, topic_unrefused, answered_ok, no_error}
+use Rattle.book_topics.proofs.Boards.{board, topic_replaced_is, topic_unrefused, no_error}
 use Rattle.book_topics.proofs.board.Board.put_topic.Goals as goal
 
 pub unreachable-requires : goal.unreachable-requires
