@@ -1,2 +1,3 @@
+mod Errors
 pub mod Boards
 pub mod Naming

@@ -1,12 +1,13 @@
 //! Topics that are made of clashes.
-ghost use Rattle.std.specs.Prelude.{◌≡◌, ◌<◌, ◌+◌, ◌^◌, ◌∷◌, [], IfOk, OnOk, OnErr};
+ghost use Rattle.std.specs.Prelude.{◌≡◌, ◌<◌, ◌+◌, ◌^◌, ◌++◌, ◌∷◌, [], All, IfOk, OnOk, OnErr};
 ghost use Rattle.bim_model.specs.Guids.{IsGuid};
 ghost use Rattle.bcf_topics.specs.Topics.{new_topic};
+ghost use Rattle.bcf_topics.specs.Discussions.{with_topics};
 ghost use Rattle.book_topics.specs.OfClashes.{clash_title, clash_body, component_of, clash_view, clash_topic, clash_added};
 
 use crate::board::Board;
-use crate::topics::new_topic;
-use bcf_topics::{Author, Topic, TopicBody};
+use crate::topics::add_topic;
+use bcf_topics::{Author, Topic, TopicBody, Topics};
 use bcf_viewpoints::{Component, ViewBody};
 use bim_model::{Duplicate, Guid, Items, Text};
 use std::alloc::{AllocError, Global};
@@ -78,37 +79,26 @@ fn clash_view(alloc: Global, a: &Guid, b: &Guid) -> Result<ViewBody, AllocError>
     })
 }
 
-// What is made of a clash: its topic as it is told, what is kept of it, and the viewpoint.
-#[derive(Drop)]
-struct Parts {
-    told: Topic,
-    body: TopicBody,
-    author: Author,
-    view: ViewBody,
-}
-
-// .. under this number.
-fn parts_of(
+// Makes the topic under this number, and tells it. An `Err` leaves the topics as they were.
+fn add_clash(
+    topics: &mut Topics,
     alloc: Global,
     serial: u64,
     a: &Guid,
     b: &Guid,
     author: &Author,
-) -> Result<Parts, AllocError>
+) -> Result<Topic, AllocError>
     requires first { IsGuid a.now.chars }
     requires second { IsGuid b.now.chars }
-    ensures told { IfOk result (λ parts. parts.told ≡ new_topic serial (clash_body a.now b.now) author.now) }
-    ensures body { IfOk result (λ parts. parts.body ≡ clash_body a.now b.now) }
-    ensures author { IfOk result (λ parts. parts.author ≡ author.now) }
-    ensures view { IfOk result (λ parts. parts.view ≡ clash_view a.now b.now) }
+    requires last { All (λ t. t.serial < serial) topics.old.topics }
+    ensures told { IfOk result (λ topic. topic ≡ new_topic serial (clash_body a.now b.now) author.now) }
+    ensures ok { OnOk result (topics.new
+        ≡ with_topics (topics.old.topics ++ new_topic serial (clash_body a.now b.now) author.now ∷ [])
+        topics.old) }
+    ensures err { OnErr result (topics.new ≡ topics.old) }
 {
     let body = clash_body(alloc, a, b)?;
-    Ok(Parts {
-        told: new_topic(alloc, serial, &body, author)?,
-        body,
-        author: author.copy(alloc)?,
-        view: clash_view(alloc, a, b)?,
-    })
+    add_topic(topics, alloc, serial, &body, author)
 }
 
 impl Board {
@@ -130,16 +120,10 @@ impl Board {
     {
         let serial = self.made + 1;
         let next = serial + 1;
-        let parts = parts_of(alloc, serial, a, b, author)?;
-        let Parts {
-            told,
-            body,
-            author,
-            view,
-        } = parts;
+        let view = clash_view(alloc, a, b)?;
         self.views.post(next, serial, view)?;
-        match self.topics.post_topic(serial, body, author) {
-            Ok(()) => {
+        match add_clash(&mut self.topics, alloc, serial, a, b, author) {
+            Ok(told) => {
                 self.made = next;
                 Ok(told)
             }

@@ -1,48 +1,81 @@
 //! Comments on the topics of a board.
 ghost use Rattle.std.specs.Prelude.{◌≡◌, ◌<◌, ◌+◌, ◌^◌, Some, option_map, map, IsSome, IfOk, OnOk, OnErr};
-ghost use Rattle.bcf_topics.specs.Comments.{new_comment, comment_put, comments_on};
+ghost use Rattle.bcf_topics.specs.Topics.{topic_of};
+ghost use Rattle.bcf_topics.specs.Comments.{new_comment, comment_put, comments_on, comments_with};
+ghost use Rattle.bcf_topics.specs.Discussions.{with_comments};
 ghost use Rattle.book_topics.specs.Boards.{next_serial, topic_at, comment_at, comment_added, comment_replaced, comment_removed};
 
 use crate::board::Board;
-use bcf_topics::{Author, Comment, CommentBody, TopicError};
+use crate::pairs::two_of;
+use bcf_topics::{Author, Comment, CommentBody, TopicError, Topics};
 use bim_model::{Duplicate, Items};
 use std::alloc::{AllocError, Global};
 
-// A comment that is made just now.
-fn new_comment(
+// Makes a comment on a topic under this number, and tells it. An `Err` leaves all as it was.
+fn add_comment(
+    topics: &mut Topics,
     alloc: Global,
     topic: u64,
     serial: u64,
     body: &CommentBody,
     author: &Author,
 ) -> Result<Comment, AllocError>
-    ensures { IfOk result (λ comment. comment ≡ new_comment topic serial body.now author.now) }
+    requires { IsSome (topic_of topic topics.old.topics) }
+    ensures told { IfOk result (λ comment. comment ≡ new_comment topic serial body.now author.now) }
+    ensures ok { OnOk result (topics.new
+        ≡ with_comments (comments_with topic serial body.now author.now topics.old.comments) topics.old) }
+    ensures err { OnErr result (topics.new ≡ topics.old) }
 {
-    Ok(Comment {
-        serial,
-        topic,
-        body: body.copy(alloc)?,
-        created: author.copy(alloc)?,
-        modified: None,
-    })
+    let authors = two_of(alloc, author)?;
+    let bodies = two_of(alloc, body)?;
+    let (author, created) = authors;
+    let (body, said) = bodies;
+    match topics.post_comment(serial, topic, body, author) {
+        Ok(()) => Ok(Comment {
+            serial,
+            topic,
+            body: said,
+            created,
+            modified: None,
+        }),
+        Err(TopicError::Memory) => Err(AllocError),
+        Err(TopicError::NoTopic) => unreachable!(),
+        Err(TopicError::NoComment) => unreachable!(),
+    }
 }
 
-// A comment with another body in the place of its own.
+// A comment with another body in the place of its own, as it is told, and what of it is kept.
+#[derive(Drop)]
+struct Put {
+    told: Comment,
+    body: CommentBody,
+    author: Author,
+}
+
+// .. of this comment.
 fn put_in(
     alloc: Global,
     comment: &Comment,
     body: &CommentBody,
     author: &Author,
-) -> Result<Comment, AllocError>
-    ensures { IfOk result (λ put. put ≡ comment_put body.now author.now comment.now) }
+) -> Result<Put, AllocError>
+    ensures told { IfOk result (λ put. put.told ≡ comment_put body.now author.now comment.now) }
+    ensures body { IfOk result (λ put. put.body ≡ body.now) }
+    ensures author { IfOk result (λ put. put.author ≡ author.now) }
 {
-    Ok(Comment {
+    let created = comment.created.copy(alloc)?;
+    let authors = two_of(alloc, author)?;
+    let bodies = two_of(alloc, body)?;
+    let (author, modified) = authors;
+    let (body, said) = bodies;
+    let told = Comment {
         serial: comment.serial,
         topic: comment.topic,
-        body: body.copy(alloc)?,
-        created: comment.created.copy(alloc)?,
-        modified: Some(author.copy(alloc)?),
-    })
+        body: said,
+        created,
+        modified: Some(modified),
+    };
+    Ok(Put { told, body, author })
 }
 
 // Comments equal to those that are lent.
@@ -82,18 +115,9 @@ impl Board {
         ensures err { OnErr result (self.new ≡ self.old) }
     {
         let serial = self.made + 1;
-        let told = new_comment(alloc, topic, serial, body, author)?;
-        let body = body.copy(alloc)?;
-        let author = author.copy(alloc)?;
-        match self.topics.post_comment(serial, topic, body, author) {
-            Ok(()) => {
-                self.made = serial;
-                Ok(told)
-            }
-            Err(TopicError::Memory) => Err(AllocError),
-            Err(TopicError::NoTopic) => unreachable!(),
-            Err(TopicError::NoComment) => unreachable!(),
-        }
+        let told = add_comment(&mut self.topics, alloc, topic, serial, body, author)?;
+        self.made = serial;
+        Ok(told)
     }
 
     /// Puts another body in the place of a comment's whole body, and tells the comment. An `Err` leaves all as it
@@ -116,9 +140,8 @@ impl Board {
         let Some(comment) = self.topics.comment(topic, serial) else {
             unreachable!()
         };
-        let told = put_in(alloc, comment, body, author)?;
-        let body = body.copy(alloc)?;
-        let author = author.copy(alloc)?;
+        let put = put_in(alloc, comment, body, author)?;
+        let Put { told, body, author } = put;
         let Ok(()) = self.topics.put_comment(topic, serial, body, author) else {
             unreachable!()
         };

@@ -6,6 +6,7 @@ mod board;
 mod clashes;
 mod comments;
 mod named;
+mod pairs;
 mod topics;
 mod views;
 

@@ -1,45 +1,73 @@
 //! Topics of a board.
-ghost use Rattle.std.specs.Prelude.{◌≡◌, ◌<◌, ◌+◌, ◌^◌, Some, option_map, IsSome, IfOk, OnOk, OnErr};
+ghost use Rattle.std.specs.Prelude.{◌≡◌, ◌<◌, ◌+◌, ◌^◌, ◌++◌, ◌∷◌, [], Some, All, option_map, IsSome, IfOk, OnOk, OnErr};
 ghost use Rattle.bcf_topics.specs.Topics.{new_topic, topic_put};
+ghost use Rattle.bcf_topics.specs.Discussions.{with_topics};
 ghost use Rattle.book_topics.specs.Boards.{next_serial, topic_at, topic_added, topic_replaced, topic_removed};
 
 use crate::board::Board;
-use bcf_topics::{Author, Topic, TopicBody};
+use crate::pairs::two_of;
+use bcf_topics::{Author, Topic, TopicBody, Topics};
 use bim_model::{Duplicate, Items};
 use std::alloc::{AllocError, Global};
 
-// A topic that is made just now.
-pub(crate) fn new_topic(
+// Makes a topic under this number, and tells it. An `Err` leaves the topics as they were.
+pub(crate) fn add_topic(
+    topics: &mut Topics,
     alloc: Global,
     serial: u64,
     body: &TopicBody,
     author: &Author,
 ) -> Result<Topic, AllocError>
-    ensures { IfOk result (λ topic. topic ≡ new_topic serial body.now author.now) }
+    requires { All (λ t. t.serial < serial) topics.old.topics }
+    ensures told { IfOk result (λ topic. topic ≡ new_topic serial body.now author.now) }
+    ensures ok { OnOk result (topics.new
+        ≡ with_topics (topics.old.topics ++ new_topic serial body.now author.now ∷ []) topics.old) }
+    ensures err { OnErr result (topics.new ≡ topics.old) }
 {
+    let authors = two_of(alloc, author)?;
+    let bodies = two_of(alloc, body)?;
+    let (author, created) = authors;
+    let (body, said) = bodies;
+    topics.post_topic(serial, body, author)?;
     Ok(Topic {
         serial,
-        body: body.copy(alloc)?,
-        created: author.copy(alloc)?,
+        body: said,
+        created,
         modified: None,
     })
 }
 
-// A topic with another body in the place of its own.
+// A topic with another body in the place of its own, as it is told, and what of it is kept.
+#[derive(Drop)]
+struct Put {
+    told: Topic,
+    body: TopicBody,
+    author: Author,
+}
+
+// .. of this topic.
 fn put_in(
     alloc: Global,
     topic: &Topic,
     body: &TopicBody,
     author: &Author,
-) -> Result<Topic, AllocError>
-    ensures { IfOk result (λ put. put ≡ topic_put body.now author.now topic.now) }
+) -> Result<Put, AllocError>
+    ensures told { IfOk result (λ put. put.told ≡ topic_put body.now author.now topic.now) }
+    ensures body { IfOk result (λ put. put.body ≡ body.now) }
+    ensures author { IfOk result (λ put. put.author ≡ author.now) }
 {
-    Ok(Topic {
+    let created = topic.created.copy(alloc)?;
+    let authors = two_of(alloc, author)?;
+    let bodies = two_of(alloc, body)?;
+    let (author, modified) = authors;
+    let (body, said) = bodies;
+    let told = Topic {
         serial: topic.serial,
-        body: body.copy(alloc)?,
-        created: topic.created.copy(alloc)?,
-        modified: Some(author.copy(alloc)?),
-    })
+        body: said,
+        created,
+        modified: Some(modified),
+    };
+    Ok(Put { told, body, author })
 }
 
 // Equal topics.
@@ -74,10 +102,7 @@ impl Board {
         ensures err { OnErr result (self.new ≡ self.old) }
     {
         let serial = self.made + 1;
-        let told = new_topic(alloc, serial, body, author)?;
-        let body = body.copy(alloc)?;
-        let author = author.copy(alloc)?;
-        self.topics.post_topic(serial, body, author)?;
+        let told = add_topic(&mut self.topics, alloc, serial, body, author)?;
         self.made = serial;
         Ok(told)
     }
@@ -99,9 +124,8 @@ impl Board {
         let Some(topic) = self.topics.topic(serial) else {
             unreachable!()
         };
-        let told = put_in(alloc, topic, body, author)?;
-        let body = body.copy(alloc)?;
-        let author = author.copy(alloc)?;
+        let put = put_in(alloc, topic, body, author)?;
+        let Put { told, body, author } = put;
         let Ok(()) = self.topics.put_topic(serial, body, author) else {
             unreachable!()
         };

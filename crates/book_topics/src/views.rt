@@ -4,6 +4,7 @@ ghost use Rattle.bcf_viewpoints.specs.Views.{viewpoint, views_on};
 ghost use Rattle.book_topics.specs.Boards.{next_serial, topic_at, view_at, view_added, view_removed};
 
 use crate::board::Board;
+use crate::pairs::two_of;
 use bcf_viewpoints::{CheckedBody, CheckedView};
 use bim_model::{Duplicate, Items};
 use std::alloc::{AllocError, Global};
@@ -47,12 +48,11 @@ impl Board {
         ensures err { OnErr result (self.new ≡ self.old) }
     {
         let serial = self.made + 1;
-        let said = body.get().copy(alloc)?;
-        let told = CheckedView::of(serial, said);
-        let body = body.get().copy(alloc)?;
+        let bodies = two_of(alloc, body.get())?;
+        let (body, said) = bodies;
         self.views.post(serial, topic, body)?;
         self.made = serial;
-        Ok(told)
+        Ok(CheckedView::of(serial, said))
     }
 
     /// Deletes a viewpoint. Takes no memory.

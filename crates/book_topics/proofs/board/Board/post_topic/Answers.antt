@@ -1,8 +1,9 @@
-use Rattle.std.proofs.Common.{◌+◌, sym, ap, ap₂, ◌∙◌, arith}
+use Rattle.std.proofs.Common.{◌+◌, ap, ◌∙◌, arith}
 use Rattle.bcf_topics.specs.Topics.{new_topic}
 use Rattle.bcf_topics.specs.Discussions.{Discussion}
 use Rattle.book_topics.specs.Boards.{BoardState, next_serial, topic_added}
 use Rattle.book_topics.proofs.Boards.{board, below_next, topic_added_is}
+use Rattle.book_topics.proofs.Errors.{on_err}
 use Rattle.book_topics.proofs.board.Board.post_topic.Goals as goal
 
 pub overflow_add-serial : goal.overflow_add-serial
@@ -11,28 +12,26 @@ overflow_add-serial c =
     let room = c.requires in
     omega (arith, made, room)
 
-pub post_topic-requires : goal.post_topic-requires
-post_topic-requires c = below_next c.self.inside.made c.self.inside.topics.topics c.self.invariant.topics
+pub add_topic-requires : goal.add_topic-requires
+add_topic-requires c = below_next c.self.inside.made c.self.inside.topics.topics c.self.invariant.topics
 
 pub invariant_of-self : goal.invariant_of-self
-invariant_of-self c = rw c.in_err-post_topic.ensures.err c.self.invariant
+invariant_of-self c = rw c.in_err-told.ensures.err c.self.invariant
 
-pub returns-in_err-post_topic-clause-err : goal.returns-in_err-post_topic-clause-err
-returns-in_err-post_topic-clause-err c =
-    ap (λ (d : Discussion). board d c.self.inside.views c.self.inside.made) c.in_err-post_topic.ensures.err ∙ c.self.view_is
+pub returns-in_err-told-clause-err : goal.returns-in_err-told-clause-err
+returns-in_err-told-clause-err c =
+    on_err c.from_residual.result (ap (λ (d : Discussion). board d c.self.inside.views c.self.inside.made) c.in_err-told.ensures.err ∙ c.self.view_is)
 
 pub invariant_of-self-2 : goal.invariant_of-self-2
 invariant_of-self-2 c =
     let b = board c.self.inside.topics c.self.inside.views c.self.inside.made in
-    rw c.in_ok-post_topic.ensures.ok (topic_added_is b c.in_ok-body.body c.in_ok-author.author c.self.invariant)
+    rw c.in_ok-told.ensures.ok (topic_added_is b c.args.body.now c.args.author.now c.self.invariant)
 
 pub returns-clause-told : goal.returns-clause-told
 returns-clause-told c =
-    c.in_ok-told.ensures ∙ ap (λ (b : BoardState). new_topic (next_serial b) c.args.body.now c.args.author.now) c.self.view_is
+    c.in_ok-told.ensures.told ∙ ap (λ (b : BoardState). new_topic (next_serial b) c.args.body.now c.args.author.now) c.self.view_is
 
 pub returns-clause-ok : goal.returns-clause-ok
 returns-clause-ok c =
-    let b = board c.self.inside.topics c.self.inside.views c.self.inside.made in
-    ap (λ (d : Discussion). board d b.views (b.made + 1)) c.in_ok-post_topic.ensures.ok
-    ∙ ap₂ (topic_added b) c.in_ok-body.ensures c.in_ok-author.ensures
+    ap (λ (d : Discussion). board d c.self.inside.views (c.self.inside.made + 1)) c.in_ok-told.ensures.ok
     ∙ ap (λ (x : BoardState). topic_added x c.args.body.now c.args.author.now) c.self.view_is

@@ -1,4 +1,4 @@
-use Rattle.std.proofs.Common.{◌≡◌, Option, Some, None, IsSome, sym, ap, ap₂, ◌∙◌, subst}
+use Rattle.std.proofs.Common.{Option, Some, IsSome, sym, ap, ap₂, ◌∙◌, subst}
 use Rattle.std.specs.Option.{option_map, option_copied}
 use Rattle.std.proofs.lemmas.Bool.{false≢true}
 use Rattle.bcf_topics.specs.declared.comment.Comment.{Comment}
@@ -22,18 +22,18 @@ unreachable-requires-in_default-put_comment c =
 pub invariant_of-self : goal.invariant_of-self
 invariant_of-self c =
     let b = board c.self.inside.topics c.self.inside.views c.self.inside.made in
-    rw c.in-Ok.ensures.after (comment_replaced_is b c.args.topic c.args.serial c.in_ok-body.body c.in_ok-author.author c.self.invariant)
+    rw c.in-Ok.ensures.after (comment_replaced_is b c.args.topic c.args.serial c.in_ok-put.put.body c.in_ok-put.put.author c.self.invariant)
 
 pub returns-clause-told : goal.returns-clause-told
 returns-clause-told c =
     let put = comment_put c.args.body.now c.args.author.now in
     let found = sym (ap option_copied c.in-Some.is) ∙ c.comment.ensures in
-    ap (λ (t : Comment). Some t) c.in_ok-told.ensures ∙ ap (option_map put) found
+    ap (λ (t : Comment). Some t) c.in_ok-put.ensures.told ∙ ap (option_map put) found
     ∙ ap (λ (b : BoardState). option_map put (comment_at b c.args.topic c.args.serial)) c.self.view_is
 
 pub returns-clause-ok : goal.returns-clause-ok
 returns-clause-ok c =
     let b = board c.self.inside.topics c.self.inside.views c.self.inside.made in
     ap (λ (d : Discussion). board d b.views b.made) c.in-Ok.ensures.after
-    ∙ ap₂ (comment_replaced b c.args.topic c.args.serial) c.in_ok-body.ensures c.in_ok-author.ensures
+    ∙ ap₂ (comment_replaced b c.args.topic c.args.serial) c.in_ok-put.ensures.body c.in_ok-put.ensures.author
     ∙ ap (λ (x : BoardState). comment_replaced x c.args.topic c.args.serial c.args.body.now c.args.author.now) c.self.view_is
