@@ -27,6 +27,6 @@ returns-in-DeleteComment-clause-done c =
     done_as c.delete_comment.result (settings_of c.args.state.now) c.args.state.now.entries.items c.delete_comment.new.state.entries.items c.args.stamp c.args.request
     (request.DeleteComment c.in-DeleteComment.project c.in-DeleteComment.topic c.in-DeleteComment.comment) c.in-DeleteComment.is c.delete_comment.ensures.done
 
-pub prove-unreachable-requires : goal.prove-unreachable-requires
-prove-unreachable-requires c =
+pub unreachable-requires : goal.unreachable-requires
+unreachable-requires c =
     comments_only c.args.request c.requires.subject c.in_default.not-ListComments c.in_default.not-ReadComment c.in_default.not-PostComment c.in_default.not-PutComment c.in_default.not-DeleteComment

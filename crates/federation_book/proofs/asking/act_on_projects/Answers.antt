@@ -12,6 +12,6 @@ pub returns-in-ReadProject-clause-done : goal.returns-in-ReadProject-clause-done
 returns-in-ReadProject-clause-done c =
     told_as c.read_project.result (settings_of c.args.state.now) c.args.state.now.entries.items c.args.stamp c.args.request (request.ReadProject c.in-ReadProject.project) c.in-ReadProject.is c.read_project.ensures
 
-pub prove-unreachable-requires : goal.prove-unreachable-requires
-prove-unreachable-requires c =
+pub unreachable-requires : goal.unreachable-requires
+unreachable-requires c =
     projects_only c.args.request c.requires.subject c.in_default.not-ListProjects c.in_default.not-ReadProject

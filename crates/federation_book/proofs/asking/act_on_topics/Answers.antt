@@ -32,6 +32,6 @@ returns-in-DeleteTopic-clause-done c =
     done_as c.delete_topic.result (settings_of c.args.state.now) c.args.state.now.entries.items c.delete_topic.new.state.entries.items c.args.stamp c.args.request
     (request.DeleteTopic c.in-DeleteTopic.project c.in-DeleteTopic.topic) c.in-DeleteTopic.is c.delete_topic.ensures.done
 
-pub prove-unreachable-requires : goal.prove-unreachable-requires
-prove-unreachable-requires c =
+pub unreachable-requires : goal.unreachable-requires
+unreachable-requires c =
     topics_only c.args.request c.requires.subject c.in_default.not-ClashTopic c.in_default.not-ListTopics c.in_default.not-ReadTopic c.in_default.not-PostTopic c.in_default.not-PutTopic c.in_default.not-DeleteTopic

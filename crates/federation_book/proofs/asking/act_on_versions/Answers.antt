@@ -77,6 +77,6 @@ returns-in-ReadClashes-clause-done c =
     (reply_is c.read_clashes.result h (in_project c.project_of-in-ReadClashes.result (clashes_read h c.in-ReadClashes.version c.in-ReadClashes.first c.in-ReadClashes.pairs)) (outcome_of s h c.args.request) (ap (λ n. in_project n (clashes_read h c.in-ReadClashes.version c.in-ReadClashes.first c.in-ReadClashes.pairs)) number ∙ ap (outcome_of s h) (sym c.in-ReadClashes.is)) c.read_clashes.ensures.reply)
     (asked_is c.read_clashes.result h (in_project c.project_of-in-ReadClashes.result (clashes_read h c.in-ReadClashes.version c.in-ReadClashes.first c.in-ReadClashes.pairs)) (outcome_of s h c.args.request) (ap (λ n. in_project n (clashes_read h c.in-ReadClashes.version c.in-ReadClashes.first c.in-ReadClashes.pairs)) number ∙ ap (outcome_of s h) (sym c.in-ReadClashes.is)) c.read_clashes.new.state.entries.items c.args.stamp c.read_clashes.ensures.entries (clashes_add c.args.stamp h c.in-ReadClashes.version c.in-ReadClashes.first c.in-ReadClashes.pairs c.project_of-in-ReadClashes.result))
 
-pub prove-unreachable-requires : goal.prove-unreachable-requires
-prove-unreachable-requires c =
+pub unreachable-requires : goal.unreachable-requires
+unreachable-requires c =
     versions_only c.args.request c.requires.subject c.in_default.not-Upload c.in_default.not-Remove c.in_default.not-SetRules c.in_default.not-ReadVersion c.in_default.not-ReadClashes

@@ -22,6 +22,6 @@ returns-in-DeleteView-clause-done c =
     done_as c.delete_view.result (settings_of c.args.state.now) c.args.state.now.entries.items c.delete_view.new.state.entries.items c.args.stamp c.args.request
     (request.DeleteView c.in-DeleteView.project c.in-DeleteView.topic c.in-DeleteView.view) c.in-DeleteView.is c.delete_view.ensures.done
 
-pub prove-unreachable-requires : goal.prove-unreachable-requires
-prove-unreachable-requires c =
+pub unreachable-requires : goal.unreachable-requires
+unreachable-requires c =
     views_only c.args.request c.requires.subject c.in_default.not-ListViews c.in_default.not-ReadView c.in_default.not-PostView c.in_default.not-DeleteView

@@ -28,6 +28,6 @@ returns-in-Finish-clause-done c =
     (reply_is c.finish.result h (finished h c.in-Finish.set) (outcome_of s h c.args.request) (ap (outcome_of s h) (sym c.in-Finish.is)) c.finish.ensures.reply)
     (added_is c.finish.result h (finished h c.in-Finish.set) (outcome_of s h c.args.request) (ap (outcome_of s h) (sym c.in-Finish.is)) k c.args.stamp c.finish.ensures.added)
 
-pub prove-unreachable-requires : goal.prove-unreachable-requires
-prove-unreachable-requires c =
+pub unreachable-requires : goal.unreachable-requires
+unreachable-requires c =
     work_only c.args.request c.requires.subject c.in_default.not-TakeWork c.in_default.not-Finish

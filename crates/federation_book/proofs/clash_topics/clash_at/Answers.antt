@@ -12,13 +12,13 @@ element-requires c =
     let within = clash.within in
     omega (arith, below, within)
 
-pub element-requires-2 : goal.element-requires-2
-element-requires-2 c = c.in-Some.ensures.clash.within
+pub element-requires-in-Some : goal.element-requires-in-Some
+element-requires-in-Some c = c.in-Some.ensures.clash.within
 
 pub returns-in-Some-clause-is : goal.returns-in-Some-clause-is
 returns-in-Some-clause-is c =
-    ap₂ (λ (a b : Element). Some (a.guid, b.guid)) c.element.ensures.element c.element-2.ensures.element
+    ap₂ (λ (a b : Element). Some (a.guid, b.guid)) c.element.ensures.element c.element-in-Some.ensures.element
     ∙ ap (option_map (guids_of c.args.published.now)) c.in-Some.ensures.pair
 
 pub returns-in-Some-clause-good : goal.returns-in-Some-clause-good
-returns-in-Some-clause-good c = record { first = c.element.ensures.modelled.guid; second = c.element-2.ensures.modelled.guid }
+returns-in-Some-clause-good c = record { first = c.element.ensures.modelled.guid; second = c.element-in-Some.ensures.modelled.guid }

@@ -27,7 +27,7 @@ note_clash-requires-clause-published c =
     let n = c.in-Some.number in
     let got = ready settings h c.args.stamp n c.args.wanted c.args.place c.args.author c.args.weight c.in-Clashes.version c.in-Clashes.set _ _ (sym c.in-Clashes.is ∙ c.in_ok-read.ensures.reply) in
     c.get.ensures ∙ sym got.set_is ∙ ap (λ v. (version_at (state_of n h).versions v).content) got.number_is
-    ∙ ap (λ j. content_of n c.in-Clashes.version j) (sym c.read_clashes-read.ensures.entries)
+    ∙ ap (λ j. content_of n c.in-Clashes.version j) (sym c.read_clashes.ensures.entries)
 
 pub returns-in-Clashes-clause-done : goal.returns-in-Clashes-clause-done
 returns-in-Clashes-clause-done c =
@@ -41,8 +41,8 @@ returns-in-Clashes-clause-done c =
     some_done c.note_clash.result h k c.args.stamp NoProject (project_of count c.args.project) n
     (clash_noted settings h c.args.wanted c.args.place c.args.author c.args.weight) (sym c.in-Some.ensures.is)
     (then_noted settings h c.args.stamp n c.args.wanted c.args.place c.args.author c.args.weight c.note_clash.result k number c.in-Clashes.set got
-    (still_done c.note_clash.result settings (settings_of c.read_clashes-read.new.state) h c.read_clashes-read.new.state.entries.items k c.args.stamp n number c.args.place
-    (ClashTopic number c.args.place c.args.author c.args.weight) c.read_clashes-read.ensures.settings c.read_clashes-read.ensures.entries c.note_clash.ensures.done))
+    (still_done c.note_clash.result settings (settings_of c.read_clashes.new.state) h c.read_clashes.new.state.entries.items k c.args.stamp n number c.args.place
+    (ClashTopic number c.args.place c.args.author c.args.weight) c.read_clashes.ensures.settings c.read_clashes.ensures.entries c.note_clash.ensures.done))
 
 pub returns-in_default-read-clause-done : goal.returns-in_default-read-clause-done
 returns-in_default-read-clause-done c =
@@ -53,4 +53,4 @@ returns-in_default-read-clause-done c =
     let outcome = clash_noted settings h c.args.wanted c.args.place c.args.author c.args.weight in
     let done = one_done h h c.args.stamp NoProject (project_of count c.args.project) n outcome c.in_ok-read.read (sym c.in-Some.ensures.is)
     (not_ready settings h c.args.stamp n c.args.wanted c.args.place c.args.author c.args.weight c.in_ok-read.read c.in_ok-read.ensures.reply c.in_default-read.not-Clashes) in
-    record { reply = done.reply; added = c.read_clashes-read.ensures.entries ∙ done.added }
+    record { reply = done.reply; added = c.read_clashes.ensures.entries ∙ done.added }

@@ -42,20 +42,20 @@ returns-in_default-comment_named c =
     (none_told h NoComment (comment_named number board c.in-Some-topic_named.topic c.args.comment)
     (λ m. Answer (comment_told (comment_at board c.in-Some-topic_named.topic m))) (comment_is lent board number c.in-Some-topic_named.topic c.args.comment None None c.board-board.ensures c.in_default-comment_named.ensures.named refl)))
 
-pub returns : goal.returns
-returns c =
+pub returns-in_ok-copy-in-Some-comment : goal.returns-in_ok-copy-in-Some-comment
+returns-in_ok-copy-in-Some-comment c =
     let h = c.args.state.now.entries.items in
     let count = length c.args.state.now.projects.items in
     let number = c.in-Some.number in
     let lent = c.board-board.result.now in
     let board = board_of number h in
     one_told h NoProject (project_of count c.args.project) number
-    (λ n. in_topic h n c.args.topic (λ t. in_comment h n t c.args.comment (λ m. Answer (comment_told (comment_at (board_of n h) t m))))) (reply.CommentIs c.in_ok-copy.field-0) (sym c.in-Some.ensures.is)
+    (λ n. in_topic h n c.args.topic (λ t. in_comment h n t c.args.comment (λ m. Answer (comment_told (comment_at (board_of n h) t m))))) (reply.CommentIs c.in_ok-copy-in-Some-comment.field-0) (sym c.in-Some.ensures.is)
     (one_told h NoTopic (topic_named number board c.args.topic) c.in-Some-topic_named.topic
-    (λ t. in_comment h number t c.args.comment (λ m. Answer (comment_told (comment_at board t m)))) (reply.CommentIs c.in_ok-copy.field-0) (topic_is lent board number c.args.topic (Some c.in-Some-topic_named.topic) (Some c.in-Some-topic_named.topic) c.board-board.ensures c.in-Some-topic_named.ensures.named refl)
+    (λ t. in_comment h number t c.args.comment (λ m. Answer (comment_told (comment_at board t m)))) (reply.CommentIs c.in_ok-copy-in-Some-comment.field-0) (topic_is lent board number c.args.topic (Some c.in-Some-topic_named.topic) (Some c.in-Some-topic_named.topic) c.board-board.ensures c.in-Some-topic_named.ensures.named refl)
     (one_told h NoComment (comment_named number board c.in-Some-topic_named.topic c.args.comment) c.in-Some-comment_named.serial
-    (λ m. Answer (comment_told (comment_at board c.in-Some-topic_named.topic m))) (reply.CommentIs c.in_ok-copy.field-0) (comment_is lent board number c.in-Some-topic_named.topic c.args.comment (Some c.in-Some-comment_named.serial) (Some c.in-Some-comment_named.serial) c.board-board.ensures c.in-Some-comment_named.ensures.named refl)
-    (answer_told h (reply.CommentIs c.in_ok-copy.field-0) _ (ap reply.CommentIs c.in_ok-copy.ensures ∙ ap comment_told (c.in-Some-comment.ensures ∙ ap (λ (b : BoardState). comment_at b c.in-Some-topic_named.topic c.in-Some-comment_named.serial) c.board-board.ensures)))))
+    (λ m. Answer (comment_told (comment_at board c.in-Some-topic_named.topic m))) (reply.CommentIs c.in_ok-copy-in-Some-comment.field-0) (comment_is lent board number c.in-Some-topic_named.topic c.args.comment (Some c.in-Some-comment_named.serial) (Some c.in-Some-comment_named.serial) c.board-board.ensures c.in-Some-comment_named.ensures.named refl)
+    (answer_told h (reply.CommentIs c.in_ok-copy-in-Some-comment.field-0) _ (ap reply.CommentIs c.in_ok-copy-in-Some-comment.ensures ∙ ap comment_told (c.in-Some-comment.ensures ∙ ap (λ (b : BoardState). comment_at b c.in-Some-topic_named.topic c.in-Some-comment_named.serial) c.board-board.ensures)))))
 
 pub returns-in-None : goal.returns-in-None
 returns-in-None c =

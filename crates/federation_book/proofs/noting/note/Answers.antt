@@ -22,8 +22,8 @@ pub returns-in-Some-clause-done : goal.returns-in-Some-clause-done
 returns-in-Some-clause-done c =
     noted_refused (settings_of c.args.state.now) c.args.state.now.entries.items c.args.stamp c.args.number c.args.change c.in-Some.fault (sym c.not_noted.ensures ∙ c.in-Some.is)
 
-pub apply-body-requires-clause-fits : goal.apply-body-requires-clause-fits
-apply-body-requires-clause-fits c =
+pub apply-requires-clause-fits : goal.apply-requires-clause-fits
+apply-requires-clause-fits c =
     let old = c.args.state.now in
     let h = old.entries.items in
     let n = c.args.number in
@@ -31,8 +31,8 @@ apply-body-requires-clause-fits c =
     let l : KeepsProject q (state_of n h) = kept_numbered old.projects.items h n q c.requires.kept.states c.requires.low c.requires.high c.index_mut-project.ensures.value in
     subst (λ (b : BoardState). Fits b c.args.pair c.args.change) (sym l.board) c.requires.fits
 
-pub apply-body-requires-clause-room : goal.apply-body-requires-clause-room
-apply-body-requires-clause-room c =
+pub apply-requires-clause-room : goal.apply-requires-clause-room
+apply-requires-clause-room c =
     let old = c.args.state.now in
     let h = old.entries.items in
     let n = c.args.number in
@@ -48,7 +48,7 @@ returns-in_err-body-clause-kept c =
     let n = c.args.number in
     let q = c.index_mut-project.result.now in
     let l : KeepsProject q (state_of n h) = kept_numbered old.projects.items h n q c.requires.kept.states c.requires.low c.requires.high c.index_mut-project.ensures.value in
-    let asked : Project = record { board = c.apply-body.new.board; newest = q.newest; live = q.live } in
+    let asked : Project = record { board = c.apply.new.board; newest = q.newest; live = q.live } in
     let after : State = record { limits = old.limits; projects = with_item old.projects (n - 1) asked; entries = c.reserve.new.self; triangles = old.triangles; text = old.text } in
     let keeps : KeepsProject asked (state_of n h) = record { board = c.in_err-body.ensures.err ∙ l.board; newest = l.newest; live = l.live } in
     kept_asked old after n asked c.requires.kept c.requires.low c.requires.high keeps refl c.in_ok-reserve.ensures.items refl refl refl
@@ -73,7 +73,7 @@ returns-clause-done c =
     let l : KeepsProject q (state_of n h) = kept_numbered old.projects.items h n q c.requires.kept.states c.requires.low c.requires.high c.index_mut-project.ensures.value in
     let e : Entry = entry_of c.args.stamp n c.args.change in
     let pushed : c.push_reserved.new.self.items ≡ h ++ e ∷ [] = c.push_reserved.ensures.items ∙ ap (λ es. es ++ e ∷ []) c.in_ok-reserve.ensures.items in
-    noted_done (settings_of old) h c.push_reserved.new.self.items c.args.stamp n c.args.change c.args.pair q.board c.apply-body.new.board c.in_ok-body.body
+    noted_done (settings_of old) h c.push_reserved.new.self.items c.args.stamp n c.args.change c.args.pair q.board c.apply.new.board c.in_ok-body.body
     (sym c.not_noted.ensures ∙ c.in_default.is) c.in_ok-body.ensures.ok l.board c.requires.pair pushed
 
 pub returns-clause-kept : goal.returns-clause-kept
@@ -87,7 +87,7 @@ returns-clause-kept c =
     let l : KeepsProject q s = kept_numbered old.projects.items h n q c.requires.kept.states c.requires.low c.requires.high c.index_mut-project.ensures.value in
     let note = fits_note _ _ change c.requires.fits in
     let none = store_none (settings_of old) h n change (sym c.not_noted.ensures ∙ c.in_default.is) in
-    let made : Project = record { board = c.apply-body.new.board; newest = q.newest; live = q.live } in
+    let made : Project = record { board = c.apply.new.board; newest = q.newest; live = q.live } in
     let after : State = record { limits = old.limits; projects = with_item old.projects (n - 1) made; entries = c.push_reserved.new.self; triangles = old.triangles; text = old.text + c.args.weight } in
     let e : Entry = entry_of c.args.stamp n change in
     let pushed : c.push_reserved.new.self.items ≡ h ++ e ∷ [] = c.push_reserved.ensures.items ∙ ap (λ es. es ++ e ∷ []) c.in_ok-reserve.ensures.items in

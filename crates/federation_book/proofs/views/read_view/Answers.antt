@@ -43,8 +43,8 @@ returns-in_default-view_named c =
     (none_told h NoViewpoint (view_named number board c.in-Some-topic_named.topic c.args.view)
     (λ m. Answer (view_told m (view_at board c.in-Some-topic_named.topic m))) (view_is lent board number c.in-Some-topic_named.topic c.args.view None None c.board-board.ensures c.in_default-view_named.ensures.named refl)))
 
-pub returns-in-Some : goal.returns-in-Some
-returns-in-Some c =
+pub returns-in-Some-found : goal.returns-in-Some-found
+returns-in-Some-found c =
     let h = c.args.state.now.entries.items in
     let count = length c.args.state.now.projects.items in
     let number = c.in-Some.number in
