@@ -14,6 +14,7 @@ use bim_model::Guid;
 use book_history::{BookFault, Change, Entry, ReplyBody, Stamp};
 use book_topics::Board;
 use std::alloc::{AllocError, Global};
+use std::mem::drop;
 
 // Makes a change of topics, or of what else a board has. The two elements are those of the clash of which a topic is
 // made. An `Err` leaves all as it was.
@@ -145,17 +146,28 @@ pub fn note(
     ensures err { OnErr result (state.new.entries.items ≡ state.old.entries.items) }
 {
     if let Some(fault) = not_noted(state, number, &change, weight) {
+        drop(change);
         return Ok(ReplyBody::Refused(fault));
     }
     let alloc = *state.entries.allocator();
-    state.entries.reserve(1)?;
+    if let Err(error) = state.entries.reserve(1) {
+        drop(change);
+        return Err(error);
+    }
     let project = &mut state.projects[number as usize - 1];
-    let body = apply(&mut project.board, alloc, &change, pair)?;
-    state.text += weight;
-    state.entries.push_reserved(Entry {
-        stamp,
-        project: number,
-        change,
-    });
-    Ok(body)
+    match apply(&mut project.board, alloc, &change, pair) {
+        Ok(body) => {
+            state.text += weight;
+            state.entries.push_reserved(Entry {
+                stamp,
+                project: number,
+                change,
+            });
+            Ok(body)
+        }
+        Err(error) => {
+            drop(change);
+            Err(error)
+        }
+    }
 }

@@ -12,6 +12,7 @@ use Rattle.federation_book.specs.Kept.{KeepsProject, settings_of}
 use Rattle.federation_book.specs.Noting.{Fits}
 use Rattle.federation_book.proofs.Accepting.{journal_room, text_room, kept_after, kept_asked}
 use Rattle.federation_book.proofs.Noted.{noted_refused, noted_done, store_none, made_room, fits_note, noted_keeps, no_triangles}
+use Rattle.federation_book.proofs.Outcomes.{kept_still}
 use Rattle.federation_book.proofs.Taking.{kept_numbered}
 use Rattle.federation_book.proofs.noting.note.Goals as goal
 
@@ -21,6 +22,12 @@ not_noted-requires-clause-note c = fits_note _ _ c.args.change c.requires.fits
 pub returns-in-Some-clause-done : goal.returns-in-Some-clause-done
 returns-in-Some-clause-done c =
     noted_refused (settings_of c.args.state.now) c.args.state.now.entries.items c.args.stamp c.args.number c.args.change c.in-Some.fault (sym c.not_noted.ensures ∙ c.in-Some.is)
+
+pub returns-in-Err-clause-kept : goal.returns-in-Err-clause-kept
+returns-in-Err-clause-kept c =
+    let old = c.args.state.now in
+    let after : State = record { limits = old.limits; projects = old.projects; entries = c.reserve.new.self; triangles = old.triangles; text = old.text } in
+    kept_still old after c.requires.kept refl c.reserve.ensures.items refl refl refl
 
 pub apply-requires-clause-fits : goal.apply-requires-clause-fits
 apply-requires-clause-fits c =
@@ -41,8 +48,8 @@ apply-requires-clause-room c =
     let room = c.requires.kept.room in
     made_room n h old.limits.journal q.board.made (omega (arith, room)) c.requires.kept.within.journal (ap (λ (b : BoardState). b.made) l.board)
 
-pub returns-in_err-body-clause-kept : goal.returns-in_err-body-clause-kept
-returns-in_err-body-clause-kept c =
+pub returns-in-Err-apply-clause-kept : goal.returns-in-Err-apply-clause-kept
+returns-in-Err-apply-clause-kept c =
     let old = c.args.state.now in
     let h = old.entries.items in
     let n = c.args.number in
@@ -50,8 +57,8 @@ returns-in_err-body-clause-kept c =
     let l : KeepsProject q (state_of n h) = kept_numbered old.projects.items h n q c.requires.kept.states c.requires.low c.requires.high c.index_mut-project.ensures.value in
     let asked : Project = record { board = c.apply.new.board; newest = q.newest; live = q.live } in
     let after : State = record { limits = old.limits; projects = with_item old.projects (n - 1) asked; entries = c.reserve.new.self; triangles = old.triangles; text = old.text } in
-    let keeps : KeepsProject asked (state_of n h) = record { board = c.in_err-body.ensures.err ∙ l.board; newest = l.newest; live = l.live } in
-    kept_asked old after n asked c.requires.kept c.requires.low c.requires.high keeps refl c.in_ok-reserve.ensures.items refl refl refl
+    let keeps : KeepsProject asked (state_of n h) = record { board = c.in-Err-apply.ensures.err ∙ l.board; newest = l.newest; live = l.live } in
+    kept_asked old after n asked c.requires.kept c.requires.low c.requires.high keeps refl c.reserve.ensures.items refl refl refl
 
 pub overflow_add-state : goal.overflow_add-state
 overflow_add-state c =
@@ -64,20 +71,20 @@ overflow_add-state c =
     let most = c.requires.kept.within.text in
     omega (arith, room, is, weight, most)
 
-pub returns-clause-done : goal.returns-clause-done
-returns-clause-done c =
+pub returns-in-Ok-clause-done : goal.returns-in-Ok-clause-done
+returns-in-Ok-clause-done c =
     let old = c.args.state.now in
     let h = old.entries.items in
     let n = c.args.number in
     let q = c.index_mut-project.result.now in
     let l : KeepsProject q (state_of n h) = kept_numbered old.projects.items h n q c.requires.kept.states c.requires.low c.requires.high c.index_mut-project.ensures.value in
     let e : Entry = entry_of c.args.stamp n c.args.change in
-    let pushed : c.push_reserved.new.self.items ≡ h ++ e ∷ [] = c.push_reserved.ensures.items ∙ ap (λ es. es ++ e ∷ []) c.in_ok-reserve.ensures.items in
-    noted_done (settings_of old) h c.push_reserved.new.self.items c.args.stamp n c.args.change c.args.pair q.board c.apply.new.board c.in_ok-body.body
-    (sym c.not_noted.ensures ∙ c.in_default.is) c.in_ok-body.ensures.ok l.board c.requires.pair pushed
+    let pushed : c.push_reserved.new.self.items ≡ h ++ e ∷ [] = c.push_reserved.ensures.items ∙ ap (λ es. es ++ e ∷ []) c.reserve.ensures.items in
+    noted_done (settings_of old) h c.push_reserved.new.self.items c.args.stamp n c.args.change c.args.pair q.board c.apply.new.board c.in-Ok.body
+    (sym c.not_noted.ensures ∙ c.in_default.is) c.in-Ok.ensures.ok l.board c.requires.pair pushed
 
-pub returns-clause-kept : goal.returns-clause-kept
-returns-clause-kept c =
+pub returns-in-Ok-clause-kept : goal.returns-in-Ok-clause-kept
+returns-in-Ok-clause-kept c =
     let old = c.args.state.now in
     let h = old.entries.items in
     let n = c.args.number in
@@ -90,8 +97,8 @@ returns-clause-kept c =
     let made : Project = record { board = c.apply.new.board; newest = q.newest; live = q.live } in
     let after : State = record { limits = old.limits; projects = with_item old.projects (n - 1) made; entries = c.push_reserved.new.self; triangles = old.triangles; text = old.text + c.args.weight } in
     let e : Entry = entry_of c.args.stamp n change in
-    let pushed : c.push_reserved.new.self.items ≡ h ++ e ∷ [] = c.push_reserved.ensures.items ∙ ap (λ es. es ++ e ∷ []) c.in_ok-reserve.ensures.items in
-    let keeps : KeepsProject made (with_change s change) = noted_keeps q s change made l note (c.in_ok-body.ensures.ok.board s (sym l.board) c.requires.pair) refl refl in
+    let pushed : c.push_reserved.new.self.items ≡ h ++ e ∷ [] = c.push_reserved.ensures.items ∙ ap (λ es. es ++ e ∷ []) c.reserve.ensures.items in
+    let keeps : KeepsProject made (with_change s change) = noted_keeps q s change made l note (c.in-Ok.ensures.ok.board s (sym l.board) c.requires.pair) refl refl in
     let zero = no_triangles change note in
     kept_after old after e made c.requires.kept c.requires.after c.requires.low c.requires.high keeps refl pushed (omega (arith, zero)) (ap (λ m. old.text + m) c.requires.weight) refl
     (journal_room (settings_of old) h (left_after (settings_of old).projects h n change) none.third)
