@@ -3,7 +3,7 @@ use Rattle.std.specs.Vec.{with_item}
 use Rattle.book_topics.specs.Boards.{BoardState}
 use Rattle.book_history.specs.declared.changes.Entry.{Entry}
 use Rattle.book_history.specs.Projects.{with_change}
-use Rattle.book_history.specs.History.{state_of}
+use Rattle.book_history.specs.History.{state_of, board_of}
 use Rattle.book_history.specs.Refusals.{left_after}
 use Rattle.book_history.specs.Requests.{entry_of}
 use Rattle.federation_book.specs.declared.project.Project.{Project}
@@ -17,7 +17,7 @@ use Rattle.federation_book.proofs.Taking.{kept_numbered}
 use Rattle.federation_book.proofs.noting.note.Goals as goal
 
 pub not_noted-requires-clause-note : goal.not_noted-requires-clause-note
-not_noted-requires-clause-note c = fits_note _ _ c.args.change c.requires.fits
+not_noted-requires-clause-note c = fits_note (board_of c.args.number c.args.state.now.entries.items) c.args.pair c.args.change c.requires.fits
 
 pub returns-in-Some-clause-done : goal.returns-in-Some-clause-done
 returns-in-Some-clause-done c =
@@ -92,7 +92,7 @@ returns-in-Ok-clause-kept c =
     let change = c.args.change in
     let q = c.index_mut-project.result.now in
     let l : KeepsProject q s = kept_numbered old.projects.items h n q c.requires.kept.states c.requires.low c.requires.high c.index_mut-project.ensures.value in
-    let note = fits_note _ _ change c.requires.fits in
+    let note = fits_note (board_of n h) c.args.pair change c.requires.fits in
     let none = store_none (settings_of old) h n change (sym c.not_noted.ensures ∙ c.in_default.is) in
     let made : Project = record { board = c.apply.new.board; newest = q.newest; live = q.live } in
     let after : State = record { limits = old.limits; projects = with_item old.projects (n - 1) made; entries = c.push_reserved.new.self; triangles = old.triangles; text = old.text + c.args.weight } in
