@@ -10,8 +10,8 @@ use Rattle.federation_book.proofs.clash_topics.note_clash.Goals as goal
 pub returns-in_default-clause-done : goal.returns-in_default-clause-done
 returns-in_default-clause-done c =
     let h = c.args.state.now.entries.items in
-    no_clash_done h c.args.stamp (version_of c.args.number c.args.version h) c.args.published.now c.args.place c.total.result
-    (noted (settings_of c.args.state.now) h c.args.number (ClashTopic c.args.version c.args.place c.args.author c.args.weight)) c.requires.published c.in_default.ensures.is c.total.ensures
+    no_clash_done h c.args.stamp (version_of c.args.number c.args.version h) c.args.published.now c.args.place c.total-total.result
+    (noted (settings_of c.args.state.now) h c.args.number (ClashTopic c.args.version c.args.place c.args.author c.args.weight)) c.requires.published c.in_default.ensures.is c.total-total.ensures
 
 pub note-requires-clause-pair : goal.note-requires-clause-pair
 note-requires-clause-pair c = c.in-Some.ensures.is ∙ ap (λ v. clash_at v c.args.place) c.requires.published
