@@ -1,5 +1,5 @@
 -- What is answered by what is found, or where nothing is found.
-use Rattle.std.proofs.Common.{◌≡◌, ℕ, List, [], ◌++◌, Option, Some, None, option_map, Result, refl, sym, ◌∙◌, subst, append-nil}
+use Rattle.std.proofs.Common.{◌≡◌, ℕ, List, Option, Some, None, option_map, Result, refl, sym, ◌∙◌, subst, append-nil}
 use Rattle.std.specs.Result.{IfOk}
 use Rattle.bcf_topics.specs.declared.comment.CommentBody.{CommentBody}
 use Rattle.bcf_topics.specs.declared.comment.CommentIn.{CommentIn}

@@ -1,5 +1,5 @@
 -- Changes of topics, comments and viewpoints.
-use Rattle.std.proofs.Common.{◌≡◌, ◌+◌, ◌*◌, ◌<◌, ◌≤◌, ◌^◌, ℕ, List, [], ◌∷◌, ◌++◌, length, Option, Some, None, refl, sym, ◌∙◌, ap, subst, arith}
+use Rattle.std.proofs.Common.{◌≡◌, ◌+◌, ◌<◌, ◌≤◌, ◌^◌, ℕ, List, [], ◌∷◌, ◌++◌, length, Option, Some, None, refl, sym, ◌∙◌, ap, subst, arith}
 use Rattle.bim_model.specs.declared.guid.Guid.{Guid}
 use Rattle.bim_model.specs.declared.topic.Author.{Author}
 use Rattle.bcf_topics.specs.declared.body.TopicBody.{TopicBody}
@@ -14,7 +14,7 @@ use Rattle.book_history.specs.declared.faults.BookFault.{BookFault}
 use Rattle.book_history.specs.declared.limits.Settings.{Settings}
 use Rattle.book_history.specs.declared.replies.ReplyBody.{ReplyBody}
 use Rattle.book_history.specs.declared.replies.ReplyBody.TheVariants as reply
-use Rattle.book_history.specs.Versions.{VersionState, live_in}
+use Rattle.book_history.specs.Versions.{live_in}
 use Rattle.book_history.specs.Projects.{ProjectState, with_change}
 use Rattle.book_history.specs.History.{state_of, left_in}
 use Rattle.book_history.specs.Refusals.{first_of, too_many, store_full, not_noted, triangles_if, text_if, journal_if, left_after}

@@ -12,7 +12,7 @@ use Rattle.book_history.specs.declared.limits.Limits.{Limits}
 use Rattle.book_history.specs.declared.faults.BookFault.{BookFault}
 use Rattle.book_history.specs.declared.faults.BookFault.TheVariants as fault
 use Rattle.book_history.specs.Buckets.{memberships_of}
-use Rattle.book_history.specs.Refusals.{first_of, elements_full, too_spread}
+use Rattle.book_history.specs.Refusals.{first_of, too_spread}
 use Rattle.book_history.specs.Weights.{told, elements_in}
 use Rattle.book_history.proofs.Least.{boxes_are}
 

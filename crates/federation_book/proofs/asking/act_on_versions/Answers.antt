@@ -1,4 +1,4 @@
-use Rattle.std.proofs.Common.{◌∙◌, length, refl, sym, ap, subst}
+use Rattle.std.proofs.Common.{◌∙◌, refl, sym, ap}
 use Rattle.book_history.specs.declared.changes.Change.TheVariants as change
 use Rattle.book_history.specs.Requests.{in_project, changed, removed, version_read, clashes_read, outcome_of}
 use Rattle.federation_book.specs.Kept.{settings_of}

@@ -1,7 +1,6 @@
-use Rattle.std.proofs.Common.{◌≡◌, ◌<◌, length, Some, sym, ◌∙◌, ap, ap₂, arith}
+use Rattle.std.proofs.Common.{Some, ◌∙◌, ap, ap₂, arith}
 use Rattle.std.specs.Option.{option_map}
 use Rattle.bim_model.specs.declared.element.Element.{Element}
-use Rattle.bim_model.specs.declared.guid.Guid.{Guid}
 use Rattle.book_history.specs.Projects.{guids_of}
 use Rattle.federation_book.proofs.clash_topics.clash_at.Goals as goal
 

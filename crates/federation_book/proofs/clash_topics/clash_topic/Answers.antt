@@ -1,13 +1,10 @@
-use Rattle.std.proofs.Common.{◌≡◌, length, Some, refl, sym, ◌∙◌, ap, subst}
-use Rattle.bim_model.specs.Snapshots.{Version}
+use Rattle.std.proofs.Common.{length, sym, ◌∙◌, ap}
 use Rattle.book_history.specs.declared.changes.Change.TheVariants.{ClashTopic}
-use Rattle.book_history.specs.declared.changes.Entry.{Entry}
 use Rattle.book_history.specs.declared.faults.BookFault.TheVariants.{NoProject}
 use Rattle.book_history.specs.Versions.{version_at}
 use Rattle.book_history.specs.History.{state_of, content_of}
 use Rattle.book_history.specs.Refusals.{project_of}
 use Rattle.book_history.specs.Requests.{clash_noted}
-use Rattle.federation_book.specs.Done.{IsDone}
 use Rattle.federation_book.specs.Kept.{settings_of}
 use Rattle.federation_book.proofs.Clashing.{not_ready, ready, then_noted, still_done}
 use Rattle.federation_book.proofs.Finding.{none_done, one_done, some_done}

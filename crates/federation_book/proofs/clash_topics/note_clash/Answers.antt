@@ -1,4 +1,4 @@
-use Rattle.std.proofs.Common.{◌≡◌, length, Some, refl, sym, ◌∙◌, ap}
+use Rattle.std.proofs.Common.{◌∙◌, ap}
 use Rattle.book_history.specs.declared.changes.Change.TheVariants.{ClashTopic}
 use Rattle.book_history.specs.Projects.{clash_at}
 use Rattle.book_history.specs.History.{version_of}

@@ -1,4 +1,4 @@
-use Rattle.std.proofs.Common.{◌≡◌, Option, Some, IsSome, IfSome, subst}
+use Rattle.std.proofs.Common.{Option, IsSome, IfSome, subst}
 use Rattle.std.proofs.lemmas.Bool.{false≢true}
 use Rattle.bim_model.specs.declared.guid.Guid.{Guid}
 use Rattle.federation_book.specs.Noting.{AreGuids, Fits}

@@ -1,4 +1,4 @@
-use Rattle.std.proofs.Common.{◌≡◌, ◌+◌, ◌*◌, ◌<◌, ◌≤◌, length, ap, ◌∙◌, refl, arith}
+use Rattle.std.proofs.Common.{◌+◌, ◌<◌, length, ap, ◌∙◌, refl, arith}
 use Rattle.book_topics.specs.Boards.{BoardState}
 use Rattle.book_history.specs.History.{board_of}
 use Rattle.federation_book.proofs.Counted.{board_kept, count_more, made_few}

@@ -1,4 +1,4 @@
-use Rattle.std.proofs.Common.{◌≡◌, ◌*◌, ◌≤◌, ℕ, length, sum_by}
+use Rattle.std.proofs.Common.{◌≡◌, ◌*◌, ◌≤◌, length, sum_by}
 use Rattle.book_history.specs.History.{board_of, project_numbers}
 use Rattle.federation_book.proofs.state.State.view_count.Given as goal
 
