@@ -3,8 +3,9 @@ pub mod Texts
 pub mod Routers
 pub mod Parts
 pub mod Rows
-pub mod Lists
+pub mod GrownTrees
 pub mod BodyFloats
 pub mod Floats
 pub mod Numerals
 pub mod Plain
+pub mod Weights
