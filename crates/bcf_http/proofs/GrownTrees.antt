@@ -1,9 +1,12 @@
 -- Trees for the elements of a list, one after another.
-use Rattle.std.proofs.Common.{◌≡◌, ◌+◌, ◌<◌, ◌≤◌, ℕ, List, [], ◌∷◌, ◌++◌, length, take, get_or, refl, sym, subst, ◌∙◌, ap}
-use Rattle.std.proofs.lemmas.List.{take_more, take_all}
-use Rattle.serde_json.specs.Data.{Data, Items, array}
-use Rattle.serde_json.specs.View.{view, items_view}
-use Rattle.serde_json.specs.declared.value.Value.{Value}
+use Rattle.std.proofs.Common.{◌≡◌, ◌+◌, ◌<◌, ◌≤◌, ℕ, List, [], ◌∷◌, ◌++◌, length, map, take, get_or, Vec, Global, sym, subst, ◌∙◌, ap}
+use Rattle.std.proofs.lemmas.List.{take_more, take_all, get_or_default}
+use Rattle.serde_json.specs.Data.{Data, array}
+use Rattle.serde_json.specs.View.{view, items_of, items_view}
+use Rattle.serde_json.specs.declared.value.Value.{Value, Array}
+use Rattle.serde_json.proofs.Views.{view-Array}
+use Rattle.bcf_bodies.specs.Objects.{listed}
+use Rattle.bcf_bodies.proofs.Lists.{written_more}
 use Rattle.bcf_http.specs.Answers.{AreTrees, IsArrayOf}
 
 trees_push : {A : Type 0} (IsTree : A → Data → Type 0) (xs : List A) (vs : List Value) (x : A) (v : Value)
@@ -23,6 +26,19 @@ trees_more IsTree xs i old new lt x at v is grown are =
     (subst (λ vs. AreTrees IsTree (take i xs ++ x ∷ []) (items_view vs)) (sym grown) (trees_push IsTree (take i xs) old x v are is))
 
 -- trees for all elements are the array of the list
-pub trees_all : {A : Type 0} (IsTree : A → Data → Type 0) (xs : List A) (i : ℕ) (items : Items) → length xs ≤ i
-    → AreTrees IsTree (take i xs) items → IsArrayOf IsTree xs (array items)
-trees_all IsTree xs i items all are = (items, (subst (λ ys. AreTrees IsTree ys items) (take_all i xs all) are, refl))
+pub trees_all : {A : Type 0} (IsTree : A → Data → Type 0) (xs : List A) (i : ℕ) (trees : Vec Value Global) → length xs ≤ i
+    → AreTrees IsTree (take i xs) (items_view trees.items) → IsArrayOf IsTree xs (view (Array trees))
+trees_all IsTree xs i trees all are =
+    (items_view trees.items, subst (λ ys. AreTrees IsTree ys (items_view trees.items)) (take_all i xs all) are, view-Array trees)
+
+-- one more tree is written for one more number
+pub numbers_more : (tree : ℕ → Data) (xs : List ℕ) (i : ℕ) (old new : List Value) → i < length xs
+    → map view new ≡ map view old ++ tree (get_or xs i 0) ∷ [] → map view old ≡ map tree (take i xs) → map view new ≡ map tree (take (i + 1) xs)
+numbers_more tree xs i old new lt grown so_far =
+    written_more tree xs i (get_or xs i 0) old new lt (get_or_default xs i 0 (get_or xs i 0) lt) grown so_far
+
+-- trees that are written for all elements are the array of the list
+pub listed_all : {A : Type 0} (tree : A → Data) (xs : List A) (i : ℕ) (trees : Vec Value Global) → length xs ≤ i
+    → map view trees.items ≡ map tree (take i xs) → view (Array trees) ≡ array (listed tree xs)
+listed_all tree xs i trees all are =
+    view-Array trees ∙ ap (λ ds. array (items_of ds)) (are ∙ ap (map tree) (take_all i xs all))

@@ -8,4 +8,3 @@ pub mod BodyFloats
 pub mod Floats
 pub mod Numerals
 pub mod Plain
-pub mod Weights
