@@ -33,7 +33,7 @@ a_part_of_a_viewpoint_is_named_behind_it :
 unfolding place_of split_target table identifier_in matchit_on_literals uuid_on_literals
 a_part_of_a_viewpoint_is_named_behind_it = refl
 
-pub a_clash_has_a_place :
+a_clash_has_a_place :
     place_of (codes "/coord/1/projects/00000003-0000-8000-8000-000000000000/versions/newest/clashes/12/topic")
     ≡ Some (clash (identifier 3 0) Newest 12)
 unfolding place_of split_target table identifier_in number_in matchit_on_literals uuid_on_literals

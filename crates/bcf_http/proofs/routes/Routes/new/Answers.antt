@@ -2,7 +2,6 @@ use Rattle.std.proofs.Common.{[], get_or, sym, ap, ◌∙◌, arith}
 use Rattle.std.proofs.lemmas.List.Sums.{fold_more}
 use Rattle.bcf_http.specs.declared.paths.RoutePath.TheVariants.{Projects}
 use Rattle.bcf_http.specs.Paths.{rows, with_row}
-use Rattle.bcf_http.proofs.Rows.{a_clash_has_a_place}
 use Rattle.bcf_http.proofs.routes.Routes.new.Goals as goal
 
 pub loop-row-preserved : goal.loop-row-preserved
