@@ -3,7 +3,7 @@ pub mod Texts
 pub mod Routers
 pub mod Parts
 pub mod Rows
-pub mod Lists
+pub mod GrownTrees
 pub mod BodyFloats
 pub mod Floats
 pub mod Numerals

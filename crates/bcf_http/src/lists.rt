@@ -58,7 +58,6 @@ fn push_topic(
 }
 
 /// Topics of a project.
-#[tactic(auto, using(crate::proofs::Lists::trees_more))]
 pub fn topics_out(alloc: Global, project: u32, topics: &[Topic]) -> Result<Value, AllocError>
     ensures { IfOk result (λ v. IsArrayOf (IsTopicTree project) topics.now (view v)) }
 {
@@ -83,7 +82,6 @@ fn push_comment(
 }
 
 /// Comments of a project.
-#[tactic(auto, using(crate::proofs::Lists::trees_more))]
 pub fn comments_out(alloc: Global, project: u32, comments: &[Comment]) -> Result<Value, AllocError>
     ensures { IfOk result (λ v. IsArrayOf (IsCommentTree project) comments.now (view v)) }
 {
@@ -94,6 +92,7 @@ pub fn comments_out(alloc: Global, project: u32, comments: &[Comment]) -> Result
     Ok(Value::Array(trees))
 }
 
+#[tactic(auto, unfolding(bcf_bodies::specs::ViewTrees::view_tree))]
 fn push_view(
     alloc: Global,
     project: u32,

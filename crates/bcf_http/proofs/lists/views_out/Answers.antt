@@ -1,9 +1,7 @@
-use Rattle.std.proofs.Common.{map, ap, ◌∙◌, arith}
-use Rattle.std.proofs.lemmas.List.{take_all}
-use Rattle.serde_json.specs.Data.{array}
-use Rattle.serde_json.specs.View.{items_of}
+use Rattle.std.proofs.Common.{arith}
 use Rattle.bcf_bodies.specs.ViewTrees.{whole_tree}
 use Rattle.bcf_bodies.proofs.Lists.{written_more}
+use Rattle.bcf_http.proofs.GrownTrees.{listed_all}
 use Rattle.bcf_http.proofs.lists.views_out.Goals as goal
 
 pub loop-viewpoint-preserved : goal.loop-viewpoint-preserved
@@ -15,4 +13,4 @@ loop-viewpoint-preserved c =
 pub returns : goal.returns
 returns c =
     let l = c.loop-viewpoint in
-    ap (λ trees. array (items_of trees)) (l.invariant ∙ ap (map (whole_tree c.args.project)) (take_all l.viewpoint-index c.args.views.now (omega arith)))
+    listed_all (whole_tree c.args.project) c.args.views.now l.viewpoint-index l.trees (omega arith) l.invariant
