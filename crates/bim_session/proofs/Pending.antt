@@ -25,7 +25,7 @@ use Rattle.book_topics.specs.Boards.{topic_at, comment_at, view_at}
 use Rattle.book_topics.specs.Named.{topic_named, comment_named, view_named, comment_kept}
 use Rattle.bcf_viewpoints.specs.declared.view.ViewBody.{ViewBody}
 use Rattle.bcf_viewpoints.specs.declared.view.ViewIs.{ViewIs}
-use Rattle.book_history.specs.declared.faults.BookFault.TheVariants.{Pending, NoModel, NoProject, NoTopic, NoComment, NoViewpoint}
+use Rattle.book_history.specs.declared.faults.BookFault.TheVariants.{Pending, NoModel, NoTopic, NoComment, NoViewpoint}
 use Rattle.book_history.specs.declared.replies.ReplyBody.TheVariants as reply
 use Rattle.book_history.specs.declared.requests.Wanted.{Wanted}
 use Rattle.book_history.specs.declared.requests.BookRequest.{BookRequest}
