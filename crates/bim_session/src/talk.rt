@@ -18,6 +18,7 @@ use federation_book::Book;
 use http_frame::{FrameError, FrameFault, FrameStep, Framer, HttpRequest};
 use std::alloc::{AllocError, Global};
 use std::marker::Model;
+use std::mem::drop;
 
 /// The most requests that a session is answered.
 pub const MOST_REQUESTS: u64 = 10_000;
@@ -128,6 +129,21 @@ fn changes_nothing(changes: bool, reply: &ReplyBody) -> bool
     ensures { result ≡ changes_nothing changes reply.now }
 {
     !changes || is_refusal(reply)
+}
+
+// The bytes of the response to an answer, which is large, and so is let go by a call.
+fn response_of(
+    alloc: Global,
+    answer: Answer,
+    kind: ReplyKind,
+    turn: Option<u64>,
+    close: bool,
+) -> Result<Bytes, AllocError>
+    ensures { IfOk result (IsResponse answer kind turn close) }
+{
+    let bytes = to_response(alloc, &answer, kind, turn, close);
+    drop(answer);
+    bytes
 }
 
 impl Talk {
@@ -279,9 +295,9 @@ impl Talk {
         ensures own { IfOk result IsOwnWant }
         ensures callable { IfOk result IsCallable }
     {
-        let bytes = to_response(
+        let bytes = response_of(
             self.alloc,
-            &Answer::Frame(fault),
+            Answer::Frame(fault),
             ReplyKind::none(),
             None,
             true,
@@ -296,12 +312,12 @@ impl Talk {
     // The response to one more request.
     fn respond(
         &mut self,
-        answer: &Answer,
+        answer: Answer,
         waiting: Waiting,
         turn: Option<u64>,
     ) -> Result<Want, AllocError>
         requires { self.old.leaving ≡ None }
-        ensures want { IfOk result (Writes (IsResponse answer.now waiting.kind turn waiting.close)) }
+        ensures want { IfOk result (Writes (IsResponse answer waiting.kind turn waiting.close)) }
         ensures ok { OnOk result (self.new ≡ with_answer waiting.close self.old) }
         ensures err { OnErr result (self.new ≡ self.old) }
         ensures ready { IfOk result (λ want. IsReady want self.new) }
@@ -309,7 +325,7 @@ impl Talk {
         ensures callable { IfOk result IsCallable }
     {
         let served = self.served + 1;
-        let bytes = to_response(self.alloc, answer, waiting.kind, turn, waiting.close)?;
+        let bytes = response_of(self.alloc, answer, waiting.kind, turn, waiting.close)?;
         self.served = served;
         self.waits = None;
         self.leaving = leaving_after(served, waiting.close);
@@ -344,7 +360,7 @@ impl Talk {
                     close,
                     changes: false,
                 };
-                self.respond(&answer, waiting, None)
+                self.respond(answer, waiting, None)
             }
         }
     }
@@ -373,7 +389,7 @@ impl Talk {
         ensures want { IfOk result (λ want. LacksFor waiting self.old want self.new) }
         ensures ok { IsOk result }
     {
-        match self.respond(&Answer::Memory, waiting, None) {
+        match self.respond(Answer::Memory, waiting, None) {
             Ok(want) => Ok(want),
             Err(_) => Ok(Want::Leave(self.give_up())),
         }
@@ -391,7 +407,7 @@ impl Talk {
     {
         let Receipt { turn, reply } = receipt;
         let changes_nothing = changes_nothing(waiting.changes, &reply.body);
-        match self.respond(&Answer::Book(reply), waiting, Some(turn)) {
+        match self.respond(Answer::Book(reply), waiting, Some(turn)) {
             Ok(want) => Ok(want),
             Err(_) => {
                 if changes_nothing {
