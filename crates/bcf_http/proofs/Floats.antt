@@ -1,5 +1,5 @@
 -- The trees of answers have no float, so their text is stated.
-use Rattle.std.proofs.Common.{◌≡◌, ℕ, List, [], ◌∷◌, Result, Ok, Err, IfOk, false, string_bytes, String, refl, ◌∙◌, ap}
+use Rattle.std.proofs.Common.{◌≡◌, ℕ, Result, Ok, Err, IfOk, false, string_bytes, String, refl, ◌∙◌, ap}
 use Rattle.std.specs.declared.alloc.Global.{Global}
 use Rattle.std.specs.declared.alloc.AllocError.{AllocError}
 use Rattle.serde_json.specs.Data.{Data}

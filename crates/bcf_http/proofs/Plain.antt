@@ -1,5 +1,5 @@
 -- What a request asks for brings no set of a bucket.
-use Rattle.std.proofs.Common.{◌≡◌, ℕ, List, Bool, true, false, not, if◌then◌else◌, Option, Some, None, Result, Ok, Err, IfOk, codes, bytes_eq, subst}
+use Rattle.std.proofs.Common.{ℕ, List, Bool, true, false, not, if◌then◌else◌, Option, Some, None, Result, Ok, Err, IfOk, codes, bytes_eq, subst}
 use Rattle.bim_model.specs.declared.upload.Mode.{Mode}
 use Rattle.bim_model.specs.declared.rules.Rule.{Rule}
 use Rattle.book_history.specs.declared.requests.Wanted.{Wanted}
