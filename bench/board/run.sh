@@ -1,0 +1,33 @@
+#!/bin/sh
+# Times the calls of a board of 1,000 to 100,000 comments on 100 to 10,000 topics, in nanoseconds a call.
+#
+#   bench/board/run.sh
+#
+# Copies the crates, with the libraries that earlier checks built of them, into a scratch folder, adds the program of
+# pace.txt, builds it proved (`rt run`), and runs it three times. Prints a line for each kind of call on each board: how
+# many topics and comments there are, the least nanoseconds of a call, and how many objects a call gives or changes.
+set -e
+top=$(cd "$(dirname "$0")/../.." && pwd)
+work=$(mktemp -d)
+trap 'rm -rf "$work"' EXIT
+mkdir -p "$work/crates/pace/src"
+for name in $(python3 "$top/bench/stands_on.py" --names book_topics); do
+    mkdir -p "$work/crates/$name/out"
+    for part in src specs proofs out/rlib; do
+        if [ -d "$top/crates/$name/$part" ]; then
+            cp -r "$top/crates/$name/$part" "$work/crates/$name/$part"
+        fi
+    done
+done
+cp "$top/bench/board/pace.txt" "$work/crates/pace/src/main.rt"
+{ python3 "$top/bench/stands_on.py" book_topics; echo 'pace: book_topics bim_model'; } > "$work/crates.txt"
+git -C "$work" init -q
+(cd "$work/crates/pace" && rt run > "$work/first.log" 2>&1) || { tail -60 "$work/first.log"; exit 1; }
+for _ in 1 2 3; do
+    "$work/crates/pace/out/pace"
+done | awk '
+    { place = $0; sub(/ ns .*/, "", place); split(substr($0, length(place) + 1), rest, " ") }
+    !(place in least) { order[++count] = place; least[place] = rest[2] }
+    rest[2] + 0 < least[place] + 0 { least[place] = rest[2] }
+    { objects[place] = rest[4] }
+    END { for (i = 1; i <= count; i++) print order[i], "ns", least[order[i]], "objects", objects[order[i]] }'
