@@ -1,8 +1,8 @@
 #!/usr/bin/env python3
 """How the time of topics, comments and viewpoints grows with their number: python3 bench/bcf.py PROGRAM [RUNS]
 
-Each figure is the least of RUNS (5) runs of `replay`, less that of the same session without the requests that are
-measured. A session has at most 10,000 requests, so it holds up to 9,000 objects. The ratio stands against the first
+Each figure is of a processor's time, the least of RUNS (5) runs of `replay`, less that of the same session without the
+requests that are measured. A session has at most 10,000 requests, so it holds up to 9,000 objects. The ratio stands against the first
 figure of the same line.
 
 - make: a POST of a topic, a comment or a viewpoint, where there are 900 or 9,000 already;
@@ -10,9 +10,9 @@ figure of the same line.
 - replace: a PUT of a topic or a comment;
 - list: microseconds for each object that is listed.
 """
+import resource
 import subprocess
 import sys
-import time
 
 PROJECT = "/bcf/3.0/projects/00000001-0000-8000-8000-000000000000"
 TITLE, WORDS = '{"title":"Pipe"}', '{"comment":"Move it"}'
@@ -29,12 +29,18 @@ def request(method, target, body=""):
     return f"{method} {PROJECT}{target} HTTP/1.1\r\nHost: h\r\nContent-Length: {len(body)}\r\n\r\n{body}".encode()
 
 
+def of_children():
+    """The seconds of a processor that the programs run so far took."""
+    used = resource.getrusage(resource.RUSAGE_CHILDREN)
+    return used.ru_utime + used.ru_stime
+
+
 def taken(program, runs, requests):
     session, best = b"".join(requests), None
     for _ in range(runs):
-        start = time.perf_counter()
+        start = of_children()
         run = subprocess.run([program, "replay", "--at", "0"], input=session, stdout=subprocess.PIPE, check=True)
-        elapsed = time.perf_counter() - start
+        elapsed = of_children() - start
         assert run.stdout.count(b"X-Book-Turn: ") == len(requests) and b'"code"' not in run.stdout
         best = elapsed if best is None else min(best, elapsed)
     return best
