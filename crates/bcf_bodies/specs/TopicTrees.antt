@@ -3,8 +3,8 @@
 use Rattle.std.specs.Prelude.{◌≡◌, ℕ, ℤ, List, [], ◌∷◌, Option, Some, None, codes, decimal, ⊤}
 use Rattle.serde_json.specs.Data.{Data, number, string, array, object, Members, no_members, put}
 use Rattle.serde_json.specs.Find.{of_integer}
-use Rattle.bim_model.specs.declared.topic.Author.{Author}
-use Rattle.bcf_json.specs.Trees.{identifier_text, IsDateText}
+use Rattle.bim_model.specs.declared.author.Author.{Author}
+use Rattle.bcf_json.specs.Texts.{identifier_text, IsDateText}
 use Rattle.bcf_topics.specs.declared.body.TopicBody.{TopicBody}
 use Rattle.bcf_topics.specs.declared.topic.Topic.{Topic}
 use Rattle.bcf_bodies.specs.Objects.{put_text, put_text_if, listed}

@@ -2,7 +2,7 @@
 use Rattle.std.specs.Prelude.{ℕ, List, Option, option_map, codes}
 use Rattle.serde_json.specs.Data.{Data, boolean, array, object, no_members, put}
 use Rattle.bim_model.specs.declared.guid.Guid.{Guid}
-use Rattle.bcf_json.specs.Trees.{identifier_text}
+use Rattle.bcf_json.specs.Texts.{identifier_text}
 use Rattle.bcf_viewpoints.specs.declared.component.Component.{Component}
 use Rattle.bcf_viewpoints.specs.declared.component.Coloring.{Coloring}
 use Rattle.bcf_viewpoints.specs.declared.view.ViewBody.{ViewBody}

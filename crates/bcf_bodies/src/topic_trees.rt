@@ -2,7 +2,7 @@
 ghost use Rattle.std.specs.Prelude.{◌≡◌, ◌++◌, ◌∷◌, [], Some, map, option_map, IfOk, OnOk};
 ghost use Rattle.serde_json.specs.Data.{string, object, no_members};
 ghost use Rattle.serde_json.specs.View.{view, items_view, members_view};
-ghost use Rattle.bcf_json.specs.Trees.{IsDateText};
+ghost use Rattle.bcf_json.specs.Texts.{IsDateText};
 ghost use Rattle.bcf_bodies.specs.Objects.{put_text, listed};
 ghost use Rattle.bcf_bodies.specs.TopicTrees.{moment_if, put_modified, put_labels, topic_base, put_words, put_rest, topic_members, IsDateIf, IsTopicTree};
 

@@ -8,7 +8,7 @@ use Rattle.book_history.specs.declared.faults.StoreWhat.{StoreWhat}
 use Rattle.book_history.specs.declared.faults.StoreWhat.TheVariants as store
 use Rattle.book_history.specs.declared.replies.ReplyBody.{ReplyBody}
 use Rattle.book_history.specs.declared.replies.ReplyBody.TheVariants as reply
-use Rattle.bcf_json.specs.Trees.{identifier_text}
+use Rattle.bcf_json.specs.Texts.{identifier_text}
 use Rattle.bcf_viewpoints.specs.declared.part.ViewPart.{ViewPart}
 use Rattle.bcf_bodies.specs.declared.fault.BodyFault.{BodyFault}
 use Rattle.bcf_bodies.specs.declared.fault.BodyFault.TheVariants.{Title, BadMember, BadComponent}

@@ -6,7 +6,7 @@ use Rattle.serde_json.specs.Read.{read}
 use Rattle.serde_json.specs.View.{view}
 use Rattle.serde_json.specs.declared.value.Value.{Value}
 use Rattle.bim_model.specs.Identifiers.{identifier}
-use Rattle.bim_model.specs.declared.topic.Author.{Author}
+use Rattle.bim_model.specs.declared.author.Author.{Author}
 use Rattle.bim_model.specs.declared.upload.Mode.{Mode}
 use Rattle.bim_model.specs.declared.rules.Rule.{Rule}
 use Rattle.clash_rules.specs.declared.fault.RuleFault.{RuleFault}
@@ -16,7 +16,7 @@ use Rattle.http_frame.specs.declared.types.HttpRequest.{HttpRequest}
 use Rattle.book_history.specs.declared.requests.BookRequest.{BookRequest}
 use Rattle.book_history.specs.declared.requests.BookRequest.TheVariants.{ListProjects, ReadProject, ListTopics, ReadTopic, PostTopic, PutTopic, DeleteTopic, ListComments, ReadComment, PostComment, PutComment, DeleteComment, ListViews, ReadView, PostView, DeleteView, ClashTopic, Remove, SetRules, ReadVersion, ReadClashes, Finish}
 use Rattle.book_history.specs.declared.requests.Wanted.{Wanted}
-use Rattle.bcf_json.specs.Bodies.{is_object}
+use Rattle.bcf_json.specs.Objects.{is_object}
 use Rattle.bcf_viewpoints.specs.declared.component.Coloring.{Coloring}
 use Rattle.bcf_viewpoints.specs.declared.view.ViewBody.{ViewBody}
 use Rattle.bcf_viewpoints.specs.declared.part.ViewPart.TheVariants as part

@@ -1,2 +1,2 @@
-pub mod Bodies
-pub mod Trees
+pub mod Objects
+pub mod Texts

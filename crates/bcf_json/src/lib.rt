@@ -1,10 +1,8 @@
-//! Topics from JSON and as JSON (BCF API 3.0, Topic Services).
+//! Dates and identifiers, as the bodies of the BCF API have them (Topic Services).
 #![tactic(auto)]
 
-mod body;
 mod date;
-mod tree;
+mod identifier;
 
-pub use body::{BodyError, BodyFault, topic_in};
 pub use date::date_out;
-pub use tree::{identifier_out, topic_out, topics_out};
+pub use identifier::identifier_out;

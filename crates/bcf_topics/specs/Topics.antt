@@ -1,7 +1,7 @@
 -- The topics of a project, by rising serial number (BCF API 3.0, Topic Services).
 use Rattle.std.specs.Prelude.{ℕ, ◌<◌, ◌==◌, List, not, cond, map, filter, AllPairs, Option, Some, None}
 use Rattle.std.specs.List.{find}
-use Rattle.bim_model.specs.declared.topic.Author.{Author}
+use Rattle.bim_model.specs.declared.author.Author.{Author}
 use Rattle.bcf_topics.specs.declared.body.TopicBody.{TopicBody}
 use Rattle.bcf_topics.specs.declared.topic.Topic.{Topic}
 

@@ -1,6 +1,7 @@
-//! The data of building models and of topics that the other crates share.
+//! The data of building models, and of who changes them, that the other crates share.
 #![tactic(auto)]
 
+mod author;
 mod bytes;
 mod checks;
 mod element;
@@ -19,9 +20,9 @@ mod shared;
 mod snapshot;
 mod steps;
 mod text;
-mod topic;
 mod upload;
 
+pub use author::Author;
 pub use bytes::Bytes;
 pub use element::Element;
 pub use geometry::{Extent, FARTHEST, GRID_LIMIT, PER_MM, Point, Triangle, extent_of};
@@ -44,5 +45,4 @@ pub use shared::Shared;
 pub use snapshot::Snapshot;
 pub use steps::Steps;
 pub use text::Text;
-pub use topic::{Author, Topic, TopicBody};
 pub use upload::{BuildError, Many, Mode, UploadFault};

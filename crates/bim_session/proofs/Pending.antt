@@ -14,7 +14,7 @@ use Rattle.book_history.specs.declared.changes.Entry.{Entry}
 use Rattle.book_history.specs.declared.changes.Change.{Change}
 use Rattle.book_history.specs.declared.changes.Change.TheVariants as change
 use Rattle.book_history.specs.declared.faults.BookFault.{BookFault}
-use Rattle.bim_model.specs.declared.topic.Author.{Author}
+use Rattle.bim_model.specs.declared.author.Author.{Author}
 use Rattle.bcf_topics.specs.declared.topic.Topic.{Topic}
 use Rattle.bcf_topics.specs.declared.comment.Comment.{Comment}
 use Rattle.bcf_topics.specs.declared.comment.CommentIn.{CommentIn}

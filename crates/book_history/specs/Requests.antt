@@ -1,7 +1,7 @@
 -- What becomes of a request at a history: the one definition from which its reply and its entry follow.
 use Rattle.std.specs.Prelude.{ℕ, ◌+◌, ◌%◌, List, [], ◌∷◌, ◌++◌, length, map, slice_index_or, Option, Some, None, option_map}
 use Rattle.std.specs.List.{flat_map}
-use Rattle.bim_model.specs.declared.topic.Author.{Author}
+use Rattle.bim_model.specs.declared.author.Author.{Author}
 use Rattle.bim_model.specs.Models.{triangle_count}
 use Rattle.bim_model.specs.Snapshots.{Version}
 use Rattle.book_turn.specs.declared.object.Stamp.{Stamp}

@@ -11,7 +11,7 @@ use Rattle.std.proofs.lemmas.Bool.Decides.{eqb_tells}
 use Rattle.std.proofs.lemmas.List.Elements.{All-nil, All-cons, All-head, All-tail, All-map, All-weaker, All-filter, All-push}
 use Rattle.std.proofs.lemmas.Map.Views.{All-keys-insert_entry, All-map-remove_entry}
 use Rattle.bim_model.specs.declared.guid.Guid.{Guid}
-use Rattle.bim_model.specs.declared.topic.Author.{Author}
+use Rattle.bim_model.specs.declared.author.Author.{Author}
 use Rattle.bim_model.specs.Guids.{IsGuid}
 use Rattle.bcf_topics.specs.declared.body.TopicBody.{TopicBody}
 use Rattle.bcf_topics.specs.declared.topic.Topic.{Topic}

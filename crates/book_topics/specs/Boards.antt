@@ -1,7 +1,7 @@
 -- What is said of a project: its topics, the comments on them, and their viewpoints (BCF API 3.0).
 use Rattle.std.specs.Prelude.{ℕ, ◌+◌, ◌≤◌, ◌++◌, [], ◌∷◌, length, All, Option}
 use Rattle.std.specs.Map.{keys_of}
-use Rattle.bim_model.specs.declared.topic.Author.{Author}
+use Rattle.bim_model.specs.declared.author.Author.{Author}
 use Rattle.bcf_topics.specs.declared.body.TopicBody.{TopicBody}
 use Rattle.bcf_topics.specs.declared.topic.Topic.{Topic}
 use Rattle.bcf_topics.specs.declared.comment.CommentBody.{CommentBody}

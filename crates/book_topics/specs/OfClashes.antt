@@ -1,7 +1,7 @@
 -- The topic that is made of a clash, and its viewpoint.
 use Rattle.std.specs.Prelude.{ℕ, ◌++◌, List, [], ◌∷◌, false, Some, None, codes}
 use Rattle.bim_model.specs.declared.guid.Guid.{Guid}
-use Rattle.bim_model.specs.declared.topic.Author.{Author}
+use Rattle.bim_model.specs.declared.author.Author.{Author}
 use Rattle.bcf_topics.specs.declared.body.TopicBody.{TopicBody}
 use Rattle.bcf_topics.specs.declared.topic.Topic.{Topic}
 use Rattle.bcf_topics.specs.Topics.{new_topic}

@@ -1,7 +1,7 @@
 -- Changes of topics, comments and viewpoints.
 use Rattle.std.proofs.Common.{◌≡◌, ◌+◌, ◌<◌, ◌≤◌, ◌^◌, ℕ, List, [], ◌∷◌, ◌++◌, length, Option, Some, None, refl, sym, ◌∙◌, ap, subst, arith}
 use Rattle.bim_model.specs.declared.guid.Guid.{Guid}
-use Rattle.bim_model.specs.declared.topic.Author.{Author}
+use Rattle.bim_model.specs.declared.author.Author.{Author}
 use Rattle.bcf_topics.specs.declared.body.TopicBody.{TopicBody}
 use Rattle.bcf_topics.specs.declared.comment.CommentBody.{CommentBody}
 use Rattle.bcf_viewpoints.specs.declared.view.ViewBody.{ViewBody}

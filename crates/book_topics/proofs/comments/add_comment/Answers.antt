@@ -1,5 +1,5 @@
 use Rattle.std.proofs.Common.{◌≡◌, Err, ap₂, ◌∙◌}
-use Rattle.bim_model.specs.declared.topic.Author.{Author}
+use Rattle.bim_model.specs.declared.author.Author.{Author}
 use Rattle.bcf_topics.specs.declared.comment.CommentBody.{CommentBody}
 use Rattle.bcf_topics.specs.Comments.{new_comment, comments_with}
 use Rattle.bcf_topics.specs.Discussions.{with_comments}
