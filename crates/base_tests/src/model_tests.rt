@@ -4,8 +4,8 @@ ghost use Rattle.std.specs.Prelude.{◌≡◌, ◌<◌};
 use bim_model::{
     Author, Bytes, ClassTest, Duplicate, Element, ElementKey, Extent, FARTHEST, Found, Guid, Items,
     Model, ModelTest, Moment, NamedModel, Pair, Point, Rule, RuleKind, Rules, Shared, Snapshot,
-    Steps, StoreyTest, Text, Triangle, extent_of, greatest_distance, id_of,
-    keys_rise, names_tell_models, rule_of, serial_of, smallest_boxes_are_unique,
+    Steps, StoreyTest, Text, Triangle, extent_of, greatest_distance, id_of, keys_rise,
+    names_tell_models, rule_of, serial_of, smallest_boxes_are_unique,
 };
 use std::alloc::{AllocError, Global};
 use std::marker::Brand;
