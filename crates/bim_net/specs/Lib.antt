@@ -1,0 +1,4 @@
+pub mod Seen
+pub mod Doors
+pub mod Stores
+pub mod Hosts

@@ -1,0 +1,46 @@
+-- What contracts see of doors in memory.
+use Rattle.std.specs.Prelude.{◌≡◌, ℕ, List, [], ◌∷◌, Bool, true, false, Option, Some, None}
+use Rattle.bim_io.specs.Causes.{counted}
+use Rattle.bim_net.specs.Seen.{LinkSeen, EndedLink, DoorSeen}
+use Rattle.bim_net.specs.Doors.{TakesBack}
+
+-- the connections that a door has still to give, in their order, and what it tells of the others
+pub record StoreState : Type 0 where
+  pub number : ℕ
+  pub waiting : List LinkSeen
+  pub ended : Option (List EndedLink)
+  pub gave : ℕ
+  pub closed : Bool
+
+-- the list, where it is told
+abbrev pub told : {X : Type 0} → Bool → List X → Option (List X)
+told true xs = Some xs
+told false xs = None
+
+-- the next connection is given, or there is none, which closes the door
+abbrev pub GivesNext : StoreState → Option LinkSeen → StoreState → Type 0
+GivesNext old None new = (old.waiting ≡ []) × (new ≡ record old { closed = true })
+GivesNext old (Some link) new =
+    (old.waiting ≡ link ∷ new.waiting)
+    × (new ≡ record old { waiting = new.waiting; gave = counted old.gave })
+
+-- a door with these connections, which has given none
+abbrev pub new_store : List LinkSeen → StoreState
+new_store waiting = record { number = 0; waiting = waiting; ended = Some []; gave = 0; closed = false }
+
+-- what a door shows that has failed so often
+abbrev pub door_of : StoreState → ℕ → DoorSeen
+door_of s faults = record {
+  number = s.number;
+  ended = s.ended;
+  gave = s.gave;
+  closed = s.closed;
+  faults = faults;
+}
+
+-- of a door whose accepts fail where its list says so
+pub record MemDoorState : Type 0 where
+  pub store : StoreState
+  pub fails : List ℕ
+  pub calls : ℕ
+  pub faults : ℕ
