@@ -66,7 +66,8 @@ book_fault_tree (refusal.VersionDropped version newest) =
 book_fault_tree (refusal.Pending version left) = pending_tree left version
 book_fault_tree (refusal.StoreFull what count limit) =
     error_store (codes "K6") (codes "StoreFull") count limit (store_text what)
-book_fault_tree (refusal.ElementsFull count limit) = error_full (codes "K7") (codes "ElementsFull") count limit
+book_fault_tree (refusal.ElementsFull count limit) =
+    error_full (codes "K7") (codes "ElementsFull") count limit
 book_fault_tree (refusal.TooSpread count limit) = error_full (codes "K8") (codes "TooSpread") count limit
 book_fault_tree (refusal.JournalFull count limit) = error_full (codes "K9") (codes "JournalFull") count limit
 book_fault_tree refusal.AlreadyDone = error_tree (codes "K10") (codes "AlreadyDone")

@@ -67,6 +67,7 @@ with_pair g name value =
     else (if bytes_eq name (codes "count")
     then with_count g (if_new g.count (number_within 1 MOST_PAIRS (number_in value))) else Ok g)
 
+-- what comes of a query next, unless a part of it was bad
 abbrev pub if_given : Result PageGiven QueryName → (PageGiven → Result PageGiven QueryName)
     → Result PageGiven QueryName
 if_given (Ok g) next = next g

@@ -9,6 +9,7 @@ use Rattle.bcf_json.specs.declared.body.BodyFault.TheVariants.{Title}
 use Rattle.bcf_json.specs.declared.body.BodyError.{BodyError}
 use Rattle.bcf_json.specs.declared.body.BodyError.TheVariants.{Fault, Memory}
 
+-- an object, and no other kind of value
 abbrev pub is_object : Data → Bool
 is_object null = false
 is_object (boolean b) = false
@@ -25,6 +26,7 @@ if_title title = if nat_lt 0 (length title) && nat_le (length title) MOST_TITLE 
 unfoldable pub title_of : Data → Option (List ℕ)
 title_of tree = option_and_then if_title (option_and_then as_str (get (codes "title") tree))
 
+-- a body with this title, or the fault that there is none
 abbrev pub with_title : Option (List ℕ) → Result TopicBody BodyFault
 with_title (Some title) = Ok (let b : TopicBody = record { title = title } in b)
 with_title None = Err Title

@@ -11,7 +11,9 @@ use Rattle.bim_model.specs.declared.topic.Topic.{Topic}
 
 -- the moment's date and time of day in UTC, to the second, and Z (RFC 3339)
 unfoldable pub IsDateText : ℕ → List ℕ → Type 0
-IsDateText moment text = (dt : DateTime) × (civil_nanos dt ≡ pos (moment * 1000000000)) × (text ≡ iso_datetime_text dt ++ codes "Z")
+IsDateText moment text =
+    (dt : DateTime) × (civil_nanos dt ≡ pos (moment * 1000000000))
+    × (text ≡ iso_datetime_text dt ++ codes "Z")
 
 -- the identifier of an object as a text (RFC 9562, 4)
 unfoldable pub identifier_text : ℕ → ℕ → List ℕ

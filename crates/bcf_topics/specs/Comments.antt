@@ -17,6 +17,7 @@ by_place p q = ordering_then (nat_cmp p.0 q.0) (nat_cmp p.1 q.1)
 abbrev pub is_place : ℕ → ℕ → (ℕ × ℕ) → Bool
 is_place topic serial place = is_eq (by_place (topic, serial) place)
 
+-- comments, each under the numbers of its topic and of itself
 abbrev pub Comments : Type 0
 Comments = List ((ℕ × ℕ) × Comment)
 
@@ -49,6 +50,7 @@ comment_put body author comment =
       modified = Some author;
     }
 
+-- the comments with this body in place of the one that stands there, if one does
 abbrev pub put_over : ℕ → ℕ → CommentBody → Author → Comments → Option Comment → Comments
 put_over topic serial body author comments None = comments
 put_over topic serial body author comments (Some comment) =

@@ -7,6 +7,7 @@ use Rattle.bcf_topics.specs.declared.topics.TopicError.TheVariants.{NoTopic, NoC
 use Rattle.bcf_topics.specs.Topics.{topic_of, topics_but}
 use Rattle.bcf_topics.specs.Comments.{Comments, comment_of, comments_off}
 
+-- the topics of a project and the comments on them
 pub record Discussion : Type 0 where
   pub topics : List Topic
   pub comments : Comments
@@ -16,9 +17,11 @@ pub record IsPlaceOf (topics : List Topic) (serial at : ℕ) : Type 0 where
   pub within : at < length topics
   pub number : (d : Topic) → (get_or topics at d).serial ≡ serial
 
+-- a discussion with other topics
 abbrev pub with_topics : List Topic → Discussion → Discussion
 with_topics topics d = record { topics = topics; comments = d.comments }
 
+-- a discussion with other comments
 abbrev pub with_comments : Comments → Discussion → Discussion
 with_comments comments d = record { topics = d.topics; comments = comments }
 

@@ -9,5 +9,6 @@ use Rattle.bcf_viewpoints.specs.declared.component.Coloring.{Coloring}
 abbrev pub IsComponent : Component → Type 0
 IsComponent c = IfSome c.ifc_guid (λ (g : Guid). IsGuid g.chars)
 
+-- each component of a coloring has an identifier
 abbrev pub IsColoring : Coloring → Type 0
 IsColoring c = All IsComponent c.components

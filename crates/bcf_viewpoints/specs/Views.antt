@@ -15,6 +15,7 @@ pub record IsViewBody (body : ViewBody) : Type 0 where
   pub coloring : All IsColoring body.coloring
   pub exceptions : All IsComponent body.exceptions
 
+-- viewpoints, each under the numbers of its topic and of itself
 abbrev pub Views : Type 0
 Views = List ((ℕ × ℕ) × ViewBody)
 

@@ -16,12 +16,16 @@ pub ended_empty : (ended : Bool) (left : List ℕ) → IsTrue ended → left_at 
 ended_empty true left is = refl
 ended_empty false left is = absurd (false≢true is)
 
+-- a source in memory that never fails: what is left and what was given, whether its end was answered, and the
+-- most that one read gives
 pub record SureSourceState : Type 0 where
   pub left : List ℕ
   pub given : List ℕ
   pub ended : Bool
   pub most : ℕ
 
+-- a source in memory: what is left and what was given, whether its end was answered, the most that one read
+-- gives, the numbers of the reads that fail, and how many reads and faults there were
 pub record SourceState : Type 0 where
   pub left : List ℕ
   pub given : List ℕ
@@ -36,6 +40,8 @@ pub record SureSinkState : Type 0 where
   pub held : Option (List ℕ)
   pub most : ℕ
 
+-- a sink in memory: what it holds, the most that one write takes, the numbers of the writes that fail, and
+-- how many writes and faults there were
 pub record SinkState : Type 0 where
   pub held : List ℕ
   pub most : ℕ

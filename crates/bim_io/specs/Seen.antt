@@ -58,6 +58,7 @@ pub record Outside : Type 0 where
   pub sink : SinkSeen
   pub clock : ClockSeen
 
+-- the outside of a command: its source, its sink and its clock
 abbrev pub outside : SourceSeen → SinkSeen → ClockSeen → Outside
 outside source sink clock = record { source = source; sink = sink; clock = clock }
 

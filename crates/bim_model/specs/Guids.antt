@@ -7,5 +7,6 @@ use Rattle.std.specs.Char.{is_ascii_alphanumeric}
 abbrev pub is_guid_char : ℕ → Bool
 is_guid_char byte = is_ascii_alphanumeric byte || byte == 95 || byte == 36
 
+-- 22 characters of the alphabet of identifiers
 abbrev pub IsGuid : List ℕ → Type 0
 IsGuid text = (length text ≡ 22) × IsTrue (list_all is_guid_char text)

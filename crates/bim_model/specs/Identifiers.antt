@@ -2,6 +2,7 @@
 -- and the object's serial number in 6 bytes. A project's own identifier has the serial number 0.
 use Rattle.std.specs.Prelude.{◌≡◌, ◌+◌, ◌*◌, ◌<◌, ◌^◌, ℕ, Option, Some, None}
 
+-- the number of 128 bits that names the object of a serial number in a project
 abbrev pub identifier : ℕ → ℕ → ℕ
 identifier project serial = project * 2 ^ 96 + 0x80008000 * 2 ^ 48 + serial
 

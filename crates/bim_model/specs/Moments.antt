@@ -6,5 +6,6 @@ use Rattle.bim_model.specs.declared.moment.TheConstants.Moment.{LAST}
 abbrev pub last_moment : ℕ
 last_moment = LAST
 
+-- a moment is not beyond the last one
 abbrev pub IsMoment : ℕ → Type 0
 IsMoment moment = moment ≤ last_moment

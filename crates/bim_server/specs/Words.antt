@@ -40,7 +40,8 @@ bare_command name = on_top (λ s. record s { no_binary_name = true; disable_help
 unfoldable pub replay_command : App
 replay_command =
     with_rule
-    (with_rule (with_rule (bare_command (codes "replay")) (option_of (codes "at"))) (option_of (codes "buckets")))
+    (with_rule (with_rule (bare_command (codes "replay")) (option_of (codes "at")))
+    (option_of (codes "buckets")))
     (option_of (codes "projects"))
 
 -- a command of which it is known what a parse finds: it has no subcommands, no argument that depends on another, and
@@ -71,6 +72,7 @@ abbrev pub buckets_said : Option (List ℕ) → Option (Option ℕ)
 buckets_said None = Some None
 buckets_said (Some text) = option_map Some (number_word 0 MOST_BUCKETS text)
 
+-- what the words of a replay say together, where each says something
 abbrev pub all_said : Option Time → Option (Option ℕ) → Option ℕ → Option ReplayWords
 all_said (Some time) (Some buckets) (Some projects) =
     Some (record { time = time; buckets = buckets; projects = projects })
@@ -88,6 +90,7 @@ unfoldable pub replay_words : List (List ℕ) → Option ReplayWords
 replay_words words = if takes replay_command words then replay_said
     (matches_of replay_command words) else None
 
+-- the line that says how the program is called
 abbrev pub usage_line : List ℕ
 usage_line = codes "usage: bim_server replay|check|generate|serve\n"
 

@@ -74,6 +74,7 @@ pub record Asking : Type 0 where
   pub moment : ℕ
   pub request : HttpRequest
 
+-- a request with the moment at which it is asked, and where the session stands
 abbrev pub asking : Standing → ℕ → HttpRequest → Asking
 asking standing moment request = record { standing = standing; moment = moment; request = request }
 

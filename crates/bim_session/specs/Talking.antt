@@ -53,6 +53,7 @@ abbrev pub is_end : List ℕ → Bool
 is_end [] = true
 is_end (b ∷ bs) = false
 
+-- a talk with the framer after a piece, which has ended where the piece is empty
 abbrev pub with_piece : Framer → List ℕ → TalkState → TalkState
 with_piece framer piece s = record s { framer = framer; ended = is_end piece }
 

@@ -25,6 +25,7 @@ untouched = record { topics = []; made = 0; versions = nothing ∷ [] }
 abbrev pub new_topic : ℕ → TopicBody → Author → Topic
 new_topic made body author = record { serial = made + 1; body = body; created = author }
 
+-- the number of a project's newest version
 abbrev pub newest : ProjectState → ℕ
 newest project = newest_in project.versions
 
@@ -32,6 +33,7 @@ newest project = newest_in project.versions
 abbrev pub newest_content : ProjectState → Version
 newest_content project = (version_at project.versions (newest project)).content
 
+-- a model under its name
 abbrev pub named_model : List ℕ → List Element → NamedModel
 named_model name model = record { name = name; model = model }
 
@@ -46,6 +48,7 @@ next_content content (change.Remove name) =
 next_content content (change.SetRules rules weight) = Some (record { models = content.models; rules = rules })
 next_content content (change.BucketDone version cell) = None
 
+-- a project with one more topic, under the next serial number
 abbrev pub with_topic : ProjectState → TopicBody → Author → ProjectState
 with_topic project body author = record {
   topics = project.topics ++ new_topic project.made body author ∷ [];
@@ -61,6 +64,7 @@ with_version project content = record {
   versions = project.versions ++ made_after (version_at project.versions (newest project)) content ∷ [];
 }
 
+-- a project in which a bucket of a version is done
 abbrev pub with_bucket : ProjectState → ℕ → Cell → ProjectState
 with_bucket project number cell = record {
   topics = project.topics;

@@ -158,6 +158,7 @@ body_of history (Answer body) = body
 body_of history (Accepted number change) =
     reply_to (state_of number history) change (with_change (state_of number history) change)
 
+-- the entry that a change makes
 abbrev pub entry_of : Stamp → ℕ → Change → Entry
 entry_of stamp project change = record { stamp = stamp; project = project; change = change }
 

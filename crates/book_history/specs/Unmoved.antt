@@ -34,9 +34,11 @@ same_text None (Some b) = false
 same_text (Some a) None = false
 same_text (Some a) (Some b) = bytes_eq a b
 
+-- two points are one
 abbrev pub same_point : Point → Point → Bool
 same_point p q = int_eq p.x q.x && int_eq p.y q.y && int_eq p.z q.z
 
+-- two triangles have the same corners in the same order
 abbrev pub same_triangle : Triangle → Triangle → Bool
 same_triangle t u = same_point t.a u.a && same_point t.b u.b && same_point t.c u.c
 
@@ -47,12 +49,14 @@ is_same s t =
     && bytes_eq s.element.class t.element.class && same_text s.element.storey t.element.storey
     && same_by same_triangle s.element.triangles t.element.triangles
 
+-- two tests of a class are one
 abbrev pub same_class : ClassTest → ClassTest → Bool
 same_class class.Any class.Any = true
 same_class class.Any (class.Named b) = false
 same_class (class.Named a) class.Any = false
 same_class (class.Named a) (class.Named b) = bytes_eq a b
 
+-- two tests of storeys are one
 abbrev pub same_storeys : StoreyTest → StoreyTest → Bool
 same_storeys storey.Any storey.Any = true
 same_storeys storey.Any storey.Same = false
@@ -64,6 +68,7 @@ same_storeys storey.Different storey.Any = false
 same_storeys storey.Different storey.Same = false
 same_storeys storey.Different storey.Different = true
 
+-- two tests of models are one
 abbrev pub same_models : ModelTest → ModelTest → Bool
 same_models models.Any models.Any = true
 same_models models.Any models.Same = false
@@ -75,12 +80,14 @@ same_models models.Other models.Any = false
 same_models models.Other models.Same = false
 same_models models.Other models.Other = true
 
+-- two rules find the same: clashes within one distance, or nothing
 abbrev pub same_kind : RuleKind → RuleKind → Bool
 same_kind (Clash a) (Clash b) = a == b
 same_kind (Clash a) Ignore = false
 same_kind Ignore (Clash b) = false
 same_kind Ignore Ignore = true
 
+-- two rules are one
 abbrev pub same_rule : Rule → Rule → Bool
 same_rule r s =
     same_class r.a s.a && same_class r.b s.b && same_storeys r.storey s.storey && same_text r.level s.level

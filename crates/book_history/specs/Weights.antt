@@ -17,6 +17,7 @@ abbrev pub element_text : Element → ℕ
 element_text element =
     64 + length element.name + length element.class + option_map_or length element.storey 0
 
+-- the bytes of the texts of a model
 abbrev pub model_text : List Element → ℕ
 model_text elements = sum_by element_text elements
 
@@ -40,6 +41,7 @@ triangles_of (change.BucketDone version cell) = 0
 abbrev pub text_in : List Entry → ℕ
 text_in history = sum_by (λ (e : Entry). text_of e.change) history
 
+-- the triangles of all uploads of a history
 abbrev pub triangles_in : List Entry → ℕ
 triangles_in history = sum_by (λ (e : Entry). triangles_of e.change) history
 

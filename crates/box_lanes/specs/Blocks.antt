@@ -44,6 +44,7 @@ abbrev pub AreBlocks : List Block → List Extent → Type 0
 AreBlocks [] boxes = boxes ≡ []
 AreBlocks (b ∷ blocks) boxes = IsBlock b (padded 8 boxes) × AreBlocks blocks (drop 8 boxes)
 
+-- the blocks are those of the boxes
 pub record HasBlocks (blocks : List Block) (boxes : List Extent) : Type 0 where
   pub are : AreBlocks blocks boxes
 

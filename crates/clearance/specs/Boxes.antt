@@ -20,6 +20,7 @@ pub record InExtent (k : Extent) (t : Face) : Type 0 where
   pub b_in : Between (vector_of k.low) (vector_of k.high) t.b
   pub c_in : Between (vector_of k.low) (vector_of k.high) t.c
 
+-- a box whose corners lie on the grid
 pub record IsExtent (k : Extent) : Type 0 where
   pub low_in : IsGridPoint k.low
   pub high_in : IsGridPoint k.high

@@ -27,6 +27,7 @@ Near p q d = FacesNear (shape_of p) (shape_of q) d
 abbrev pub NearAny : Triangle → List Triangle → ℕ → Type 0
 NearAny p qs d = Any (λ (q : Triangle). Near p q d) qs
 
+-- a triangle of one list is near a triangle of the other
 abbrev pub ListsNear : List Triangle → List Triangle → ℕ → Type 0
 ListsNear ps qs d = Any (λ (p : Triangle). NearAny p qs d) ps
 

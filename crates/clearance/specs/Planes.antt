@@ -8,6 +8,7 @@ use Rattle.tri_exact.specs.Places.{at, straight}
 use Rattle.clearance.specs.declared.planes.Plane.{Plane}
 use Rattle.clearance.specs.declared.planes.Heights.{Heights}
 
+-- the plane of a face by its two edges, its normal and the normal's square, which is within its limit
 pub record IsPlane (k : Plane) (t : Face) : Type 0 where
   pub edge_is : at k.edge ≡ minus t.b t.a
   pub side_is : at k.side ≡ minus t.c t.a
@@ -15,11 +16,13 @@ pub record IsPlane (k : Plane) (t : Face) : Type 0 where
   pub square_is : k.square ≡ dot_of (normal t) (normal t)
   pub square_in : unsigned_abs k.square ≤ square_limit
 
+-- how high the corners of a face lie over the plane of another
 pub record IsOver (h : Heights) (t s : Face) : Type 0 where
   pub a_is : h.a ≡ dot_of (minus s.a t.a) (normal t)
   pub b_is : h.b ≡ dot_of (minus s.b t.a) (normal t)
   pub c_is : h.c ≡ dot_of (minus s.c t.a) (normal t)
 
+-- the heights are within their limit
 pub record IsTall (h : Heights) : Type 0 where
   pub a_in : unsigned_abs h.a ≤ height_limit
   pub b_in : unsigned_abs h.b ≤ height_limit

@@ -22,5 +22,6 @@ CornerNear a b p q d =
     (dot_of (minus p a) (minus b a)) (pos d *ℤ pos d)
     ⊎ Crosses (minus b a) (minus q p) (minus p a) (pos d *ℤ pos d)))
 
+-- an edge is near an edge of a face
 abbrev pub RowNear : Vector → Vector → Face → ℕ → Type 0
 RowNear a b s d = CornerNear a b s.a s.b d ⊎ (CornerNear a b s.b s.c d ⊎ CornerNear a b s.c s.a d)

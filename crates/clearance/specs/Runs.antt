@@ -15,6 +15,7 @@ AllIn k ts = All (λ (t : Triangle). InExtent k (shape_of t)) ts
 abbrev pub Reaches : Extent → ℕ → Extent → Triangle → Type 0
 Reaches around d k t = (s : Face) → InExtent around s → FacesNear s (shape_of t) d → InExtent k (shape_of t)
 
+-- each triangle reaches the box within a distance
 abbrev pub AllReach : Extent → ℕ → Extent → List Triangle → Type 0
 AllReach around d k ts = All (λ (t : Triangle). Reaches around d k t) ts
 

@@ -12,6 +12,7 @@ pub record Vector : Type 0 where
 abbrev pub nowhere : Vector
 nowhere = record { x = pos 0; y = pos 0; z = pos 0 }
 
+-- the vector of no length
 abbrev pub is_nowhere : Vector → Bool
 is_nowhere a = int_eq a.x (pos 0) && int_eq a.y (pos 0) && int_eq a.z (pos 0)
 

@@ -98,25 +98,27 @@ IsSafe (Head watch) items at =
 IsSafe (Body p) items at = (at ≤ length items) × IsFilled p.body at
 IsSafe (Failed fault) items at = at ≤ length items
 
--- each of these facts holds in one way
-
+-- what is asked of a spot holds in one way
 IsAsked-prop : (s : Spot) (bytes : List ℕ) → IsProp (IsAsked s bytes)
 IsAsked-prop spot.Before bytes = Unit-prop
 IsAsked-prop spot.BeforeCr bytes = Unit-prop
 IsAsked-prop spot.Line bytes = Unit-prop
 IsAsked-prop (spot.Fields place) bytes = ∥∥₁_prop
 
+-- so does what is asked of a watch
 IsWatch-prop : IsSet Spot → (watch : Watch) (taken : List ℕ) → IsProp (IsWatch watch taken)
 IsWatch-prop spots watch taken = λ x y. λ i. (
   spots watch.spot (spot_run spot.Before taken) x.0 y.0 i,
   IsAsked-prop watch.spot taken x.1 y.1 i,
 )
 
+-- so does what is asked of a body's filling
 IsFilled-prop : (body : Awaited) (at : ℕ) → IsProp (IsFilled body at)
 IsFilled-prop (Sized n) at = Unit-prop
 IsFilled-prop (Chunked c) at = le_prop
 IsFilled-prop (Whole filled) at = le_prop
 
+-- and so what is asked of a stage
 pub IsSafe-prop : IsSet Spot → (stage : Stage) (items : List ℕ) (at : ℕ) → IsProp (IsSafe stage items at)
 IsSafe-prop spots (Head watch) items at = λ x y. λ i. (
   le_prop x.0 y.0 i,

@@ -59,6 +59,7 @@ guid_front number = text_of Zeros ++ (whole (number / 10000) ++ whole (number / 
 abbrev pub guid_back : ℕ → List ℕ
 guid_back number = whole (number / 100 % 10) ++ (whole (number / 10 % 10) ++ whole (number % 10))
 
+-- the identifier of an element
 abbrev pub guid_of : ℕ → List ℕ
 guid_of number = guid_front number ++ guid_back number
 
@@ -78,6 +79,7 @@ line_of id phrase named = front_of id phrase named ++ text_of Close
 abbrev pub points_line : ℕ → Cuboid → List ℕ
 points_line k cuboid = (name k ++ text_of Points) ++ (corners cuboid ++ text_of Close)
 
+-- what ends the line of a set of triangles
 abbrev pub set_back : List ℕ
 set_back = text_of Closed ++ (triples ++ text_of Plain)
 
@@ -101,9 +103,11 @@ named place = (text_of Guid ++ (guid_of (place + 1) ++ text_of Named)) ++ guid_o
 abbrev pub subject_front : ℕ → ℕ → List ℕ
 subject_front k place = name (k + 4) ++ (codes "=" ++ class_of place)
 
+-- what ends the line of an element
 abbrev pub subject_back : ℕ → List ℕ
 subject_back k = text_of Placed ++ (name (k + 3) ++ text_of Done)
 
+-- the line of an element
 abbrev pub subject_line : ℕ → ℕ → List ℕ
 subject_line k place = subject_front k place ++ (named place ++ subject_back k)
 

@@ -5,6 +5,7 @@ use Rattle.model_generator.specs.declared.phrases.Phrase.TheVariants.{Points, Se
 use Rattle.model_generator.specs.declared.phrases.Phrase.TheVariants.{Shape, Product, Close, Guid}
 use Rattle.model_generator.specs.declared.phrases.Phrase.TheVariants.{Named, Placed, Done, Zeros}
 
+-- the bytes of a phrase of the file
 unfoldable pub text_of : Phrase → List ℕ
 text_of Points = codes "=IFCCARTESIANPOINTLIST3D(("
 text_of Set = codes "=IFCTRIANGULATEDFACESET("

@@ -19,6 +19,7 @@ pub record IsComment (bs : List ℕ) : Type 0 where
   pub whole : bs ≡ 47 ∷ 42 ∷ (inner ++ 42 ∷ 47 ∷ [])
   pub first : has_close (inner ++ 42 ∷ []) ≡ false
 
+-- one blank byte
 pub record IsBlank (bs : List ℕ) : Type 0 where
   pub byte : ℕ
   pub whole : bs ≡ byte ∷ []

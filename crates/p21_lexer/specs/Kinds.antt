@@ -18,6 +18,7 @@ kind_of b =
     else if b == 34 then Some kinds.Bits
     else None
 
+-- one place further, where there is a place
 abbrev pub behind : Option ℕ → Option ℕ
 behind o = option_map (λ n. n + 1) o
 

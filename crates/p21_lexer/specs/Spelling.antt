@@ -8,9 +8,11 @@ use Rattle.p21_lexer.specs.declared.token.TokenKind.TheVariants as kinds
 
 -- Classes of bytes.
 
+-- a byte from the low one to the high one
 abbrev pub between : ℕ → ℕ → ℕ → Bool
 between low high b = nat_le low b && nat_le b high
 
+-- a decimal digit
 abbrev pub is_digit : ℕ → Bool
 is_digit b = between 48 57 b
 
@@ -18,15 +20,19 @@ is_digit b = between 48 57 b
 abbrev pub is_letter : ℕ → Bool
 is_letter b = between 65 90 b || between 97 122 b || b == 95
 
+-- a letter or a digit
 abbrev pub is_letter_or_digit : ℕ → Bool
 is_letter_or_digit b = is_letter b || is_digit b
 
+-- a byte that a word may have: a letter, a digit or a hyphen
 abbrev pub is_word_byte : ℕ → Bool
 is_word_byte b = is_letter_or_digit b || b == 45
 
+-- a hexadecimal digit
 abbrev pub is_hexadecimal : ℕ → Bool
 is_hexadecimal b = between 65 70 b || between 97 102 b || is_digit b
 
+-- a plus or a minus
 abbrev pub is_sign : ℕ → Bool
 is_sign b = b == 43 || b == 45
 
@@ -49,6 +55,7 @@ AreAll p bs = list_all p bs ≡ true
 abbrev pub AreSome : (ℕ → Bool) → List ℕ → Type 0
 AreSome p bs = AreAll p bs × (0 < length bs)
 
+-- an exclamation mark, or nothing
 abbrev pub IsOptionalBang : List ℕ → Type 0
 IsOptionalBang bs = (bs ≡ []) ⊎ (bs ≡ 33 ∷ [])
 
@@ -74,6 +81,7 @@ pub record IsName (bs : List ℕ) : Type 0 where
   pub are_digits : AreSome is_digit digits
   pub bound : value_after 0 digits ≤ GREATEST_NAME
 
+-- a sign, or nothing
 abbrev pub IsOptionalSign : List ℕ → Type 0
 IsOptionalSign [] = Unit {0}
 IsOptionalSign (b ∷ []) = is_sign b ≡ true
@@ -84,6 +92,7 @@ abbrev pub IsFraction : List ℕ → Type 0
 IsFraction [] = Unit {0}
 IsFraction (b ∷ bs) = (b ≡ 46) × AreAll is_digit bs
 
+-- the letter of an exponent, large or small
 abbrev pub is_exponent_mark : ℕ → Bool
 is_exponent_mark b = b == 69 || b == 101
 
@@ -136,6 +145,7 @@ pub record IsBits (bs : List ℕ) : Type 0 where
   pub whole : bs ≡ 34 ∷ (digits ++ 34 ∷ [])
   pub are_digits : AreSome is_hexadecimal digits
 
+-- one byte that is a token by itself
 pub record IsSingle (bs : List ℕ) : Type 0 where
   pub byte : ℕ
   pub whole : bs ≡ byte ∷ []

@@ -3,15 +3,19 @@
 use Rattle.std.specs.Prelude.{ℤ, pos, ◌-ℤ◌, ◌≤ℤ◌}
 use Rattle.exact_arith.specs.Space.{Vector, minus, dot_of, cross_of}
 
+-- the square of the normal of two vectors' plane
 abbrev pub square_of : Vector → Vector → ℤ
 square_of e u = dot_of (cross_of e u) (cross_of e u)
 
+-- how far along the first vector a point's foot lies in their plane, in parts of the normal's square
 abbrev pub along_of : Vector → Vector → Vector → ℤ
 along_of e u r = dot_of (cross_of r u) (cross_of e u)
 
+-- how far along the second vector the foot lies, in the same parts
 abbrev pub across_of : Vector → Vector → Vector → ℤ
 across_of e u r = dot_of (cross_of e r) (cross_of e u)
 
+-- how high a point lies over the plane, by the normal
 abbrev pub height_of : Vector → Vector → Vector → ℤ
 height_of e u r = dot_of r (cross_of e u)
 

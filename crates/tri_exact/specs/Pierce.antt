@@ -11,9 +11,11 @@ height p t = dot_of (minus p t.a) (normal t)
 abbrev pub weight_a : Vector → Vector → Face → ℤ
 weight_a p q t = orient_of p t.b t.c q
 
+-- the weight of the second corner where a line goes through the plane of a face
 abbrev pub weight_b : Vector → Vector → Face → ℤ
 weight_b p q t = orient_of p t.c t.a q
 
+-- the weight of the third corner there
 abbrev pub weight_c : Vector → Vector → Face → ℤ
 weight_c p q t = orient_of p t.a t.b q
 

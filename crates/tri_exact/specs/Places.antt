@@ -6,15 +6,19 @@ use Rattle.tri_exact.specs.declared.V3.{V3}
 use Rattle.tri_exact.specs.declared.W3.{W3}
 use Rattle.tri_exact.specs.declared.Normal.{Normal}
 
+-- a vector of 32 bits as a vector
 abbrev pub at : V3 → Vector
 at v = record { x = v.x; y = v.y; z = v.z }
 
+-- a vector of 64 bits as a vector
 abbrev pub wide : W3 → Vector
 wide v = record { x = v.x; y = v.y; z = v.z }
 
+-- a normal as a vector
 abbrev pub straight : Normal → Vector
 straight n = record { x = n.x; y = n.y; z = n.z }
 
+-- a face by three vectors of 32 bits
 abbrev pub face_at : V3 → V3 → V3 → Face
 face_at a b c = record { a = at a; b = at b; c = at c }
 

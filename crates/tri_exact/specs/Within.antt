@@ -10,6 +10,7 @@ use Rattle.exact_arith.specs.Space.{Vector, plus, minus, times, dot_of, Face, no
 abbrev pub mix2 : Vector → Vector → ℤ → ℤ → Vector
 mix2 a b i j = plus (times i a) (times j b)
 
+-- three corners by their weights
 abbrev pub mix3 : Face → ℤ → ℤ → ℤ → Vector
 mix3 t i j k = plus (mix2 t.a t.b i j) (times k t.c)
 
