@@ -1,8 +1,7 @@
 -- What contracts see of doors in memory.
 use Rattle.std.specs.Prelude.{◌≡◌, ℕ, List, [], ◌∷◌, Bool, true, false, Option, Some, None}
 use Rattle.bim_io.specs.Causes.{counted}
-use Rattle.bim_net.specs.Seen.{LinkSeen, EndedLink, DoorSeen}
-use Rattle.bim_net.specs.Doors.{TakesBack}
+use Rattle.bim_net.specs.Seen.{LinkSeen, EndedLink, DoorSeen, link_seen}
 
 -- the connections that a door has still to give, in their order, and what it tells of the others
 pub record StoreState : Type 0 where
@@ -27,6 +26,17 @@ GivesNext old (Some link) new =
 -- a door with these connections, which has given none
 abbrev pub new_store : List LinkSeen → StoreState
 new_store waiting = record { number = 0; waiting = waiting; ended = Some []; gave = 0; closed = false }
+
+-- the same door of this number
+abbrev pub numbered : ℕ → StoreState → StoreState
+numbered number s = record s { number = number }
+
+-- a connection in memory that has these contents to give, at most so many bytes at once, and holds nothing
+abbrev pub link_of : List ℕ → ℕ → LinkSeen
+link_of contents most =
+    link_seen
+    (record { left = Some contents; given = Some []; most = Some most; ended = false; faults = 0 })
+    (record { held = Some []; faults = 0 })
 
 -- what a door shows that has failed so often
 abbrev pub door_of : StoreState → ℕ → DoorSeen
