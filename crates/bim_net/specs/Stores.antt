@@ -1,6 +1,7 @@
 -- What contracts see of doors in memory.
 use Rattle.std.specs.Prelude.{◌≡◌, ℕ, List, [], ◌∷◌, Bool, true, false, Option, Some, None}
 use Rattle.bim_io.specs.Causes.{counted}
+use Rattle.bim_io.specs.Memory.{SourceState, SinkState, SureSourceState, SureSinkState, left_at}
 use Rattle.bim_net.specs.Seen.{LinkSeen, EndedLink, DoorSeen, link_seen}
 
 -- the connections that a door has still to give, in their order, and what it tells of the others
@@ -37,6 +38,32 @@ link_of contents most =
     link_seen
     (record { left = Some contents; given = Some []; most = Some most; ended = false; faults = 0 })
     (record { held = Some []; faults = 0 })
+
+-- what is seen of a connection in memory
+abbrev pub mem_seen : SourceState → SinkState → LinkSeen
+mem_seen source sink =
+    link_seen
+    (record {
+      left = Some (left_at source.ended source.left);
+      given = Some source.given;
+      most = Some source.most;
+      ended = source.ended;
+      faults = source.faults;
+    })
+    (record { held = Some sink.held; faults = sink.faults })
+
+-- .. that never fails
+abbrev pub sure_seen : SureSourceState → SureSinkState → LinkSeen
+sure_seen source sink =
+    link_seen
+    (record {
+      left = Some (left_at source.ended source.left);
+      given = Some source.given;
+      most = Some source.most;
+      ended = source.ended;
+      faults = 0;
+    })
+    (record { held = sink.held; faults = 0 })
 
 -- what a door shows that has failed so often
 abbrev pub door_of : StoreState → ℕ → DoorSeen

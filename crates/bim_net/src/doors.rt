@@ -1,9 +1,9 @@
 //! Doors in memory: one whose accepts fail where its list says so, and one that never fails.
 ghost use Rattle.std.specs.Prelude.{◌≡◌, ◌≤◌, ◌↔◌, [], false, Some, IfOk, IfSome, IsErr, IsOk, Contains, option_map};
 ghost use Rattle.bim_io.specs.Causes.{counted};
-ghost use Rattle.bim_net.specs.Seen.{IsFresh, link_seen, ended_link};
+ghost use Rattle.bim_net.specs.Seen.{IsFresh, ended_link};
 ghost use Rattle.bim_net.specs.Doors.{Accepts, TakesBack};
-ghost use Rattle.bim_net.specs.Stores.{GivesNext, new_store, numbered, door_of, link_of};
+ghost use Rattle.bim_net.specs.Stores.{GivesNext, new_store, numbered, door_of, link_of, mem_seen, sure_seen};
 
 use crate::ends::LinkEnd;
 use crate::hall::StoredDoor;
@@ -97,7 +97,7 @@ impl MemDoor {
 
 impl StoredDoor for MemDoor {
     fn set_number(&mut self, number: u32)
-        ensures { door_of self.new.store self.new.faults
+        ensures number { door_of self.new.store self.new.faults
             ≡ record (door_of self.old.store self.old.faults) { number = number } }
         ensures rest { self.new ≡ record self.old { store = numbered number self.old.store } }
     {
@@ -122,11 +122,10 @@ impl Door for MemDoor {
 
     fn accept(&mut self) -> Result<Option<MemLink>, Failed>
         ensures fresh { IfOk result (λ given. IfSome given (λ link.
-            IsFresh (link_seen (⟦<MemSource as Source>⟧.seen link.source) (⟦<MemSink as Sink>⟧.seen link.sink)))) }
+            IsFresh (mem_seen link.source link.sink))) }
         ensures door { Accepts (door_of self.old.store self.old.faults) result (door_of self.new.store self.new.faults) }
         ensures fails { IsErr result ↔ Contains self.old.fails (counted self.old.calls) }
-        ensures next { IfOk result (λ given. GivesNext self.old.store (option_map (λ link.
-            link_seen (⟦<MemSource as Source>⟧.seen link.source) (⟦<MemSink as Sink>⟧.seen link.sink)) given)
+        ensures next { IfOk result (λ given. GivesNext self.old.store (option_map (λ link. mem_seen link.source link.sink) given)
             self.new.store) }
         ensures calls { self.new.calls ≡ counted self.old.calls }
         ensures list { self.new.fails ≡ self.old.fails }
@@ -140,8 +139,7 @@ impl Door for MemDoor {
     }
 
     fn give_back(&mut self, link: MemLink, end: LinkEnd)
-        ensures door { TakesBack (ended_link (link_seen (⟦<MemSource as Source>⟧.seen link.source)
-            (⟦<MemSink as Sink>⟧.seen link.sink)) end)
+        ensures door { TakesBack (ended_link (mem_seen link.source link.sink) end)
             (door_of self.old.store self.old.faults) (door_of self.new.store self.new.faults) }
         ensures waiting { self.new.store.waiting ≡ self.old.store.waiting }
         ensures list { self.new.fails ≡ self.old.fails }
@@ -188,7 +186,7 @@ impl SureDoor {
 
 impl StoredDoor for SureDoor {
     fn set_number(&mut self, number: u32)
-        ensures { door_of self.new 0 ≡ record (door_of self.old 0) { number = number } }
+        ensures number { door_of self.new 0 ≡ record (door_of self.old 0) { number = number } }
         ensures rest { self.new ≡ numbered number self.old }
     {
         self.store.set_number(number);
@@ -212,19 +210,16 @@ impl Door for SureDoor {
 
     fn accept(&mut self) -> Result<Option<SureLink>, Failed>
         ensures fresh { IfOk result (λ given. IfSome given (λ link.
-            IsFresh (link_seen (⟦<SureSource as Source>⟧.seen link.source) (⟦<SureSink as Sink>⟧.seen link.sink)))) }
+            IsFresh (sure_seen link.source link.sink))) }
         ensures door { Accepts (door_of self.old 0) result (door_of self.new 0) }
         ensures ok { IsOk result }
-        ensures next { IfOk result (λ given. GivesNext self.old (option_map (λ link.
-            link_seen (⟦<SureSource as Source>⟧.seen link.source) (⟦<SureSink as Sink>⟧.seen link.sink)) given)
-            self.new) }
+        ensures next { IfOk result (λ given. GivesNext self.old (option_map (λ link. sure_seen link.source link.sink) given) self.new) }
     {
         Ok(self.store.next())
     }
 
     fn give_back(&mut self, link: SureLink, end: LinkEnd)
-        ensures door { TakesBack (ended_link (link_seen (⟦<SureSource as Source>⟧.seen link.source)
-            (⟦<SureSink as Sink>⟧.seen link.sink)) end)
+        ensures door { TakesBack (ended_link (sure_seen link.source link.sink) end)
             (door_of self.old 0) (door_of self.new 0) }
         ensures waiting { self.new.waiting ≡ self.old.waiting }
     {
