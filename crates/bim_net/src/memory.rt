@@ -283,7 +283,12 @@ impl Host for HoldHost {
         self.inner.open_doors(alloc, addr, n)
     }
 
-    fn close_doors(&mut self, doors: Vec<MemDoor>) {
+    fn close_doors(&mut self, doors: Vec<MemDoor>)
+        ensures host { Closes (map (λ d. door_of d.store d.faults) doors.items)
+            (host_of (λ d. door_of d.store d.faults) self.old.hall self.old.moment self.old.faults)
+            (host_of (λ d. door_of d.store d.faults) self.new.hall self.new.moment self.new.faults) }
+        ensures doors { self.new.hall.doors ≡ doors.items }
+    {
         self.inner.close_doors(doors);
     }
 
