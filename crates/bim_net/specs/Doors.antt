@@ -1,6 +1,6 @@
 -- What the calls of a door do.
-use Rattle.std.specs.Prelude.{◌≡◌, ℕ, ◌<◌, ◌++◌, List, [], ◌∷◌, length, true, Option, Some, None, IsSome, Result, Ok, Err, ⊤}
-use Rattle.bim_io.specs.Causes.{counted, Rose}
+use Rattle.std.specs.Prelude.{◌≡◌, ℕ, ◌+◌, ◌<◌, ◌++◌, List, [], ◌∷◌, length, true, Option, Some, None, IsSome, Result, Ok, Err, ⊤}
+use Rattle.bim_io.specs.Causes.{Rose}
 use Rattle.bim_net.specs.Seen.{EndedLink, DoorSeen}
 
 -- What is told grows by these, or is no longer told. Who doesn't tell never does again.
@@ -17,7 +17,7 @@ HasOut (Some ended) gave = length ended < gave
 
 -- one more connection is given, or the door answers that it is closed, or it fails
 abbrev pub Accepts : {X E : Type 0} → DoorSeen → Result (Option X) E → DoorSeen → Type 0
-Accepts old (Ok (Some link)) new = new ≡ record old { gave = counted old.gave }
+Accepts old (Ok (Some link)) new = new ≡ record old { gave = old.gave + 1 }
 Accepts old (Ok None) new = new ≡ record old { closed = true }
 Accepts old (Err e) new = (new ≡ record old { faults = new.faults }) × Rose old.faults new.faults
 

@@ -1,6 +1,5 @@
 -- What contracts see of doors in memory.
-use Rattle.std.specs.Prelude.{◌≡◌, ℕ, List, [], ◌∷◌, Bool, true, false, Option, Some, None}
-use Rattle.bim_io.specs.Causes.{counted}
+use Rattle.std.specs.Prelude.{◌≡◌, ℕ, ◌+◌, List, [], ◌∷◌, Bool, true, false, Option, Some, None}
 use Rattle.bim_io.specs.Memory.{SourceState, SinkState, SureSourceState, SureSinkState, left_at}
 use Rattle.bim_net.specs.Seen.{LinkSeen, EndedLink, DoorSeen, link_seen}
 
@@ -22,7 +21,7 @@ abbrev pub GivesNext : StoreState → Option LinkSeen → StoreState → Type 0
 GivesNext old None new = (old.waiting ≡ []) × (new ≡ record old { closed = true })
 GivesNext old (Some link) new =
     (old.waiting ≡ link ∷ new.waiting)
-    × (new ≡ record old { waiting = new.waiting; gave = counted old.gave })
+    × (new ≡ record old { waiting = new.waiting; gave = old.gave + 1 })
 
 -- a door with these connections, which has given none
 abbrev pub new_store : List LinkSeen → StoreState
