@@ -1,5 +1,5 @@
 -- Connections one after another, and what they are in one history.
-use Rattle.std.proofs.Common.{◌≡◌, ℕ, ◌+◌, ◌<◌, ◌≤◌, List, [], ◌∷◌, ◌++◌, Bool, true, false, if◌then◌else◌, Option, Some, None, refl, sym, ◌∙◌, ap, subst, arith, append_assoc, append-nil, le-leb}
+use Rattle.std.proofs.Common.{◌≡◌, ℕ, ◌+◌, ◌<◌, ◌≤◌, List, [], ◌∷◌, ◌++◌, length, length-append, Bool, true, false, if◌then◌else◌, Option, Some, None, refl, sym, ◌∙◌, ap, subst, arith, append_assoc, append-nil, le-leb}
 use mathlib.Core.Logic.{dite}
 use native.Mathlib.Decide.{dec_le}
 use borrow.Author.Tests.{lt-leb}
@@ -38,6 +38,7 @@ module _ (serves : List Entry → ℕ → EndedLink → List Entry → Type 0) w
     chain = (refl, refl);
     up_to = λ are. are;
     number = refl;
+    gave = (let none : d.gave ≡ d.gave + 0 = omega arith in none);
     balanced = λ b. b;
     tells = λ b s. s;
     faults = omega arith;
@@ -51,6 +52,7 @@ module _ (serves : List Entry → ℕ → EndedLink → List Entry → Type 0) w
     chain = chain_append before last p.links q.links mid between history top p.chain q.chain;
     up_to = λ are. q.up_to (p.up_to are);
     number = q.number ∙ p.number;
+    gave = (let first = p.gave in let then = q.gave in let both = length-append p.links q.links in omega (arith, first, then, both));
     balanced = λ even. q.balanced (p.balanced even);
     tells = λ even some. q.tells (p.balanced even) (p.tells even some);
     faults = (let first = p.faults in let then = q.faults in omega (arith, first, then));

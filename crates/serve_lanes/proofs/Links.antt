@@ -97,6 +97,7 @@ lane_one serves before last x history top a b c given back one is up =
       chain = (history, one, (refl, sym is));
       up_to = up;
       number = ap (λ (d : DoorSeen). d.number) back.others ∙ ap (λ (d : DoorSeen). d.number) given;
+      gave = ap (λ (d : DoorSeen). d.gave) back.others ∙ ap (λ (d : DoorSeen). d.gave) given;
       balanced = λ even. back_even b c x back (gives_out a b given even);
       tells = λ even some. back.tells (has_out b.ended b.gave (gives_out a b given even) (subst IsSome (sym ended) some));
       faults = omega (arith, faults);
@@ -111,6 +112,7 @@ lane_none serves before last a c ended gave number faults = record {
   chain = (refl, refl);
   up_to = λ are. are;
   number = number;
+  gave = (let none : c.gave ≡ a.gave + 0 = omega (arith, gave) in none);
   balanced = λ even. subst (λ n. IfSome c.ended (λ es. length es ≡ n)) (sym gave) (subst (λ o. IfSome o (λ es. length es ≡ a.gave)) (sym ended) even);
   tells = λ even some. subst IsSome (sym ended) some;
   faults = faults;

@@ -62,8 +62,8 @@ Chain serves before last (x ∷ xs) history top =
 abbrev pub IsBalanced : DoorSeen → Type 0
 IsBalanced d = IfSome d.ended (λ es. length es ≡ d.gave)
 
--- A lane: the list of its door grew by these connections, which are a chain in what its pass came to see. A door that gave
--- as many as it took back still does, and still tells them if it did.
+-- A lane: its door gave these connections and its list grew by them, and they are a chain in what its pass came to see. A
+-- door that gave as many as it took back still does, and still tells them if it did.
 pub record LaneServed (serves : List Entry → ℕ → EndedLink → List Entry → Type 0) (before : List Entry) (last : ℕ)
     (history : List Entry) (top : ℕ) (old new : DoorSeen) : Type 0 where
   pub links : List EndedLink
@@ -71,6 +71,7 @@ pub record LaneServed (serves : List Entry → ℕ → EndedLink → List Entry 
   pub chain : Chain serves before last links history top
   pub up_to : AllBefore turn_of (last + 1) before → AllBefore turn_of (top + 1) history
   pub number : new.number ≡ old.number
+  pub gave : new.gave ≡ old.gave + length links
   pub balanced : IsBalanced old → IsBalanced new
   pub tells : IsBalanced old → IsSome old.ended → IsSome new.ended
   pub faults : old.faults ≤ new.faults

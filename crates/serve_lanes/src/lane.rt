@@ -1,5 +1,5 @@
 //! One lane.
-ghost use Rattle.std.specs.Prelude.{◌≡◌, ◌≢◌, ◌<◌, true};
+ghost use Rattle.std.specs.Prelude.{◌≡◌, ◌≢◌, ◌+◌, ◌<◌, true};
 ghost use Rattle.bim_io.specs.Causes.{Rose};
 ghost use Rattle.book_turn.specs.Passes.{IsSingle};
 ghost use Rattle.serve_lanes.specs.Lanes.{ServedLink, LaneServed, kind_of};
@@ -64,6 +64,7 @@ fn serve_next<R: Wait, D: Door, C: Clock, G: Gate>(
         pass.old.seen pass.old.last pass.new.seen pass.new.last (D.seen door.old) (D.seen door.new) }
     ensures failed { result ≡ Next.Stop LaneEnd.Failed → Rose (D.seen door.old).faults (D.seen door.new).faults }
     ensures closed { result ≡ Next.Stop LaneEnd.Closed → (D.seen door.new).closed ≡ true }
+    ensures more { result ≡ Next.More → (D.seen door.new).gave ≡ (D.seen door.old).gave + 1 }
     ensures other { result ≢ Next.Stop LaneEnd.Full }
 {
     match door.accept() {
@@ -105,7 +106,8 @@ pub fn serve_lane<R: Wait, D: Door, C: Clock, G: Gate>(
         pass.old.seen pass.old.last pass.new.seen pass.new.last (D.seen door.old) (D.seen door.new) }
     ensures failed { result ≡ LaneEnd.Failed → Rose (D.seen door.old).faults (D.seen door.new).faults }
     ensures closed { result ≡ LaneEnd.Closed → (D.seen door.new).closed ≡ true }
-    ensures full { result ≡ LaneEnd.Full → 0 < links }
+    ensures full { result ≡ LaneEnd.Full
+        → (0 < links) × ((D.seen door.new).gave ≡ (D.seen door.old).gave + links) }
 {
     let mut left = links;
     for _ in rt.forever() {

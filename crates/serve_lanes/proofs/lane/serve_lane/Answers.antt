@@ -1,4 +1,4 @@
-use Rattle.std.proofs.Common.{refl, ◌∙◌}
+use Rattle.std.proofs.Common.{refl, ◌∙◌, ◌≡◌, ◌-◌, ◌<◌, arith, rules}
 use Rattle.serve_lanes.proofs.Chains.{lane_start, lane_trans}
 use Rattle.serve_lanes.proofs.lane.serve_lane.Goals as goal
 
@@ -9,6 +9,7 @@ loop-init g c = record {
   own = c.requires.own;
   number = refl;
   clock = refl;
+  left = λ some. (some, refl);
   served = lane_start _ _ _ _;
 }
 
@@ -20,6 +21,12 @@ returns-then-left-eq0-clause-served g c = lane_trans _ _ _ _ _ _ _ _ _ _ c.loop.
 
 pub loop-preserved-else-left-eq0 : goal.loop-preserved-else-left-eq0
 loop-preserved-else-left-eq0 g c = record {
+  left = λ some.
+      let before = c.loop.invariant.left some in
+      let more = c.serve_next.ensures.more c.in-More.is in
+      let fewer : c.saturating_sub.result ≡ c.loop.left - 1 = search rules in
+      let other = c.if-left-eq0.false in
+      (omega arith, omega arith);
   can = tt;
   finite = tt;
   own = c.serve_next.ensures.own;
@@ -30,6 +37,7 @@ loop-preserved-else-left-eq0 g c = record {
 
 pub loop-preserved : goal.loop-preserved
 loop-preserved g c = record {
+  left = λ some. absurd (omega arith);
   can = tt;
   finite = tt;
   own = c.serve_next.ensures.own;
