@@ -7,6 +7,7 @@ use Rattle.book_turn.specs.declared.fault.CallFault.{CallFault}
 use Rattle.book_turn.specs.declared.fault.CallFault.TheVariants.{Memory, PassSpent}
 use Rattle.book_turn.specs.Faults.{Failed}
 use Rattle.book_turn.proofs.Prefixes.{calls_by-append}
+use Rattle.bucket_grid.specs.Cells.{IsBucket}
 use Rattle.bucket_check.specs.Sets.{SetValue}
 use Rattle.book_history.specs.declared.limits.Settings.{Settings}
 use Rattle.book_history.specs.declared.changes.Entry.{Entry}
@@ -17,12 +18,13 @@ use Rattle.book_history.specs.declared.replies.ReplyBody.TheVariants.{Work, Refu
 use Rattle.book_history.specs.Orders.{OrderValue}
 use Rattle.book_history.specs.History.{left_all}
 use Rattle.book_history.specs.Requests.{outcome_of, body_of, added_by}
+use Rattle.book_history.specs.Legal.{IsLegal}
 use Rattle.book_passes.specs.Lessons.{BookPass, IsAnswered, TakesTurn, Learns, own_of, stamp_of, stamp_in}
 use Rattle.book_passes.specs.Laws.{TakesCall}
 use Rattle.book_passes.proofs.Learning.{takes_call, takes_idly, learns_turn, learns_trans, learns_none}
-use Rattle.check_workers.specs.Working.{IsDone, AreDone, Teaches}
-use Rattle.check_workers.proofs.Finishing.{finish_adds}
-use Rattle.check_workers.proofs.Orders.{taken, take_adds_none}
+use Rattle.check_workers.specs.Working.{IsDone, AreDone, Teaches, IsFoundFor, IsFinishTold}
+use Rattle.check_workers.proofs.Finishing.{finish_adds, finish_told}
+use Rattle.check_workers.proofs.Orders.{taken, take_adds_none, set_legal}
 
 -- ---- entries that say that buckets are checked
 
@@ -101,3 +103,39 @@ none_left settings seat turn reply v w keeps a refused =
         → left_all settings.projects h ≡ 0
     of_taken h is (inl none) = none.1
     of_taken h is (inr some) = absurd (let f : Work some.0 ≡ Refused NoWork = sym some.1 ∙ is in cc)
+
+-- ---- the replies
+
+-- a call for work that gives none is refused
+pub finds_none : (settings : Settings) (seat turn : ℕ) (reply : BookReply) (v w : BookPass) → KeepsNumbers v w → IsAnswered settings (TakeWork seat) turn reply v w
+    → ((order : OrderValue) → reply.body ≡ Work order → ⊥) → reply.body ≡ Refused NoWork
+finds_none settings seat turn reply v w keeps a no_work =
+    let t = takes_call settings (TakeWork seat) turn reply v w keeps a in
+    let h : List Entry = v.seen ++ t.others in
+    let is : reply.body ≡ body_of h (outcome_of settings h (TakeWork seat)) = ap (λ (r : BookReply). r.body) t.replied in
+    of_taken h is (taken settings h seat)
+  where
+    of_taken : (h : List Entry) → reply.body ≡ body_of h (outcome_of settings h (TakeWork seat))
+        → ((body_of h (outcome_of settings h (TakeWork seat)) ≡ Refused NoWork) × (left_all settings.projects h ≡ 0))
+        ⊎ ((order : OrderValue) × (body_of h (outcome_of settings h (TakeWork seat)) ≡ Work order))
+        → reply.body ≡ Refused NoWork
+    of_taken h is (inl none) = is ∙ none.0
+    of_taken h is (inr some) = absurd (no_work some.0 (is ∙ some.1))
+
+-- the set of an order that was given may be brought at what the pass has seen then
+pub may_bring : (settings : Settings) (seat turn : ℕ) (reply : BookReply) (order : OrderValue) (set : SetValue) (v w : BookPass) → KeepsNumbers v w
+    → IsAnswered settings (TakeWork seat) turn reply v w → reply.body ≡ Work order → IsFoundFor order set → IsBucket set.work.grid.boxes set.work.cell
+    → IsLegal settings w.seen (Finish set)
+may_bring settings seat turn reply order set v w keeps a given found bucket =
+    let t = takes_call settings (TakeWork seat) turn reply v w keeps a in
+    let h : List Entry = v.seen ++ t.others in
+    let is : body_of h (outcome_of settings h (TakeWork seat)) ≡ Work order = sym (ap (λ (r : BookReply). r.body) t.replied) ∙ given in
+    subst (λ (es : List Entry). IsLegal settings es (Finish set)) (sym t.takes.seen)
+    (set_legal settings h (added_by settings h (stamp_in turn v) (TakeWork seat)) seat order set is found bucket)
+
+-- what is answered to a set
+pub is_told : (settings : Settings) (turn : ℕ) (reply : BookReply) (set : SetValue) (v w : BookPass) → KeepsNumbers v w → IsAnswered settings (Finish set) turn reply v w
+    → IsFinishTold reply.body
+is_told settings turn reply set v w keeps a =
+    let t = takes_call settings (Finish set) turn reply v w keeps a in
+    subst IsFinishTold (sym (ap (λ (r : BookReply). r.body) t.replied)) (finish_told settings (v.seen ++ t.others) set)

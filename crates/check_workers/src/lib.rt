@@ -2,6 +2,8 @@
 //! another.
 #![tactic(auto)]
 
+#[cfg(test)]
+mod tests;
 mod work;
 
 pub use work::{Worked, work_loop, work_one};
