@@ -1,5 +1,6 @@
 -- What contracts see of hosts, and what their calls do.
-use Rattle.std.specs.Prelude.{◌≡◌, ℕ, ◌+◌, ◌≤◌, ◌<◌, ◌||◌, nat_lt, List, [], ◌∷◌, Bool, true, false, Option, Some, None, Result, Ok, Err, ⊤}
+use Rattle.std.specs.Prelude.{◌≡◌, ℕ, ◌+◌, nat_lt, List, [], ◌∷◌, Bool, true, false, Option, Some, Result, Ok, Err, ⊤}
+use Rattle.std.specs.List.{list_any}
 use Rattle.bim_io.specs.Causes.{counted, Rose}
 use Rattle.bim_net.specs.declared.hosts.Opening.{Opening}
 use Rattle.bim_net.specs.declared.hosts.HostFault.{HostFault}
@@ -23,8 +24,7 @@ AreNew number (d ∷ ds) = IsNew number d × AreNew (number + 1) ds
 
 -- one of the doors has failed
 abbrev pub some_failed : List DoorSeen → Bool
-some_failed [] = false
-some_failed (d ∷ ds) = nat_lt 0 d.faults || some_failed ds
+some_failed doors = list_any (λ (d : DoorSeen). nat_lt 0 d.faults) doors
 
 -- doors are opened, or the host fails, or memory is wanting
 abbrev pub Opens : {X : Type 0} → Opening → HostSeen → Result X HostFault → HostSeen → Type 0

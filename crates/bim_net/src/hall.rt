@@ -58,12 +58,7 @@ impl<D: StoredDoor + Drop> Model for Hall<D> {
 fn some_failed<D: StoredDoor + Drop>(doors: &[D]) -> bool
     ensures { result ≡ some_failed (map D.seen doors.now) }
 {
-    for door in doors {
-        if door.has_failed() {
-            return true;
-        }
-    }
-    false
+    doors.iter().any(|door| door.has_failed())
 }
 
 impl<D: StoredDoor + Drop> Hall<D> {
