@@ -1,8 +1,7 @@
 -- A connection that is given back to a door in memory.
 use Rattle.std.proofs.Common.{◌≡◌, ◌+◌, ◌<◌, ◌≤◌, ℕ, List, [], ◌∷◌, ◌++◌, length, Bool, true, false, Option, Some, None, IsSome, refl, sym, ◌∙◌, ap, subst, arith}
-use Rattle.bim_net.specs.Seen.{EndedLink}
+use Rattle.bim_net.specs.Seen.{EndedLink, told}
 use Rattle.bim_net.specs.Doors.{GrowsBy, HasOut}
-use Rattle.bim_net.specs.Stores.{told}
 
 -- it is kept
 pub kept : (tells : Bool) (old new : List EndedLink) (x : EndedLink) → new ≡ old ++ x ∷ [] → GrowsBy (told tells old) (told tells new) (x ∷ [])

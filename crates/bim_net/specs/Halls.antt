@@ -1,5 +1,5 @@
 -- What contracts see of hosts in memory.
-use Rattle.std.specs.Prelude.{ℕ, List, [], Option, Some, None, map}
+use Rattle.std.specs.Prelude.{ℕ, true, List, [], Option, Some, None, map}
 use Rattle.bim_net.specs.declared.hosts.Opening.{Opening}
 use Rattle.bim_net.specs.Seen.{DoorSeen}
 use Rattle.bim_net.specs.Hosts.{HostSeen}
@@ -19,6 +19,7 @@ new_hall = record { openings = 0; opened = None; closings = 0; doors = [] }
 -- what a host shows that has one moment and has failed so often
 abbrev pub host_of : {D : Type 0} → (D → DoorSeen) → HallState D → ℕ → ℕ → HostSeen
 host_of seen h moment faults = record {
+  tells = true;
   openings = h.openings;
   opened = h.opened;
   closings = h.closings;

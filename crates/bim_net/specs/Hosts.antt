@@ -7,9 +7,11 @@ use Rattle.bim_net.specs.declared.hosts.HostFault.{HostFault}
 use Rattle.bim_net.specs.declared.hosts.HostFault.TheVariants.{Failed, Memory}
 use Rattle.bim_net.specs.Seen.{DoorSeen, IsNew}
 
--- of a host: how often it opened doors, and how it did last; how often doors were handed back to it, and what they
--- showed last; the one moment that its clocks give, where they have one; and how often it has failed
+-- of a host: whether its doors tell the connections that were given back; how often it opened doors, and how it did
+-- last; how often doors were handed back to it, and what they showed last; the one moment that its clocks give, where
+-- they have one; and how often it has failed
 pub record HostSeen : Type 0 where
+  pub tells : Bool
   pub openings : ℕ
   pub opened : Option Opening
   pub closings : ℕ
@@ -18,9 +20,9 @@ pub record HostSeen : Type 0 where
   pub faults : ℕ
 
 -- doors on which no call was made yet, numbered from this number on
-abbrev pub AreNew : ℕ → List DoorSeen → Type 0
-AreNew number [] = ⊤
-AreNew number (d ∷ ds) = IsNew number d × AreNew (number + 1) ds
+abbrev pub AreNew : Bool → ℕ → List DoorSeen → Type 0
+AreNew tells number [] = ⊤
+AreNew tells number (d ∷ ds) = IsNew tells number d × AreNew tells (number + 1) ds
 
 -- one of the doors has failed
 abbrev pub some_failed : List DoorSeen → Bool

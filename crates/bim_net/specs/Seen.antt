@@ -1,5 +1,5 @@
 -- What contracts see of connections and of the doors that give them.
-use Rattle.std.specs.Prelude.{◌≡◌, ℕ, List, [], Bool, false, Option, IfSome}
+use Rattle.std.specs.Prelude.{◌≡◌, ℕ, List, [], Bool, true, false, Option, Some, None, IfSome}
 use Rattle.bim_io.specs.Seen.{SourceSeen, SinkSeen}
 use Rattle.bim_net.specs.declared.ends.LinkEnd.{LinkEnd}
 
@@ -40,10 +40,15 @@ pub record IsFresh (link : LinkSeen) : Type 0 where
   pub no_read_fault : link.source.faults ≡ 0
   pub no_write_fault : link.sink.faults ≡ 0
 
--- a door on which no call was made yet, of this number
-pub record IsNew (number : ℕ) (door : DoorSeen) : Type 0 where
+-- the list, where it is told
+abbrev pub told : {X : Type 0} → Bool → List X → Option (List X)
+told true xs = Some xs
+told false xs = None
+
+-- a door on which no call was made yet, of this number, which tells the connections that were given back, or doesn't
+pub record IsNew (tells : Bool) (number : ℕ) (door : DoorSeen) : Type 0 where
   pub number_is : door.number ≡ number
-  pub none_ended : IsEmpty door.ended
+  pub none_ended : door.ended ≡ told tells []
   pub none_given : door.gave ≡ 0
   pub open_ : door.closed ≡ false
   pub no_fault : door.faults ≡ 0

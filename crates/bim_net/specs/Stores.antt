@@ -11,11 +11,6 @@ pub record StoreState : Type 0 where
   pub gave : ℕ
   pub closed : Bool
 
--- the list, where it is told
-abbrev pub told : {X : Type 0} → Bool → List X → Option (List X)
-told true xs = Some xs
-told false xs = None
-
 -- the next connection is given, or there is none, which closes the door
 abbrev pub GivesNext : StoreState → Option LinkSeen → StoreState → Type 0
 GivesNext old None new = (old.waiting ≡ []) × (new ≡ record old { closed = true })

@@ -1,5 +1,5 @@
 //! The doors of a host in memory.
-ghost use Rattle.std.specs.Prelude.{◌≡◌, ◌<◌, [], Some, None, IfOk, nat_lt, vec_len, map, All, OnErr};
+ghost use Rattle.std.specs.Prelude.{◌≡◌, true, [], Some, None, IfOk, nat_lt, vec_len, map, All, OnErr};
 ghost use Rattle.bim_io.specs.Causes.{counted};
 ghost use Rattle.bim_net.specs.Seen.{IsNew};
 ghost use Rattle.bim_net.specs.Hosts.{AreNew, some_failed};
@@ -24,7 +24,7 @@ pub(crate) trait StoredDoor: Door {
 
     /// A door without connections.
     fn without_links(alloc: Global) -> Result<Self, AllocError>
-        ensures { IfOk result (λ d. IsNew 0 (Self.seen d)) };
+        ensures { IfOk result (λ d. IsNew true 0 (Self.seen d)) };
 }
 
 /// The doors that are still to be opened, and those that were handed back.
@@ -38,7 +38,7 @@ pub(crate) struct Hall<D: StoredDoor + Drop> {
 }
 
 impl<D: StoredDoor + Drop> Model for Hall<D> {
-    ghost use Rattle.std.specs.Prelude.{All};
+    ghost use Rattle.std.specs.Prelude.{All, true};
     ghost use Rattle.bim_net.specs.Seen.{IsNew};
     ghost use Rattle.bim_net.specs.Halls.{HallState};
 
@@ -51,7 +51,7 @@ impl<D: StoredDoor + Drop> Model for Hall<D> {
       doors = h.handed.items;
     } };
 
-    ghost invariant = { λ h. All (λ d. IsNew 0 (D.seen d)) h.waiting.items };
+    ghost invariant = { λ h. All (λ d. IsNew true 0 (D.seen d)) h.waiting.items };
 }
 
 // Whether one of the doors has failed.
@@ -64,7 +64,7 @@ fn some_failed<D: StoredDoor + Drop>(doors: &[D]) -> bool
 impl<D: StoredDoor + Drop> Hall<D> {
     /// These doors are to be opened.
     pub(crate) fn new(alloc: Global, doors: Vec<D>) -> Hall<D>
-        requires { All (λ d. IsNew 0 (D.seen d)) doors.items }
+        requires { All (λ d. IsNew true 0 (D.seen d)) doors.items }
         ensures { result ≡ new_hall }
     {
         Hall {
@@ -78,7 +78,7 @@ impl<D: StoredDoor + Drop> Hall<D> {
 
     // The next door to be opened, of this number; one without connections where there is none.
     fn next_door(&mut self, alloc: Global, number: u32) -> Result<D, AllocError>
-        ensures new { IfOk result (λ d. IsNew number (D.seen d)) }
+        ensures new { IfOk result (λ d. IsNew true number (D.seen d)) }
         ensures same { self.new ≡ self.old }
     {
         let mut door = match self.waiting.pop_front() {
@@ -92,7 +92,7 @@ impl<D: StoredDoor + Drop> Hall<D> {
     // The next n doors.
     fn next_doors(&mut self, alloc: Global, n: u32) -> Result<Vec<D>, AllocError>
         ensures count { IfOk result (λ doors. vec_len doors ≡ n) }
-        ensures new { IfOk result (λ doors. AreNew 0 (map D.seen doors.items)) }
+        ensures new { IfOk result (λ doors. AreNew true 0 (map D.seen doors.items)) }
         ensures same { self.new ≡ self.old }
     {
         let mut doors = Vec::new(alloc);
@@ -110,7 +110,7 @@ impl<D: StoredDoor + Drop> Hall<D> {
         n: u32,
     ) -> Result<Vec<D>, AllocError>
         ensures count { IfOk result (λ doors. vec_len doors ≡ n) }
-        ensures new { IfOk result (λ doors. AreNew 0 (map D.seen doors.items)) }
+        ensures new { IfOk result (λ doors. AreNew true 0 (map D.seen doors.items)) }
         ensures ok { IfOk result (λ doors. self.new ≡ record self.old {
           openings = counted self.old.openings;
           opened = Some (record { addr = addr.now; doors = n });

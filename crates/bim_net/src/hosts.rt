@@ -32,7 +32,7 @@ pub trait Host {
 
     type G: Gate + Drop;
 
-    /// How it opened doors and how they were handed back, the one moment of its clocks, and how often it has failed.
+    /// Whether its doors tell what was given back, how it opened doors and how they were handed back, the one moment of its clocks, and how often it has failed.
     ghost seen: { Self → HostSeen };
 
     /// Opens so many doors at an address, numbered from 0.
@@ -43,7 +43,7 @@ pub trait Host {
         n: u32,
     ) -> Result<Vec<Self::D>, HostFault>
         ensures count { IfOk result (λ doors. vec_len doors ≡ n) }
-        ensures new { IfOk result (λ doors. AreNew 0 (map Self.D.seen doors.items)) }
+        ensures new { IfOk result (λ doors. AreNew (seen self.old).tells 0 (map Self.D.seen doors.items)) }
         ensures host { Opens (record { addr = addr.now; doors = n }) (seen self.old) result (seen self.new) };
 
     /// Takes doors back whose lanes have ended, and closes them.

@@ -1,5 +1,5 @@
 //! Hosts in memory: one whose openings fail where its list says so, one that never fails, and one with holds.
-ghost use Rattle.std.specs.Prelude.{◌≡◌, ◌↔◌, Some, IfOk, IfSome, IfErr, IsErr, Contains, vec_len, map, All};
+ghost use Rattle.std.specs.Prelude.{◌≡◌, ◌↔◌, true, Some, IfOk, IfSome, IfErr, IsErr, Contains, vec_len, map, All};
 ghost use Rattle.bim_model.specs.Moments.{IsMoment};
 ghost use Rattle.bim_io.specs.Causes.{counted};
 ghost use Rattle.bim_net.specs.declared.hosts.HostFault.TheVariants.{Failed, Memory};
@@ -49,7 +49,7 @@ impl MemHost {
     /// A host of these doors, on which no call was made yet, whose clocks give this moment, in seconds since 1970, at most
     /// 253,402,207,200.
     pub fn new(alloc: Global, doors: Vec<MemDoor>, moment: u64, fails: Items<u64>) -> MemHost
-        requires doors { All (λ d. IsNew 0 (door_of d.store d.faults)) doors.items }
+        requires doors { All (λ d. IsNew true 0 (door_of d.store d.faults)) doors.items }
         requires moment { IsMoment moment }
         ensures { result ≡ record { hall = new_hall; moment = moment; fails = fails; calls = 0; faults = 0 } }
     {
@@ -86,7 +86,7 @@ impl Host for MemHost {
         n: u32,
     ) -> Result<Vec<MemDoor>, HostFault>
         ensures count { IfOk result (λ doors. vec_len doors ≡ n) }
-        ensures new { IfOk result (λ doors. AreNew 0 (map (λ d. door_of d.store d.faults) doors.items)) }
+        ensures new { IfOk result (λ doors. AreNew true 0 (map (λ d. door_of d.store d.faults) doors.items)) }
         ensures host { Opens (record { addr = addr.now; doors = n })
             (host_of (λ d. door_of d.store d.faults) self.old.hall self.old.moment self.old.faults) result
             (host_of (λ d. door_of d.store d.faults) self.new.hall self.new.moment self.new.faults) }
@@ -149,7 +149,7 @@ impl SureHost {
     /// A host of these doors, on which no call was made yet, whose clocks give this moment, in seconds since 1970, at most
     /// 253,402,207,200.
     pub fn new(alloc: Global, doors: Vec<SureDoor>, moment: u64) -> SureHost
-        requires doors { All (λ d. IsNew 0 (door_of d 0)) doors.items }
+        requires doors { All (λ d. IsNew true 0 (door_of d 0)) doors.items }
         requires moment { IsMoment moment }
         ensures { result ≡ record { hall = new_hall; moment = moment } }
     {
@@ -183,7 +183,7 @@ impl Host for SureHost {
         n: u32,
     ) -> Result<Vec<SureDoor>, HostFault>
         ensures count { IfOk result (λ doors. vec_len doors ≡ n) }
-        ensures new { IfOk result (λ doors. AreNew 0 (map (λ d. door_of d 0) doors.items)) }
+        ensures new { IfOk result (λ doors. AreNew true 0 (map (λ d. door_of d 0) doors.items)) }
         ensures host { Opens (record { addr = addr.now; doors = n })
             (host_of (λ d. door_of d 0) self.old.hall self.old.moment 0) result
             (host_of (λ d. door_of d 0) self.new.hall self.new.moment 0) }
@@ -238,7 +238,7 @@ impl HoldHost {
         fails: Items<u64>,
         holds: Items<Hold>,
     ) -> Result<HoldHost, AllocError>
-        requires doors { All (λ d. IsNew 0 (door_of d.store d.faults)) doors.items }
+        requires doors { All (λ d. IsNew true 0 (door_of d.store d.faults)) doors.items }
         requires moment { IsMoment moment }
         ensures { IfOk result (λ h. h
             ≡ record { hall = new_hall; moment = moment; fails = fails; calls = 0; faults = 0 }) }

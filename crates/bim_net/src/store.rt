@@ -91,7 +91,8 @@ pub(crate) struct Store<S: Source + Drop, K: Sink + Drop> {
 impl<S: Source + Drop, K: Sink + Drop> Model for Store<S, K> {
     ghost use Rattle.std.specs.Prelude.{◌+◌, ◌≤◌, vec_capacity};
     ghost use Rattle.std.specs.VecDeque.{deque_len};
-    ghost use Rattle.bim_net.specs.Stores.{StoreState, told};
+    ghost use Rattle.bim_net.specs.Seen.{told};
+    ghost use Rattle.bim_net.specs.Stores.{StoreState};
 
     ghost Value = { StoreState };
 

@@ -1,5 +1,5 @@
 //! Tests of the forms in memory.
-ghost use Rattle.std.specs.Prelude.{◌≡◌, [], IfOk, All};
+ghost use Rattle.std.specs.Prelude.{true, IfOk, All};
 ghost use Rattle.bim_net.specs.Stores.{door_of};
 ghost use Rattle.bim_net.specs.Seen.{IsNew};
 
@@ -122,7 +122,7 @@ fn try_lanes<G: Gate>(rt: &impl Abort, gate: &G) {
 }
 
 fn doors(alloc: Global, texts: &[&str]) -> Result<Vec<MemDoor>, AllocError>
-    ensures { IfOk result (λ doors. All (λ d. IsNew 0 (door_of d.store d.faults)) doors.items) }
+    ensures { IfOk result (λ doors. All (λ d. IsNew true 0 (door_of d.store d.faults)) doors.items) }
 {
     let door = MemDoor::new(alloc, mem_links(alloc, texts)?, Items::new(alloc))?;
     let mut doors = Vec::new(alloc);
