@@ -1,5 +1,5 @@
 -- A session so far goes on by one more event.
-use Rattle.std.proofs.Common.{◌≡◌, ◌≢◌, ◌⊎◌, ℕ, ◌+◌, ◌<◌, ◌≤◌, ◌==◌, ◌||◌, List, [], ◌∷◌, ◌++◌, length, Bool, true, false, Option, Some, None, IsTrue, if◌then◌else◌, inl, inr, sym, ◌∙◌, ap, subst, refl, append-nil, append_assoc, add_assoc, arith}
+use Rattle.std.proofs.Common.{◌≡◌, ◌≢◌, ◌⊎◌, ℕ, ◌+◌, ◌*◌, ◌<◌, ◌≤◌, ◌==◌, ◌||◌, List, [], ◌∷◌, ◌++◌, length, Bool, true, false, Option, Some, None, IsTrue, if◌then◌else◌, inl, inr, sym, ◌∙◌, ap, subst, refl, append-nil, append_assoc, add_assoc, arith}
 use Rattle.std.proofs.lemmas.Bool.Decides.{eqb_tells}
 use Rattle.bim_io.specs.Causes.{WithinMost}
 use Rattle.bim_io.specs.Seen.{Outside, Exchanges}
@@ -10,7 +10,7 @@ use Rattle.http_frame.specs.Framers.{Stands}
 use Rattle.book_history.specs.declared.limits.Settings.{Settings}
 use Rattle.book_history.specs.Runs.{Step}
 use Rattle.book_passes.specs.Lessons.{BookPass}
-use Rattle.bim_session.specs.Works.{Works, Standing}
+use Rattle.bim_session.specs.Works.{Standing, IsEnough, left_behind}
 use Rattle.bim_session.specs.declared.end.SessionEnd.{SessionEnd}
 use Rattle.bim_session.specs.declared.end.SessionEnd.TheVariants as end
 use Rattle.bim_session.specs.Session.{WorksBehind, past, Stop, IsBare, Ends, Reads, AnswersEvent, Answered, behind, closes, counted, requests, most_requests, closes_after}
@@ -19,9 +19,8 @@ use Rattle.bim_session.specs.Talking.{TalkState, fresh, Feeds, is_end, with_fram
 use Rattle.bim_session.proofs.Reading.{Reads_more, Reads_append, requests-push, is_closed-push}
 use Rattle.bim_session.proofs.Sessions.{Answered_push}
 use Rattle.link_session.specs.Serving.{start_of}
-use Rattle.link_session.specs.Loop.{Skips}
 use Rattle.link_session.proofs.SoFar.{SoFar, GoesOn, LeavesBy, IsQuiet, stop_of}
-use Rattle.link_session.proofs.Turns.{Known, known_none, known_skip, above_all}
+use Rattle.link_session.proofs.Turns.{Known, known_none}
 
 pub quiet_trans : (a b c : Outside) → IsQuiet a b → IsQuiet b c → IsQuiet a c
 quiet_trans a b c p q = (q.0 ∙ p.0, q.1 ∙ p.1)
@@ -290,7 +289,7 @@ none_behind s frame.continue none = refl
 none_behind s (frame.request r) none = record {
   count = 0;
   worked = refl;
-  enough = subst (λ (o : Option ℕ). Rattle.bim_session.specs.Works.IsEnough o 0 (Rattle.bim_session.specs.Works.left_behind s (s.last + 2 * 0))) (sym none)
+  enough = subst (λ (o : Option ℕ). IsEnough o 0 (left_behind s (s.last + 2 * 0))) (sym none)
       (omega arith, λ lt. absurd (omega (arith, lt)));
 }
 
