@@ -103,12 +103,7 @@ impl<D: StoredDoor + Drop> Hall<D> {
     }
 
     /// Opens n doors at the address. An `Err` tells nothing of it.
-    pub(crate) fn open(
-        &mut self,
-        alloc: Global,
-        addr: &Text,
-        n: u32,
-    ) -> Result<Vec<D>, AllocError>
+    pub(crate) fn open(&mut self, alloc: Global, addr: &Text, n: u32) -> Result<Vec<D>, AllocError>
         ensures count { IfOk result (λ doors. vec_len doors ≡ n) }
         ensures new { IfOk result (λ doors. AreNew true 0 (map D.seen doors.items)) }
         ensures ok { IfOk result (λ doors. self.new ≡ record self.old {

@@ -36,12 +36,7 @@ pub trait Host {
     ghost seen: { Self → HostSeen };
 
     /// Opens so many doors at an address, numbered from 0.
-    fn open_doors(
-        &mut self,
-        alloc: Global,
-        addr: &Text,
-        n: u32,
-    ) -> Result<Vec<Self::D>, HostFault>
+    fn open_doors(&mut self, alloc: Global, addr: &Text, n: u32) -> Result<Vec<Self::D>, HostFault>
         ensures count { IfOk result (λ doors. vec_len doors ≡ n) }
         ensures new { IfOk result (λ doors. AreNew (seen self.old).tells 0 (map Self.D.seen doors.items)) }
         ensures host { Opens (record { addr = addr.now; doors = n }) (seen self.old) result (seen self.new) };

@@ -79,12 +79,7 @@ impl Host for MemHost {
 
     ghost seen = { λ h. host_of (λ d. door_of d.store d.faults) h.hall h.moment h.faults };
 
-    fn open_doors(
-        &mut self,
-        alloc: Global,
-        addr: &Text,
-        n: u32,
-    ) -> Result<Vec<MemDoor>, HostFault>
+    fn open_doors(&mut self, alloc: Global, addr: &Text, n: u32) -> Result<Vec<MemDoor>, HostFault>
         ensures count { IfOk result (λ doors. vec_len doors ≡ n) }
         ensures new { IfOk result (λ doors. AreNew true 0 (map (λ d. door_of d.store d.faults) doors.items)) }
         ensures host { Opens (record { addr = addr.now; doors = n })
@@ -176,12 +171,7 @@ impl Host for SureHost {
 
     ghost seen = { λ h. host_of (λ d. door_of d 0) h.hall h.moment 0 };
 
-    fn open_doors(
-        &mut self,
-        alloc: Global,
-        addr: &Text,
-        n: u32,
-    ) -> Result<Vec<SureDoor>, HostFault>
+    fn open_doors(&mut self, alloc: Global, addr: &Text, n: u32) -> Result<Vec<SureDoor>, HostFault>
         ensures count { IfOk result (λ doors. vec_len doors ≡ n) }
         ensures new { IfOk result (λ doors. AreNew true 0 (map (λ d. door_of d 0) doors.items)) }
         ensures host { Opens (record { addr = addr.now; doors = n })

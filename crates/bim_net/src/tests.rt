@@ -87,7 +87,11 @@ fn try_accepts<D: Door>(rt: &impl Abort, door: &mut D, wanted: &[Want]) {
 #[test]
 fn doors_give_their_links(rt: HostRuntime) -> Result<(), Fail> {
     let alloc = rt.alloc();
-    let mut door = MemDoor::new(alloc, mem_links(alloc, &["ab", "cd"])?, numbers(alloc, &[2])?)?;
+    let mut door = MemDoor::new(
+        alloc,
+        mem_links(alloc, &["ab", "cd"])?,
+        numbers(alloc, &[2])?,
+    )?;
     let wanted = [
         Want::Gives("ab"),
         Want::Fails,

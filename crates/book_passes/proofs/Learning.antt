@@ -40,17 +40,21 @@ takes_call settings request turn reply v w keeps a = record {
 }
 
 pub takes_idly : (v w : BookPass) → KeepsNumbers v w → IsIdle v w → (turn : ℕ) × (others : List Entry) × TakesTurn turn others [] v w
-takes_idly v w keeps n = (n.turn, n.news, record {
-  keeps = keeps;
-  above = n.takes.later;
-  last = n.takes.last;
-  made = n.takes.made;
-  seen = n.seen ∙ sym (append-nil (v.seen ++ n.news));
-  since = n.takes.since;
-  below = n.takes.before;
-  not_own = n.takes.others;
-  in_turn = tt;
-})
+takes_idly v w keeps n = (
+  n.turn,
+  n.news,
+  record {
+    keeps = keeps;
+    above = n.takes.later;
+    last = n.takes.last;
+    made = n.takes.made;
+    seen = n.seen ∙ sym (append-nil (v.seen ++ n.news));
+    since = n.takes.since;
+    below = n.takes.before;
+    not_own = n.takes.others;
+    in_turn = tt;
+  },
+)
 
 -- ---- the entries of a turn
 

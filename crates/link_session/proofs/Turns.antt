@@ -101,7 +101,7 @@ known_turn v w w' steps first turn others added k t mine entries by within =
     calls_by-append (λ (e : Entry). e.stamp.pass) v.numbers k.news (others ++ added)
     ∙ ap (λ es. es ++ own_of v (others ++ added)) k.own
     ∙ ap (λ es. entries_of w.seen steps ++ es)
-        (calls_by-append (λ (e : Entry). e.stamp.pass) v.numbers others added ∙ ap (λ es. es ++ own_of v added) nothing ∙ mine) in
+    (calls_by-append (λ (e : Entry). e.stamp.pass) v.numbers others added ∙ ap (λ es. es ++ own_of v added) nothing ∙ mine) in
     let whole : entries_of w'.seen (steps ++ first) ≡ entries_of w.seen steps ++ added =
     entries_append w'.seen steps first ∙ ap (λ es. es ++ entries_of w'.seen first) same ∙ ap (λ es. entries_of w.seen steps ++ es) entries in
     record {
