@@ -8,6 +8,7 @@ pub record LinkSeen : Type 0 where
   pub source : SourceSeen
   pub sink : SinkSeen
 
+-- a connection with these ends
 abbrev pub link_seen : SourceSeen → SinkSeen → LinkSeen
 link_seen source sink = record { source = source; sink = sink }
 
@@ -16,6 +17,7 @@ pub record EndedLink : Type 0 where
   pub link : LinkSeen
   pub end : LinkEnd
 
+-- this connection, whose session ended so
 abbrev pub ended_link : LinkSeen → LinkEnd → EndedLink
 ended_link link end = record { link = link; end = end }
 

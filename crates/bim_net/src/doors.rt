@@ -123,10 +123,11 @@ impl Door for MemDoor {
     fn accept(&mut self) -> Result<Option<MemLink>, Failed>
         ensures fresh { IfOk result (λ given. IfSome given (λ link.
             IsFresh (mem_seen link.source link.sink))) }
-        ensures door { Accepts (door_of self.old.store self.old.faults) result (door_of self.new.store self.new.faults) }
+        ensures door { Accepts (door_of self.old.store self.old.faults) result
+            (door_of self.new.store self.new.faults) }
         ensures fails { IsErr result ↔ Contains self.old.fails (counted self.old.calls) }
-        ensures next { IfOk result (λ given. GivesNext self.old.store (option_map (λ link. mem_seen link.source link.sink) given)
-            self.new.store) }
+        ensures next { IfOk result (λ given. GivesNext self.old.store
+            (option_map (λ link. mem_seen link.source link.sink) given) self.new.store) }
         ensures calls { self.new.calls ≡ counted self.old.calls }
         ensures list { self.new.fails ≡ self.old.fails }
     {
@@ -213,7 +214,8 @@ impl Door for SureDoor {
             IsFresh (sure_seen link.source link.sink))) }
         ensures door { Accepts (door_of self.old 0) result (door_of self.new 0) }
         ensures ok { IsOk result }
-        ensures next { IfOk result (λ given. GivesNext self.old (option_map (λ link. sure_seen link.source link.sink) given) self.new) }
+        ensures next { IfOk result (λ given. GivesNext self.old
+            (option_map (λ link. sure_seen link.source link.sink) given) self.new) }
     {
         Ok(self.store.next())
     }

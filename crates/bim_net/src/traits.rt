@@ -33,7 +33,8 @@ pub trait Door {
 
     /// Takes a connection back whose session has ended.
     fn give_back(&mut self, link: Link<Self::S, Self::K>, end: LinkEnd)
-        ensures door { TakesBack (ended_link (link_seen (Self.S.seen link.source) (Self.K.seen link.sink)) end)
+        ensures door { TakesBack
+            (ended_link (link_seen (Self.S.seen link.source) (Self.K.seen link.sink)) end)
             (seen self.old) (seen self.new) };
 }
 

@@ -19,7 +19,8 @@ pub record TakesCall (settings : Settings) (request : BookRequest) (turn : ℕ) 
 abbrev pub CallsTeach : Type 0
 CallsTeach =
     (settings : Settings) (request : BookRequest) (turn : ℕ) (reply : BookReply) (v w : BookPass)
-    → KeepsNumbers v w → IsAnswered settings request turn reply v w → TakesCall settings request turn reply v w
+    → KeepsNumbers v w → IsAnswered settings request turn reply v w
+    → TakesCall settings request turn reply v w
 
 -- a call that is not answered for want of memory takes its turn and adds nothing
 abbrev pub IdleTurnsTeach : Type 0

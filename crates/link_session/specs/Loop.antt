@@ -65,7 +65,8 @@ abbrev pub Called : Settings → BookRequest → SinkSeen → SinkSeen → TalkS
     → BookPass → Type 0
 Called settings call sink sink' talk server Again talk' server' =
     (waiting : Waiting) × (talk.waits ≡ Some waiting)
-    × (receipt : Result BookReceipt AllocError) × (bytes : List ℕ) × Calls settings call server receipt server'
+    × (receipt : Result BookReceipt AllocError) × (bytes : List ℕ)
+    × Calls settings call server receipt server'
     × AnswersCall receipt waiting bytes
     × (talk' ≡ with_answer waiting.close talk) × SinkTakes sink sink' bytes × (sink'.faults ≡ sink.faults)
 Called settings call sink sink' talk server (End e) talk' server' =
@@ -83,7 +84,8 @@ Does settings served before after talk server (Write bytes) progress talk' serve
     Writing served before.sink after.sink bytes progress × (after.source ≡ before.source)
     × (talk' ≡ talk) × (server' ≡ server)
 Does settings served before after talk server (Call call) progress talk' server' =
-    Called settings call before.sink after.sink talk server progress talk' server' × (after.source ≡ before.source)
+    Called settings call before.sink after.sink talk server progress talk' server'
+    × (after.source ≡ before.source)
 Does settings served before after talk server (Leave e) progress talk' server' =
     (progress ≡ End e) × (after.source ≡ before.source) × (after.sink ≡ before.sink) × (server' ≡ server)
 
@@ -94,7 +96,8 @@ Stopped before after talk server progress talk' server' =
     × (after.source ≡ before.source) × (after.sink ≡ before.sink) × (server' ≡ server)
 
 -- a step of a session: the talk was asked what it wants, and that was done
-abbrev pub StepsOn : Settings → Outside → Outside → TalkState → BookPass → Progress → TalkState → BookPass → Type 0
+abbrev pub StepsOn : Settings → Outside → Outside → TalkState → BookPass → Progress → TalkState → BookPass
+    → Type 0
 StepsOn settings before after talk server progress talk' server' =
     ((want : Want) × (mid : TalkState) × Wants before.clock after.clock talk want mid × IsOwnWant want
     × Does settings talk.served before after mid server want progress talk' server')

@@ -38,7 +38,8 @@ AreBy number (s ∷ ss) = (s.stamp.pass ≡ number) × AreBy number ss
 -- A session by the pass v, which is w afterwards, over a source, a clock and a sink. What the pass had seen is a front of
 -- what it has seen, and the session's history. Of the entries behind that front those that carry the pass are just the
 -- ones that the session's steps added, in their order. It ends by a fault exactly where a read or a write failed.
-pub record Serves (settings : Settings) (v w : BookPass) (before after : Outside) (end : SessionEnd) : Type 0 where
+pub record Serves (settings : Settings) (v w : BookPass) (before after : Outside)
+    (end : SessionEnd) : Type 0 where
   pub input : List ℕ
   pub moments : List ℕ
   pub output : List ℕ

@@ -31,7 +31,8 @@ pub record DoorDone (s : Service) (history : List Entry) (top number : ℕ) (doo
 -- .. of doors with the numbers from this one on
 abbrev pub DoorsDone : Service → List Entry → ℕ → ℕ → List DoorSeen → Type 0
 DoorsDone s history top number [] = Unit {0}
-DoorsDone s history top number (d ∷ ds) = DoorDone s history top number d × DoorsDone s history top (number + 1) ds
+DoorsDone s history top number (d ∷ ds) =
+    DoorDone s history top number d × DoorsDone s history top (number + 1) ds
 
 -- A door in one history: its connections were served by the pass of its number, each between the entries up to the turn
 -- that stands at the one before and those up to its own, which never fall. It gave as many as stand there, and where doors

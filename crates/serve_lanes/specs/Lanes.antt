@@ -64,8 +64,8 @@ IsBalanced d = IfSome d.ended (λ es. length es ≡ d.gave)
 
 -- A lane: its door gave these connections and its list grew by them, and they are a chain in what its pass came to see. A
 -- door that gave as many as it took back still does, and still tells them if it did.
-pub record LaneServed (serves : List Entry → ℕ → EndedLink → List Entry → Type 0) (before : List Entry) (last : ℕ)
-    (history : List Entry) (top : ℕ) (old new : DoorSeen) : Type 0 where
+pub record LaneServed (serves : List Entry → ℕ → EndedLink → List Entry → Type 0) (before : List Entry)
+    (last : ℕ) (history : List Entry) (top : ℕ) (old new : DoorSeen) : Type 0 where
   pub links : List EndedLink
   pub grown : GrowsBy old.ended new.ended links
   pub chain : Chain serves before last links history top
@@ -82,7 +82,8 @@ seen_at turn history = up_to turn_of turn history
 
 -- the same in one history: what was seen between two connections is its entries up to the turn that stands at the first,
 -- and these turns never fall
-abbrev pub ChainIn : (List Entry → ℕ → EndedLink → List Entry → Type 0) → List Entry → ℕ → List EndedLink → Type 0
+abbrev pub ChainIn : (List Entry → ℕ → EndedLink → List Entry → Type 0) → List Entry → ℕ
+    → List EndedLink → Type 0
 ChainIn serves history last [] = Unit {0}
 ChainIn serves history last (x ∷ xs) =
     (last ≤ end_turn x) × serves (seen_at last history) last x (seen_at (end_turn x) history)

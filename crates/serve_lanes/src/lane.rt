@@ -62,7 +62,8 @@ fn serve_next<R: Wait, D: Door, C: Clock, G: Gate>(
     ensures clock { (C.seen clock.new).one ≡ (C.seen clock.old).one }
     ensures served { LaneServed (ServedLink (C.seen clock.old).one turn.now.settings pass.old.number)
         pass.old.seen pass.old.last pass.new.seen pass.new.last (D.seen door.old) (D.seen door.new) }
-    ensures failed { result ≡ Next.Stop LaneEnd.Failed → Rose (D.seen door.old).faults (D.seen door.new).faults }
+    ensures failed { result ≡ Next.Stop LaneEnd.Failed
+        → Rose (D.seen door.old).faults (D.seen door.new).faults }
     ensures closed { result ≡ Next.Stop LaneEnd.Closed → (D.seen door.new).closed ≡ true }
     ensures more { result ≡ Next.More → (D.seen door.new).gave ≡ (D.seen door.old).gave + 1 }
     ensures other { result ≢ Next.Stop LaneEnd.Full }
