@@ -10,7 +10,7 @@ use Rattle.book_history.specs.declared.requests.BookRequest.{BookRequest}
 use Rattle.book_history.specs.declared.replies.BookReply.{BookReply}
 use Rattle.book_history.specs.Requests.{added_by}
 use Rattle.book_history.proofs.Histories.{added_of}
-use Rattle.book_passes.specs.Lessons.{BookPass, IsAnswered, IsIdle, TakesTurn, Learns, AllOf, turn_of, stamp_in}
+use Rattle.book_passes.specs.Lessons.{BookPass, CallerSeen, Keeps, IsAnswered, IsIdle, TakesTurn, Learns, AllOf, caller_of, turn_of, stamp_in}
 use Rattle.book_passes.specs.Laws.{TakesCall}
 
 all_of : (turn : ℕ) (es : List Entry) → Rattle.book_history.proofs.Histories.AreOf turn es → AllOf turn es
@@ -18,15 +18,15 @@ all_of turn [] are = tt
 all_of turn (e ∷ es) are = (are.0, all_of turn es are.1)
 
 -- what a call adds is of its turn
-pub added_all : (settings : Settings) (h : List Entry) (turn : ℕ) (v : BookPass) (request : BookRequest) → AllOf turn (added_by settings h (stamp_in turn v) request)
+pub added_all : (settings : Settings) (h : List Entry) (turn : ℕ) (v : CallerSeen) (request : BookRequest) → AllOf turn (added_by settings h (stamp_in turn v) request)
 added_all settings h turn v request = all_of turn (added_by settings h (stamp_in turn v) request) (added_of settings h (stamp_in turn v) request)
 
 pub takes_call : (settings : Settings) (request : BookRequest) (turn : ℕ) (reply : BookReply) (v w : BookPass) → KeepsNumbers v w → IsAnswered settings request turn reply v w
-    → TakesCall settings request turn reply v w
+    → TakesCall settings request turn reply (caller_of v) (caller_of w)
 takes_call settings request turn reply v w keeps a = record {
   others = a.news;
   takes = record {
-    keeps = keeps;
+    keeps = record { number = keeps.number; numbers = keeps.numbers };
     above = a.takes.later;
     last = a.takes.last;
     made = a.takes.made;
@@ -34,17 +34,17 @@ takes_call settings request turn reply v w keeps a = record {
     since = a.takes.since;
     below = a.takes.before;
     not_own = a.takes.others;
-    in_turn = added_all settings (v.seen ++ a.news) turn v request;
+    in_turn = added_all settings (v.seen ++ a.news) turn (caller_of v) request;
   };
   replied = a.replied;
 }
 
-pub takes_idly : (v w : BookPass) → KeepsNumbers v w → IsIdle v w → (turn : ℕ) × (others : List Entry) × TakesTurn turn others [] v w
+pub takes_idly : (v w : BookPass) → KeepsNumbers v w → IsIdle v w → (turn : ℕ) × (others : List Entry) × TakesTurn turn others [] (caller_of v) (caller_of w)
 takes_idly v w keeps n = (
   n.turn,
   n.news,
   record {
-    keeps = keeps;
+    keeps = record { number = keeps.number; numbers = keeps.numbers };
     above = n.takes.later;
     last = n.takes.last;
     made = n.takes.made;
@@ -66,7 +66,7 @@ of_before : (turn : ℕ) (es : List Entry) → AllOf turn es → AllBefore turn_
 of_before turn [] are = tt
 of_before turn (e ∷ es) are = (let is : e.stamp.turn ≡ turn = are.0 in omega arith, of_before turn es are.1)
 
-pub learns_turn : (turn : ℕ) (others added : List Entry) (v w : BookPass) → TakesTurn turn others added v w → Learns v w (others ++ added)
+pub learns_turn : (turn : ℕ) (others added : List Entry) (v w : CallerSeen) → TakesTurn turn others added v w → Learns v w (others ++ added)
 learns_turn turn others added v w t =
     let above : v.last < turn = t.above in
     let last : w.last ≡ turn = t.last in
@@ -81,10 +81,10 @@ learns_turn turn others added v w t =
           (of_before turn added t.in_turn)));
     }
 
-keeps_trans : (u v w : BookPass) → KeepsNumbers u v → KeepsNumbers v w → KeepsNumbers u w
+keeps_trans : (u v w : CallerSeen) → Keeps u v → Keeps v w → Keeps u w
 keeps_trans u v w p q = record { number = q.number ∙ p.number; numbers = q.numbers ∙ p.numbers }
 
-pub learns_trans : (u v w : BookPass) (first second : List Entry) → Learns u v first → Learns v w second → Learns u w (first ++ second)
+pub learns_trans : (u v w : CallerSeen) (first second : List Entry) → Learns u v first → Learns v w second → Learns u w (first ++ second)
 learns_trans u v w first second p q =
     let one : u.last ≤ v.last = p.rises in
     let two : v.last ≤ w.last = q.rises in
@@ -96,7 +96,7 @@ learns_trans u v w first second p q =
       up_to = λ all. q.up_to (p.up_to all);
     }
 
-pub learns_none : (v : BookPass) → Learns v v []
+pub learns_none : (v : CallerSeen) → Learns v v []
 learns_none v = record {
   keeps = record { number = refl; numbers = refl };
   seen = sym (append-nil v.seen);

@@ -19,7 +19,7 @@ use Rattle.book_history.specs.Orders.{OrderValue}
 use Rattle.book_history.specs.History.{left_all}
 use Rattle.book_history.specs.Requests.{outcome_of, body_of, added_by}
 use Rattle.book_history.specs.Legal.{IsLegal}
-use Rattle.book_passes.specs.Lessons.{BookPass, IsAnswered, TakesTurn, Learns, own_of, stamp_of, stamp_in}
+use Rattle.book_passes.specs.Lessons.{BookPass, CallerSeen, IsAnswered, TakesTurn, Learns, caller_of, own_of, stamp_of, stamp_in}
 use Rattle.book_passes.specs.Laws.{TakesCall}
 use Rattle.book_passes.proofs.Learning.{takes_call, takes_idly, learns_turn, learns_trans, learns_none}
 use Rattle.check_workers.specs.Working.{IsDone, AreDone, Teaches, IsFoundFor, IsFinishTold}
@@ -40,16 +40,16 @@ calls_done : (ps : List ℕ) (es : List Entry) → AreDone es → AreDone (calls
 calls_done ps [] are = tt
 calls_done ps (e ∷ es) are = some_done ps e (calls_by (λ (x : Entry). x.stamp.pass) ps es) (has e.stamp.pass ps) are.0 (calls_done ps es are.1)
 
-own_append : (v : BookPass) (a b : List Entry) → own_of v (a ++ b) ≡ own_of v a ++ own_of v b
+own_append : (v : CallerSeen) (a b : List Entry) → own_of v (a ++ b) ≡ own_of v a ++ own_of v b
 own_append v a b = calls_by-append (λ (e : Entry). e.stamp.pass) v.numbers a b
 
 -- ---- what is learnt
 
-pub teaches_none : (v : BookPass) → Teaches v v
+pub teaches_none : (v : CallerSeen) → Teaches v v
 teaches_none v = record { news = []; learns = learns_none v; done = tt }
 
 -- a turn in which buckets alone are said to be checked
-pub teaches_turn : (turn : ℕ) (others added : List Entry) (v w : BookPass) → TakesTurn turn others added v w → AreDone added → Teaches v w
+pub teaches_turn : (turn : ℕ) (others added : List Entry) (v w : CallerSeen) → TakesTurn turn others added v w → AreDone added → Teaches v w
 teaches_turn turn others added v w t done = record {
   news = others ++ added;
   learns = learns_turn turn others added v w t;
@@ -57,7 +57,7 @@ teaches_turn turn others added v w t done = record {
       subst AreDone own (calls_done v.numbers added done));
 }
 
-pub teaches_trans : (u v w : BookPass) → Teaches u v → Teaches v w → Teaches u w
+pub teaches_trans : (u v w : CallerSeen) → Teaches u v → Teaches v w → Teaches u w
 teaches_trans u v w p q = record {
   news = p.news ++ q.news;
   learns = learns_trans u v w p.news q.news p.learns q.learns;
@@ -66,25 +66,25 @@ teaches_trans u v w p q = record {
 }
 
 -- a call that got no reply
-pub failed_teaches : (v w : BookPass) (fault : CallFault) → KeepsNumbers v w → Failed stamp_of v w fault → Teaches v w
-failed_teaches v w Memory keeps failed = let t = takes_idly v w keeps failed in teaches_turn t.0 t.1 [] v w t.2 tt
-failed_teaches v w (PassSpent spent) keeps failed = subst (λ (x : BookPass). Teaches v x) (sym failed.2) (teaches_none v)
+pub failed_teaches : (v w : BookPass) (fault : CallFault) → KeepsNumbers v w → Failed stamp_of v w fault → Teaches (caller_of v) (caller_of w)
+failed_teaches v w Memory keeps failed = let t = takes_idly v w keeps failed in teaches_turn t.0 t.1 [] (caller_of v) (caller_of w) t.2 tt
+failed_teaches v w (PassSpent spent) keeps failed = subst (λ (x : BookPass). Teaches (caller_of v) (caller_of x)) (sym failed.2) (teaches_none (caller_of v))
 
 -- ---- the two calls
 
 -- a call for work
-pub asked_teaches : (settings : Settings) (seat turn : ℕ) (reply : BookReply) (v w : BookPass) → KeepsNumbers v w → IsAnswered settings (TakeWork seat) turn reply v w → Teaches v w
+pub asked_teaches : (settings : Settings) (seat turn : ℕ) (reply : BookReply) (v w : BookPass) → KeepsNumbers v w → IsAnswered settings (TakeWork seat) turn reply v w → Teaches (caller_of v) (caller_of w)
 asked_teaches settings seat turn reply v w keeps a =
     let t = takes_call settings (TakeWork seat) turn reply v w keeps a in
-    let none = take_adds_none settings (v.seen ++ t.others) (stamp_in turn v) seat in
-    teaches_turn turn t.others (added_by settings (v.seen ++ t.others) (stamp_in turn v) (TakeWork seat)) v w t.takes (subst AreDone (sym none) tt)
+    let none = take_adds_none settings (v.seen ++ t.others) (stamp_in turn (caller_of v)) seat in
+    teaches_turn turn t.others (added_by settings (v.seen ++ t.others) (stamp_in turn (caller_of v)) (TakeWork seat)) (caller_of v) (caller_of w) t.takes (subst AreDone (sym none) tt)
 
 -- a set that is brought
-pub brought_teaches : (settings : Settings) (set : SetValue) (turn : ℕ) (reply : BookReply) (v w : BookPass) → KeepsNumbers v w → IsAnswered settings (Finish set) turn reply v w → Teaches v w
+pub brought_teaches : (settings : Settings) (set : SetValue) (turn : ℕ) (reply : BookReply) (v w : BookPass) → KeepsNumbers v w → IsAnswered settings (Finish set) turn reply v w → Teaches (caller_of v) (caller_of w)
 brought_teaches settings set turn reply v w keeps a =
     let t = takes_call settings (Finish set) turn reply v w keeps a in
-    teaches_turn turn t.others (added_by settings (v.seen ++ t.others) (stamp_in turn v) (Finish set)) v w t.takes
-    (finish_adds settings (v.seen ++ t.others) (stamp_in turn v) set)
+    teaches_turn turn t.others (added_by settings (v.seen ++ t.others) (stamp_in turn (caller_of v)) (Finish set)) (caller_of v) (caller_of w) t.takes
+    (finish_adds settings (v.seen ++ t.others) (stamp_in turn (caller_of v)) set)
 
 -- where a call for work is refused, no bucket of a live version is undone in what the pass has then seen
 pub none_left : (settings : Settings) (seat turn : ℕ) (reply : BookReply) (v w : BookPass) → KeepsNumbers v w → IsAnswered settings (TakeWork seat) turn reply v w
@@ -92,7 +92,7 @@ pub none_left : (settings : Settings) (seat turn : ℕ) (reply : BookReply) (v w
 none_left settings seat turn reply v w keeps a refused =
     let t = takes_call settings (TakeWork seat) turn reply v w keeps a in
     let h : List Entry = v.seen ++ t.others in
-    let none = take_adds_none settings h (stamp_in turn v) seat in
+    let none = take_adds_none settings h (stamp_in turn (caller_of v)) seat in
     let seen : w.seen ≡ h = t.takes.seen ∙ ap (λ l. h ++ l) none ∙ append-nil h in
     let is : body_of h (outcome_of settings h (TakeWork seat)) ≡ Refused NoWork = sym (ap (λ (r : BookReply). r.body) t.replied) ∙ refused in
     ap (λ es. left_all settings.projects es) seen ∙ of_taken h is (taken settings h seat)
@@ -131,7 +131,7 @@ may_bring settings seat turn reply order set v w keeps a given found bucket =
     let h : List Entry = v.seen ++ t.others in
     let is : body_of h (outcome_of settings h (TakeWork seat)) ≡ Work order = sym (ap (λ (r : BookReply). r.body) t.replied) ∙ given in
     subst (λ (es : List Entry). IsLegal settings es (Finish set)) (sym t.takes.seen)
-    (set_legal settings h (added_by settings h (stamp_in turn v) (TakeWork seat)) seat order set is found bucket)
+    (set_legal settings h (added_by settings h (stamp_in turn (caller_of v)) (TakeWork seat)) seat order set is found bucket)
 
 -- what is answered to a set
 pub is_told : (settings : Settings) (turn : ℕ) (reply : BookReply) (set : SetValue) (v w : BookPass) → KeepsNumbers v w → IsAnswered settings (Finish set) turn reply v w

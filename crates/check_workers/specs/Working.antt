@@ -12,7 +12,7 @@ use Rattle.book_history.specs.declared.replies.BookReply.{BookReply}
 use Rattle.book_history.specs.declared.replies.ReplyBody.{ReplyBody}
 use Rattle.book_history.specs.declared.replies.ReplyBody.TheVariants.{Work, Finished, Refused}
 use Rattle.book_history.specs.Orders.{OrderValue, order_of}
-use Rattle.book_passes.specs.Lessons.{BookPass, IsAnswered, Learns, own_of}
+use Rattle.book_passes.specs.Lessons.{BookPass, CallerSeen, IsAnswered, Learns, own_of}
 use Rattle.check_workers.specs.declared.work.Worked.{Worked}
 use Rattle.check_workers.specs.declared.work.Worked.TheVariants.{Done, Already, Dropped, Nothing}
 
@@ -44,7 +44,7 @@ AreDone (e ∷ es) = IsDone e × AreDone es
 
 -- What a pass had seen is a front of what it has seen. Of the entries behind that front, those that it made say that
 -- buckets are checked, and nothing else.
-pub record Teaches (v w : BookPass) : Type 0 where
+pub record Teaches (v w : CallerSeen) : Type 0 where
   pub news : List Entry
   pub learns : Learns v w news
   pub done : AreDone (own_of v news)

@@ -3,6 +3,7 @@ ghost use Rattle.std.specs.Prelude.{◌≡◌, ◌<◌, [], IfOk, OnOk};
 ghost use Rattle.bucket_grid.specs.Cells.{IsBucket};
 ghost use Rattle.book_turn.specs.Passes.{BelongsTo};
 ghost use Rattle.book_history.specs.History.{left_all};
+ghost use Rattle.book_passes.specs.Lessons.{caller_of};
 ghost use Rattle.check_workers.specs.Working.{IsFoundFor, IsFinishTold, tells, Teaches, WorksOne};
 
 use bim_model::{Shared, Steps};
@@ -79,7 +80,7 @@ pub fn work_one<R: Wait, G: Gate>(
 ) -> Result<Worked, CallFault>
     requires own { BelongsTo turn.now pass.old }
     ensures own { BelongsTo turn.now pass.new }
-    ensures teaches { Teaches pass.old pass.new }
+    ensures teaches { Teaches (caller_of pass.old) (caller_of pass.new) }
     ensures worked { IfOk result (WorksOne turn.now.settings seat pass.old pass.new) }
 {
     gate.before_call(pass.number(), idle);
@@ -108,7 +109,7 @@ pub fn work_loop<R: Wait, G: Gate>(
 ) -> Result<(), CallFault>
     requires own { BelongsTo turn.now pass.old }
     ensures own { BelongsTo turn.now pass.new }
-    ensures teaches { Teaches pass.old pass.new }
+    ensures teaches { Teaches (caller_of pass.old) (caller_of pass.new) }
     ensures done { OnOk result (left_all turn.now.settings.projects pass.new.seen ≡ 0) }
 {
     let mut idle = false;

@@ -17,11 +17,11 @@ use Rattle.bim_session.specs.Talking.{TalkState, BookReceipt, Replies}
 use Rattle.link_session.specs.declared.session.Progress.{Progress}
 use Rattle.link_session.specs.declared.session.Progress.TheVariants.{Again, End}
 use Rattle.book_history.specs.declared.limits.Settings.{Settings}
-use Rattle.book_passes.specs.Lessons.{BookPass, stamp_of}
+use Rattle.book_passes.specs.Lessons.{BookPass, CallerSeen, caller_of, stamp_of}
 use Rattle.book_passes.proofs.Learning.{takes_idly}
 use Rattle.link_session.specs.Loop.{Skips, Calls, Called, Writing}
 
-wrote_for : (settings : Settings) (call : BookRequest) (x y : SinkSeen) (talk talk' : TalkState) (server server' : BookPass) (waiting : Waiting)
+wrote_for : (settings : Settings) (call : BookRequest) (x y : SinkSeen) (talk talk' : TalkState) (server server' : CallerSeen) (waiting : Waiting)
     (receipt : Result BookReceipt AllocError) (bytes : List ℕ) (result : Progress)
     → talk.waits ≡ Some waiting → Calls settings call server receipt server' → Replies receipt waiting talk (Write bytes) talk' → Writing talk.served x y bytes result
     → Called settings call x y talk server result talk' server'
@@ -34,7 +34,7 @@ some_of : (o : Option Waiting) (P : Waiting → Type 0) → IsSome o → IfSome 
 some_of None P is p = cc
 some_of (Some k) P is p = (k, refl, p)
 
-pub wrote_call : (settings : Settings) (call : BookRequest) (x y : SinkSeen) (talk talk' : TalkState) (server server' : BookPass)
+pub wrote_call : (settings : Settings) (call : BookRequest) (x y : SinkSeen) (talk talk' : TalkState) (server server' : CallerSeen)
     (receipt : Result BookReceipt AllocError) (bytes : List ℕ) (result : Progress)
     → IsSome talk.waits → Calls settings call server receipt server' → IfSome talk.waits (λ waiting. Replies receipt waiting talk (Write bytes) talk') → Writing talk.served x y bytes result
     → Called settings call x y talk server result talk' server'
@@ -58,9 +58,9 @@ legal_of settings h (TakeWork seat) none = tt
 legal_of settings h (Finish set) none = absurd (none set refl)
 
 -- a call that got no reply took a turn in vain, or none
-pub skips_failed : (v w : BookPass) (fault : CallFault) → KeepsNumbers v w → Failed stamp_of v w fault → Skips v w
+pub skips_failed : (v w : BookPass) (fault : CallFault) → KeepsNumbers v w → Failed stamp_of v w fault → Skips (caller_of v) (caller_of w)
 skips_failed v w Memory keeps failed = inr (takes_idly v w keeps failed)
-skips_failed v w (PassSpent spent) keeps failed = inl failed.2
+skips_failed v w (PassSpent spent) keeps failed = inl (ap caller_of failed.2)
 
 pub single_still : (t : TurnState Settings) (v w : BookPass) → IsSingle t v → BelongsTo t w → KeepsNumbers v w → IsSingle t w
 single_still t v w single own keeps = record {

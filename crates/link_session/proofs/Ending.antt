@@ -13,7 +13,7 @@ use Rattle.bim_session.specs.Session.{Reads, Answered, Ends, TakesUnanswered}
 use Rattle.bim_session.specs.Replay.{IsReadFault, IsWriteFault, ReadsAsNeeded, IsOneRead}
 use Rattle.bim_session.specs.Talking.{TalkState, MeetsEnd, IsOwnEnd, IsOwnLeaving, IsOwnWant, StopsShort, TakesRequest}
 use Rattle.bim_session.proofs.Reading.{Reads_more}
-use Rattle.book_passes.specs.Lessons.{BookPass}
+use Rattle.book_passes.specs.Lessons.{CallerSeen}
 use Rattle.book_passes.proofs.Learning.{learns_none}
 use Rattle.link_session.specs.Serving.{Serves, start_of}
 use Rattle.link_session.proofs.Turns.{Known}
@@ -57,7 +57,7 @@ pub some_end : (e : SessionEnd) → IsOwnLeaving (Some e) → IsOwnEnd e
 some_end e own = λ n. (λ is. (own n).0 (ap Some is), λ is. (own n).1 (ap Some is))
 
 -- it ends after more was exchanged, and perhaps one more step
-finish : (settings : Settings) (v : BookPass) (w a b : Outside) (old : TalkState) (server server' : BookPass) (so : SoFar settings v w a old server) (input rest late tail : List ℕ) (e : SessionEnd) (more : List Step)
+finish : (settings : Settings) (v : CallerSeen) (w a b : Outside) (old : TalkState) (server server' : CallerSeen) (so : SoFar settings v w a old server) (input rest late tail : List ℕ) (e : SessionEnd) (more : List Step)
     → old.leaving ≡ None → Exchanges w b input (so.moments ++ late) (so.output ++ tail) → EndsEmpty b.source
     → Reads input false so.events rest so.told → ReadsAsNeeded w.source.most input so.events
     → ComesOfFault a.source.faults b.source.faults (IsReadFault e) → ComesOfFault a.sink.faults b.sink.faults (IsWriteFault e)
@@ -100,7 +100,7 @@ finish settings v w a b old server server' so input rest late tail e more here g
 }
 
 -- it ends without another read, and perhaps after one more step
-pub finish_step : (settings : Settings) (v : BookPass) (w a b : Outside) (old : TalkState) (server server' : BookPass) (so : SoFar settings v w a old server) (late tail : List ℕ) (e : SessionEnd) (more : List Step)
+pub finish_step : (settings : Settings) (v : CallerSeen) (w a b : Outside) (old : TalkState) (server server' : CallerSeen) (so : SoFar settings v w a old server) (late tail : List ℕ) (e : SessionEnd) (more : List Step)
     → old.leaving ≡ None → Exchanges a b [] late tail → EndsEmpty b.source
     → ComesOfFault a.source.faults b.source.faults (IsReadFault e) → ComesOfFault a.sink.faults b.sink.faults (IsWriteFault e)
     → Known v server' (so.steps ++ more)
@@ -112,7 +112,7 @@ finish_step settings v w a b old server server' so late tail e more here gave em
     empty so.reads so.as_needed read write known answered ends
 
 -- it ends without another read and without one more step
-pub finish_same : (settings : Settings) (v : BookPass) (w a b : Outside) (old : TalkState) (server : BookPass) (so : SoFar settings v w a old server) (late tail : List ℕ) (e : SessionEnd)
+pub finish_same : (settings : Settings) (v : CallerSeen) (w a b : Outside) (old : TalkState) (server : CallerSeen) (so : SoFar settings v w a old server) (late tail : List ℕ) (e : SessionEnd)
     → old.leaving ≡ None → Exchanges a b [] late tail → EndsEmpty b.source
     → ComesOfFault a.source.faults b.source.faults (IsReadFault e) → ComesOfFault a.sink.faults b.sink.faults (IsWriteFault e)
     → Ends (stop_of (start_of settings v server) so.events so.steps so.printed b.source.ended so.rest so.told late tail []) e
@@ -123,7 +123,7 @@ finish_same settings v w a b old server so late tail e here gave empty read writ
     (rw same so.known) so.answered ends
 
 -- it ends by an end of its own, and nothing failed
-pub finish_own : (settings : Settings) (v : BookPass) (w a b : Outside) (old : TalkState) (server : BookPass) (so : SoFar settings v w a old server) (late : List ℕ) (e : SessionEnd)
+pub finish_own : (settings : Settings) (v : CallerSeen) (w a b : Outside) (old : TalkState) (server : CallerSeen) (so : SoFar settings v w a old server) (late : List ℕ) (e : SessionEnd)
     → old.leaving ≡ None → IsOwnEnd e → Exchanges a b [] late [] → IsQuiet a b → EndsEmpty b.source
     → Ends (stop_of (start_of settings v server) so.events so.steps so.printed b.source.ended so.rest so.told late [] []) e
     → Serves settings v server w b e
@@ -133,7 +133,7 @@ finish_own settings v w a b old server so late e here own gave quiet empty ends 
     (no_fault a.sink.faults b.sink.faults (IsWriteFault e) quiet.1 (own_write e own)) ends
 
 -- it ends as it was leaving
-pub finish_leaving : (settings : Settings) (v : BookPass) (w a : Outside) (old : TalkState) (server : BookPass) (so : SoFar settings v w a old server) (e : SessionEnd)
+pub finish_leaving : (settings : Settings) (v : CallerSeen) (w a : Outside) (old : TalkState) (server : CallerSeen) (so : SoFar settings v w a old server) (e : SessionEnd)
     → old.leaving ≡ Some e → IsOwnEnd e → EndsEmpty a.source → Serves settings v server w a e
 finish_leaving settings v w a old server so e leaving own empty =
     let ends = leaves_some (stop_of (start_of settings v server) so.events so.steps so.printed a.source.ended so.rest so.told so.late so.tail []) old.leaving e leaving so.leaving in
@@ -172,7 +172,7 @@ finish_leaving settings v w a old server so e leaving own empty =
     }
 
 -- it ends where the input has, and nothing is left to answer
-pub finish_met : (settings : Settings) (v : BookPass) (w a : Outside) (old : TalkState) (server : BookPass) (so : SoFar settings v w a old server) (e : SessionEnd)
+pub finish_met : (settings : Settings) (v : CallerSeen) (w a : Outside) (old : TalkState) (server : CallerSeen) (so : SoFar settings v w a old server) (e : SessionEnd)
     → old.leaving ≡ None → old.ended ≡ true → IsTold so.told so.rest → IsRest so.rest → MeetsEnd so.rest old.served e → EndsEmpty a.source → Serves settings v server w a e
 finish_met settings v w a old server so e here over settled nothing (inl closed) empty =
     subst (λ (z : SessionEnd). Serves settings v server w a z) (sym closed.1)
@@ -184,7 +184,7 @@ finish_met settings v w a old server so e here over settled nothing (inr cut) em
     (inr (inr (inl (ap end.Cut so.served, (let goes = open_of settings v w a old server so here in goes.open_), (refl, refl, refl), so.ended_is over, (settled, (nothing, cut.0)))))))
 
 -- it ends for want of memory, where no request was taken, or one was at its moment
-pub finish_short : (settings : Settings) (v : BookPass) (w a b : Outside) (old new : TalkState) (server : BookPass) (so : SoFar settings v w a old server) (late : List ℕ)
+pub finish_short : (settings : Settings) (v : CallerSeen) (w a b : Outside) (old new : TalkState) (server : CallerSeen) (so : SoFar settings v w a old server) (late : List ℕ)
     → old.leaving ≡ None → StopsShort so.rest so.told late new → Exchanges a b [] late [] → IsQuiet a b → EndsEmpty b.source
     → Serves settings v server w b (end.Memory old.served)
 finish_short settings v w a b old new server so late here stops gave quiet empty =
@@ -211,7 +211,7 @@ finish_short settings v w a b old new server so late here stops gave quiet empty
     })
 
 -- it ends for want of memory where a piece was read that was not fed
-pub finish_unfed : (settings : Settings) (v : BookPass) (w a b : Outside) (old : TalkState) (server : BookPass) (so : SoFar settings v w a old server) (piece : List ℕ)
+pub finish_unfed : (settings : Settings) (v : CallerSeen) (w a b : Outside) (old : TalkState) (server : CallerSeen) (so : SoFar settings v w a old server) (piece : List ℕ)
     → old.leaving ≡ None → IsTold so.told so.rest → IsRest so.rest → IsOneRead a.source.most (length piece) → Exchanges a b piece [] [] → IsQuiet a b → EndsEmpty b.source
     → Serves settings v server w b (end.Memory old.served)
 finish_unfed settings v w a b old server so piece here settled nothing short gave quiet empty =
@@ -232,13 +232,13 @@ finish_unfed settings v w a b old server so piece here settled nothing short gav
     )))))))))
 
 -- it ends for want of memory, where nothing was done
-pub finish_memory : (settings : Settings) (v : BookPass) (w a : Outside) (old : TalkState) (server : BookPass) (so : SoFar settings v w a old server)
+pub finish_memory : (settings : Settings) (v : CallerSeen) (w a : Outside) (old : TalkState) (server : CallerSeen) (so : SoFar settings v w a old server)
     → old.leaving ≡ None → EndsEmpty a.source → Serves settings v server w a (end.Memory old.served)
 finish_memory settings v w a old server so here empty =
     finish_short settings v w a a old old server so [] here (inl refl) (exchanges_none a) (refl, refl) empty
 
 -- nothing was done
-pub nothing_done : (settings : Settings) (v : BookPass) (w : Outside) → v.numbers ≡ v.number ∷ [] → EndsEmpty w.source → Serves settings v v w w (end.Memory 0)
+pub nothing_done : (settings : Settings) (v : CallerSeen) (w : Outside) → v.numbers ≡ v.number ∷ [] → EndsEmpty w.source → Serves settings v v w w (end.Memory 0)
 nothing_done settings v w alone empty = record {
   input = [];
   moments = [];

@@ -31,7 +31,7 @@ use Rattle.bim_session.specs.Works.{Standing, IsTaken, last_turn}
 use Rattle.bim_session.specs.Session.{Means, TakesTurn, Answers, Answered, asking, behind, closes_after, requests}
 use Rattle.bim_session.specs.Talking.{TalkState, BookReceipt, AnswersAlone, AnswersCall, asks_change, is_refusal, changes_nothing, waiting_for}
 use Rattle.bim_session.proofs.Sessions.{Answered_grown, answered_last, entry_new}
-use Rattle.book_passes.specs.Lessons.{BookPass, stamp_in, TakesTurn as Turned}
+use Rattle.book_passes.specs.Lessons.{CallerSeen, stamp_in, TakesTurn as Turned}
 use Rattle.book_passes.specs.Laws.{TakesCall}
 use Rattle.book_passes.proofs.Learning.{learns_turn}
 use Rattle.link_session.specs.Serving.{start_of}
@@ -127,7 +127,7 @@ nothing_added settings h stamp call nothing =
 -- ---- a turn
 
 -- a turn is taken by a call, where the history has what the call adds there
-taken_in : (s : Standing) (settings : Settings) (w w' : BookPass) (call : BookRequest) (turn : ℕ) (others : List Entry) → Turned turn others (added_by settings (w.seen ++ others) (stamp_in turn w) call) w w'
+taken_in : (s : Standing) (settings : Settings) (w w' : CallerSeen) (call : BookRequest) (turn : ℕ) (others : List Entry) → Turned turn others (added_by settings (w.seen ++ others) (stamp_in turn w) call) w w'
     → IsTaken (record s { settings = settings; history = w'.seen; top = w'.last }) (step_in turn w call)
 taken_in s settings w w' call turn others t =
     let h : List Entry = w.seen ++ others in
@@ -140,11 +140,11 @@ taken_in s settings w w' call turn others t =
     }
 
 -- where a session stands that answered these events by these steps
-abbrev pub stands_at : Settings → BookPass → BookPass → List Event → List Step → ℕ → Standing
+abbrev pub stands_at : Settings → CallerSeen → CallerSeen → List Event → List Step → ℕ → Standing
 stands_at settings v w events steps printed = behind (start_of settings v w) events steps printed
 
 -- a turn is taken by the call that a request means
-pub turn_in : (settings : Settings) (v w w' : BookPass) (events : List Event) (steps : List Step) (printed m : ℕ) (r : HttpRequest) (call : BookRequest) (turn : ℕ) (others : List Entry) → Means m r call
+pub turn_in : (settings : Settings) (v w w' : CallerSeen) (events : List Event) (steps : List Step) (printed m : ℕ) (r : HttpRequest) (call : BookRequest) (turn : ℕ) (others : List Entry) → Means m r call
     → Turned turn others (added_by settings (w.seen ++ others) (stamp_in turn w) call) w w' → last_turn v.last steps ≤ w.last
     → TakesTurn (asking (stands_at settings v w' events steps printed) m r) (step_in turn w call ∷ [])
 turn_in settings v w w' events steps printed m r call turn others means t le =
@@ -158,7 +158,7 @@ turn_in settings v w w' events steps printed m r call turn others means t le =
     }
 
 -- the answer to a call in a turn, and the last turn printed then
-pub called_answers : (settings : Settings) (v w w' : BookPass) (events : List Event) (steps : List Step) (printed m : ℕ) (r : HttpRequest) (call : BookRequest) (receipt : BookReceipt) (bytes : List ℕ)
+pub called_answers : (settings : Settings) (v w w' : CallerSeen) (events : List Event) (steps : List Step) (printed m : ℕ) (r : HttpRequest) (call : BookRequest) (receipt : BookReceipt) (bytes : List ℕ)
     → Means m r call → (c : TakesCall settings call receipt.turn receipt.reply w w') → last_turn v.last steps ≤ w.last → printed ≤ w.last
     → AnswersCall (Ok receipt) (waiting_for r (0 + requests events + 1) (asks_change call)) bytes
     → (last : ℕ) × (last ≤ w'.last) × Answers (asking (stands_at settings v w' events steps printed) m r) bytes (step_in receipt.turn w call ∷ []) last
@@ -204,7 +204,7 @@ called_answers settings v w w' events steps printed m r call receipt bytes means
     )
 
 -- what was answered stays so after a turn
-pub answered_turn : (settings : Settings) (v : BookPass) (w a : Outside) (old : TalkState) (server server' : BookPass) (turn : ℕ) (others added : List Entry) (so : SoFar settings v w a old server)
+pub answered_turn : (settings : Settings) (v : CallerSeen) (w a : Outside) (old : TalkState) (server server' : CallerSeen) (turn : ℕ) (others added : List Entry) (so : SoFar settings v w a old server)
     → Turned turn others added server server' → Answered (start_of settings v server') so.events so.asked so.out so.steps so.printed
 answered_turn settings v w a old server server' turn others added so t =
     let lesson = learns_turn turn others added server server' t in
@@ -214,12 +214,12 @@ answered_turn settings v w a old server server' turn others added so t =
     (above_all server.last (others ++ added) lesson.later) in
     subst (λ (h : List Entry). Answered (record (start_of settings v server) { history = h; top = server'.last }) so.events so.asked so.out so.steps so.printed) (sym lesson.seen) grown
 
-pub last_of : (settings : Settings) (v : BookPass) (w a : Outside) (old : TalkState) (server : BookPass) (so : SoFar settings v w a old server) → last_turn v.last so.steps ≤ server.last
+pub last_of : (settings : Settings) (v : CallerSeen) (w a : Outside) (old : TalkState) (server : CallerSeen) (so : SoFar settings v w a old server) → last_turn v.last so.steps ≤ server.last
 last_of settings v w a old server so =
     answered_last (start_of settings v server) so.events so.asked so.out so.steps so.printed so.answered so.known.learns.rises
 
 -- .. and where a turn is skipped, or none is
-pub answered_skip : (settings : Settings) (v : BookPass) (w a : Outside) (old : TalkState) (server server' : BookPass) (so : SoFar settings v w a old server) → Skips server server'
+pub answered_skip : (settings : Settings) (v : CallerSeen) (w a : Outside) (old : TalkState) (server server' : CallerSeen) (so : SoFar settings v w a old server) → Skips server server'
     → Answered (start_of settings v server') so.events so.asked so.out so.steps so.printed
-answered_skip settings v w a old server server' so (inl same) = subst (λ (x : BookPass). Answered (start_of settings v x) so.events so.asked so.out so.steps so.printed) (sym same) so.answered
+answered_skip settings v w a old server server' so (inl same) = subst (λ (x : CallerSeen). Answered (start_of settings v x) so.events so.asked so.out so.steps so.printed) (sym same) so.answered
 answered_skip settings v w a old server server' so (inr (turn, others, takes)) = answered_turn settings v w a old server server' turn others [] so takes

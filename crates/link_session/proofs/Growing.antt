@@ -9,7 +9,7 @@ use Rattle.http_frame.specs.Events as frame
 use Rattle.http_frame.specs.Framers.{Stands}
 use Rattle.book_history.specs.declared.limits.Settings.{Settings}
 use Rattle.book_history.specs.Runs.{Step}
-use Rattle.book_passes.specs.Lessons.{BookPass}
+use Rattle.book_passes.specs.Lessons.{CallerSeen}
 use Rattle.bim_session.specs.Works.{Standing, IsEnough, left_behind}
 use Rattle.bim_session.specs.declared.end.SessionEnd.{SessionEnd}
 use Rattle.bim_session.specs.declared.end.SessionEnd.TheVariants as end
@@ -48,19 +48,19 @@ leaves_here stop None e goes = goes
 leaves_here stop (Some x) e goes = cc
 
 -- where a session stands so far
-abbrev pub stands_at : (settings : Settings) (v : BookPass) (w a : Outside) (old : TalkState) (server : BookPass) → SoFar settings v w a old server → Stop
+abbrev pub stands_at : (settings : Settings) (v : CallerSeen) (w a : Outside) (old : TalkState) (server : CallerSeen) → SoFar settings v w a old server → Stop
 stands_at settings v w a old server so = stop_of (start_of settings v server) so.events so.steps so.printed a.source.ended so.rest so.told so.late so.tail []
 
 -- what is known where a session goes on
-pub open_of : (settings : Settings) (v : BookPass) (w a : Outside) (old : TalkState) (server : BookPass) (so : SoFar settings v w a old server) → old.leaving ≡ None → GoesOn (stands_at settings v w a old server so)
+pub open_of : (settings : Settings) (v : CallerSeen) (w a : Outside) (old : TalkState) (server : CallerSeen) (so : SoFar settings v w a old server) → old.leaving ≡ None → GoesOn (stands_at settings v w a old server so)
 open_of settings v w a old server so here = leaves_none (stands_at settings v w a old server so) old.leaving here so.leaving
 
-pub plain_moments : (settings : Settings) (v : BookPass) (w a : Outside) (old : TalkState) (server : BookPass) (so : SoFar settings v w a old server) → old.leaving ≡ None → so.moments ≡ so.asked
+pub plain_moments : (settings : Settings) (v : CallerSeen) (w a : Outside) (old : TalkState) (server : CallerSeen) (so : SoFar settings v w a old server) → old.leaving ≡ None → so.moments ≡ so.asked
 plain_moments settings v w a old server so here =
     let goes = open_of settings v w a old server so here in
     so.moments_are ∙ ap (λ t. so.asked ++ t) goes.bare.0 ∙ append-nil so.asked
 
-pub plain_output : (settings : Settings) (v : BookPass) (w a : Outside) (old : TalkState) (server : BookPass) (so : SoFar settings v w a old server) → old.leaving ≡ None → so.output ≡ so.out
+pub plain_output : (settings : Settings) (v : CallerSeen) (w a : Outside) (old : TalkState) (server : CallerSeen) (so : SoFar settings v w a old server) → old.leaving ≡ None → so.output ≡ so.out
 plain_output settings v w a old server so here =
     let goes = open_of settings v w a old server so here in
     so.output_is ∙ ap (λ t. so.out ++ t) goes.bare.1 ∙ append-nil so.out
@@ -98,7 +98,7 @@ fresh_of talk stands is = record {
   leaving = ap (λ (t : TalkState). t.leaving) is;
 }
 
-pub so_far_start : (settings : Settings) (v : BookPass) (w : Outside) (talk : TalkState) → v.numbers ≡ v.number ∷ [] → IsFresh talk → SoFar settings v w w talk v
+pub so_far_start : (settings : Settings) (v : CallerSeen) (w : Outside) (talk : TalkState) → v.numbers ≡ v.number ∷ [] → IsFresh talk → SoFar settings v w w talk v
 so_far_start settings v w talk alone is_fresh = record {
   input = [];
   moments = [];
@@ -161,7 +161,7 @@ pub first_most : (w a : Outside) (input moments output : List ℕ) (n : ℕ) →
 first_most w a input moments output n gave short = subst (λ (o : Option ℕ). IsOneRead o n) gave.gave.most short
 
 -- a piece is fed, or the end
-pub so_far_fed : (settings : Settings) (v : BookPass) (w a b : Outside) (old mid new : TalkState) (server : BookPass) (so : SoFar settings v w a old server) (piece : List ℕ)
+pub so_far_fed : (settings : Settings) (v : CallerSeen) (w a b : Outside) (old mid new : TalkState) (server : CallerSeen) (so : SoFar settings v w a old server) (piece : List ℕ)
     → old.leaving ≡ None → IsTold so.told so.rest → IsRest so.rest → Stands mid.framer so.rest so.told → mid ≡ with_framer mid.framer old
     → IsOneRead a.source.most (length piece) → Feeds piece mid new → Exchanges a b piece [] [] → IsQuiet a b → (piece ≡ [] → IsTrue b.source.ended)
     → SoFar settings v w b new server
@@ -294,7 +294,7 @@ none_behind s (frame.request r) none = record {
 }
 
 -- one more event is answered
-pub so_far_push : (settings : Settings) (v : BookPass) (w a b : Outside) (old new : TalkState) (server server' : BookPass) (so : SoFar settings v w a old server)
+pub so_far_push : (settings : Settings) (v : CallerSeen) (w a b : Outside) (old new : TalkState) (server server' : CallerSeen) (so : SoFar settings v w a old server)
     (event : Event) (later : List ℕ) (mark : Bool) (asked bytes : List ℕ) (own : List Step) (printed : ℕ)
     → old.leaving ≡ None → Reads so.rest so.told (event ∷ []) later mark → Stands new.framer later mark
     → AnswersEvent (behind (start_of settings v server') so.events so.steps so.printed) event asked bytes own printed

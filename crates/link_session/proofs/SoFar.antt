@@ -5,7 +5,7 @@ use Rattle.http_frame.specs.Events.{Event}
 use Rattle.http_frame.specs.Framers.{Stands}
 use Rattle.book_history.specs.declared.limits.Settings.{Settings}
 use Rattle.book_history.specs.Runs.{Step}
-use Rattle.book_passes.specs.Lessons.{BookPass}
+use Rattle.book_passes.specs.Lessons.{CallerSeen}
 use Rattle.bim_session.specs.declared.end.SessionEnd.{SessionEnd}
 use Rattle.bim_session.specs.Works.{Standing}
 use Rattle.bim_session.specs.Session.{Stop, Ends, Reads, Answered, IsBare, behind, is_closed, requests, most_requests}
@@ -45,7 +45,7 @@ LeavesBy stop None = GoesOn stop
 LeavesBy stop (Some e) = Ends stop e
 
 -- a session by the pass v that has not ended yet, since the outside was as before
-pub record SoFar (settings : Settings) (v : BookPass) (before now : Outside) (talk : TalkState) (server : BookPass) : Type 0 where
+pub record SoFar (settings : Settings) (v : CallerSeen) (before now : Outside) (talk : TalkState) (server : CallerSeen) : Type 0 where
   pub input : List ℕ
   pub moments : List ℕ
   pub output : List ℕ
@@ -75,6 +75,6 @@ pub record SoFar (settings : Settings) (v : BookPass) (before now : Outside) (ta
   pub leaving : LeavesBy (stop_of (start_of settings v server) events steps printed now.source.ended rest told late tail []) talk.leaving
 
 -- where a session stands after one step of it
-abbrev pub Goes : Settings → BookPass → Outside → Outside → Progress → TalkState → BookPass → Type 0
+abbrev pub Goes : Settings → CallerSeen → Outside → Outside → Progress → TalkState → CallerSeen → Type 0
 Goes settings v before now Again talk server = SoFar settings v before now talk server
 Goes settings v before now (End e) talk server = Serves settings v server before now e

@@ -11,7 +11,7 @@ use Rattle.http_frame.specs.Framers.{Stands}
 use Rattle.book_history.specs.declared.limits.Settings.{Settings}
 use Rattle.book_history.specs.declared.requests.BookRequest.{BookRequest}
 use Rattle.book_history.specs.Requests.{added_by}
-use Rattle.book_passes.specs.Lessons.{BookPass, stamp_in}
+use Rattle.book_passes.specs.Lessons.{CallerSeen, stamp_in}
 use Rattle.book_passes.specs.Laws.{TakesCall}
 use Rattle.bim_session.specs.declared.end.SessionEnd.{SessionEnd}
 use Rattle.bim_session.specs.declared.end.SessionEnd.TheVariants as end
@@ -59,7 +59,7 @@ sink_quiet : (x y : SinkSeen) → y ≡ x → y.faults ≡ x.faults
 sink_quiet x y same = ap (λ (z : SinkSeen). z.faults) same
 
 -- the outside moved on, but nothing was read, asked for or written
-abbrev so_far_same : (settings : Settings) (v : BookPass) (w a b : Outside) (old : TalkState) (server : BookPass) (so : SoFar settings v w a old server) → Exchanges a b [] [] [] → IsQuiet a b → b.source.ended ≡ a.source.ended
+abbrev so_far_same : (settings : Settings) (v : CallerSeen) (w a b : Outside) (old : TalkState) (server : CallerSeen) (so : SoFar settings v w a old server) → Exchanges a b [] [] [] → IsQuiet a b → b.source.ended ≡ a.source.ended
     → SoFar settings v w b old server
 so_far_same settings v w a b old server so gave quiet over = record {
   input = so.input;
@@ -100,7 +100,7 @@ write_no_read : (k n : ℕ) → end.WriteFault k ≡ end.ReadFault n → ⊥
 write_no_read k n e = cc
 
 -- after a read
-goes_read : (settings : Settings) (v : BookPass) (w a b : Outside) (old mid new : TalkState) (server : BookPass) (result : Progress) → SoFar settings v w a old server → Wants a.clock b.clock old More mid
+goes_read : (settings : Settings) (v : CallerSeen) (w a b : Outside) (old mid new : TalkState) (server : CallerSeen) (result : Progress) → SoFar settings v w a old server → Wants a.clock b.clock old More mid
     → Reading a.source b.source mid result new → b.sink ≡ a.sink → EndsEmpty b.source → Goes settings v w b result new server
 goes_read settings v w a b old mid new server Again so wants reading sink empty =
     let t = wants so.rest so.told so.stands in
@@ -139,7 +139,7 @@ goes_read settings v w a b old mid new server (End e) so wants reading sink empt
 -- ---- what a talk writes by itself
 
 -- the answer to an event, which took no step
-pub record Alone (settings : Settings) (v : BookPass) (w a : Outside) (old mid : TalkState) (server : BookPass) (so : SoFar settings v w a old server) (moments bytes : List ℕ) : Type 0 where
+pub record Alone (settings : Settings) (v : CallerSeen) (w a : Outside) (old mid : TalkState) (server : CallerSeen) (so : SoFar settings v w a old server) (moments bytes : List ℕ) : Type 0 where
   pub event : Event
   pub later : List ℕ
   pub mark : Bool
@@ -151,7 +151,7 @@ pub record Alone (settings : Settings) (v : BookPass) (w a : Outside) (old mid :
   pub ended : mid.ended ≡ old.ended
   pub leaving : mid.leaving ≡ leaving_behind old.served event
 
-alone_continue : (settings : Settings) (v : BookPass) (w a : Outside) (old mid : TalkState) (server : BookPass) (so : SoFar settings v w a old server) (moments bytes : List ℕ) → old.leaving ≡ None
+alone_continue : (settings : Settings) (v : CallerSeen) (w a : Outside) (old mid : TalkState) (server : CallerSeen) (so : SoFar settings v w a old server) (moments bytes : List ℕ) → old.leaving ≡ None
     → Continues so.rest so.told moments old bytes mid → Alone settings v w a old mid server so moments bytes
 alone_continue settings v w a old mid server so moments bytes here x = record {
   event = frame.continue;
@@ -166,7 +166,7 @@ alone_continue settings v w a old mid server so moments bytes here x = record {
   leaving = ap (λ (z : TalkState). z.leaving) x.4 ∙ here;
 }
 
-alone_request : (settings : Settings) (v : BookPass) (w a : Outside) (old mid : TalkState) (server : BookPass) (so : SoFar settings v w a old server) (moments bytes : List ℕ)
+alone_request : (settings : Settings) (v : CallerSeen) (w a : Outside) (old mid : TalkState) (server : CallerSeen) (so : SoFar settings v w a old server) (moments bytes : List ℕ)
     → AnswersOne so.rest so.told moments old bytes mid → Alone settings v w a old mid server so moments bytes
 alone_request settings v w a old mid server so moments bytes x = record {
   event = frame.request x.0.request;
@@ -187,7 +187,7 @@ alone_request settings v w a old mid server so moments bytes x = record {
 }
 
 -- such an answer was written whole
-wrote_alone : (settings : Settings) (v : BookPass) (w a b : Outside) (old mid : TalkState) (server : BookPass) (so : SoFar settings v w a old server) (moments bytes : List ℕ) → old.leaving ≡ None
+wrote_alone : (settings : Settings) (v : CallerSeen) (w a b : Outside) (old mid : TalkState) (server : CallerSeen) (so : SoFar settings v w a old server) (moments bytes : List ℕ) → old.leaving ≡ None
     → Alone settings v w a old mid server so moments bytes → Exchanges a b [] moments bytes → IsQuiet a b → b.source.ended ≡ a.source.ended → SoFar settings v w b mid server
 wrote_alone settings v w a b old mid server so moments bytes here x gave quiet over =
     let same : so.steps ++ [] ≡ so.steps = append-nil so.steps in
@@ -195,15 +195,15 @@ wrote_alone settings v w a b old mid server so moments bytes here x gave quiet o
     (rw same so.known) so.answered so.turns gave quiet over x.served x.waits x.ended x.leaving
 
 -- the stop where this was asked for and written behind the answers
-abbrev stop_at : (settings : Settings) (v : BookPass) (w a b : Outside) (old : TalkState) (server : BookPass) → SoFar settings v w a old server → List ℕ → List ℕ → Stop
+abbrev stop_at : (settings : Settings) (v : CallerSeen) (w a b : Outside) (old : TalkState) (server : CallerSeen) → SoFar settings v w a old server → List ℕ → List ℕ → Stop
 stop_at settings v w a b old server so moments tail = stop_of (start_of settings v server) so.events so.steps so.printed b.source.ended so.rest so.told moments tail []
 
-fault_is : (settings : Settings) (v : BookPass) (w a b : Outside) (old mid : TalkState) (server : BookPass) (so : SoFar settings v w a old server) (moments tail bytes : List ℕ)
+fault_is : (settings : Settings) (v : CallerSeen) (w a b : Outside) (old mid : TalkState) (server : CallerSeen) (so : SoFar settings v w a old server) (moments tail bytes : List ℕ)
     → (x : AnswersFault so.rest so.told moments old bytes mid) → session.AnswersFault (stop_at settings v w a b old server so moments tail) x.0 bytes
 fault_is settings v w a b old mid server so moments tail bytes x = (x.2, x.3, x.1.0, refl)
 
 -- a fault's response was written whole
-wrote_fault : (settings : Settings) (v : BookPass) (w a b : Outside) (old mid : TalkState) (server : BookPass) (so : SoFar settings v w a old server) (moments bytes : List ℕ) → old.leaving ≡ None
+wrote_fault : (settings : Settings) (v : CallerSeen) (w a b : Outside) (old mid : TalkState) (server : CallerSeen) (so : SoFar settings v w a old server) (moments bytes : List ℕ) → old.leaving ≡ None
     → AnswersFault so.rest so.told moments old bytes mid → Exchanges a b [] moments bytes → IsQuiet a b → b.source.ended ≡ a.source.ended → SoFar settings v w b mid server
 wrote_fault settings v w a b old mid server so moments bytes here x gave quiet over =
     let goes = open_of settings v w a old server so here in
@@ -241,7 +241,7 @@ wrote_fault settings v w a b old mid server so moments bytes here x gave quiet o
     }
 
 -- a front of what comes next was written
-wrote_part : (settings : Settings) (v : BookPass) (w a b : Outside) (old : TalkState) (server : BookPass) (so : SoFar settings v w a old server) (moments bytes : List ℕ) → old.leaving ≡ None
+wrote_part : (settings : Settings) (v : CallerSeen) (w a b : Outside) (old : TalkState) (server : CallerSeen) (so : SoFar settings v w a old server) (moments bytes : List ℕ) → old.leaving ≡ None
     → ClockGives a.clock b.clock moments → b.source ≡ a.source → (front : WritesFront a.sink b.sink bytes) → EndsEmpty b.source
     → IsNext (stop_at settings v w a b old server so moments front.0) bytes → Serves settings v server w b (end.WriteFault old.served)
 wrote_part settings v w a b old server so moments bytes here told source front empty next =
@@ -256,12 +256,12 @@ wrote_part settings v w a b old server so moments bytes here told source front e
       (front.1, front.3, subst (λ (p : List ℕ). IsNext (stop_at settings v w a b old server so moments front.0) p) front.2 next),
     ))))))
 
-next_alone : (settings : Settings) (v : BookPass) (w a b : Outside) (old mid : TalkState) (server : BookPass) (so : SoFar settings v w a old server) (moments tail bytes : List ℕ)
+next_alone : (settings : Settings) (v : CallerSeen) (w a b : Outside) (old mid : TalkState) (server : CallerSeen) (so : SoFar settings v w a old server) (moments tail bytes : List ℕ)
     → Alone settings v w a old mid server so moments bytes → IsNext (stop_at settings v w a b old server so moments tail) bytes
 next_alone settings v w a b old mid server so moments tail bytes x = inl (x.event, x.later, x.mark, x.reads, (so.printed, x.answers))
 
 -- after what a talk wrote by itself
-goes_write : (settings : Settings) (v : BookPass) (w a b : Outside) (old mid new : TalkState) (server : BookPass) (bytes : List ℕ) (result : Progress) → SoFar settings v w a old server
+goes_write : (settings : Settings) (v : CallerSeen) (w a b : Outside) (old mid new : TalkState) (server : CallerSeen) (bytes : List ℕ) (result : Progress) → SoFar settings v w a old server
     → Wants a.clock b.clock old (Write bytes) mid → Writing old.served a.sink b.sink bytes result → b.source ≡ a.source → new ≡ mid → EndsEmpty b.source
     → Goes settings v w b result new server
 goes_write settings v w a b old mid new server bytes Again so wants writing source same empty =
@@ -299,7 +299,7 @@ goes_write settings v w a b old mid new server bytes (End e) so wants writing so
 -- ---- the end, and want of memory
 
 -- after the end of a talk
-goes_leave : (settings : Settings) (v : BookPass) (w a b : Outside) (old mid : TalkState) (server : BookPass) (e : SessionEnd) → SoFar settings v w a old server → Wants a.clock b.clock old (Leave e) mid
+goes_leave : (settings : Settings) (v : CallerSeen) (w a b : Outside) (old mid : TalkState) (server : CallerSeen) (e : SessionEnd) → SoFar settings v w a old server → Wants a.clock b.clock old (Leave e) mid
     → IsOwnWant (Leave e) → b.source ≡ a.source → b.sink ≡ a.sink → EndsEmpty b.source → Serves settings v server w b e
 goes_leave settings v w a b old mid server e so wants own source sink empty =
     let t = wants so.rest so.told so.stands in
@@ -320,7 +320,7 @@ goes_leave settings v w a b old mid server e so wants own source sink empty =
         met.2 met.3 met.4 empty
 
 -- after want of memory for what comes next
-goes_lacks : (settings : Settings) (v : BookPass) (w a b : Outside) (old new : TalkState) (server : BookPass) → SoFar settings v w a old server → LacksNext a.clock b.clock old new
+goes_lacks : (settings : Settings) (v : CallerSeen) (w a b : Outside) (old new : TalkState) (server : CallerSeen) → SoFar settings v w a old server → LacksNext a.clock b.clock old new
     → b.source ≡ a.source → b.sink ≡ a.sink → EndsEmpty b.source → Serves settings v server w b (end.Memory old.served)
 goes_lacks settings v w a b old new server so lacks source sink empty =
     let t = lacks so.rest so.told so.stands in
@@ -330,7 +330,7 @@ goes_lacks settings v w a b old new server so lacks source sink empty =
 -- ---- a call
 
 -- a request was taken, which means the call
-pub record Asks (settings : Settings) (v : BookPass) (w a b : Outside) (old mid : TalkState) (server : BookPass) (so : SoFar settings v w a old server) (call : BookRequest) (waiting : Waiting) : Type 0 where
+pub record Asks (settings : Settings) (v : CallerSeen) (w a b : Outside) (old mid : TalkState) (server : CallerSeen) (so : SoFar settings v w a old server) (call : BookRequest) (waiting : Waiting) : Type 0 where
   pub moments : List ℕ
   pub here : old.leaving ≡ None
   pub told : ClockGives a.clock b.clock moments
@@ -342,7 +342,7 @@ pub record Asks (settings : Settings) (v : BookPass) (w a b : Outside) (old mid 
 same_waiting : (o : Option Waiting) (x y : Waiting) → o ≡ Some x → o ≡ Some y → y ≡ x
 same_waiting o x y e d = cc
 
-asks_of : (settings : Settings) (v : BookPass) (w a b : Outside) (old mid : TalkState) (server : BookPass) (so : SoFar settings v w a old server) (call : BookRequest) (waiting : Waiting)
+asks_of : (settings : Settings) (v : CallerSeen) (w a b : Outside) (old mid : TalkState) (server : CallerSeen) (so : SoFar settings v w a old server) (call : BookRequest) (waiting : Waiting)
     → Wants a.clock b.clock old (Call call) mid → mid.waits ≡ Some waiting → Asks settings v w a b old mid server so call waiting
 asks_of settings v w a b old mid server so call waiting wants waits =
     let t = wants so.rest so.told so.stands in
@@ -358,7 +358,7 @@ asks_of settings v w a b old mid server so call waiting wants waits =
           ∙ ap (λ (n : ℕ). waiting_for x.0.request (n + 1) (asks_change call)) so.served;
     }
 
-mid_served : (settings : Settings) (v : BookPass) (w a b : Outside) (old mid : TalkState) (server : BookPass) (so : SoFar settings v w a old server) (call : BookRequest) (waiting : Waiting)
+mid_served : (settings : Settings) (v : CallerSeen) (w a b : Outside) (old mid : TalkState) (server : CallerSeen) (so : SoFar settings v w a old server) (call : BookRequest) (waiting : Waiting)
     → Asks settings v w a b old mid server so call waiting → mid.served ≡ old.served
 mid_served settings v w a b old mid server so call waiting x = ap (λ (z : TalkState). z.served) x.state
 
@@ -372,7 +372,7 @@ leaves_called r old mid new waiting n changes number served is new_is =
     ∙ ap (λ (k : ℕ). leaving_after (old.served + 1) (closes_after r (k + 1))) (sym served)
 
 -- a turn was skipped, or none
-skipped : (settings : Settings) (v : BookPass) (w a : Outside) (old : TalkState) (server server' : BookPass) (so : SoFar settings v w a old server) → old.leaving ≡ None → Skips server server'
+skipped : (settings : Settings) (v : CallerSeen) (w a : Outside) (old : TalkState) (server server' : CallerSeen) (so : SoFar settings v w a old server) → old.leaving ≡ None → Skips server server'
     → (later : SoFar settings v w a old server') × (later.events ≡ so.events) × (later.rest ≡ so.rest) × (later.told ≡ so.told) × (later.printed ≡ so.printed)
 skipped settings v w a old server server' so here skips =
     let goes = open_of settings v w a old server so here in (
@@ -413,7 +413,7 @@ skipped settings v w a old server server' so here skips =
     )
 
 -- the answer to a call was written whole
-wrote_receipt : (settings : Settings) (v : BookPass) (w a b : Outside) (old mid new : TalkState) (server server' : BookPass) (so : SoFar settings v w a old server) (call : BookRequest) (waiting : Waiting)
+wrote_receipt : (settings : Settings) (v : CallerSeen) (w a b : Outside) (old mid new : TalkState) (server server' : CallerSeen) (so : SoFar settings v w a old server) (call : BookRequest) (waiting : Waiting)
     (receipt : BookReceipt) (bytes : List ℕ) → Asks settings v w a b old mid server so call waiting → TakesCall settings call receipt.turn receipt.reply server server'
     → AnswersCall (Ok receipt) waiting bytes → new ≡ with_answer waiting.close mid
     → SinkTakes a.sink b.sink bytes → b.sink.faults ≡ a.sink.faults → b.source ≡ a.source → SoFar settings v w b new server'
@@ -437,7 +437,7 @@ wrote_receipt settings v w a b old mid new server server' so call waiting receip
     (leaves_called x.one.request old mid new waiting (0 + requests so.events) (asks_change call) number so.served x.waiting_is new_is)
 
 -- want of memory was answered in place of a call
-wrote_lacking : (settings : Settings) (v : BookPass) (w a b : Outside) (old mid new : TalkState) (server : BookPass) (so : SoFar settings v w a old server) (call : BookRequest) (waiting : Waiting)
+wrote_lacking : (settings : Settings) (v : CallerSeen) (w a b : Outside) (old mid new : TalkState) (server : CallerSeen) (so : SoFar settings v w a old server) (call : BookRequest) (waiting : Waiting)
     (error : AllocError) (bytes : List ℕ) → Asks settings v w a b old mid server so call waiting → AnswersCall (Err error) waiting bytes → new ≡ with_answer waiting.close mid
     → SinkTakes a.sink b.sink bytes → b.sink.faults ≡ a.sink.faults → b.source ≡ a.source → SoFar settings v w b new server
 wrote_lacking settings v w a b old mid new server so call waiting error bytes x answers new_is took quiet source =
@@ -457,7 +457,7 @@ wrote_lacking settings v w a b old mid new server so call waiting error bytes x 
     (ap (λ (z : TalkState). z.ended) new_is ∙ ap (λ (z : TalkState). z.ended) x.state)
     (leaves_called x.one.request old mid new waiting (0 + requests so.events) (asks_change call) number so.served x.waiting_is new_is)
 
-wrote_called : (settings : Settings) (v : BookPass) (w a b : Outside) (old mid new : TalkState) (server server' : BookPass) (so : SoFar settings v w a old server) (call : BookRequest) (waiting : Waiting)
+wrote_called : (settings : Settings) (v : CallerSeen) (w a b : Outside) (old mid new : TalkState) (server server' : CallerSeen) (so : SoFar settings v w a old server) (call : BookRequest) (waiting : Waiting)
     (receipt : Result BookReceipt AllocError) (bytes : List ℕ) → Wants a.clock b.clock old (Call call) mid → mid.waits ≡ Some waiting → Calls settings call server receipt server'
     → AnswersCall receipt waiting bytes → new ≡ with_answer waiting.close mid
     → SinkTakes a.sink b.sink bytes → b.sink.faults ≡ a.sink.faults → b.source ≡ a.source → SoFar settings v w b new server'
@@ -469,7 +469,7 @@ wrote_called settings v w a b old mid new server server' so call waiting (Err er
     wrote_lacking settings v w a b old mid new server' later.0 call waiting error bytes (asks_of settings v w a b old mid server' later.0 call waiting wants waits) answers new_is took quiet source
 
 -- memory was wanting for the answer to a call
-lacked_called : (settings : Settings) (v : BookPass) (w a b : Outside) (old mid : TalkState) (server server' : BookPass) (so : SoFar settings v w a old server) (call : BookRequest) (waiting : Waiting)
+lacked_called : (settings : Settings) (v : CallerSeen) (w a b : Outside) (old mid : TalkState) (server server' : CallerSeen) (so : SoFar settings v w a old server) (call : BookRequest) (waiting : Waiting)
     (receipt : Result BookReceipt AllocError) → Wants a.clock b.clock old (Call call) mid → mid.waits ≡ Some waiting → Calls settings call server receipt server' → b.source ≡ a.source → b.sink ≡ a.sink
     → EndsEmpty b.source → Serves settings v server' w b (end.Memory old.served)
 lacked_called settings v w a b old mid server server' so call waiting (Ok receipt) wants waits c source sink empty =
@@ -504,7 +504,7 @@ lacked_called settings v w a b old mid server server' so call waiting (Err error
     (source_quiet a.source b.source source, sink_quiet a.sink b.sink sink) empty
 
 -- the answer to a call was not written whole
-cut_called : (settings : Settings) (v : BookPass) (w a b : Outside) (old mid : TalkState) (server server' : BookPass) (so : SoFar settings v w a old server) (call : BookRequest) (waiting : Waiting)
+cut_called : (settings : Settings) (v : CallerSeen) (w a b : Outside) (old mid : TalkState) (server server' : CallerSeen) (so : SoFar settings v w a old server) (call : BookRequest) (waiting : Waiting)
     (receipt : Result BookReceipt AllocError) (bytes : List ℕ) → Wants a.clock b.clock old (Call call) mid → mid.waits ≡ Some waiting → Calls settings call server receipt server' → AnswersCall receipt waiting bytes
     → WritesFront a.sink b.sink bytes → b.source ≡ a.source → EndsEmpty b.source → Serves settings v server' w b (end.WriteFault old.served)
 cut_called settings v w a b old mid server server' so call waiting (Ok receipt) bytes wants waits c answers front source empty =
@@ -549,7 +549,7 @@ cut_called settings v w a b old mid server server' so call waiting (Err error) b
     ))
 
 -- after a call of the book
-goes_call : (settings : Settings) (v : BookPass) (w a b : Outside) (old mid new : TalkState) (server server' : BookPass) (call : BookRequest) (result : Progress) → SoFar settings v w a old server
+goes_call : (settings : Settings) (v : CallerSeen) (w a b : Outside) (old mid new : TalkState) (server server' : CallerSeen) (call : BookRequest) (result : Progress) → SoFar settings v w a old server
     → Wants a.clock b.clock old (Call call) mid → Called settings call a.sink b.sink mid server result new server' → b.source ≡ a.source
     → EndsEmpty b.source → Goes settings v w b result new server'
 goes_call settings v w a b old mid new server server' call Again so wants called source empty =
@@ -571,25 +571,25 @@ goes_call settings v w a b old mid new server server' call (End e) so wants call
 
 -- ---- a step
 
-done : (settings : Settings) (v : BookPass) (w a b : Outside) (old mid new : TalkState) (server server' : BookPass) (want : Want) (result : Progress) → SoFar settings v w a old server
+done : (settings : Settings) (v : CallerSeen) (w a b : Outside) (old mid new : TalkState) (server server' : CallerSeen) (want : Want) (result : Progress) → SoFar settings v w a old server
     → Wants a.clock b.clock old want mid → IsOwnWant want → Does settings old.served a b mid server want result new server' → EndsEmpty b.source
     → Goes settings v w b result new server'
 done settings v w a b old mid new server server' More result so wants own does empty =
-    subst (λ (z : BookPass). Goes settings v w b result new z) (sym does.2) (goes_read settings v w a b old mid new server result so wants does.0 does.1 empty)
+    subst (λ (z : CallerSeen). Goes settings v w b result new z) (sym does.2) (goes_read settings v w a b old mid new server result so wants does.0 does.1 empty)
 done settings v w a b old mid new server server' (Write bytes) result so wants own does empty =
-    subst (λ (z : BookPass). Goes settings v w b result new z) (sym does.3) (goes_write settings v w a b old mid new server bytes result so wants does.0 does.1 does.2 empty)
+    subst (λ (z : CallerSeen). Goes settings v w b result new z) (sym does.3) (goes_write settings v w a b old mid new server bytes result so wants does.0 does.1 does.2 empty)
 done settings v w a b old mid new server server' (Call call) result so wants own does empty =
     goes_call settings v w a b old mid new server server' call result so wants does.0 does.1 empty
 done settings v w a b old mid new server server' (Leave e) result so wants own does empty =
     subst (λ (p : Progress). Goes settings v w b p new server') (sym does.0)
-    (subst (λ (z : BookPass). Serves settings v z w b e) (sym does.3) (goes_leave settings v w a b old mid server e so wants own does.1 does.2 empty))
+    (subst (λ (z : CallerSeen). Serves settings v z w b e) (sym does.3) (goes_leave settings v w a b old mid server e so wants own does.1 does.2 empty))
 
 -- after a step of a session
-pub steps_on : (settings : Settings) (v : BookPass) (w a b : Outside) (old new : TalkState) (server server' : BookPass) (result : Progress) → SoFar settings v w a old server
+pub steps_on : (settings : Settings) (v : CallerSeen) (w a b : Outside) (old new : TalkState) (server server' : CallerSeen) (result : Progress) → SoFar settings v w a old server
     → StepsOn settings a b old server result new server' → EndsEmpty b.source → Goes settings v w b result new server'
 steps_on settings v w a b old new server server' result so (inl (want, mid, wants, own, does)) empty =
     done settings v w a b old mid new server server' want result so wants own does empty
 steps_on settings v w a b old new server server' result so (inr stopped) empty =
     subst (λ (p : Progress). Goes settings v w b p new server') (sym stopped.1)
-    (subst (λ (z : BookPass). Serves settings v z w b (end.Memory old.served)) (sym stopped.4)
+    (subst (λ (z : CallerSeen). Serves settings v z w b (end.Memory old.served)) (sym stopped.4)
     (goes_lacks settings v w a b old new server so stopped.0 stopped.2 stopped.3 empty))

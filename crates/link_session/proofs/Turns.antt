@@ -11,7 +11,7 @@ use Rattle.book_history.specs.History.{of_turn, IsBefore}
 use Rattle.book_history.specs.Requests.{Outcome, Refusal, Answer, Accepted, entry_by, outcome_of, added_by}
 use Rattle.book_history.specs.Runs.{Step}
 use Rattle.book_history.proofs.Histories.{AreOf, AreAbove, added_of, before_all, of_turn-grown, of_turn-new}
-use Rattle.book_passes.specs.Lessons.{BookPass, TakesTurn, Learns, own_of, stamp_in, turn_of}
+use Rattle.book_passes.specs.Lessons.{CallerSeen, TakesTurn, Learns, own_of, stamp_in, turn_of}
 use Rattle.book_passes.specs.Laws.{TakesCall}
 use Rattle.book_passes.proofs.Learning.{learns_none, learns_turn, learns_trans}
 use Rattle.link_session.specs.Serving.{entries_of, AreBy}
@@ -70,7 +70,7 @@ added_own settings h stamp call ps alone =
 -- ---- what is known
 
 -- what the pass v knows as w, by these steps
-pub record Known (v w : BookPass) (steps : List Step) : Type 0 where
+pub record Known (v w : CallerSeen) (steps : List Step) : Type 0 where
   pub alone : v.numbers ≡ v.number ∷ []
   pub news : List Entry
   pub learns : Learns v w news
@@ -78,7 +78,7 @@ pub record Known (v w : BookPass) (steps : List Step) : Type 0 where
   pub within : AreWithin w.last steps
   pub own : own_of v news ≡ entries_of w.seen steps
 
-pub known_none : (v : BookPass) → v.numbers ≡ v.number ∷ [] → Known v v []
+pub known_none : (v : CallerSeen) → v.numbers ≡ v.number ∷ [] → Known v v []
 known_none v alone = record {
   alone = alone;
   news = [];
@@ -88,7 +88,7 @@ known_none v alone = record {
   own = refl;
 }
 
-known_turn : (v w w' : BookPass) (steps first : List Step) (turn : ℕ) (others added : List Entry) → Known v w steps → TakesTurn turn others added w w'
+known_turn : (v w w' : CallerSeen) (steps first : List Step) (turn : ℕ) (others added : List Entry) → Known v w steps → TakesTurn turn others added w w'
     → own_of v added ≡ added → entries_of w'.seen first ≡ added → AreBy v.number first → AreWithin turn first → Known v w' (steps ++ first)
 known_turn v w w' steps first turn others added k t mine entries by within =
     let above : w.last < turn = t.above in
@@ -115,21 +115,21 @@ known_turn v w w' steps first turn others added k t mine entries by within =
     }
 
 -- no call was answered
-pub known_skip : (v w w' : BookPass) (steps : List Step) → Known v w steps → Skips w w' → Known v w' steps
-known_skip v w w' steps k (inl same) = subst (λ (x : BookPass). Known v x steps) (sym same) k
+pub known_skip : (v w w' : CallerSeen) (steps : List Step) → Known v w steps → Skips w w' → Known v w' steps
+known_skip v w w' steps k (inl same) = subst (λ (x : CallerSeen). Known v x steps) (sym same) k
 known_skip v w w' steps k (inr (turn, others, takes)) =
     subst (λ (ss : List Step). Known v w' ss) (append-nil steps) (known_turn v w w' steps [] turn others [] k takes refl refl tt tt)
 
-pub skip_rises : (w w' : BookPass) → Skips w w' → w.last ≤ w'.last
-skip_rises w w' (inl same) = (let e : w'.last ≡ w.last = ap (λ (x : BookPass). x.last) same in omega (arith, e))
+pub skip_rises : (w w' : CallerSeen) → Skips w w' → w.last ≤ w'.last
+skip_rises w w' (inl same) = (let e : w'.last ≡ w.last = ap (λ (x : CallerSeen). x.last) same in omega (arith, e))
 skip_rises w w' (inr (turn, others, takes)) = (let above : w.last < turn = takes.above in let last : w'.last ≡ turn = takes.last in omega (arith, above, last))
 
 -- the step of a call in a turn
-abbrev pub step_in : ℕ → BookPass → BookRequest → Step
+abbrev pub step_in : ℕ → CallerSeen → BookRequest → Step
 step_in turn w call = record { stamp = stamp_in turn w; request = call }
 
 -- a call was answered
-pub known_call : (settings : Settings) (v w w' : BookPass) (steps : List Step) (turn : ℕ) (call : BookRequest) (others : List Entry) → Known v w steps
+pub known_call : (settings : Settings) (v w w' : CallerSeen) (steps : List Step) (turn : ℕ) (call : BookRequest) (others : List Entry) → Known v w steps
     → TakesTurn turn others (added_by settings (w.seen ++ others) (stamp_in turn w) call) w w' → Known v w' (steps ++ step_in turn w call ∷ [])
 known_call settings v w w' steps turn call others k t =
     let h : List Entry = w.seen ++ others in

@@ -6,7 +6,7 @@ use Rattle.bim_io.specs.Seen.{SourceSeen, SinkSeen, Outside, SourceGives, SinkTa
 use Rattle.book_history.specs.declared.limits.Settings.{Settings}
 use Rattle.book_history.specs.declared.changes.Entry.{Entry}
 use Rattle.book_history.specs.declared.requests.BookRequest.{BookRequest}
-use Rattle.book_passes.specs.Lessons.{BookPass, TakesTurn}
+use Rattle.book_passes.specs.Lessons.{CallerSeen, TakesTurn}
 use Rattle.book_passes.specs.Laws.{TakesCall}
 use Rattle.bim_session.specs.declared.end.SessionEnd.{SessionEnd}
 use Rattle.bim_session.specs.declared.end.SessionEnd.TheVariants as end
@@ -22,11 +22,11 @@ use Rattle.link_session.specs.declared.session.Progress.TheVariants.{Again, End}
 -- ---- the book
 
 -- no turn is taken, or one at which nothing is added
-abbrev pub Skips : BookPass → BookPass → Type 0
+abbrev pub Skips : CallerSeen → CallerSeen → Type 0
 Skips v w = (w ≡ v) ⊎ ((turn : ℕ) × (others : List Entry) × TakesTurn turn others [] v w)
 
 -- a call takes a turn and is answered at the entries below it; or it is not answered, and adds nothing
-abbrev pub Calls : Settings → BookRequest → BookPass → Result BookReceipt AllocError → BookPass → Type 0
+abbrev pub Calls : Settings → BookRequest → CallerSeen → Result BookReceipt AllocError → CallerSeen → Type 0
 Calls settings request v (Ok receipt) w = TakesCall settings request receipt.turn receipt.reply v w
 Calls settings request v (Err e) w = Skips v w
 
@@ -61,8 +61,8 @@ StopsAnswering sink sink' served receipt waiting e =
     × WritesFront sink sink' bytes)
 
 -- the book was called for the request that waits, and its response written; or that ended the session
-abbrev pub Called : Settings → BookRequest → SinkSeen → SinkSeen → TalkState → BookPass → Progress → TalkState
-    → BookPass → Type 0
+abbrev pub Called : Settings → BookRequest → SinkSeen → SinkSeen → TalkState → CallerSeen → Progress → TalkState
+    → CallerSeen → Type 0
 Called settings call sink sink' talk server Again talk' server' =
     (waiting : Waiting) × (talk.waits ≡ Some waiting)
     × (receipt : Result BookReceipt AllocError) × (bytes : List ℕ)
@@ -76,8 +76,8 @@ Called settings call sink sink' talk server (End e) talk' server' =
 -- ---- a step
 
 -- what a talk wanted was done, before which so many requests were answered
-abbrev pub Does : Settings → ℕ → Outside → Outside → TalkState → BookPass → Want → Progress → TalkState
-    → BookPass → Type 0
+abbrev pub Does : Settings → ℕ → Outside → Outside → TalkState → CallerSeen → Want → Progress → TalkState
+    → CallerSeen → Type 0
 Does settings served before after talk server More progress talk' server' =
     Reading before.source after.source talk progress talk' × (after.sink ≡ before.sink) × (server' ≡ server)
 Does settings served before after talk server (Write bytes) progress talk' server' =
@@ -90,13 +90,13 @@ Does settings served before after talk server (Leave e) progress talk' server' =
     (progress ≡ End e) × (after.source ≡ before.source) × (after.sink ≡ before.sink) × (server' ≡ server)
 
 -- memory was wanting for what a talk would have wanted
-abbrev pub Stopped : Outside → Outside → TalkState → BookPass → Progress → TalkState → BookPass → Type 0
+abbrev pub Stopped : Outside → Outside → TalkState → CallerSeen → Progress → TalkState → CallerSeen → Type 0
 Stopped before after talk server progress talk' server' =
     LacksNext before.clock after.clock talk talk' × (progress ≡ End (end.Memory talk.served))
     × (after.source ≡ before.source) × (after.sink ≡ before.sink) × (server' ≡ server)
 
 -- a step of a session: the talk was asked what it wants, and that was done
-abbrev pub StepsOn : Settings → Outside → Outside → TalkState → BookPass → Progress → TalkState → BookPass
+abbrev pub StepsOn : Settings → Outside → Outside → TalkState → CallerSeen → Progress → TalkState → CallerSeen
     → Type 0
 StepsOn settings before after talk server progress talk' server' =
     ((want : Want) × (mid : TalkState) × Wants before.clock after.clock talk want mid × IsOwnWant want

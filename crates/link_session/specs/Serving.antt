@@ -6,7 +6,7 @@ use Rattle.book_history.specs.declared.limits.Settings.{Settings}
 use Rattle.book_history.specs.declared.changes.Entry.{Entry}
 use Rattle.book_history.specs.History.{of_turn}
 use Rattle.book_history.specs.Runs.{Step}
-use Rattle.book_passes.specs.Lessons.{BookPass, Learns, own_of}
+use Rattle.book_passes.specs.Lessons.{CallerSeen, Learns, own_of}
 use Rattle.bim_session.specs.declared.end.SessionEnd.{SessionEnd}
 use Rattle.bim_session.specs.Works.{Standing}
 use Rattle.bim_session.specs.Session.{Session}
@@ -14,7 +14,7 @@ use Rattle.bim_session.specs.Replay.{ReadsAsNeeded, IsReadFault, IsWriteFault}
 
 -- where a session by the pass v begins, which ends as w: its history is what w has seen, its steps take turns behind the
 -- last of v and up to the last of w, and no work is done behind its answers
-abbrev pub start_of : Settings → BookPass → BookPass → Standing
+abbrev pub start_of : Settings → CallerSeen → CallerSeen → Standing
 start_of settings v w = record {
   settings = settings;
   history = w.seen;
@@ -38,7 +38,7 @@ AreBy number (s ∷ ss) = (s.stamp.pass ≡ number) × AreBy number ss
 -- A session by the pass v, which is w afterwards, over a source, a clock and a sink. What the pass had seen is a front of
 -- what it has seen, and the session's history. Of the entries behind that front those that carry the pass are just the
 -- ones that the session's steps added, in their order. It ends by a fault exactly where a read or a write failed.
-pub record Serves (settings : Settings) (v w : BookPass) (before after : Outside)
+pub record Serves (settings : Settings) (v w : CallerSeen) (before after : Outside)
     (end : SessionEnd) : Type 0 where
   pub input : List ℕ
   pub moments : List ℕ

@@ -2,6 +2,7 @@
 ghost use Rattle.std.specs.Prelude.{◌≡◌, false, None, IsSome};
 ghost use Rattle.bim_io.specs.Seen.{outside};
 ghost use Rattle.book_turn.specs.Passes.{IsSingle};
+ghost use Rattle.book_passes.specs.Lessons.{caller_of};
 ghost use Rattle.bcf_http.specs.Calls.{BringsNone};
 ghost use Rattle.link_session.specs.Serving.{Serves};
 ghost use Rattle.link_session.specs.Loop.{Reading, Writing, Calls, Called, StepsOn};
@@ -63,7 +64,7 @@ fn call_turn<R: Wait, G: Gate>(
     requires own { IsSingle turn.now pass.old }
     requires none { BringsNone call }
     ensures own { IsSingle turn.now pass.new }
-    ensures calls { Calls turn.now.settings call pass.old result pass.new }
+    ensures calls { Calls turn.now.settings call (caller_of pass.old) result (caller_of pass.new) }
 {
     gate.before_call(pass.number(), false);
     match turn.call(rt, pass, call) {
@@ -87,8 +88,8 @@ fn call_book<R: Wait, K: Sink, G: Gate>(
     requires own { IsSingle turn.now pass.old }
     requires none { BringsNone call }
     ensures own { IsSingle turn.now pass.new }
-    ensures step { Called turn.now.settings call (K.seen sink.old) (K.seen sink.new) talk.old pass.old result
-        talk.new pass.new }
+    ensures step { Called turn.now.settings call (K.seen sink.old) (K.seen sink.new) talk.old (caller_of pass.old)
+        result talk.new (caller_of pass.new) }
 {
     let served = talk.served();
     let receipt = call_turn(rt, turn, pass, gate, call);
@@ -116,8 +117,8 @@ fn take_step<R: Wait, S: Source + Drop, K: Sink + Drop, C: Clock, G: Gate>(
     ensures own { IsSingle turn.now pass.new }
     ensures step { StepsOn turn.now.settings
         (outside (S.seen link.old.source) (K.seen link.old.sink) (C.seen clock.old))
-        (outside (S.seen link.new.source) (K.seen link.new.sink) (C.seen clock.new)) talk.old pass.old result
-        talk.new pass.new }
+        (outside (S.seen link.new.source) (K.seen link.new.sink) (C.seen clock.new)) talk.old (caller_of pass.old)
+        result talk.new (caller_of pass.new) }
 {
     let served = talk.served();
     match talk.next(clock) {
@@ -143,7 +144,7 @@ pub fn serve_link<R: Wait, S: Source + Drop, K: Sink + Drop, C: Clock, G: Gate>(
 ) -> SessionEnd
     requires own { IsSingle turn.now pass.old }
     ensures own { IsSingle turn.now pass.new }
-    ensures serves { Serves turn.now.settings pass.old pass.new
+    ensures serves { Serves turn.now.settings (caller_of pass.old) (caller_of pass.new)
         (outside (S.seen link.old.source) (K.seen link.old.sink) (C.seen clock.old))
         (outside (S.seen link.new.source) (K.seen link.new.sink) (C.seen clock.new)) result }
 {

@@ -7,14 +7,14 @@ use Rattle.bim_net.specs.Doors.{GrowsBy, HasOut, TakesBack}
 use Rattle.book_turn.specs.Entries.{AllBefore, AllAfter}
 use Rattle.book_history.specs.declared.limits.Settings.{Settings}
 use Rattle.book_history.specs.declared.changes.Entry.{Entry}
-use Rattle.book_passes.specs.Lessons.{BookPass, turn_of}
+use Rattle.book_passes.specs.Lessons.{CallerSeen, turn_of}
 use Rattle.bim_session.specs.declared.end.SessionEnd.{SessionEnd}
 use Rattle.link_session.specs.Serving.{Serves}
 use Rattle.serve_lanes.specs.Lanes.{ServedLink, LaneServed, IsBalanced, kind_of, end_turn}
 use Rattle.serve_lanes.proofs.Chains.{Grew, grows_by_none}
 
 -- the session over a connection that was given back
-pub served_link : (settings : Settings) (v w : BookPass) (first after : LinkSeen) (clock clock' : ClockSeen) (end : SessionEnd) (x : LinkEnd) → IsFresh first
+pub served_link : (settings : Settings) (v w : CallerSeen) (first after : LinkSeen) (clock clock' : ClockSeen) (end : SessionEnd) (x : LinkEnd) → IsFresh first
     → Serves settings v w (outside first.source first.sink clock) (outside after.source after.sink clock') end → x.kind ≡ kind_of end → x.last ≡ w.last
     → ServedLink clock.one settings v.number v.seen v.last (record { link = after; end = x }) w.seen
 served_link settings v w first after clock clock' end x fresh serves kind last = record {

@@ -8,7 +8,7 @@ use Rattle.bim_net.specs.Doors.{GrowsBy}
 use Rattle.book_turn.specs.Entries.{AllBefore, up_to}
 use Rattle.book_history.specs.declared.limits.Settings.{Settings}
 use Rattle.book_history.specs.declared.changes.Entry.{Entry}
-use Rattle.book_passes.specs.Lessons.{BookPass, turn_of}
+use Rattle.book_passes.specs.Lessons.{CallerSeen, turn_of}
 use Rattle.bim_session.specs.declared.end.SessionEnd.{SessionEnd}
 use Rattle.bim_session.specs.declared.end.SessionEnd.TheVariants as end
 use Rattle.link_session.specs.Serving.{Serves}
@@ -40,8 +40,8 @@ pub record ServedLink (one : Option ℕ) (settings : Settings) (number : ℕ) (b
   pub clock : ClockSeen
   pub clock_after : ClockSeen
   pub one_is : clock.one ≡ one
-  pub v : BookPass
-  pub w : BookPass
+  pub v : CallerSeen
+  pub w : CallerSeen
   pub number_is : v.number ≡ number
   pub before_is : v.seen ≡ before
   pub last_is : v.last ≡ last

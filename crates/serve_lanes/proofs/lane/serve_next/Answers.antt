@@ -1,5 +1,6 @@
 use Rattle.std.proofs.Common.{ap, sym, refl, arith}
 use Rattle.bim_net.specs.Seen.{DoorSeen}
+use Rattle.book_passes.specs.Lessons.{caller_of}
 use Rattle.serve_lanes.specs.Lanes.{ServedLink}
 use Rattle.serve_lanes.proofs.Links.{served_link, lane_one, lane_none}
 use Rattle.serve_lanes.proofs.lane.serve_next.Goals as goal
@@ -11,7 +12,7 @@ returns-in-Ok-Some-clause-served g c =
     let one = c.serve_link-end.ensures in
     lane_one (ServedLink (g.C.Clock.seen c.args.clock.now).one c.args.turn.now.settings c.args.pass.now.number)
     c.args.pass.now.seen c.args.pass.now.last _ c.serve_link-end.new.pass.seen c.serve_link-end.new.pass.last _ _ _ given c.give_back.ensures.door
-    (served_link c.args.turn.now.settings c.args.pass.now c.serve_link-end.new.pass _ _ _ _ c.serve_link-end.result _ fresh one.serves c.kind_of.ensures c.last-last.ensures.last)
+    (served_link c.args.turn.now.settings (caller_of c.args.pass.now) (caller_of c.serve_link-end.new.pass) _ _ _ _ c.serve_link-end.result _ fresh one.serves c.kind_of.ensures c.last-last.ensures.last)
     c.last-last.ensures.last one.serves.learns.up_to
 
 pub returns-in-Ok-None-clause-served : goal.returns-in-Ok-None-clause-served
