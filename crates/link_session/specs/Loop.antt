@@ -61,8 +61,8 @@ StopsAnswering sink sink' served receipt waiting e =
     × WritesFront sink sink' bytes)
 
 -- the book was called for the request that waits, and its response written; or that ended the session
-abbrev pub Called : Settings → BookRequest → SinkSeen → SinkSeen → TalkState → CallerSeen → Progress → TalkState
-    → CallerSeen → Type 0
+abbrev pub Called : Settings → BookRequest → SinkSeen → SinkSeen → TalkState → CallerSeen → Progress
+    → TalkState → CallerSeen → Type 0
 Called settings call sink sink' talk server Again talk' server' =
     (waiting : Waiting) × (talk.waits ≡ Some waiting)
     × (receipt : Result BookReceipt AllocError) × (bytes : List ℕ)
