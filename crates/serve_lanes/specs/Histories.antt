@@ -1,5 +1,5 @@
 -- Many lanes over one book, and the one history in which all their connections stand.
-use Rattle.std.specs.Prelude.{◌≡◌, ◌≤◌, ℕ, ◌+◌, List, [], ◌∷◌, length, Bool, true, Option, IsSome}
+use Rattle.std.specs.Prelude.{◌≡◌, ◌≤◌, ℕ, List, [], length, Bool, true, Option, IsSome}
 use Rattle.bim_net.specs.Seen.{EndedLink, DoorSeen, IsNew, told}
 use Rattle.bim_net.specs.Doors.{GrowsBy}
 use Rattle.book_history.specs.declared.limits.Settings.{Settings}
@@ -13,40 +13,28 @@ pub record Service : Type 0 where
   pub one : Option ℕ
   pub settings : Settings
 
--- A door's connections were served by the pass of this number, from the first on: it had seen nothing before, and then
--- this, up to its turn `last`.
-pub record LaneDone (s : Service) (number : ℕ) (seen : List Entry) (last : ℕ) (door : DoorSeen) : Type 0 where
+-- A door's connections were served by the pass of the door's number, from the first on: it had seen nothing before, and
+-- then this, up to its turn `last`.
+pub record LaneDone (s : Service) (seen : List Entry) (last : ℕ) (door : DoorSeen) : Type 0 where
   pub first : DoorSeen
-  pub new : IsNew s.tells number first
-  pub lane : LaneServed (ServedLink s.one s.settings number) [] 0 seen last first door
+  pub new : IsNew s.tells door.number first
+  pub lane : LaneServed (ServedLink s.one s.settings door.number) [] 0 seen last first door
 
 -- the same of a door whose pass has seen the front of this history up to a turn, which is not above `top`
-pub record DoorDone (s : Service) (history : List Entry) (top number : ℕ) (door : DoorSeen) : Type 0 where
+pub record DoorDone (s : Service) (history : List Entry) (top : ℕ) (door : DoorSeen) : Type 0 where
   pub seen : List Entry
   pub last : ℕ
-  pub done : LaneDone s number seen last door
+  pub done : LaneDone s seen last door
   pub front : seen ≡ seen_at last history
   pub within : last ≤ top
-
--- .. of doors with the numbers from this one on
-abbrev pub DoorsDone : Service → List Entry → ℕ → ℕ → List DoorSeen → Type 0
-DoorsDone s history top number [] = Unit {0}
-DoorsDone s history top number (d ∷ ds) =
-    DoorDone s history top number d × DoorsDone s history top (number + 1) ds
 
 -- A door in one history: its connections were served by the pass of its number, each between the entries up to the turn
 -- that stands at the one before and those up to its own, which never fall. It gave as many as stand there, and where doors
 -- tell what was given back, this one does and these are all.
-pub record DoorServed (s : Service) (history : List Entry) (number : ℕ) (door : DoorSeen) : Type 0 where
+pub record DoorServed (s : Service) (history : List Entry) (door : DoorSeen) : Type 0 where
   pub links : List EndedLink
-  pub number_is : door.number ≡ number
   pub grown : GrowsBy (told s.tells []) door.ended links
   pub gave : door.gave ≡ length links
   pub balanced : IsBalanced door
   pub tells : s.tells ≡ true → IsSome door.ended
-  pub chain : ChainIn (ServedLink s.one s.settings number) history 0 links
-
--- .. doors with the numbers from this one on
-abbrev pub DoorsServed : Service → List Entry → ℕ → List DoorSeen → Type 0
-DoorsServed s history number [] = Unit {0}
-DoorsServed s history number (d ∷ ds) = DoorServed s history number d × DoorsServed s history (number + 1) ds
+  pub chain : ChainIn (ServedLink s.one s.settings door.number) history 0 links
