@@ -2,5 +2,7 @@
 #![tactic(auto)]
 
 mod lane;
+mod lanes;
 
 pub use lane::{LaneEnd, serve_lane};
+pub use lanes::{Lane, Serving, run_lanes};
