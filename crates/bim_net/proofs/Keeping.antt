@@ -1,5 +1,5 @@
 -- A connection that is given back to a door in memory.
-use Rattle.std.proofs.Common.{◌≡◌, ◌+◌, ◌<◌, ◌≤◌, ℕ, List, [], ◌∷◌, ◌++◌, length, Bool, true, false, Option, Some, None, IsSome, Ok, refl, sym, ◌∙◌, ap, subst, arith}
+use Rattle.std.proofs.Common.{◌≡◌, ◌<◌, ℕ, List, [], ◌∷◌, ◌++◌, length, Bool, true, false, Option, Some, None, IsSome, Ok, ap, arith}
 use Rattle.std.specs.Option.{option_map}
 use Rattle.bim_net.specs.Seen.{LinkSeen, EndedLink, DoorSeen, told}
 use Rattle.bim_net.specs.Doors.{GrowsBy, HasOut, Accepts, TakesBack}

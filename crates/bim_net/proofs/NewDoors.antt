@@ -1,5 +1,5 @@
 -- Doors that are opened one after another.
-use Rattle.std.proofs.Common.{◌≡◌, ◌+◌, true, ℕ, List, [], ◌∷◌, ◌++◌, length, Option, Some, None, map, refl, sym, ◌∙◌, ap, subst, arith}
+use Rattle.std.proofs.Common.{◌≡◌, ◌+◌, true, ℕ, List, [], ◌∷◌, ◌++◌, length, refl, sym, subst, arith}
 use Rattle.bim_net.specs.Seen.{DoorSeen, IsNew}
 use Rattle.bim_net.specs.Hosts.{AreNew}
 

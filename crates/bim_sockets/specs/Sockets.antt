@@ -1,5 +1,5 @@
 -- What contracts see of doors and hosts over sockets.
-use Rattle.std.specs.Prelude.{◌≡◌, ℕ, ◌+◌, List, [], Bool, false, Option, None, map}
+use Rattle.std.specs.Prelude.{ℕ, List, Bool, false, Option, None, map}
 use Rattle.bim_net.specs.declared.hosts.Opening.{Opening}
 use Rattle.bim_net.specs.Seen.{DoorSeen}
 use Rattle.bim_net.specs.Hosts.{HostSeen}

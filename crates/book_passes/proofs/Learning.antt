@@ -1,6 +1,5 @@
 -- What the calls of a pass teach it.
-use Rattle.std.proofs.Common.{◌≡◌, ◌≤◌, ◌<◌, ℕ, ◌+◌, ◌++◌, List, [], ◌∷◌, Option, Some, None, refl, sym, ◌∙◌, ap, subst, append-nil, append_assoc, arith}
-use Rattle.book_turn.specs.declared.object.Stamp.{Stamp}
+use Rattle.std.proofs.Common.{◌≡◌, ◌≤◌, ◌<◌, ℕ, ◌+◌, ◌++◌, List, [], ◌∷◌, refl, sym, ◌∙◌, ap, subst, append-nil, append_assoc, arith}
 use Rattle.book_turn.specs.Entries.{AllBefore, AllAfter}
 use Rattle.book_turn.specs.Passes.{KeepsNumbers}
 use Rattle.book_turn.proofs.Prefixes.{before_append, before_later, after_append, after_earlier}

@@ -1,5 +1,5 @@
 -- What a set that is brought is answered, and what it adds.
-use Rattle.std.proofs.Common.{◌≡◌, ◌⊎◌, ℕ, ◌+◌, List, [], ◌∷◌, Bool, true, false, if◌then◌else◌, nat_le, Option, Some, None, inl, inr, refl, sym, ◌∙◌, ap, subst, length}
+use Rattle.std.proofs.Common.{ℕ, ◌+◌, List, [], ◌∷◌, Bool, true, false, if◌then◌else◌, nat_le, Some, None, inl, inr, refl}
 use Rattle.bucket_grid.specs.declared.cell.Cell.{Cell}
 use Rattle.bucket_check.specs.Sets.{SetValue}
 use Rattle.book_turn.specs.declared.object.Stamp.{Stamp}
@@ -7,19 +7,15 @@ use Rattle.book_turn.specs.Entries.{listed}
 use Rattle.book_history.specs.declared.limits.Settings.{Settings}
 use Rattle.book_history.specs.declared.changes.Entry.{Entry}
 use Rattle.book_history.specs.declared.changes.Change.TheVariants.{BucketDone}
-use Rattle.book_history.specs.declared.faults.BookFault.{BookFault}
 use Rattle.book_history.specs.declared.faults.BookFault.TheVariants.{AlreadyDone, VersionDropped}
 use Rattle.book_history.specs.declared.requests.BookRequest.TheVariants.{Finish}
-use Rattle.book_history.specs.declared.replies.ReplyBody.{ReplyBody}
-use Rattle.book_history.specs.declared.replies.ReplyBody.TheVariants.{Refused, Finished}
 use Rattle.clash_publish.specs.declared.horizon.TheConstants.{LIVE_VERSIONS}
-use Rattle.book_history.specs.Refusals.{dropped, done_before, first_of}
+use Rattle.book_history.specs.Refusals.{first_of}
 use Rattle.book_history.specs.Projects.{ProjectState, newest}
-use Rattle.book_history.specs.Versions.{VersionState, is_done, version_at}
+use Rattle.book_history.specs.Versions.{is_done, version_at}
 use Rattle.book_history.specs.History.{state_of}
-use Rattle.book_history.specs.Requests.{Outcome, Refusal, Answer, Accepted, refused_or, outcome_of, body_of, entry_by, added_by}
-use Rattle.check_workers.specs.Working.{IsDone, AreDone, IsFinishTold, tells}
-use Rattle.check_workers.specs.declared.work.Worked.{Worked}
+use Rattle.book_history.specs.Requests.{Accepted, refused_or, outcome_of, body_of, entry_by, added_by}
+use Rattle.check_workers.specs.Working.{AreDone, IsFinishTold}
 use Rattle.check_workers.specs.declared.work.Worked.TheVariants.{Done, Already, Dropped}
 
 -- ---- the three answers

@@ -1,5 +1,5 @@
 -- What a call for work is answered, and what it leaves.
-use Rattle.std.proofs.Common.{◌≡◌, ◌⊎◌, ℕ, ◌+◌, ◌%◌, List, [], ◌∷◌, ◌++◌, length, inl, inr, refl, sym, ◌∙◌, ap, subst, length-append, arith}
+use Rattle.std.proofs.Common.{◌≡◌, ◌⊎◌, ℕ, ◌+◌, List, [], ◌∷◌, ◌++◌, length, inl, inr, refl, sym, ◌∙◌, ap, length-append, arith}
 use Rattle.std.specs.List.{flat_map, sum_by}
 use Rattle.std.proofs.lemmas.List.{length-map}
 use Rattle.std.proofs.lemmas.List.Sums.{sum_by-cons}
@@ -10,12 +10,11 @@ use Rattle.book_history.specs.declared.limits.Settings.{Settings}
 use Rattle.book_history.specs.declared.changes.Entry.{Entry}
 use Rattle.book_history.specs.declared.faults.BookFault.TheVariants.{NoWork}
 use Rattle.book_history.specs.declared.requests.BookRequest.TheVariants.{TakeWork, Finish}
-use Rattle.book_history.specs.declared.replies.ReplyBody.{ReplyBody}
 use Rattle.book_history.specs.declared.replies.ReplyBody.TheVariants.{Work, Refused}
 use Rattle.book_history.specs.Orders.{OrderValue, order_of}
 use Rattle.book_history.specs.Versions.{VersionState, live_in, first_live}
 use Rattle.book_history.specs.History.{state_of, left_in, live_of, left_all, project_numbers}
-use Rattle.book_history.specs.Requests.{Outcome, orders_in, orders_from, orders_of, all_orders, order_for, outcome_of, body_of, added_by, entry_by}
+use Rattle.book_history.specs.Requests.{orders_in, orders_from, orders_of, all_orders, order_for, outcome_of, body_of, added_by, entry_by}
 use Rattle.book_history.specs.Legal.{IsLegal}
 use Rattle.book_history.proofs.Given.{given_out}
 use Rattle.book_history.proofs.Legality.{given_later}

@@ -1,5 +1,5 @@
 -- What the turns of a worker teach its pass.
-use Rattle.std.proofs.Common.{◌≡◌, ◌⊎◌, ℕ, ◌+◌, List, [], ◌∷◌, ◌++◌, Bool, true, false, if◌then◌else◌, inl, inr, refl, sym, ◌∙◌, ap, subst, append-nil}
+use Rattle.std.proofs.Common.{◌≡◌, ◌⊎◌, ℕ, List, [], ◌∷◌, ◌++◌, Bool, true, false, if◌then◌else◌, inl, inr, sym, ◌∙◌, ap, subst, append-nil}
 use Rattle.book_turn.specs.Numbers.{has}
 use Rattle.book_turn.specs.Entries.{calls_by}
 use Rattle.book_turn.specs.Passes.{KeepsNumbers}
@@ -19,8 +19,7 @@ use Rattle.book_history.specs.Orders.{OrderValue}
 use Rattle.book_history.specs.History.{left_all}
 use Rattle.book_history.specs.Requests.{outcome_of, body_of, added_by}
 use Rattle.book_history.specs.Legal.{IsLegal}
-use Rattle.book_passes.specs.Lessons.{BookPass, CallerSeen, IsAnswered, TakesTurn, Learns, caller_of, own_of, stamp_of, stamp_in}
-use Rattle.book_passes.specs.Laws.{TakesCall}
+use Rattle.book_passes.specs.Lessons.{BookPass, CallerSeen, IsAnswered, TakesTurn, caller_of, own_of, stamp_of, stamp_in}
 use Rattle.book_passes.proofs.Learning.{takes_call, takes_idly, learns_turn, learns_trans, learns_none}
 use Rattle.check_workers.specs.Working.{IsDone, AreDone, Teaches, IsFoundFor, IsFinishTold}
 use Rattle.check_workers.proofs.Finishing.{finish_adds, finish_told}

@@ -1,5 +1,5 @@
 -- What a talk wants, once done, is the next of the session.
-use Rattle.std.proofs.Common.{◌≡◌, ℕ, ◌+◌, ◌<◌, ◌≤◌, List, [], ◌∷◌, ◌++◌, length, Bool, true, false, Option, Some, None, Ok, IsTrue, inl, inr, sym, ◌∙◌, ap, subst, refl, length-append, arith}
+use Rattle.std.proofs.Common.{◌≡◌, ℕ, ◌+◌, ◌<◌, ◌≤◌, List, [], ◌∷◌, ◌++◌, Bool, true, false, Option, Some, None, Ok, IsTrue, inl, inr, sym, ◌∙◌, ap, subst, refl, arith}
 use Rattle.http_frame.specs.declared.types.HttpRequest.{HttpRequest}
 use Rattle.http_frame.specs.Events.{Event}
 use Rattle.book_turn.specs.declared.object.Stamp.{Stamp}
@@ -18,7 +18,7 @@ use Rattle.book_history.specs.declared.requests.BookRequest.TheVariants.{ListTop
 use Rattle.book_history.specs.Orders.{OrderValue}
 use Rattle.book_history.specs.Versions.{VersionState, version_at}
 use Rattle.book_history.specs.Projects.{ProjectState, newest, with_change}
-use Rattle.book_history.specs.History.{state_of, at_turn, of_turn, IsBefore}
+use Rattle.book_history.specs.History.{state_of, at_turn, of_turn}
 use Rattle.book_history.specs.Refusals.{project_of, wanted_in, not_yet, dropped, pending}
 use Rattle.book_history.specs.Requests.{Outcome, Refusal, Answer, Accepted, unless, in_project, order_for, all_orders, version_read, clashes_read, outcome_of, reply_to, body_of, entry_by, reply_of, added_by}
 use Rattle.book_history.specs.Runs.{Step}

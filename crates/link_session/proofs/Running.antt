@@ -1,5 +1,5 @@
 -- A session from its first step to its last.
-use Rattle.std.proofs.Common.{◌≡◌, ℕ, List, [], ◌∷◌, false, Option, Some, None, sym, ◌∙◌, subst}
+use Rattle.std.proofs.Common.{◌≡◌, ℕ, [], ◌∷◌, false, Option, Some, None, sym, ◌∙◌, subst}
 use Rattle.bim_io.specs.Seen.{Outside, EndsEmpty}
 use Rattle.book_history.specs.declared.limits.Settings.{Settings}
 use Rattle.book_passes.specs.Lessons.{CallerSeen}

@@ -1,6 +1,6 @@
 -- What holds between two steps of a session by a pass.
-use Rattle.std.specs.Prelude.{◌≡◌, ◌⊎◌, ◌<◌, ◌≤◌, ℕ, ◌+◌, ◌++◌, List, [], length, Bool, true, false, Option, Some, None, IsTrue}
-use Rattle.bim_io.specs.Seen.{Outside, EndsEmpty, Exchanges}
+use Rattle.std.specs.Prelude.{◌≡◌, ◌<◌, ◌≤◌, ℕ, ◌+◌, ◌++◌, List, [], Bool, true, false, Option, Some, None, IsTrue}
+use Rattle.bim_io.specs.Seen.{Outside, Exchanges}
 use Rattle.http_frame.specs.Events.{Event}
 use Rattle.http_frame.specs.Framers.{Stands}
 use Rattle.book_history.specs.declared.limits.Settings.{Settings}

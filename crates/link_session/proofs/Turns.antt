@@ -1,5 +1,5 @@
 -- What a pass has come to know, with the steps of its session.
-use Rattle.std.proofs.Common.{◌≡◌, ◌⊎◌, ◌||◌, ℕ, ◌+◌, ◌<◌, ◌≤◌, List, [], ◌∷◌, ◌++◌, Bool, true, false, if◌then◌else◌, inl, inr, refl, sym, ◌∙◌, ap, subst, arith, append_assoc, append-nil, eq-eqb}
+use Rattle.std.proofs.Common.{◌≡◌, ◌||◌, ℕ, ◌<◌, ◌≤◌, List, [], ◌∷◌, ◌++◌, true, false, if◌then◌else◌, inl, inr, refl, sym, ◌∙◌, ap, subst, arith, append_assoc, append-nil, eq-eqb}
 use Rattle.book_turn.specs.declared.object.Stamp.{Stamp}
 use Rattle.book_turn.specs.Numbers.{has}
 use Rattle.book_turn.specs.Entries.{AllAfter, calls_by, listed}
@@ -12,7 +12,6 @@ use Rattle.book_history.specs.Requests.{Outcome, Refusal, Answer, Accepted, entr
 use Rattle.book_history.specs.Runs.{Step}
 use Rattle.book_history.proofs.Histories.{AreOf, AreAbove, added_of, before_all, of_turn-grown, of_turn-new}
 use Rattle.book_passes.specs.Lessons.{CallerSeen, TakesTurn, Learns, own_of, stamp_in, turn_of}
-use Rattle.book_passes.specs.Laws.{TakesCall}
 use Rattle.book_passes.proofs.Learning.{learns_none, learns_turn, learns_trans}
 use Rattle.link_session.specs.Serving.{entries_of, AreBy}
 use Rattle.link_session.specs.Loop.{Skips}

@@ -1,5 +1,5 @@
 -- What a step of a session by a pass does.
-use Rattle.std.specs.Prelude.{◌≡◌, ◌⊎◌, ℕ, ◌++◌, List, [], length, Some, Result, Ok, Err, IsTrue}
+use Rattle.std.specs.Prelude.{◌≡◌, ◌⊎◌, ℕ, List, [], length, Some, Result, Ok, Err, IsTrue}
 use Rattle.std.specs.declared.alloc.AllocError.{AllocError}
 use Rattle.bim_io.specs.Causes.{Rose}
 use Rattle.bim_io.specs.Seen.{SourceSeen, SinkSeen, Outside, SourceGives, SinkTakes}

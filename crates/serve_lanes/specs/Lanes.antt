@@ -1,9 +1,9 @@
 -- The sessions of one lane, one after another, and what they are in one history.
-use Rattle.std.specs.Prelude.{◌≡◌, ◌≤◌, ◌<◌, ℕ, ◌+◌, ◌++◌, List, [], ◌∷◌, length, Option, Some, IfSome, IsSome}
+use Rattle.std.specs.Prelude.{◌≡◌, ◌≤◌, ℕ, ◌+◌, List, [], ◌∷◌, length, Option, IfSome, IsSome}
 use Rattle.bim_io.specs.Seen.{ClockSeen, outside}
 use Rattle.bim_net.specs.declared.ends.EndKind.{EndKind}
 use Rattle.bim_net.specs.declared.ends.EndKind.TheVariants as kind
-use Rattle.bim_net.specs.Seen.{LinkSeen, EndedLink, DoorSeen, IsFresh, IsEmpty}
+use Rattle.bim_net.specs.Seen.{LinkSeen, EndedLink, DoorSeen, IsFresh}
 use Rattle.bim_net.specs.Doors.{GrowsBy}
 use Rattle.book_turn.specs.Entries.{AllBefore, up_to}
 use Rattle.book_history.specs.declared.limits.Settings.{Settings}

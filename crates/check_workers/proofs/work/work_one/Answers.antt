@@ -1,7 +1,4 @@
-use Rattle.std.proofs.Common.{◌≡◌, inl, inr, refl, sym, ◌∙◌, ap, subst}
-use Rattle.book_history.specs.declared.replies.BookReply.{BookReply}
-use Rattle.book_history.specs.declared.replies.ReplyBody.{ReplyBody}
-use Rattle.book_history.specs.declared.replies.ReplyBody.TheVariants.{Work}
+use Rattle.std.proofs.Common.{inl, inr, refl, subst}
 use Rattle.book_passes.specs.Lessons.{caller_of}
 use Rattle.check_workers.specs.Working.{IsFoundFor}
 use Rattle.check_workers.proofs.Workers.{asked_teaches, brought_teaches, failed_teaches, teaches_trans, finds_none, is_told, may_bring}

@@ -1,4 +1,4 @@
-use Rattle.std.proofs.Common.{refl, ◌∙◌, ◌≡◌, ◌-◌, ◌<◌, arith, rules}
+use Rattle.std.proofs.Common.{refl, ◌∙◌, ◌≡◌, ◌-◌, arith, rules}
 use Rattle.serve_lanes.proofs.Chains.{lane_start, lane_trans}
 use Rattle.serve_lanes.proofs.lane.serve_lane.Goals as goal
 

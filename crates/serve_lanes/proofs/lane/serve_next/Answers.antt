@@ -1,4 +1,4 @@
-use Rattle.std.proofs.Common.{ap, sym, refl, arith}
+use Rattle.std.proofs.Common.{ap, arith}
 use Rattle.bim_net.specs.Seen.{DoorSeen}
 use Rattle.book_passes.specs.Lessons.{caller_of}
 use Rattle.serve_lanes.specs.Lanes.{ServedLink}
