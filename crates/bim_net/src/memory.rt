@@ -1,8 +1,7 @@
 //! Hosts in memory: one whose openings fail where its list says so, one that never fails, and one with holds.
-ghost use Rattle.std.specs.Prelude.{◌≡◌, ◌↔◌, true, Some, IfOk, IfSome, IfErr, IsErr, Contains, vec_len, map, All};
+ghost use Rattle.std.specs.Prelude.{◌≡◌, ◌↔◌, true, Err, Some, IfOk, IfSome, IfErr, IsErr, Contains, vec_len, map, All};
 ghost use Rattle.bim_model.specs.Moments.{IsMoment};
 ghost use Rattle.bim_io.specs.Causes.{counted};
-ghost use Rattle.bim_net.specs.declared.hosts.HostFault.TheVariants.{Failed, Memory};
 ghost use Rattle.bim_net.specs.Seen.{IsNew, IsEmpty};
 ghost use Rattle.bim_net.specs.Hosts.{AreNew, Opens, Closes};
 ghost use Rattle.bim_net.specs.Stores.{door_of};
@@ -85,7 +84,7 @@ impl Host for MemHost {
         ensures host { Opens (record { addr = addr.now; doors = n })
             (host_of (λ d. door_of d.store d.faults) self.old.hall self.old.moment self.old.faults) result
             (host_of (λ d. door_of d.store d.faults) self.new.hall self.new.moment self.new.faults) }
-        ensures fails { (result ≡ Result.Err Failed) ↔ Contains self.old.fails (counted self.old.calls) }
+        ensures fails { (result ≡ Err HostFault.Failed) ↔ Contains self.old.fails (counted self.old.calls) }
         ensures calls { self.new.calls ≡ counted self.old.calls }
         ensures list { self.new.fails ≡ self.old.fails }
     {
@@ -177,7 +176,7 @@ impl Host for SureHost {
         ensures host { Opens (record { addr = addr.now; doors = n })
             (host_of (λ d. door_of d 0) self.old.hall self.old.moment 0) result
             (host_of (λ d. door_of d 0) self.new.hall self.new.moment 0) }
-        ensures memory { IfErr result (λ fault. fault ≡ Memory) }
+        ensures memory { IfErr result (λ fault. fault ≡ HostFault.Memory) }
     {
         match self.hall.open(alloc, addr, n) {
             Ok(doors) => Ok(doors),
