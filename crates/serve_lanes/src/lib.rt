@@ -1,0 +1,8 @@
+//! Lanes: each serves connection after connection of its door by one pass of the book.
+#![tactic(auto)]
+
+mod lane;
+mod lanes;
+
+pub use lane::{LaneEnd, serve_lane};
+pub use lanes::{Lane, Serving, run_lanes};
