@@ -77,7 +77,7 @@ fn try_accept<D: Door>(rt: &impl Abort, door: &mut D, last: u64, want: Want) {
 }
 
 fn try_accepts<D: Door>(rt: &impl Abort, door: &mut D, wanted: &[Want]) {
-    let mut last = 0;
+    let mut last: u64 = 0;
     for want in wanted {
         last = last.saturating_add(1);
         try_accept(rt, door, last, *want);

@@ -1,5 +1,6 @@
 -- The sessions of one lane, one after another, and what they are in one history.
-use Rattle.std.specs.Prelude.{◌≡◌, ◌≤◌, ℕ, ◌+◌, List, [], ◌∷◌, length, Option, IfSome, IsSome}
+use Rattle.std.specs.Prelude.{◌≡◌, ◌≤◌, ℕ, ◌+◌, List, [], ◌∷◌, length, Bool, true, false, ◌||◌, Option, IfSome, IsSome}
+use Rattle.std.specs.List.{list_any}
 use Rattle.bim_io.specs.Seen.{ClockSeen, outside}
 use Rattle.bim_net.specs.declared.ends.EndKind.{EndKind}
 use Rattle.bim_net.specs.declared.ends.EndKind.TheVariants as kind
@@ -23,6 +24,15 @@ kind_of (end.WriteFault n) = kind.WriteFault
 kind_of (end.Frame n fault) = kind.Frame
 kind_of (end.Spent n) = kind.Spent
 kind_of (end.Memory n) = kind.Memory
+
+-- whether a session of this kind of end ended for want of memory
+abbrev pub is_memory : EndKind → Bool
+is_memory kind.Memory = true
+is_memory _ = false
+
+-- whether one of the sessions over these connections did
+abbrev pub some_memory : List EndedLink → Bool
+some_memory links = list_any (λ (x : EndedLink). is_memory x.end.kind) links
 
 -- the turn that stands at a connection that was given back
 abbrev pub end_turn : EndedLink → ℕ
@@ -63,9 +73,10 @@ abbrev pub IsBalanced : DoorSeen → Type 0
 IsBalanced d = IfSome d.ended (λ es. length es ≡ d.gave)
 
 -- A lane: its door gave these connections and its list grew by them, and they are a chain in what its pass came to see. A
--- door that gave as many as it took back still does, and still tells them if it did.
+-- door that gave as many as it took back still does, and still tells them if it did. It is noted whether one of the
+-- sessions ended for want of memory, and what was noted before stays.
 pub record LaneServed (serves : List Entry → ℕ → EndedLink → List Entry → Type 0) (before : List Entry)
-    (last : ℕ) (history : List Entry) (top : ℕ) (old new : DoorSeen) : Type 0 where
+    (last : ℕ) (history : List Entry) (top : ℕ) (old new : DoorSeen) (noted noted' : Bool) : Type 0 where
   pub links : List EndedLink
   pub grown : GrowsBy old.ended new.ended links
   pub chain : Chain serves before last links history top
@@ -75,6 +86,7 @@ pub record LaneServed (serves : List Entry → ℕ → EndedLink → List Entry 
   pub balanced : IsBalanced old → IsBalanced new
   pub tells : IsBalanced old → IsSome old.ended → IsSome new.ended
   pub faults : old.faults ≤ new.faults
+  pub memory : noted' ≡ (noted || some_memory links)
 
 -- the entries of a history with turns up to this one
 abbrev pub seen_at : ℕ → List Entry → List Entry

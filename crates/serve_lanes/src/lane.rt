@@ -1,8 +1,8 @@
 //! One lane.
-ghost use Rattle.std.specs.Prelude.{◌≡◌, ◌≢◌, ◌+◌, ◌<◌, true};
+ghost use Rattle.std.specs.Prelude.{◌≡◌, ◌≢◌, ◌+◌, ◌<◌, ◌||◌, true};
 ghost use Rattle.bim_io.specs.Causes.{Rose};
 ghost use Rattle.book_turn.specs.Passes.{IsSingle};
-ghost use Rattle.serve_lanes.specs.Lanes.{ServedLink, LaneServed, kind_of};
+ghost use Rattle.serve_lanes.specs.Lanes.{ServedLink, LaneServed, kind_of, is_memory};
 
 use bim_io::Clock;
 use bim_net::{Door, EndKind, Gate, LinkEnd};
@@ -46,6 +46,15 @@ fn kind_of(end: SessionEnd) -> EndKind
     }
 }
 
+// Notes whether a session ended for want of memory.
+fn note(kind: EndKind, memory: &mut bool)
+    ensures { memory.new ≡ (memory.old || is_memory kind) }
+{
+    if kind == EndKind::Memory {
+        *memory = true;
+    }
+}
+
 // Accepts one connection, serves it and gives it back.
 fn serve_next<R: Wait, D: Door, C: Clock, G: Gate>(
     rt: &R,
@@ -55,13 +64,15 @@ fn serve_next<R: Wait, D: Door, C: Clock, G: Gate>(
     door: &mut D,
     clock: &mut C,
     gate: &G,
+    memory: &mut bool,
 ) -> Next
     requires own { IsSingle turn.now pass.old }
     ensures own { IsSingle turn.now pass.new }
     ensures number { pass.new.number ≡ pass.old.number }
     ensures clock { (C.seen clock.new).one ≡ (C.seen clock.old).one }
     ensures served { LaneServed (ServedLink (C.seen clock.old).one turn.now.settings pass.old.number)
-        pass.old.seen pass.old.last pass.new.seen pass.new.last (D.seen door.old) (D.seen door.new) }
+        pass.old.seen pass.old.last pass.new.seen pass.new.last (D.seen door.old) (D.seen door.new)
+        memory.old memory.new }
     ensures failed { result ≡ Next.Stop LaneEnd.Failed
         → Rose (D.seen door.old).faults (D.seen door.new).faults }
     ensures closed { result ≡ Next.Stop LaneEnd.Closed → (D.seen door.new).closed ≡ true }
@@ -72,14 +83,10 @@ fn serve_next<R: Wait, D: Door, C: Clock, G: Gate>(
         Ok(Some(link)) => {
             let mut link = link;
             let end = serve_link(rt, alloc, &mut link, turn, pass, clock, gate);
+            let kind = kind_of(end);
+            note(kind, memory);
             let last = pass.last();
-            door.give_back(
-                link,
-                LinkEnd {
-                    kind: kind_of(end),
-                    last,
-                },
-            );
+            door.give_back(link, LinkEnd { kind, last });
             Next::More
         }
         Ok(None) => Next::Stop(LaneEnd::Closed),
@@ -88,7 +95,8 @@ fn serve_next<R: Wait, D: Door, C: Clock, G: Gate>(
 }
 
 /// Accepts, serves and gives back connection after connection, until the door is closed or fails, or so many were served; 0
-/// is no limit. Each is given back with the kind of its session's end and the last turn of the pass then.
+/// is no limit. Each is given back with the kind of its session's end and the last turn of the pass then. `memory` becomes
+/// true where a session ended for want of memory.
 pub fn serve_lane<R: Wait, D: Door, C: Clock, G: Gate>(
     rt: &R,
     alloc: Global,
@@ -98,13 +106,15 @@ pub fn serve_lane<R: Wait, D: Door, C: Clock, G: Gate>(
     clock: &mut C,
     gate: &G,
     links: u64,
+    memory: &mut bool,
 ) -> LaneEnd
     requires own { IsSingle turn.now pass.old }
     ensures own { IsSingle turn.now pass.new }
     ensures number { pass.new.number ≡ pass.old.number }
     ensures clock { (C.seen clock.new).one ≡ (C.seen clock.old).one }
     ensures served { LaneServed (ServedLink (C.seen clock.old).one turn.now.settings pass.old.number)
-        pass.old.seen pass.old.last pass.new.seen pass.new.last (D.seen door.old) (D.seen door.new) }
+        pass.old.seen pass.old.last pass.new.seen pass.new.last (D.seen door.old) (D.seen door.new)
+        memory.old memory.new }
     ensures failed { result ≡ LaneEnd.Failed → Rose (D.seen door.old).faults (D.seen door.new).faults }
     ensures closed { result ≡ LaneEnd.Closed → (D.seen door.new).closed ≡ true }
     ensures full { result ≡ LaneEnd.Full
@@ -112,7 +122,7 @@ pub fn serve_lane<R: Wait, D: Door, C: Clock, G: Gate>(
 {
     let mut left = links;
     for _ in rt.forever() {
-        match serve_next(rt, alloc, turn, pass, door, clock, gate) {
+        match serve_next(rt, alloc, turn, pass, door, clock, gate, memory) {
             Next::More => {}
             Next::Stop(end) => return end,
         }

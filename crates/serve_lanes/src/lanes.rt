@@ -1,13 +1,17 @@
 //! Lanes in threads of their own, over one book.
-ghost use Rattle.std.specs.Prelude.{◌≡◌, ◌+◌, ◌<◌, ◌≤◌, [], length, vec_len, vec_capacity, map, All, IfOk};
+ghost use Rattle.std.specs.Prelude.{◌≡◌, ◌⊎◌, ◌+◌, ◌<◌, ◌≤◌, ◌||◌, [], true, false, Some, None, IsSome, length, vec_len, vec_capacity, map, All, IfOk};
 ghost use Rattle.book_turn.specs.Numbers.{numbers_from};
 ghost use Rattle.book_turn.specs.Passes.{BelongsTo, IsSingle, new_passes};
-ghost use Rattle.bim_net.specs.Hosts.{AreNew};
-ghost use Rattle.serve_lanes.specs.Histories.{Service, IsReady, LaneDone, DoorDone, DoorServed};
+ghost use Rattle.bim_net.specs.Hosts.{AreNew, some_failed};
+ghost use Rattle.book_history.specs.History.{left_all};
+ghost use Rattle.serve_lanes.specs.Histories.{Service, IsReady, LaneDone, DoorDone, DoorServed, EndsLane, IsOver};
+ghost use Rattle.serve_lanes.specs.Histories.{some_lacked, IsNewWorker, WorkerDone, AreOfLanes};
 
 use crate::lane::{LaneEnd, serve_lane};
+use crate::workers::{Lack, Worker, join_workers, make_workers, run_workers, work_out};
 use bim_io::Clock;
 use bim_net::{Door, Gate};
+use book_turn::fault::SpentPass;
 use book_turn::limits::MOST_PASSES;
 use book_turn::pass::Pass;
 use book_turn::turn::Turn;
@@ -16,7 +20,7 @@ use std::alloc::{AllocError, Global};
 use std::collections::VecDeque;
 use std::marker::Brand;
 use std::sync::Wait;
-use std::thread::{Threads, for_each_mut};
+use std::thread::{Threads, for_each_mut, join};
 
 /// What holds of all lanes of a server. It is there for proofs alone.
 pub trait Serving {
@@ -37,6 +41,8 @@ pub struct Lane<D: Door + Drop, C: Clock + Drop> {
     pub clock: C,
     /// Why it serves no more.
     pub end: LaneEnd,
+    /// Whether one of its sessions ended for want of memory.
+    pub memory: bool,
 }
 
 // Serves one lane, and tells the gate that it has ended.
@@ -49,8 +55,11 @@ fn run_lane<K: Serving, R: Wait, D: Door + Drop, C: Clock + Drop, G: Gate>(
     links: u64,
 )
     requires ready { IsReady K.service turn.now lane.old.pass (D.seen lane.old.door) (C.seen lane.old.clock) }
+    requires unnoted { lane.old.memory ≡ false }
     ensures own { IsSingle turn.now lane.new.pass }
-    ensures done { LaneDone K.service lane.new.pass.seen lane.new.pass.last (D.seen lane.new.door) }
+    ensures done { LaneDone K.service lane.new.pass.seen lane.new.pass.last (D.seen lane.new.door)
+        lane.new.memory }
+    ensures ends { EndsLane links lane.new.end (D.seen lane.new.door) }
     ensures number { (D.seen lane.new.door).number ≡ (D.seen lane.old.door).number }
 {
     lane.end = serve_lane(
@@ -62,6 +71,7 @@ fn run_lane<K: Serving, R: Wait, D: Door + Drop, C: Clock + Drop, G: Gate>(
         &mut lane.clock,
         gate,
         links,
+        &mut lane.memory,
     );
     gate.lane_ended(lane.pass.number());
 }
@@ -78,9 +88,10 @@ where
     D::S: Send,
     D::K: Send,
     requires ready { All (λ l.
-        IsReady K.service turn.now l.pass (D.seen l.door) (C.seen l.clock)) lanes.old }
+        IsReady K.service turn.now l.pass (D.seen l.door) (C.seen l.clock) × (l.memory ≡ false)) lanes.old }
     ensures own { All (λ l. IsSingle turn.entry.now l.pass) lanes.new }
-    ensures done { All (λ l. LaneDone K.service l.pass.seen l.pass.last (D.seen l.door)) lanes.new }
+    ensures done { All (λ l. LaneDone K.service l.pass.seen l.pass.last (D.seen l.door) l.memory) lanes.new }
+    ensures ends { All (λ l. EndsLane links l.end (D.seen l.door)) lanes.new }
     ensures numbers { map (λ l. (D.seen l.door).number) lanes.new
         ≡ map (λ l. (D.seen l.door).number) lanes.old }
 {
@@ -89,9 +100,11 @@ where
         lanes,
         64,
         &|_, lane: &mut Lane<D, C>|
-            requires { IsReady K.service turn.now lane.old.pass (D.seen lane.old.door) (C.seen lane.old.clock) }
+            requires { IsReady K.service turn.now lane.old.pass (D.seen lane.old.door) (C.seen lane.old.clock)
+                × (lane.old.memory ≡ false) }
             ensures { IsSingle turn.entry.now lane.new.pass
-                × LaneDone K.service lane.new.pass.seen lane.new.pass.last (D.seen lane.new.door)
+                × LaneDone K.service lane.new.pass.seen lane.new.pass.last (D.seen lane.new.door) lane.new.memory
+                × EndsLane links lane.new.end (D.seen lane.new.door)
                 × ((D.seen lane.new.door).number ≡ (D.seen lane.old.door).number) }
         { run_lane::<K, R, D, C, G>(rt, alloc, turn, lane, gate, links) },
     );
@@ -116,9 +129,10 @@ where
     D::S: Send,
     D::K: Send,
     requires ready { All (λ l.
-        IsReady K.service turn.now l.pass (D.seen l.door) (C.seen l.clock)) lanes.items }
+        IsReady K.service turn.now l.pass (D.seen l.door) (C.seen l.clock) × (l.memory ≡ false)) lanes.items }
     ensures own { All (λ l. IsSingle turn.now l.pass) result.items }
-    ensures done { All (λ l. LaneDone K.service l.pass.seen l.pass.last (D.seen l.door)) result.items }
+    ensures done { All (λ l. LaneDone K.service l.pass.seen l.pass.last (D.seen l.door) l.memory) result.items }
+    ensures ends { All (λ l. EndsLane links l.end (D.seen l.door)) result.items }
     ensures numbers { map (λ l. (D.seen l.door).number) result.items
         ≡ map (λ l. (D.seen l.door).number) lanes.items }
 {
@@ -141,7 +155,8 @@ fn make_lanes<K: Serving, D: Door + Drop, C: Clock + Drop>(
     requires clocks { vec_len clocks ≡ vec_len doors }
     requires one { All (λ c. (C.seen c).one ≡ K.service.one) clocks.items }
     ensures ready { IfOk result (λ lanes.
-        All (λ l. IsReady K.service turn.now l.pass (D.seen l.door) (C.seen l.clock)) lanes.items) }
+        All (λ l. IsReady K.service turn.now l.pass (D.seen l.door) (C.seen l.clock) × (l.memory ≡ false))
+        lanes.items) }
     ensures numbers { IfOk result (λ lanes.
         map (λ l. (D.seen l.door).number) lanes.items ≡ numbers_from 0 (vec_len doors)) }
 {
@@ -161,42 +176,69 @@ fn make_lanes<K: Serving, D: Door + Drop, C: Clock + Drop>(
             door,
             clock,
             end: LaneEnd::Closed,
+            memory: false,
         })?;
     }
     Ok(lanes)
 }
 
-// Joins the passes of all lanes into one, and gives that and the doors, in their order.
+// What is left of lanes whose passes were joined.
+#[derive(Drop)]
+struct JoinedLanes<D: Door + Drop> {
+    into: Pass<Book>,
+    doors: Vec<D>,
+    failed: bool,
+    memory: bool,
+}
+
+// Joins the passes of all lanes into one, and gives that and the doors, in their order, with whether one of the lanes ended
+// by a fault of its door, and whether a session ended for want of memory.
 fn join_lanes<K: Serving, D: Door + Drop, C: Clock + Drop>(
     turn: &Turn<Book>,
     own: Pass<Book>,
     lanes: Vec<Lane<D, C>>,
     room: Vec<D>,
-) -> (Pass<Book>, Vec<D>)
+    links: u64,
+) -> JoinedLanes<D>
     requires own { BelongsTo turn.now own }
     requires room { (room.items ≡ []) × (vec_len lanes ≤ vec_capacity room) }
     requires lanes { All (λ l. IsSingle turn.now l.pass) lanes.items }
-    requires done { All (λ l. LaneDone K.service l.pass.seen l.pass.last (D.seen l.door)) lanes.items }
-    ensures own { BelongsTo turn.now result.0 }
-    ensures all { length result.0.numbers ≡ length own.numbers + vec_len lanes }
-    ensures doors { All (λ d. DoorDone K.service result.0.seen result.0.last (D.seen d)) result.1.items }
-    ensures numbers { map (λ d. (D.seen d).number) result.1.items
+    requires done { All (λ l. LaneDone K.service l.pass.seen l.pass.last (D.seen l.door) l.memory) lanes.items }
+    requires ends { All (λ l. EndsLane links l.end (D.seen l.door)) lanes.items }
+    ensures own { BelongsTo turn.now result.into }
+    ensures all { length result.into.numbers ≡ length own.numbers + vec_len lanes }
+    ensures doors { All (λ d. DoorDone K.service result.into.seen result.into.last (D.seen d)) result.doors.items }
+    ensures numbers { map (λ d. (D.seen d).number) result.doors.items
         ≡ map (λ l. (D.seen l.door).number) lanes.items }
+    ensures over { All (λ d. IsOver links result.failed (D.seen d)) result.doors.items }
+    ensures failed { result.failed ≡ some_failed (map D.seen result.doors.items) }
+    ensures memory { some_lacked (map D.seen result.doors.items) ≡ true → result.memory ≡ true }
 {
+    let _links = links;
     let mut into = own;
     let mut doors = room;
+    let mut failed = false;
+    let mut memory = false;
     let mut lanes = VecDeque::from_vec(lanes);
     while let Some(lane) = lanes.pop_front() {
         let Lane {
             pass,
             door,
             clock: _,
-            end: _,
+            end,
+            memory: lacked,
         } = lane;
         turn.join(&mut into, pass);
         doors.push_reserved(door);
+        failed = failed || end == LaneEnd::Failed;
+        memory = memory || lacked;
     }
-    (into, doors)
+    JoinedLanes {
+        into,
+        doors,
+        failed,
+        memory,
+    }
 }
 
 // A turn over the book, so many passes, and one more.
@@ -219,9 +261,128 @@ fn open_turn(
     Ok((turn, own, passes))
 }
 
+// Runs the lanes and the workers side by side.
+fn run_both<
+    K: Serving,
+    R: Threads + Wait + Sync,
+    D: Door + Send + Drop,
+    C: Clock + Send + Drop,
+    G: Gate + Sync,
+>(
+    rt: &R,
+    alloc: Global,
+    turn: &Turn<Book>,
+    lanes: Vec<Lane<D, C>>,
+    workers: Vec<Worker>,
+    gate: &G,
+    links: u64,
+) -> (Vec<Lane<D, C>>, Vec<Worker>)
+where
+    D::S: Send,
+    D::K: Send,
+    requires ready { All (λ l.
+        IsReady K.service turn.now l.pass (D.seen l.door) (C.seen l.clock) × (l.memory ≡ false)) lanes.items }
+    requires new { All (λ w. IsNewWorker turn.now w.pass) workers.items }
+    ensures own { All (λ l. IsSingle turn.now l.pass) result.0.items }
+    ensures done { All (λ l. LaneDone K.service l.pass.seen l.pass.last (D.seen l.door) l.memory) result.0.items }
+    ensures ends { All (λ l. EndsLane links l.end (D.seen l.door)) result.0.items }
+    ensures numbers { map (λ l. (D.seen l.door).number) result.0.items
+        ≡ map (λ l. (D.seen l.door).number) lanes.items }
+    ensures workers { All (λ w. IsSingle turn.now w.pass) result.1.items }
+    ensures worked { All (λ w. WorkerDone w.pass) result.1.items }
+    ensures count { vec_len result.1 ≡ vec_len workers }
+{
+    join(
+        rt,
+        move || -> Vec<Lane<D, C>>
+            requires { All (λ l. IsReady K.service turn.now l.pass (D.seen l.door) (C.seen l.clock)
+                × (l.memory ≡ false)) lanes.items }
+            ensures { All (λ l. IsSingle turn.entry.now l.pass) result.items
+                × All (λ l. LaneDone K.service l.pass.seen l.pass.last (D.seen l.door) l.memory) result.items
+                × All (λ l. EndsLane links l.end (D.seen l.door)) result.items
+                × (map (λ l. (D.seen l.door).number) result.items
+                ≡ map (λ l. (D.seen l.door).number) lanes.items) }
+        { run_vec::<K, R, D, C, G>(rt, alloc, turn, lanes, gate, links) },
+        move || -> Vec<Worker>
+            requires { All (λ w. IsNewWorker turn.now w.pass) workers.items }
+            ensures { All (λ w. IsSingle turn.entry.now w.pass) result.items
+                × All (λ w. WorkerDone w.pass) result.items × (vec_len result ≡ vec_len workers) }
+        { run_workers(rt, alloc, turn, workers, gate) },
+    )
+}
+
+/// What is left when all lanes have ended.
+#[derive(Drop)]
+pub struct Served<D: Door + Drop> {
+    pub book: Book,
+    /// In their order.
+    pub doors: Vec<D>,
+    /// Whether a lane ended by a fault of its door.
+    pub failed: bool,
+    /// Whether memory was wanting, for a session or for work.
+    pub memory: bool,
+    /// A pass that had made all its turns.
+    pub spent: Option<SpentPass>,
+}
+
+// Joins all passes into one, works what is left by it, and takes the book back.
+fn close_all<K: Serving, R: Wait, D: Door + Drop, C: Clock + Drop, G: Gate>(
+    rt: &R,
+    alloc: Global,
+    turn: Turn<Book>,
+    own: Pass<Book>,
+    lanes: Vec<Lane<D, C>>,
+    workers: Vec<Worker>,
+    room: Vec<D>,
+    gate: &G,
+    links: u64,
+) -> Served<D>
+    requires own { IsSingle turn own }
+    requires all { turn.passes ≡ (vec_len lanes + vec_len workers) + 1 }
+    requires settings { turn.settings ≡ K.service.settings }
+    requires room { (room.items ≡ []) × (vec_len lanes ≤ vec_capacity room) }
+    requires lanes { All (λ l. IsSingle turn l.pass) lanes.items }
+    requires done { All (λ l. LaneDone K.service l.pass.seen l.pass.last (D.seen l.door) l.memory) lanes.items }
+    requires ends { All (λ l. EndsLane links l.end (D.seen l.door)) lanes.items }
+    requires workers { All (λ w. IsSingle turn w.pass) workers.items }
+    requires worked { All (λ w. WorkerDone w.pass) workers.items }
+    requires numbers { map (λ l. (D.seen l.door).number) lanes.items ≡ numbers_from 0 (vec_len lanes) }
+    ensures settings { result.book.settings ≡ turn.settings }
+    ensures served { All (λ d. DoorServed K.service result.book.journal (D.seen d)) result.doors.items }
+    ensures numbers { map (λ d. (D.seen d).number) result.doors.items ≡ numbers_from 0 (vec_len lanes) }
+    ensures entries { AreOfLanes (vec_len lanes) result.book.journal }
+    ensures over { All (λ d. IsOver links result.failed (D.seen d)) result.doors.items }
+    ensures failed { result.failed ≡ some_failed (map D.seen result.doors.items) }
+    ensures memory { some_lacked (map D.seen result.doors.items) ≡ true → result.memory ≡ true }
+    ensures work { (left_all result.book.settings.projects result.book.journal ≡ 0)
+        ⊎ ((result.memory ≡ true) ⊎ IsSome result.spent) }
+{
+    let JoinedLanes {
+        into,
+        doors,
+        failed,
+        memory,
+    } = join_lanes::<K, D, C>(&turn, own, lanes, room, links);
+    let mut into = into;
+    let lack = join_workers(&turn, &mut into, workers);
+    let left = work_out(rt, alloc, &turn, &mut into, 0, gate);
+    let Lack {
+        memory: lacked,
+        spent,
+    } = lack.and(left);
+    Served {
+        book: turn.close(into),
+        doors,
+        failed,
+        memory: memory || lacked,
+        spent,
+    }
+}
+
 /// Serves connections in lanes, each in a thread of its own with a pass, a door and a clock of its own, until all have
-/// ended. Then the passes are joined and the book is given back, with the doors in their order: all connections were
-/// served in the one history that is its journal. At an `Err` the book is dropped.
+/// ended; beside them workers check buckets, each in a thread with a pass of its own. Then the passes are joined into one,
+/// which works what is left, and the book is given back, with the doors in their order: all connections were served in the
+/// one history that is its journal. At an `Err`, which comes before the first connection is accepted, the book is dropped.
 pub fn run_lanes<
     R: Threads + Wait + Sync,
     D: Door + Send + Drop,
@@ -233,29 +394,38 @@ pub fn run_lanes<
     book: Book,
     doors: Vec<D>,
     clocks: Vec<C>,
+    workers: u32,
     gate: &G,
     links: u64,
-) -> Result<(Book, Vec<D>), AllocError>
+) -> Result<Served<D>, AllocError>
 where
     D::S: Send,
     D::K: Send,
     ghost service: { Service }
     requires empty { book.journal ≡ [] }
     requires settings { book.settings ≡ service.settings }
-    requires few { vec_len doors < MOST_PASSES }
+    requires few { vec_len doors + workers < MOST_PASSES }
     requires doors { AreNew service.tells 0 (map D.seen doors.items) }
     requires clocks { vec_len clocks ≡ vec_len doors }
     requires one { All (λ c. (C.seen c).one ≡ service.one) clocks.items }
-    ensures settings { IfOk result (λ r. r.0.settings ≡ book.settings) }
-    ensures served { IfOk result (λ r. All (λ d. DoorServed service r.0.journal (D.seen d)) r.1.items) }
+    ensures settings { IfOk result (λ r. r.book.settings ≡ book.settings) }
+    ensures served { IfOk result (λ r. All (λ d. DoorServed service r.book.journal (D.seen d)) r.doors.items) }
     ensures numbers { IfOk result (λ r.
-        map (λ d. (D.seen d).number) r.1.items ≡ numbers_from 0 (vec_len doors)) }
+        map (λ d. (D.seen d).number) r.doors.items ≡ numbers_from 0 (vec_len doors)) }
+    ensures entries { IfOk result (λ r. AreOfLanes (vec_len doors) r.book.journal) }
+    ensures over { IfOk result (λ r. All (λ d. IsOver links r.failed (D.seen d)) r.doors.items) }
+    ensures failed { IfOk result (λ r. r.failed ≡ some_failed (map D.seen r.doors.items)) }
+    ensures memory { IfOk result (λ r. some_lacked (map D.seen r.doors.items) ≡ true → r.memory ≡ true) }
+    ensures work { IfOk result (λ r. (left_all r.book.settings.projects r.book.journal ≡ 0)
+        ⊎ ((r.memory ≡ true) ⊎ IsSome r.spent)) }
 {
     let room = Vec::with_capacity(alloc, doors.len())?;
     let count = doors.len() as u32;
-    let (turn, own, passes) = open_turn(alloc, book, count)?;
+    let (turn, own, mut passes) = open_turn(alloc, book, count + workers)?;
+    let workers = make_workers(alloc, &turn, &mut passes, workers, count)?;
     let lanes = make_lanes::<Brand, D, C>(alloc, &turn, passes, doors, clocks)?;
-    let lanes = run_vec::<Brand, R, D, C, G>(rt, alloc, &turn, lanes, gate, links);
-    let (into, doors) = join_lanes::<Brand, D, C>(&turn, own, lanes, room);
-    Ok((turn.close(into), doors))
+    let (lanes, workers) = run_both::<Brand, R, D, C, G>(rt, alloc, &turn, lanes, workers, gate, links);
+    Ok(close_all::<Brand, R, D, C, G>(
+        rt, alloc, turn, own, lanes, workers, room, gate, links,
+    ))
 }

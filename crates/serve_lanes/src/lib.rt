@@ -1,8 +1,10 @@
-//! Lanes: each serves connection after connection of its door by one pass of the book.
+//! Lanes: each serves connection after connection of its door by one pass of the book. Workers beside them check buckets.
 #![tactic(auto)]
 
 mod lane;
 mod lanes;
+mod workers;
 
 pub use lane::{LaneEnd, serve_lane};
-pub use lanes::{Lane, Serving, run_lanes};
+pub use lanes::{Lane, Served, Serving, run_lanes};
+pub use workers::{Lack, Worker};
