@@ -1,5 +1,5 @@
 -- What the commands do and answer.
-use Rattle.std.specs.Prelude.{◌≡◌, ◌⊎◌, ℕ, List, [], ◌∷◌, if◌then◌else◌, Option, Some, None, codes}
+use Rattle.std.specs.Prelude.{◌≡◌, ◌≢◌, ◌⊎◌, ℕ, List, [], ◌∷◌, if◌then◌else◌, Option, Some, None, codes, ⊥}
 use Rattle.std.specs.Str.{bytes_eq}
 use Rattle.bim_io.specs.Seen.{ClockSeen, Outside, outside}
 use Rattle.bim_session.specs.declared.end.SessionEnd.{SessionEnd}
@@ -12,7 +12,11 @@ use Rattle.batch_commands.specs.CheckWords.{check_words}
 use Rattle.batch_commands.specs.GenerateWords.{generate_words}
 use Rattle.batch_commands.specs.Commands.{Checks, Generates}
 use Rattle.batch_commands.specs.Writes.{PrintsUsage, WantsMemory}
+use Rattle.bim_net.specs.Hosts.{HostSeen}
+use Rattle.bim_server.specs.declared.serve.Ended.{Ended}
 use Rattle.bim_server.specs.Words.{replay_words}
+use Rattle.bim_server.specs.ServeWords.{serve_words}
+use Rattle.bim_server.specs.Serving.{ServesBy, without_book}
 
 -- nothing was read, and the clock was not asked
 abbrev pub ReadsNothing : Outside → Outside → Type 0
@@ -58,28 +62,46 @@ pub data Command : Type 0 where
   Replay : List (List ℕ) → Command
   Check : List (List ℕ) → Command
   Generate : List (List ℕ) → Command
+  Serve : List (List ℕ) → Command
 
 -- the command of a name, where it is one that is built
 abbrev pub command_named : List ℕ → List (List ℕ) → Option Command
 command_named name words =
     if bytes_eq name (codes "replay") then Some (Replay words)
     else (if bytes_eq name (codes "check") then Some (Check words)
-    else (if bytes_eq name (codes "generate") then Some (Generate words) else None))
+    else (if bytes_eq name (codes "generate") then Some (Generate words)
+    else (if bytes_eq name (codes "serve") then Some (Serve words) else None)))
 
 -- the command that words ask for
 abbrev pub command_of : List (List ℕ) → Option Command
 command_of [] = None
 command_of (name ∷ words) = command_named name words
 
--- what a command does: `replay` leaves the files alone, `check` the source and the clock, and `generate` all three.
--- Without a command the usage line is printed.
-abbrev pub Runs : Option Command → Outside → Outside → FilesSeen → FilesSeen → ℕ → Type 0
-Runs None before after files files' status =
+-- what a command does that prints: `replay` leaves the files alone, `check` the source and the clock, and `generate` all
+-- three. Without a command the usage line is printed. No such command has a book.
+abbrev pub Prints : Option Command → Outside → Outside → FilesSeen → FilesSeen → ℕ → Type 0
+Prints None before after files files' status =
     PrintsUsage before.sink after.sink status × ReadsNothing before after × (files' ≡ files)
-Runs (Some (Replay words)) before after files files' status =
+Prints (Some (Replay words)) before after files files' status =
     Does (replay_words words) before after status × (files' ≡ files)
-Runs (Some (Check words)) before after files files' status =
+Prints (Some (Check words)) before after files files' status =
     Checks (check_words words) files files' before.sink after.sink status × ReadsNothing before after
-Runs (Some (Generate words)) before after files files' status =
+Prints (Some (Generate words)) before after files files' status =
     Generates (generate_words words) before.sink after.sink status × ReadsNothing before after
     × (files' ≡ files)
+Prints (Some (Serve words)) before after files files' status = ⊥
+
+-- what `serve` writes: the usage line where its words are outside its grammar, else nothing
+abbrev pub SaysUsage : Outside → Outside → ℕ → Type 0
+SaysUsage before after status =
+    ((status ≡ 2) × PrintsUsage before.sink after.sink status)
+    ⊎ ((status ≢ 2) × (after.sink ≡ before.sink))
+
+-- what a command does: `serve` leaves the source, the clock and the files alone, and the others the host
+abbrev pub Runs : Option Command → Outside → Outside → FilesSeen → FilesSeen → HostSeen → HostSeen → Ended
+    → Type 0
+Runs (Some (Serve words)) before after files files' host host' ended =
+    ServesBy (serve_words words) host host' ended × SaysUsage before after ended.status
+    × ReadsNothing before after × (files' ≡ files)
+Runs command before after files files' host host' ended =
+    Prints command before after files files' ended.status × (ended ≡ without_book ended.status) × (host' ≡ host)
