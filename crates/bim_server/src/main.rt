@@ -4,6 +4,8 @@
 mod commands;
 mod one_thread;
 mod serve;
+#[cfg(test)]
+mod serve_tests;
 mod serve_words;
 mod session;
 #[cfg(test)]

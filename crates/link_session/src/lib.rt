@@ -5,3 +5,6 @@ mod session;
 mod sinks;
 
 pub use session::{Progress, serve_link};
+
+#[cfg(test)]
+mod tests;
