@@ -5,7 +5,7 @@ ghost use Rattle.bim_io.specs.Seen.{outside};
 ghost use Rattle.bim_server.specs.Words.{replay_words, IsReplay};
 ghost use Rattle.batch_commands.specs.Writes.{PrintsUsage};
 ghost use Rattle.bim_server.specs.Serving.{without_book};
-ghost use Rattle.bim_server.specs.Commands.{Does, ReplaysBy, Runs, command_of};
+ghost use Rattle.bim_server.specs.Commands.{Does, ReplaysBy, Runs, command_of, Ends, asked_by};
 
 use crate::serve::{Ended, run_serve};
 use crate::session::{run_session, status_of};
@@ -82,6 +82,42 @@ pub fn run_replay<S: Source, K: Sink, C: Clock>(
     }
 }
 
+// Does what the command of the first word does, one other than `serve`, and answers its status. Another word is outside
+// the grammar, so it prints the usage line and answers 2.
+fn run_other<S: Source, K: Sink, F: Files, C: Clock>(
+    alloc: Global,
+    words: &[Text],
+    source: &mut S,
+    sink: &mut K,
+    files: &mut F,
+    clock: &mut C,
+) -> u8
+    ensures does { Runs (command_of words.now)
+        (outside (S.seen source.old) (K.seen sink.old) (C.seen clock.old))
+        (outside (S.seen source.new) (K.seen sink.new) (C.seen clock.new))
+        (F.seen files.old) (F.seen files.new) result }
+    ensures read { result ≡ 4 → Rose (S.seen source.old).faults (S.seen source.new).faults
+        ⊎ Rose (F.seen files.old).faults (F.seen files.new).faults }
+    ensures source { (S.seen source.old).faults < (S.seen source.new).faults → result ≡ 4 }
+    ensures files { (F.seen files.old).faults < (F.seen files.new).faults → result ≡ 4 }
+    ensures write { result ≡ 5 → Rose (K.seen sink.old).faults (K.seen sink.new).faults }
+{
+    match words {
+        [] => print_usage(sink),
+        [name, rest @ ..] => {
+            if is_word(name.as_str(), "replay") {
+                run_replay(alloc, rest, source, sink, clock)
+            } else if is_word(name.as_str(), "check") {
+                run_check(alloc, rest, files, sink)
+            } else if is_word(name.as_str(), "generate") {
+                run_generate(alloc, rest, sink)
+            } else {
+                print_usage(sink)
+            }
+        }
+    }
+}
+
 // Where the words were outside the grammar, the usage line is printed.
 fn say_usage<K: Sink>(ended: Ended, sink: &mut K) -> Ended
     requires { ended.status ≡ 2 → ended ≡ without_book 2 }
@@ -96,8 +132,8 @@ fn say_usage<K: Sink>(ended: Ended, sink: &mut K) -> Ended
     }
 }
 
-/// Does what the command of the first word does, and answers how it ended. A command that is not built is outside the
-/// grammar, so it prints the usage line and answers 2; so are other words than those of `serve` behind that name.
+/// Does what the command of the first word does, and answers how it ended. Another word is outside the grammar, so it prints
+/// the usage line and answers 2; so are words behind `serve` that it doesn't take.
 pub fn run<
     R: Threads + Wait + Sync,
     S: Source,
@@ -121,7 +157,7 @@ pub fn run<
 where
     D::S: Send,
     D::K: Send,
-    ensures does { Runs (command_of words.now)
+    ensures ends { Ends (asked_by words.now)
         (outside (S.seen source.old) (K.seen sink.old) (T.seen clock.old))
         (outside (S.seen source.new) (K.seen sink.new) (T.seen clock.new))
         (F.seen files.old) (F.seen files.new) (H.seen host.old) (H.seen host.new) result }
@@ -135,17 +171,11 @@ where
     match words {
         [] => Ended::of(print_usage(sink)),
         [name, rest @ ..] => {
-            if is_word(name.as_str(), "replay") {
-                Ended::of(run_replay(alloc, rest, source, sink, clock))
-            } else if is_word(name.as_str(), "check") {
-                Ended::of(run_check(alloc, rest, files, sink))
-            } else if is_word(name.as_str(), "generate") {
-                Ended::of(run_generate(alloc, rest, sink))
-            } else if is_word(name.as_str(), "serve") {
+            if is_word(name.as_str(), "serve") {
                 let ended = run_serve::<R, D, C, G, H>(rt, alloc, rest, host);
                 say_usage(ended, sink)
             } else {
-                Ended::of(print_usage(sink))
+                Ended::of(run_other(alloc, words, source, sink, files, clock))
             }
         }
     }

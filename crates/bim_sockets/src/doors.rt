@@ -12,7 +12,7 @@ use std::net::{TcpListener, TcpStream};
 use std::thread::yield_now;
 use std::time::Duration;
 
-/// How long a read waits for the next byte, in seconds. Then it fails.
+/// How long a read waits for the next byte, and a write until a byte is taken, in seconds. Then it fails.
 pub const SILENCE: u64 = 60;
 
 /// How many connections may fail one after another before they are set up, until the door fails.
@@ -73,13 +73,15 @@ impl Sink for TcpSink {
 /// A connection over a socket. Its two ends are two handles of the one socket.
 pub type TcpLink = Link<TcpSource, TcpSink>;
 
-// A connection over this socket: small writes go out at once, and a read of a silent peer fails in the end.
+// A connection over this socket: small writes go out at once, and a read from a silent peer, and a write to one that takes
+// nothing, fail in the end.
 fn link_of(stream: TcpStream) -> IoResult<TcpLink>
     ensures source { IfOk result (λ l. l.source ≡ record { ended = false; faults = 0 }) }
     ensures sink { IfOk result (λ l. l.sink ≡ 0) }
 {
     stream.set_nodelay(true)?;
     stream.set_read_timeout(Some(Duration::from_secs(SILENCE)))?;
+    stream.set_write_timeout(Some(Duration::from_secs(SILENCE)))?;
     let other = stream.try_clone()?;
     Ok(Link {
         source: TcpSource {

@@ -85,11 +85,6 @@ EndsLane links Closed d = d.closed ≡ true
 EndsLane links Full d = (0 < links) × (d.gave ≡ links)
 EndsLane links Failed d = 0 < d.faults
 
--- whether a lane ended by a fault of its door
-abbrev pub has_failed : LaneEnd → Bool
-has_failed Failed = true
-has_failed _ = false
-
 -- why a door serves no more, where `failed` says whether one of them failed: it is closed, or it failed, or it gave as many
 -- connections as it was to
 abbrev pub IsOver : ℕ → Bool → DoorSeen → Type 0
