@@ -1,5 +1,6 @@
 -- Connections one after another, and what they are in one history.
-use Rattle.std.proofs.Common.{◌≡◌, ℕ, ◌+◌, ◌<◌, ◌≤◌, List, [], ◌∷◌, ◌++◌, length-append, if◌then◌else◌, Option, Some, None, refl, sym, ◌∙◌, ap, subst, arith, append_assoc, append-nil, le-leb}
+use Rattle.std.proofs.Common.{◌≡◌, ℕ, ◌+◌, ◌<◌, ◌≤◌, List, [], ◌∷◌, ◌++◌, length-append, if◌then◌else◌, Option, Some, None, refl, sym, ◌∙◌, ap, subst, arith, append_assoc, append-nil, le-leb, Bool, true, false, ◌||◌}
+use Rattle.std.proofs.lemmas.List.Folds.{list_any-append}
 use mathlib.Core.Logic.{dite}
 use native.Mathlib.Decide.{dec_le}
 use borrow.Author.Tests.{lt-leb}
@@ -9,7 +10,7 @@ use Rattle.book_turn.specs.Entries.{AllBefore, AllAfter, up_to}
 use Rattle.book_turn.proofs.Prefixes.{up_to_later, up_to_all}
 use Rattle.book_history.specs.declared.changes.Entry.{Entry}
 use Rattle.book_passes.specs.Lessons.{turn_of}
-use Rattle.serve_lanes.specs.Lanes.{Chain, ChainIn, LaneServed, seen_at, end_turn}
+use Rattle.serve_lanes.specs.Lanes.{Chain, ChainIn, LaneServed, seen_at, end_turn, is_memory, some_memory}
 
 pub grows_by_none : {X : Type 0} (o : Option (List X)) → GrowsBy o o []
 grows_by_none None = tt
@@ -24,6 +25,20 @@ grows_by_trans (Some xs) None (Some zs) x y p q = absurd q
 grows_by_trans (Some xs) (Some ys) None x y p q = tt
 grows_by_trans (Some xs) (Some ys) (Some zs) x y p q = q ∙ ap (λ b. b ++ y) p ∙ append_assoc xs x y
 
+or_none : (b : Bool) → b ≡ (b || false)
+or_none true = refl
+or_none false = refl
+
+or_both : (a x y : Bool) → ((a || x) || y) ≡ (a || (x || y))
+or_both true x y = refl
+or_both false x y = refl
+
+-- what is noted of two lists of connections, one after the other
+noted_both : (a b c : Bool) (xs ys : List EndedLink) → b ≡ (a || some_memory xs) → c ≡ (b || some_memory ys) → c ≡ (a || some_memory (xs ++ ys))
+noted_both a b c xs ys first then =
+    then ∙ ap (λ b. b || some_memory ys) first ∙ or_both a (some_memory xs) (some_memory ys)
+    ∙ ap (λ n. a || n) (sym (list_any-append (λ (x : EndedLink). is_memory x.end.kind) xs ys))
+
 module _ (serves : List Entry → ℕ → EndedLink → List Entry → Type 0) where
   pub chain_append : (before : List Entry) (last : ℕ) (xs ys : List EndedLink) (mid : List Entry) (between : ℕ) (history : List Entry) (top : ℕ)
       → Chain serves before last xs mid between → Chain serves mid between ys history top → Chain serves before last (xs ++ ys) history top
@@ -31,8 +46,8 @@ module _ (serves : List Entry → ℕ → EndedLink → List Entry → Type 0) w
       subst (λ (h : List Entry). Chain serves h last ys history top) p.0 (subst (λ (n : ℕ). Chain serves mid n ys history top) p.1 q)
   chain_append before last (x ∷ xs) ys mid between history top p q = (p.0, p.1, chain_append p.0 (end_turn x) xs ys mid between history top p.2 q)
 
-  pub lane_start : (before : List Entry) (last : ℕ) (d : DoorSeen) → LaneServed serves before last before last d d
-  lane_start before last d = record {
+  pub lane_start : (before : List Entry) (last : ℕ) (d : DoorSeen) (noted : Bool) → LaneServed serves before last before last d d noted noted
+  lane_start before last d noted = record {
     links = [];
     grown = grows_by_none d.ended;
     chain = (refl, refl);
@@ -42,11 +57,12 @@ module _ (serves : List Entry → ℕ → EndedLink → List Entry → Type 0) w
     balanced = λ b. b;
     tells = λ b s. s;
     faults = omega arith;
+    memory = or_none noted;
   }
 
-  pub lane_trans : (before : List Entry) (last : ℕ) (mid : List Entry) (between : ℕ) (history : List Entry) (top : ℕ) (a b c : DoorSeen)
-      → LaneServed serves before last mid between a b → LaneServed serves mid between history top b c → LaneServed serves before last history top a c
-  lane_trans before last mid between history top a b c p q = record {
+  pub lane_trans : (before : List Entry) (last : ℕ) (mid : List Entry) (between : ℕ) (history : List Entry) (top : ℕ) (a b c : DoorSeen) (m n o : Bool)
+      → LaneServed serves before last mid between a b m n → LaneServed serves mid between history top b c n o → LaneServed serves before last history top a c m o
+  lane_trans before last mid between history top a b c m n o p q = record {
     links = p.links ++ q.links;
     grown = grows_by_trans a.ended b.ended c.ended p.links q.links p.grown q.grown;
     chain = chain_append before last p.links q.links mid between history top p.chain q.chain;
@@ -56,6 +72,7 @@ module _ (serves : List Entry → ℕ → EndedLink → List Entry → Type 0) w
     balanced = λ even. q.balanced (p.balanced even);
     tells = λ even some. q.tells (p.balanced even) (p.tells even some);
     faults = (let first = p.faults in let then = q.faults in omega (arith, first, then));
+    memory = noted_both m n o p.links q.links p.memory q.memory;
   }
 
 -- ---- what is seen up to a turn

@@ -26,10 +26,10 @@ door_grown s history top whole top' door d front le =
 
 module _ {D : Type 0} (seen : D → DoorSeen) where
   -- one more pass is joined, with the door that it served
-  pub doors_joined : (s : Service) (v other w : BookPass) (doors : List D) (door : D) → Joined stamp_of v other w
-      → All (λ d. DoorDone s v.seen v.last (seen d)) doors → LaneDone s other.seen other.last (seen door)
+  pub doors_joined : (s : Service) (v other w : BookPass) (doors : List D) (door : D) (memory : Bool) → Joined stamp_of v other w
+      → All (λ d. DoorDone s v.seen v.last (seen d)) doors → LaneDone s other.seen other.last (seen door) memory
       → All (λ d. DoorDone s w.seen w.last (seen d)) (doors ++ door ∷ [])
-  doors_joined s v other w doors door joined all done =
+  doors_joined s v other w doors door memory joined all done =
       let last : w.last ≡ max v.last other.last = joined.last in
       let le : v.last ≤ w.last = omega (arith, last) in
       let le' : other.last ≤ w.last = omega (arith, last) in

@@ -1,5 +1,5 @@
 -- One connection that was served, and how its door and what its pass has seen grow.
-use Rattle.std.proofs.Common.{◌≡◌, ℕ, ◌+◌, ◌≤◌, List, [], ◌∷◌, ◌++◌, length, Option, Some, None, IsSome, IfSome, refl, sym, ◌∙◌, ap, subst, length-append, arith}
+use Rattle.std.proofs.Common.{◌≡◌, ℕ, ◌+◌, ◌≤◌, List, [], ◌∷◌, ◌++◌, length, Option, Some, None, IsSome, IfSome, refl, sym, ◌∙◌, ap, subst, length-append, arith, Bool, true, false, ◌||◌}
 use Rattle.bim_io.specs.Seen.{ClockSeen, outside}
 use Rattle.bim_net.specs.declared.ends.LinkEnd.{LinkEnd}
 use Rattle.bim_net.specs.Seen.{LinkSeen, EndedLink, DoorSeen, IsFresh}
@@ -10,7 +10,7 @@ use Rattle.book_history.specs.declared.changes.Entry.{Entry}
 use Rattle.book_passes.specs.Lessons.{CallerSeen, turn_of}
 use Rattle.bim_session.specs.declared.end.SessionEnd.{SessionEnd}
 use Rattle.link_session.specs.Serving.{Serves}
-use Rattle.serve_lanes.specs.Lanes.{ServedLink, LaneServed, IsBalanced, kind_of, end_turn}
+use Rattle.serve_lanes.specs.Lanes.{ServedLink, LaneServed, IsBalanced, kind_of, end_turn, is_memory}
 use Rattle.serve_lanes.proofs.Chains.{Grew, grows_by_none}
 
 -- the session over a connection that was given back
@@ -84,11 +84,20 @@ back_even b c x back one =
     let gave : c.gave ≡ b.gave = ap (λ (d : DoorSeen). d.gave) back.others in
     subst (λ n. IfSome c.ended (λ es. length es ≡ n)) (sym gave) (even_of b.ended c.ended x b.gave back.grows one)
 
+noted_one : (m n b : Bool) → n ≡ (m || b) → n ≡ (m || (b || false))
+noted_one m n true is = is
+noted_one m n false is = is
+
+noted_none : (m : Bool) → m ≡ (m || false)
+noted_none true = refl
+noted_none false = refl
+
 -- a lane that served one connection
-pub lane_one : (serves : List Entry → ℕ → EndedLink → List Entry → Type 0) (before : List Entry) (last : ℕ) (x : EndedLink) (history : List Entry) (top : ℕ) (a b c : DoorSeen)
+pub lane_one : (serves : List Entry → ℕ → EndedLink → List Entry → Type 0) (before : List Entry) (last : ℕ) (x : EndedLink) (history : List Entry) (top : ℕ) (a b c : DoorSeen) (m n : Bool)
     → b ≡ record a { gave = a.gave + 1 } → TakesBack x b c → serves before last x history → end_turn x ≡ top
-    → (AllBefore turn_of (last + 1) before → AllBefore turn_of (top + 1) history) → LaneServed serves before last history top a c
-lane_one serves before last x history top a b c given back one is up =
+    → (AllBefore turn_of (last + 1) before → AllBefore turn_of (top + 1) history) → n ≡ (m || is_memory x.end.kind)
+    → LaneServed serves before last history top a c m n
+lane_one serves before last x history top a b c m n given back one is up noted =
     let ended : b.ended ≡ a.ended = ap (λ (d : DoorSeen). d.ended) given in
     let faults : c.faults ≡ a.faults = ap (λ (d : DoorSeen). d.faults) back.others ∙ ap (λ (d : DoorSeen). d.faults) given in
     record {
@@ -101,12 +110,13 @@ lane_one serves before last x history top a b c given back one is up =
       balanced = λ even. back_even b c x back (gives_out a b given even);
       tells = λ even some. back.tells (has_out b.ended b.gave (gives_out a b given even) (subst IsSome (sym ended) some));
       faults = omega (arith, faults);
+      memory = noted_one m n (is_memory x.end.kind) noted;
     }
 
 -- a lane that served none: its door is closed, or failed
-pub lane_none : (serves : List Entry → ℕ → EndedLink → List Entry → Type 0) (before : List Entry) (last : ℕ) (a c : DoorSeen)
-    → c.ended ≡ a.ended → c.gave ≡ a.gave → c.number ≡ a.number → a.faults ≤ c.faults → LaneServed serves before last before last a c
-lane_none serves before last a c ended gave number faults = record {
+pub lane_none : (serves : List Entry → ℕ → EndedLink → List Entry → Type 0) (before : List Entry) (last : ℕ) (a c : DoorSeen) (m : Bool)
+    → c.ended ≡ a.ended → c.gave ≡ a.gave → c.number ≡ a.number → a.faults ≤ c.faults → LaneServed serves before last before last a c m m
+lane_none serves before last a c m ended gave number faults = record {
   links = [];
   grown = subst (λ (o : Option (List EndedLink)). GrowsBy a.ended o []) (sym ended) (grows_by_none a.ended);
   chain = (refl, refl);
@@ -116,4 +126,5 @@ lane_none serves before last a c ended gave number faults = record {
   balanced = λ even. subst (λ n. IfSome c.ended (λ es. length es ≡ n)) (sym gave) (subst (λ o. IfSome o (λ es. length es ≡ a.gave)) (sym ended) even);
   tells = λ even some. subst IsSome (sym ended) some;
   faults = faults;
+  memory = noted_none m;
 }

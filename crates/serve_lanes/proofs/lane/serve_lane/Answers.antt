@@ -10,14 +10,14 @@ loop-init g c = record {
   number = refl;
   clock = refl;
   left = λ some. (some, refl);
-  served = lane_start _ _ _ _;
+  served = lane_start _ _ _ _ _;
 }
 
 pub returns-in-Stop-clause-served : goal.returns-in-Stop-clause-served
-returns-in-Stop-clause-served g c = lane_trans _ _ _ _ _ _ _ _ _ _ c.loop.invariant.served (rw (c.loop.invariant.clock, c.loop.invariant.number) at c.serve_next.ensures.served)
+returns-in-Stop-clause-served g c = lane_trans _ _ _ _ _ _ _ _ _ _ _ _ _ c.loop.invariant.served (rw (c.loop.invariant.clock, c.loop.invariant.number) at c.serve_next.ensures.served)
 
 pub returns-then-left-eq0-clause-served : goal.returns-then-left-eq0-clause-served
-returns-then-left-eq0-clause-served g c = lane_trans _ _ _ _ _ _ _ _ _ _ c.loop.invariant.served (rw (c.loop.invariant.clock, c.loop.invariant.number) at c.serve_next.ensures.served)
+returns-then-left-eq0-clause-served g c = lane_trans _ _ _ _ _ _ _ _ _ _ _ _ _ c.loop.invariant.served (rw (c.loop.invariant.clock, c.loop.invariant.number) at c.serve_next.ensures.served)
 
 pub loop-preserved-else-left-eq0 : goal.loop-preserved-else-left-eq0
 loop-preserved-else-left-eq0 g c = record {
@@ -32,7 +32,7 @@ loop-preserved-else-left-eq0 g c = record {
   own = c.serve_next.ensures.own;
   number = c.serve_next.ensures.number ∙ c.loop.invariant.number;
   clock = c.serve_next.ensures.clock ∙ c.loop.invariant.clock;
-  served = lane_trans _ _ _ _ _ _ _ _ _ _ c.loop.invariant.served (rw (c.loop.invariant.clock, c.loop.invariant.number) at c.serve_next.ensures.served);
+  served = lane_trans _ _ _ _ _ _ _ _ _ _ _ _ _ c.loop.invariant.served (rw (c.loop.invariant.clock, c.loop.invariant.number) at c.serve_next.ensures.served);
 }
 
 pub loop-preserved : goal.loop-preserved
@@ -43,5 +43,5 @@ loop-preserved g c = record {
   own = c.serve_next.ensures.own;
   number = c.serve_next.ensures.number ∙ c.loop.invariant.number;
   clock = c.serve_next.ensures.clock ∙ c.loop.invariant.clock;
-  served = lane_trans _ _ _ _ _ _ _ _ _ _ c.loop.invariant.served (rw (c.loop.invariant.clock, c.loop.invariant.number) at c.serve_next.ensures.served);
+  served = lane_trans _ _ _ _ _ _ _ _ _ _ _ _ _ c.loop.invariant.served (rw (c.loop.invariant.clock, c.loop.invariant.number) at c.serve_next.ensures.served);
 }
