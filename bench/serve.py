@@ -51,7 +51,9 @@ class Server:
         self.port = free_port()
         self.words = [program, "serve", "--addr", f"{HOST}:{self.port}", "--lanes", str(lanes), "--workers",
                       str(workers), "--links", str(links), "--projects", str(projects)]
-        self.run = subprocess.Popen(self.words, stdin=subprocess.DEVNULL, stdout=subprocess.PIPE, stderr=subprocess.PIPE)
+        # (a job in the background begins with this signal shut out)
+        self.run = subprocess.Popen(self.words, stdin=subprocess.DEVNULL, stdout=subprocess.PIPE, stderr=subprocess.PIPE,
+                                    preexec_fn=lambda: signal.signal(signal.SIGINT, signal.SIG_DFL))
 
     def __enter__(self):
         return self
@@ -490,7 +492,7 @@ def cut(program):
         for n in range(40):
             cut_one(Exchange("POST", topics_of(), b'{"title":"named %d"}' % n).bytes_of(), n % 2 == 0)
             named += 1
-        time.sleep(0.5)
+        time.sleep(1)
         client = Client(server)
         listed = [it["title"] for it in json.loads(client.ask("GET", topics_of()).reply)]
         want(len(set(listed)) == len(listed) and "cut" not in listed, f"listed: {listed}")
@@ -499,6 +501,43 @@ def cut(program):
         client.ask("POST", topics_of(), b'{"title":"after"}')
         want(server.run.poll() is None, "the server ended")
     return f"{len(listed)} of {named} changes whose replies were not read stand, each once"
+
+
+def refused_at_once(program):
+    """A request that is refused before its body came is answered, and the answer reaches a client that goes on sending; so
+    does that to a request that asks for closing, behind which more was sent."""
+    with Server(program, lanes=2) as server:
+        it = server.connect()
+        head = f"PUT /coord/1/projects/{project_id(1)}/models/a HTTP/1.1\r\nHost: h\r\nContent-Length: 33554433\r\n\r\n"
+        it.sendall(head.encode())
+        for _ in range(32):
+            it.sendall(b"x" * (1 << 20))
+        got = b""
+        while True:
+            more = it.recv(1 << 16)
+            if not more:
+                break
+            got += more
+        want(got.startswith(b"HTTP/1.1 413 "), f"{got[:80]!r}")
+        it.close()
+        it = server.connect()
+        it.sendall(Exchange("GET", topics_of()).bytes_of(last=True) + b"x" * 3_000_000)
+        got = b""
+        while True:
+            more = it.recv(1 << 16)
+            if not more:
+                break
+            got += more
+        want(got.startswith(b"HTTP/1.1 200 ") and got.endswith(b"[]"), f"{got[:80]!r}")
+        it.close()
+        began = time.monotonic()
+        it = server.connect()
+        it.sendall(Exchange("GET", topics_of()).bytes_of(last=True))
+        while it.recv(1 << 16):
+            pass
+        other = Client(server)
+        other.ask("GET", topics_of())
+    return f"the lane of a client that doesn't close was free after {time.monotonic() - began:.2f} s"
 
 
 def end_by_links(program):
@@ -630,7 +669,7 @@ def settled(client, projects):
 def case(program, folder, name, has_clashes):
     with open(f"{folder}/{name}.json", encoding="utf-8") as file:
         told = json.load(file)
-    given = told["args"]
+    given = " ".join(told["args"]).replace("=", " ").split()
     projects = int(given[given.index("--projects") + 1]) if "--projects" in given else 1
     data = open(f"{folder}/{name}.in", "rb").read()
     wanted = open(f"{folder}/{name}.out", "rb").read()
@@ -641,7 +680,11 @@ def case(program, folder, name, has_clashes):
 
         def take():
             while True:
-                more = it.recv(1 << 16)
+                try:
+                    more = it.recv(1 << 16)
+                except OSError as fault:
+                    output.append(str(fault).encode())
+                    return
                 if not more:
                     return
                 output.append(more)
@@ -669,7 +712,7 @@ def case(program, folder, name, has_clashes):
     turns = [int(n) for n in TURN.findall(got)]
     want(turns == sorted(turns), f"turns fall: {turns}")
     def same(text):
-        return re.sub(rb"Content-Length: \d+\r\n", b"", TURN.sub(b"X-Book-Turn: \r\n", DATE.sub(b'"\\1_date":""', text)))
+        return TURN.sub(b"X-Book-Turn: \r\n", plain(text))
     if same(got) != same(wanted):
         a, b = same(got), same(wanted)
         at = next((i for i, (x, y) in enumerate(zip(a, b)) if x != y), min(len(a), len(b)))
@@ -683,8 +726,7 @@ def cases(program, folder):
     for name in names:
         with open(f"{folder}/{name}.json", encoding="utf-8") as file:
             told = json.load(file)
-        at = told["args"]
-        if at[:1] != ["replay"] or told["status"] == 2 or "--buckets" in at:
+        if told["args"][:1] != ["replay"] or told["status"] == 2 or "--buckets" in " ".join(told["args"]):
             continue
         count += 1
         data = open(f"{folder}/{name}.in", "rb").read()
@@ -699,7 +741,7 @@ def cases(program, folder):
 
 
 ROWS = {it.__name__: it for it in (words, pipelined, many_clients, interleaved, clashes, slow, never_reads, cut,
-                                   end_by_links, end_by_signal, silent)}
+                                   refused_at_once, end_by_links, end_by_signal, silent)}
 
 
 def main():

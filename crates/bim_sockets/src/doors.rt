@@ -4,11 +4,11 @@ ghost use Rattle.bim_net.specs.Seen.{ended_link, link_seen};
 ghost use Rattle.bim_net.specs.Doors.{TakesBack};
 ghost use Rattle.bim_sockets.specs.Sockets.{new_door, door_seen};
 
-use bim_io::{Failed, Sink, Source, StdSink, StdSource};
-use bim_net::{Door, Link, LinkEnd};
-use std::io::Result as IoResult;
+use bim_io::{Failed, Sink, Source, StdSink};
+use bim_net::{Door, EndKind, Link, LinkEnd};
+use std::io::{Read, Result as IoResult};
 use std::marker::Model;
-use std::net::{TcpListener, TcpStream};
+use std::net::{Shutdown, TcpListener, TcpStream};
 use std::thread::yield_now;
 use std::time::Duration;
 
@@ -18,10 +18,18 @@ pub const SILENCE: u64 = 60;
 /// How many connections may fail one after another before they are set up, until the door fails.
 const MOST_BROKEN: u32 = 1000;
 
+/// How long a peer that is parted from may be silent before it is let go, in seconds.
+const PARTING: u64 = 1;
+
+/// How often it is read from at most. So many reads take in the longest upload.
+const MOST_PARTING: u32 = 2_100;
+
 /// What comes from a socket.
 #[derive(Drop)]
 pub struct TcpSource {
-    inner: StdSource<TcpStream>,
+    stream: TcpStream,
+    ended: bool,
+    faults: u64,
 }
 
 impl Model for TcpSource {
@@ -29,7 +37,50 @@ impl Model for TcpSource {
 
     ghost Value = { StreamState };
 
-    ghost view = { λ s. s.inner };
+    ghost view = { λ s. record { ended = s.ended; faults = s.faults } };
+}
+
+impl TcpSource {
+    fn new(stream: TcpStream) -> TcpSource
+        ensures { result ≡ record { ended = false; faults = 0 } }
+    {
+        TcpSource {
+            stream,
+            ended: false,
+            faults: 0,
+        }
+    }
+
+    // Says that nothing more is written, and reads on for a while: a socket that is closed while bytes of the peer are
+    // unread is reset, and the peer might never read the last response (RFC 9112, section 9.6).
+    fn part(&mut self) {
+        let silence = Some(Duration::from_secs(PARTING));
+        if self.stream.shutdown(Shutdown::Write).is_err()
+            || self.stream.set_read_timeout(silence).is_err()
+        {
+            return;
+        }
+        let mut room = [0u8; 16_384];
+        for _ in 0..MOST_PARTING {
+            match self.stream.read(&mut room) {
+                Ok(0) => return,
+                Ok(_) => {}
+                Err(_) => return,
+            }
+        }
+    }
+}
+
+// Whether the peer may have sent more than was read before its session ended.
+fn is_parted(kind: EndKind) -> bool {
+    match kind {
+        EndKind::Asked => true,
+        EndKind::Frame => true,
+        EndKind::Spent => true,
+        EndKind::SpentTurns => true,
+        EndKind::Memory => true,
+        _ => false,
+    }
 }
 
 impl Source for TcpSource {
@@ -44,7 +95,18 @@ impl Source for TcpSource {
     ghost at_end = { λ s ended. tt };
 
     fn read(&mut self, room: &mut [u8]) -> Result<usize, Failed> {
-        self.inner.read(room)
+        match self.stream.read(room) {
+            Ok(count) => {
+                if count == 0 && room.len() > 0 {
+                    self.ended = true;
+                }
+                Ok(count)
+            }
+            Err(_) => {
+                self.faults = self.faults.saturating_add(1);
+                Err(Failed)
+            }
+        }
     }
 }
 
@@ -84,9 +146,7 @@ fn link_of(stream: TcpStream) -> IoResult<TcpLink>
     stream.set_write_timeout(Some(Duration::from_secs(SILENCE)))?;
     let other = stream.try_clone()?;
     Ok(Link {
-        source: TcpSource {
-            inner: StdSource::new(stream),
-        },
+        source: TcpSource::new(stream),
         sink: TcpSink {
             inner: StdSink::new(other),
         },
@@ -191,6 +251,9 @@ impl Door for TcpDoor {
             (record { held = None; faults = link.sink })) end)
             (door_seen self.old) (door_seen self.new) }
     {
-        let _ = (link, end);
+        let mut link = link;
+        if is_parted(end.kind) {
+            link.source.part();
+        }
     }
 }
