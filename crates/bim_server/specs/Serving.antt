@@ -54,7 +54,11 @@ IsOverAt links status d =
 -- its entries other than those of checked buckets carries the pass of one of the lanes. Where a session ended for want of
 -- memory, the status is 6. All buckets of live versions are checked, or the status is 6 or 7.
 pub record ServesAll (counts : ServeCounts) (host host' : HostSeen) (book : BookState) (status : ℕ) : Type 0 where
-  pub closings : host'.closings ≡ counted host.closings
+  pub others : host' ≡ record host {
+    closings = counted host.closings;
+    closed = host'.closed;
+    faults = host'.faults;
+  }
   pub numbers : map (λ (d : DoorSeen). d.number) host'.closed ≡ numbers_from 0 counts.lanes
   pub settings : book.settings ≡ stated_settings counts.projects
   pub doors : All (DoorServed (service_of counts host) book.journal) host'.closed
