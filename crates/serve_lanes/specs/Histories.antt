@@ -79,10 +79,11 @@ pub record DoorServed (s : Service) (history : List Entry) (door : DoorSeen) : T
 
 -- ---- why lanes end, and what their ends say
 
--- why a lane that was to serve so many connections, 0 for any number, serves no more
+-- why a lane that was to serve so many connections, 0 for any number, serves no more: its door failed exactly where it
+-- ended so
 abbrev pub EndsLane : ℕ → LaneEnd → DoorSeen → Type 0
-EndsLane links Closed d = d.closed ≡ true
-EndsLane links Full d = (0 < links) × (d.gave ≡ links)
+EndsLane links Closed d = (d.closed ≡ true) × (d.faults ≡ 0)
+EndsLane links Full d = (0 < links) × (d.gave ≡ links) × (d.faults ≡ 0)
 EndsLane links Failed d = 0 < d.faults
 
 -- why a door serves no more, where `failed` says whether one of them failed: it is closed, or it failed, or it gave as many

@@ -75,6 +75,7 @@ fn serve_next<R: Wait, D: Door, C: Clock, G: Gate>(
         memory.old memory.new }
     ensures failed { result ≡ Next.Stop LaneEnd.Failed
         → Rose (D.seen door.old).faults (D.seen door.new).faults }
+    ensures sound { result ≢ Next.Stop LaneEnd.Failed → (D.seen door.new).faults ≡ (D.seen door.old).faults }
     ensures closed { result ≡ Next.Stop LaneEnd.Closed → (D.seen door.new).closed ≡ true }
     ensures more { result ≡ Next.More → (D.seen door.new).gave ≡ (D.seen door.old).gave + 1 }
     ensures other { result ≢ Next.Stop LaneEnd.Full }
@@ -116,6 +117,7 @@ pub fn serve_lane<R: Wait, D: Door, C: Clock, G: Gate>(
         pass.old.seen pass.old.last pass.new.seen pass.new.last (D.seen door.old) (D.seen door.new)
         memory.old memory.new }
     ensures failed { result ≡ LaneEnd.Failed → Rose (D.seen door.old).faults (D.seen door.new).faults }
+    ensures sound { result ≢ LaneEnd.Failed → (D.seen door.new).faults ≡ (D.seen door.old).faults }
     ensures closed { result ≡ LaneEnd.Closed → (D.seen door.new).closed ≡ true }
     ensures full { result ≡ LaneEnd.Full
         → (0 < links) × ((D.seen door.new).gave ≡ (D.seen door.old).gave + links) }

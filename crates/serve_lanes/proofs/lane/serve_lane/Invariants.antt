@@ -10,6 +10,7 @@ invariant-loop g l = record {
   own : IsSingle l.fn.turn l.pass;
   number : l.pass.number ≡ l.initial.pass.number;
   clock : (g.C.Clock.seen l.clock).one ≡ (g.C.Clock.seen l.initial.clock).one;
+  sound : (g.D.Door.seen l.door).faults ≡ (g.D.Door.seen l.initial.door).faults;
   left : 0 < l.links → (0 < l.left) × ((g.D.Door.seen l.door).gave + l.left ≡ (g.D.Door.seen l.initial.door).gave + l.links);
   served : LaneServed (ServedLink (g.C.Clock.seen l.initial.clock).one l.fn.turn.settings l.initial.pass.number)
       l.initial.pass.seen l.initial.pass.last l.pass.seen l.pass.last (g.D.Door.seen l.initial.door) (g.D.Door.seen l.door)
