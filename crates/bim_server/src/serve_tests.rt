@@ -55,13 +55,7 @@ fn host(alloc: Global, doors: Vec<MemDoor>, holds: &[Hold]) -> Result<HoldHost, 
         list.push(*hold)?;
     }
     let moment: u64 = 1_714_564_800;
-    Ok(HoldHost::new(
-        alloc,
-        doors,
-        moment,
-        Items::new(alloc),
-        list,
-    )?)
+    Ok(HoldHost::new(alloc, doors, moment, Items::new(alloc), list)?)
 }
 
 // Serves, and no hold lasts until its looks run out.
@@ -238,7 +232,12 @@ fn each_change_has_a_turn_of_its_own(rt: HostRuntime) -> Result<(), Fail> {
 #[test]
 fn words_that_serve_does_not_take(rt: HostRuntime) -> Result<(), Fail> {
     let alloc = rt.alloc();
-    for words in [["--lanes", "33"], ["--workers", "0"], ["--links", "1000001"], ["--projects", "9"]] {
+    for words in [
+        ["--lanes", "33"],
+        ["--workers", "0"],
+        ["--links", "1000001"],
+        ["--projects", "9"],
+    ] {
         let mut host = host(alloc, Vec::new(alloc), &[])?;
         let ended = serve(&rt, alloc, words.as_slice(), &mut host)?;
         assert_eq!(rt; (ended.status, ended.book.is_none()), (2, true));

@@ -83,16 +83,66 @@ fn sessions_of_a_pass_go_on_from_its_turns(rt: HostRuntime) -> Result<(), Fail> 
     for most in [1, 7, 1_000_000] {
         let (turn, mut pass) = opened(alloc)?;
         let answers = MADE_AND_LISTED_ANSWERS;
-        assert_serves(&rt, alloc, &turn, &mut pass, MADE_AND_LISTED, most, (0, 0), SessionEnd::Closed { served: 2 }, answers)?;
+        assert_serves(
+            &rt,
+            alloc,
+            &turn,
+            &mut pass,
+            MADE_AND_LISTED,
+            most,
+            (0, 0),
+            SessionEnd::Closed { served: 2 },
+            answers,
+        )?;
         assert_eq!(rt; pass.last(), 2);
-        assert_serves(&rt, alloc, &turn, &mut pass, CLOSED, most, (0, 0), SessionEnd::Asked { served: 1 }, CLOSED_ANSWER)?;
-        assert_serves(&rt, alloc, &turn, &mut pass, b"\r\n", most, (0, 0), SessionEnd::Closed { served: 0 }, b"")?;
-        assert_serves(&rt, alloc, &turn, &mut pass, b"GET", most, (0, 0), SessionEnd::Cut { served: 0 }, b"")?;
+        assert_serves(
+            &rt,
+            alloc,
+            &turn,
+            &mut pass,
+            CLOSED,
+            most,
+            (0, 0),
+            SessionEnd::Asked { served: 1 },
+            CLOSED_ANSWER,
+        )?;
+        assert_serves(
+            &rt,
+            alloc,
+            &turn,
+            &mut pass,
+            b"\r\n",
+            most,
+            (0, 0),
+            SessionEnd::Closed { served: 0 },
+            b"",
+        )?;
+        assert_serves(
+            &rt,
+            alloc,
+            &turn,
+            &mut pass,
+            b"GET",
+            most,
+            (0, 0),
+            SessionEnd::Cut { served: 0 },
+            b"",
+        )?;
         let frame = SessionEnd::Frame {
             served: 0,
             fault: FrameFault::BadHead,
         };
-        assert_serves(&rt, alloc, &turn, &mut pass, b"NONSENSE\r\n", most, (0, 0), frame, NONSENSE_ANSWER)?;
+        assert_serves(
+            &rt,
+            alloc,
+            &turn,
+            &mut pass,
+            b"NONSENSE\r\n",
+            most,
+            (0, 0),
+            frame,
+            NONSENSE_ANSWER,
+        )?;
         assert_eq!(rt; pass.last(), 2);
         let book = turn.close(pass);
         assert_eq!(rt; book.journal().len(), 1);
@@ -106,10 +156,30 @@ fn faults_of_a_connection_end_its_session(rt: HostRuntime) -> Result<(), Fail> {
     let alloc = rt.alloc();
     let (turn, mut pass) = opened(alloc)?;
     let read = SessionEnd::ReadFault { served: 0 };
-    assert_serves(&rt, alloc, &turn, &mut pass, MADE_AND_LISTED, 1, (1, 0), read, b"")?;
+    assert_serves(
+        &rt,
+        alloc,
+        &turn,
+        &mut pass,
+        MADE_AND_LISTED,
+        1,
+        (1, 0),
+        read,
+        b"",
+    )?;
     assert_eq!(rt; pass.last(), 0);
     let write = SessionEnd::WriteFault { served: 0 };
-    assert_serves(&rt, alloc, &turn, &mut pass, MADE_AND_LISTED, 1, (0, 3), write, b"HT")?;
+    assert_serves(
+        &rt,
+        alloc,
+        &turn,
+        &mut pass,
+        MADE_AND_LISTED,
+        1,
+        (0, 3),
+        write,
+        b"HT",
+    )?;
     assert_eq!(rt; pass.last(), 1);
     let book = turn.close(pass);
     assert_eq!(rt; book.journal().len(), 1);

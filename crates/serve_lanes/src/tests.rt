@@ -20,13 +20,7 @@ fn door(alloc: Global, inputs: &[&[u8]], fails: u64) -> Result<MemDoor, Fail> {
     let mut links = Vec::new(alloc);
     for input in inputs {
         let contents = Bytes::of(alloc, input)?;
-        links.push(mem_link(
-            alloc,
-            contents,
-            1000,
-            Items::new(alloc),
-            Items::new(alloc),
-        )?)?;
+        links.push(mem_link(alloc, contents, 1000, Items::new(alloc), Items::new(alloc))?)?;
     }
     let mut list = Items::new(alloc);
     list.push(fails)?;
@@ -53,15 +47,49 @@ fn a_lane_ends_as_its_door_does(rt: HostRuntime) -> Result<(), Fail> {
     let mut memory = false;
     let inputs = [MAKE, b"".as_slice(), MAKE, b"GET".as_slice()];
     let mut first = door(alloc, &inputs, 0)?;
-    let end = serve_lane(&rt, alloc, &turn, &mut pass, &mut first, &mut clock, &gate, 3, &mut memory);
+    let end = serve_lane(
+        &rt,
+        alloc,
+        &turn,
+        &mut pass,
+        &mut first,
+        &mut clock,
+        &gate,
+        3,
+        &mut memory,
+    );
     assert_eq!(rt; end, LaneEnd::Full);
     let closed = EndKind::Closed;
     assert_ended(&rt, &first, &[(closed, 1), (closed, 1), (closed, 2)]);
-    let end = serve_lane(&rt, alloc, &turn, &mut pass, &mut first, &mut clock, &gate, 0, &mut memory);
+    let end = serve_lane(
+        &rt,
+        alloc,
+        &turn,
+        &mut pass,
+        &mut first,
+        &mut clock,
+        &gate,
+        0,
+        &mut memory,
+    );
     assert_eq!(rt; end, LaneEnd::Closed);
-    assert_ended(&rt, &first, &[(closed, 1), (closed, 1), (closed, 2), (EndKind::Cut, 2)]);
+    assert_ended(
+        &rt,
+        &first,
+        &[(closed, 1), (closed, 1), (closed, 2), (EndKind::Cut, 2)],
+    );
     let mut second = door(alloc, &[MAKE, MAKE], 2)?;
-    let end = serve_lane(&rt, alloc, &turn, &mut pass, &mut second, &mut clock, &gate, 0, &mut memory);
+    let end = serve_lane(
+        &rt,
+        alloc,
+        &turn,
+        &mut pass,
+        &mut second,
+        &mut clock,
+        &gate,
+        0,
+        &mut memory,
+    );
     assert_eq!(rt; end, LaneEnd::Failed);
     assert_ended(&rt, &second, &[(closed, 3)]);
     assert!(rt; !memory);
@@ -84,7 +112,10 @@ fn lanes_share_one_history(rt: HostRuntime) -> Result<(), Fail> {
     let gate = FreeGate::new(3);
     let served = run_lanes(&rt, alloc, book, doors, clocks, 1, &gate, 0)?;
     assert!(rt; served.failed && !served.memory && served.spent.is_none());
-    assert_eq!(rt; (served.book.journal().len(), served.book.left_all()), (5, 0));
+    assert_eq!(rt;
+        (served.book.journal().len(), served.book.left_all()),
+        (5, 0)
+    );
     let mut counts = Vec::new(alloc);
     for door in served.doors.as_slice() {
         counts.push(door.ended().len())?;
