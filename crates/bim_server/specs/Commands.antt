@@ -96,7 +96,8 @@ pub data Asked : Type 0 where
 -- what the words of the command line ask for
 abbrev pub asked_by : List (List ℕ) → Asked
 asked_by [] = Other None
-asked_by (name ∷ words) = if bytes_eq name (codes "serve") then Serve words else Other (command_named name words)
+asked_by (name ∷ words) =
+    if bytes_eq name (codes "serve") then Serve words else Other (command_named name words)
 
 -- what `serve` writes: the usage line where its words are outside its grammar, else nothing
 abbrev pub SaysUsage : Outside → Outside → ℕ → Type 0

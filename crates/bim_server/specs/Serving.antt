@@ -53,7 +53,8 @@ IsOverAt links status d =
 -- back: in it the connections of each door were served, one after another, by the pass of the door's number, and each of
 -- its entries other than those of checked buckets carries the pass of one of the lanes. Where a session ended for want of
 -- memory, the status is 6. All buckets of live versions are checked, or the status is 6 or 7.
-pub record ServesAll (counts : ServeCounts) (host host' : HostSeen) (book : BookState) (status : ℕ) : Type 0 where
+pub record ServesAll (counts : ServeCounts) (host host' : HostSeen) (book : BookState)
+    (status : ℕ) : Type 0 where
   pub others : host' ≡ record host {
     closings = counted host.closings;
     closed = host'.closed;

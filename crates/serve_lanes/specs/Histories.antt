@@ -39,7 +39,8 @@ pub record IsReady (s : Service) (turn : TurnState Settings) (pass : BookPass) (
 
 -- A door's connections were served by the pass of the door's number, from the first on: it had seen nothing before, and
 -- then this, up to its turn `last`. `memory` says whether one of the sessions ended for want of memory.
-pub record LaneDone (s : Service) (seen : List Entry) (last : ℕ) (door : DoorSeen) (memory : Bool) : Type 0 where
+pub record LaneDone (s : Service) (seen : List Entry) (last : ℕ) (door : DoorSeen)
+    (memory : Bool) : Type 0 where
   pub first : DoorSeen
   pub new : IsNew s.tells door.number first
   pub lane : LaneServed (ServedLink s.one s.settings door.number) [] 0 seen last first door false memory
@@ -89,7 +90,8 @@ EndsLane links Failed d = 0 < d.faults
 -- why a door serves no more, where `failed` says whether one of them failed: it is closed, or it failed, or it gave as many
 -- connections as it was to
 abbrev pub IsOver : ℕ → Bool → DoorSeen → Type 0
-IsOver links failed d = (d.closed ≡ true) ⊎ (((0 < d.faults) × (failed ≡ true)) ⊎ ((0 < links) × (d.gave ≡ links)))
+IsOver links failed d = (d.closed ≡ true)
+    ⊎ (((0 < d.faults) × (failed ≡ true)) ⊎ ((0 < links) × (d.gave ≡ links)))
 
 -- whether one of them did, where they are told
 abbrev pub told_memory : Option (List EndedLink) → Bool

@@ -103,7 +103,8 @@ where
             requires { IsReady K.service turn.now lane.old.pass (D.seen lane.old.door) (C.seen lane.old.clock)
                 × (lane.old.memory ≡ false) }
             ensures { IsSingle turn.entry.now lane.new.pass
-                × LaneDone K.service lane.new.pass.seen lane.new.pass.last (D.seen lane.new.door) lane.new.memory
+                × LaneDone K.service lane.new.pass.seen lane.new.pass.last
+                    (D.seen lane.new.door) lane.new.memory
                 × EndsLane links lane.new.end (D.seen lane.new.door)
                 × ((D.seen lane.new.door).number ≡ (D.seen lane.old.door).number) }
         { run_lane::<K, R, D, C, G>(rt, alloc, turn, lane, gate, links) },
@@ -131,7 +132,8 @@ where
     requires ready { All (λ l.
         IsReady K.service turn.now l.pass (D.seen l.door) (C.seen l.clock) × (l.memory ≡ false)) lanes.items }
     ensures own { All (λ l. IsSingle turn.now l.pass) result.items }
-    ensures done { All (λ l. LaneDone K.service l.pass.seen l.pass.last (D.seen l.door) l.memory) result.items }
+    ensures done { All (λ l. LaneDone K.service l.pass.seen l.pass.last
+        (D.seen l.door) l.memory) result.items }
     ensures ends { All (λ l. EndsLane links l.end (D.seen l.door)) result.items }
     ensures numbers { map (λ l. (D.seen l.door).number) result.items
         ≡ map (λ l. (D.seen l.door).number) lanes.items }
@@ -203,11 +205,13 @@ fn join_lanes<K: Serving, D: Door + Drop, C: Clock + Drop>(
     requires own { BelongsTo turn.now own }
     requires room { (room.items ≡ []) × (vec_len lanes ≤ vec_capacity room) }
     requires lanes { All (λ l. IsSingle turn.now l.pass) lanes.items }
-    requires done { All (λ l. LaneDone K.service l.pass.seen l.pass.last (D.seen l.door) l.memory) lanes.items }
+    requires done { All (λ l. LaneDone K.service l.pass.seen l.pass.last
+        (D.seen l.door) l.memory) lanes.items }
     requires ends { All (λ l. EndsLane links l.end (D.seen l.door)) lanes.items }
     ensures own { BelongsTo turn.now result.into }
     ensures all { length result.into.numbers ≡ length own.numbers + vec_len lanes }
-    ensures doors { All (λ d. DoorDone K.service result.into.seen result.into.last (D.seen d)) result.doors.items }
+    ensures doors { All (λ d. DoorDone K.service result.into.seen result.into.last
+        (D.seen d)) result.doors.items }
     ensures numbers { map (λ d. (D.seen d).number) result.doors.items
         ≡ map (λ l. (D.seen l.door).number) lanes.items }
     ensures over { All (λ d. IsOver links result.failed (D.seen d)) result.doors.items }
@@ -284,7 +288,8 @@ where
         IsReady K.service turn.now l.pass (D.seen l.door) (C.seen l.clock) × (l.memory ≡ false)) lanes.items }
     requires new { All (λ w. IsNewWorker turn.now w.pass) workers.items }
     ensures own { All (λ l. IsSingle turn.now l.pass) result.0.items }
-    ensures done { All (λ l. LaneDone K.service l.pass.seen l.pass.last (D.seen l.door) l.memory) result.0.items }
+    ensures done { All (λ l. LaneDone K.service l.pass.seen l.pass.last
+        (D.seen l.door) l.memory) result.0.items }
     ensures ends { All (λ l. EndsLane links l.end (D.seen l.door)) result.0.items }
     ensures numbers { map (λ l. (D.seen l.door).number) result.0.items
         ≡ map (λ l. (D.seen l.door).number) lanes.items }
@@ -342,7 +347,8 @@ fn close_all<K: Serving, R: Wait, D: Door + Drop, C: Clock + Drop, G: Gate>(
     requires settings { turn.settings ≡ K.service.settings }
     requires room { (room.items ≡ []) × (vec_len lanes ≤ vec_capacity room) }
     requires lanes { All (λ l. IsSingle turn l.pass) lanes.items }
-    requires done { All (λ l. LaneDone K.service l.pass.seen l.pass.last (D.seen l.door) l.memory) lanes.items }
+    requires done { All (λ l. LaneDone K.service l.pass.seen l.pass.last
+        (D.seen l.door) l.memory) lanes.items }
     requires ends { All (λ l. EndsLane links l.end (D.seen l.door)) lanes.items }
     requires workers { All (λ w. IsSingle turn w.pass) workers.items }
     requires worked { All (λ w. WorkerDone w.pass) workers.items }
@@ -409,7 +415,8 @@ where
     requires clocks { vec_len clocks ≡ vec_len doors }
     requires one { All (λ c. (C.seen c).one ≡ service.one) clocks.items }
     ensures settings { IfOk result (λ r. r.book.settings ≡ book.settings) }
-    ensures served { IfOk result (λ r. All (λ d. DoorServed service r.book.journal (D.seen d)) r.doors.items) }
+    ensures served { IfOk result (λ r. All
+        (λ d. DoorServed service r.book.journal (D.seen d)) r.doors.items) }
     ensures numbers { IfOk result (λ r.
         map (λ d. (D.seen d).number) r.doors.items ≡ numbers_from 0 (vec_len doors)) }
     ensures entries { IfOk result (λ r. AreOfLanes (vec_len doors) r.book.journal) }
