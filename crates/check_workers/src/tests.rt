@@ -113,18 +113,27 @@ fn ask<R: Wait>(
         .map(|receipt| receipt.reply.body)
 }
 
-// Sets rules, and uploads four pipes, which make two buckets.
-fn edit<R: Wait + Abort>(
-    rt: &R,
-    alloc: Global,
-    turn: &Turn<Book>,
-    pass: &mut Pass<Book>,
-) -> Result<(), Fail>
-    requires { BelongsTo turn.now pass.old }
-    ensures { BelongsTo turn.now pass.new }
+// What an editor asks for: rules, and four pipes, which make two buckets.
+fn edits(alloc: Global) -> Result<(BookRequest, BookRequest), Fail>
+    ensures { IfOk result (λ r. IsFree r.0 × IsFree r.1) }
 {
     let rules = to_set_rules(alloc)?;
     let model = to_upload(alloc, four_pipes(alloc)?)?;
+    Ok((rules, model))
+}
+
+// Asks for these.
+fn edit<R: Wait + Abort>(
+    rt: &R,
+    turn: &Turn<Book>,
+    pass: &mut Pass<Book>,
+    requests: (BookRequest, BookRequest),
+)
+    requires own { BelongsTo turn.now pass.old }
+    requires free { IsFree requests.0 × IsFree requests.1 }
+    ensures { BelongsTo turn.now pass.new }
+{
+    let (rules, model) = requests;
     ask(rt, turn, pass, rules);
     match ask(rt, turn, pass, model) {
         Some(ReplyBody::Changed { version, left, .. }) => {
@@ -132,7 +141,6 @@ fn edit<R: Wait + Abort>(
         }
         _ => panic!(rt; "no version"),
     }
-    Ok(())
 }
 
 // How many clashes the version has; none where buckets of it are still to be checked.
@@ -158,7 +166,7 @@ fn a_worker_brings_what_it_took(rt: HostRuntime) -> Result<(), Fail> {
     let gate = FreeGate::new(1);
     let none = work_one(&rt, alloc, &turn, &mut worker, &mut room, 0, false, &gate).ok();
     assert_eq!(rt; none, Some(Worked::Nothing));
-    edit(&rt, alloc, &turn, &mut editor)?;
+    edit(&rt, &turn, &mut editor, edits(alloc)?);
     assert_eq!(rt; total(&rt, &turn, &mut editor), None);
     for left in [1, 0] {
         let done = work_one(&rt, alloc, &turn, &mut worker, &mut room, 7, true, &gate).ok();
@@ -176,18 +184,17 @@ fn a_worker_brings_what_it_took(rt: HostRuntime) -> Result<(), Fail> {
 // Edits, and looks for the clashes of the version until they are there, at most so often; then the lane ends.
 fn edit_and_look<R: Wait + Abort, G: Gate>(
     rt: &R,
-    alloc: Global,
     turn: &Turn<Book>,
     mut pass: Pass<Book>,
+    requests: (BookRequest, BookRequest),
     gate: &G,
     looks: u32,
 ) -> (Pass<Book>, Option<u64>)
-    requires { BelongsTo turn.now pass }
+    requires own { BelongsTo turn.now pass }
+    requires free { IsFree requests.0 × IsFree requests.1 }
     ensures { BelongsTo turn.now result.0 }
 {
-    if edit(rt, alloc, turn, &mut pass).is_err() {
-        panic!(rt; "no memory");
-    }
+    edit(rt, turn, &mut pass, requests);
     let mut found = None;
     for _ in 0..looks {
         if found.is_none() {
@@ -219,7 +226,10 @@ fn work_on<R: Wait, G: Gate>(
 fn side_by_side<R: Threads + Wait + Sync + Abort>(
     rt: &R,
     alloc: Global,
-) -> Option<(Book, Option<u64>, bool)> {
+    requests: (BookRequest, BookRequest),
+) -> Option<(Book, Option<u64>, bool)>
+    requires { IsFree requests.0 × IsFree requests.1 }
+{
     let book = Book::new(alloc, 1, Limits::stated()).ok()?;
     let (turn, mut passes) = Turn::new(alloc, book, 2).ok()?;
     let worker = passes.pop()?;
@@ -230,9 +240,9 @@ fn side_by_side<R: Threads + Wait + Sync + Abort>(
     let (edited, worked) = join(
         rt,
         move || -> (Pass<Book>, Option<u64>)
-            requires { BelongsTo shared.now editor }
+            requires { BelongsTo shared.now editor × IsFree requests.0 × IsFree requests.1 }
             ensures { BelongsTo shared.entry.now result.0 }
-        { edit_and_look(rt, alloc, shared, editor, lanes, 1_000_000) },
+        { edit_and_look(rt, shared, editor, requests, lanes, 1_000_000) },
         move || -> (Pass<Book>, bool)
             requires { BelongsTo shared.now worker }
             ensures { BelongsTo shared.entry.now result.0 }
@@ -246,7 +256,8 @@ fn side_by_side<R: Threads + Wait + Sync + Abort>(
 
 #[test]
 fn a_worker_works_beside_an_editor(rt: HostRuntime) -> Result<(), Fail> {
-    let Some((book, found, ended)) = side_by_side(&rt, rt.alloc()) else {
+    let alloc = rt.alloc();
+    let Some((book, found, ended)) = side_by_side(&rt, alloc, edits(alloc)?) else {
         panic!(rt; "no answer")
     };
     assert_eq!(rt; (found, ended), (Some(1), true));
