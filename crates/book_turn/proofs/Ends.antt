@@ -10,7 +10,7 @@ use Rattle.book_turn.specs.declared.rule.View.{View}
 use Rattle.book_turn.specs.declared.rule.Stage.TheVariants.{Free}
 use Rattle.book_turn.specs.declared.object.Stamp.{Stamp}
 use Rattle.book_turn.specs.Numbers.{has, greatest}
-use Rattle.book_turn.specs.Entries.{calls_by, up_to, OwnUpTo}
+use Rattle.book_turn.specs.Entries.{AllBefore, calls_by, up_to, OwnUpTo}
 use Rattle.book_turn.specs.Views.{dealt_view, kept_view, given_view}
 use Rattle.book_turn.specs.Steps.{Glued}
 use Rattle.book_turn.specs.Rule.{Kept}
@@ -66,11 +66,11 @@ module _ {O E S : Type 0} where
 
 module _ {O E S : Type 0} (journal : O → List E) (settings : O → S) (turn pass : E → ℕ) (n : ℕ) (chosen : S) where
   pub ended : (id : ℕ) (v : View E S) (ws : List ℕ) (xs : List (Option O)) (slot : Option O) → Final (Seen (Kept journal settings turn pass n chosen) id v) ws xs → v.stage ≡ Free → 0 < n → length v.passes ≡ n → get_elem? xs 0 ≡ some slot
-      → (o : O) × (slot ≡ Some o) × (journal o ≡ v.seen) × (settings o ≡ chosen)
+      → (o : O) × (slot ≡ Some o) × (journal o ≡ v.seen) × (settings o ≡ chosen) × AllBefore pass n (journal o)
   ended id v ws xs slot f free some_pass all at =
       let c = closes journal settings turn pass n chosen f.0 f.1.0 id v f.1.1 free some_pass all in
       let there = f.4 0 (Some c.0) (ap (λ hs. get_elem? hs 0) c.1) in
-      (c.0, some-injective slot (Some c.0) (sym at ∙ there), c.2, c.3)
+      (c.0, some-injective slot (Some c.0) (sym at ∙ there), c.2, c.3, c.4)
 
 pub no_none : {A : Type 0} (x : Option A) (o : A) → x ≡ Some o → x ≡ None → ⊥
 no_none x o a b = subst is_there (sym a ∙ b) tt

@@ -478,7 +478,7 @@ module _ {O E S : Type 0} (journal : O → List E) (settings : O → S) (turn pa
 
   -- the view that has all passes knows all, and the object is at home
   pub closes : (s : St) (r : Rule s) (id : ℕ) (v : V) → get_elem? s.views id ≡ some v → v.stage ≡ Free → 0 < n → length v.passes ≡ n
-      → (o : O) × (s.homes ≡ some (Some o) ∷ []) × (journal o ≡ v.seen) × (settings o ≡ chosen)
+      → (o : O) × (s.homes ≡ some (Some o) ∷ []) × (journal o ≡ v.seen) × (settings o ≡ chosen) × AllBefore pass n (journal o)
   closes s r id v at free some_pass all =
       let vs = s.views in let h = r.history in let stands = (r.each id v at).stands (omega arith) in
       let none_else : (j : ℕ) (u : V) → j ≢ id → get_elem? vs j ≡ some u → length u.passes ≡ 0 = λ j u other e. let two = total_two (λ (w : V). length w.passes) vs id j v u (λ k. other (sym k)) at e in let d = r.numbered in omega arith in
@@ -488,7 +488,7 @@ module _ {O E S : Type 0} (journal : O → List E) (settings : O → S) (turn pa
       let every : (x : ℕ) → x < n → has x v.passes ≡ true = λ x l. let one = r.numbers x l in let only = total_only (λ (w : V). times x w.passes) vs id v at (λ j u other e. times_empty x u.passes (none_else j u other e)) in times_has x v.passes (omega arith) in
       let whole : v.seen ≡ h = stands.seen ∙ up_to_all turn v.last h (own_whole turn pass v.passes n v.last h every r.known stands.own) in
       ⊎_elim
-      (λ (p : (o : O) × (s.homes ≡ some (Some o) ∷ []) × (journal o ≡ h) × (settings o ≡ chosen) × NobodyIsCalled journal settings turn pass n chosen vs). (p.0, p.1, p.2 ∙ sym whole, p.3))
+      (λ (p : (o : O) × (s.homes ≡ some (Some o) ∷ []) × (journal o ≡ h) × (settings o ≡ chosen) × NobodyIsCalled journal settings turn pass n chosen vs). (p.0, p.1, p.2 ∙ sym whole, p.3, subst (AllBefore pass n) (sym p.2) r.known))
       (λ (p : (j : ℕ) × (u : V) × (get_elem? vs j ≡ some u) × IsCalled u.stage × (s.homes ≡ none ∷ [])). absurd (nobody p.0 p.1 p.2 p.3))
       r.placed
 

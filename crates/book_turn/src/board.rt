@@ -168,6 +168,8 @@ impl<O: SeqObject> Board<O> {
             × (0 < self.table.shared.key.passes) }
         ensures journal { O.journal result ≡ seat.me.0.seen }
         ensures settings { O.settings result ≡ O.settings self.table.shared.key.object.value }
+        ensures passes { AllBefore (λ e. (O.stamp_of e).pass) self.table.shared.key.passes
+            (O.journal result) }
     {
         let Board { table } = self;
         let mut closed = table.close_with(seat);

@@ -1,6 +1,7 @@
 //! A turn: an object that threads share, and the calls on it.
 ghost use Rattle.std.specs.Prelude.{ℕ, ◌≡◌, ◌<◌, ◌≤◌, [], length, IfOk, IfErr, All};
 ghost use Rattle.book_turn.specs.Passes.{BelongsTo, IsSingle, KeepsNumbers, new_passes, Answered, Joined};
+ghost use Rattle.book_turn.specs.Entries.{AllBefore};
 ghost use Rattle.book_turn.specs.Faults.{Failed};
 ghost use Rattle.book_turn.specs.Views.{dealt_view};
 
@@ -102,12 +103,14 @@ impl<O: SeqObject> Turn<O> {
         into.last = into.last.max(last);
     }
 
-    /// Gives the object back, by the pass into which every other was joined. What it has seen is the journal.
+    /// Gives the object back, by the pass into which every other was joined. What it has seen is the journal,
+    /// and each entry of it was made by one of the turn's passes.
     pub fn close(self, pass: Pass<O>) -> O
         requires own { BelongsTo self pass }
         requires all { length pass.numbers ≡ self.passes }
         ensures journal { O.journal result ≡ pass.seen }
         ensures settings { O.settings result ≡ self.settings }
+        ensures passes { AllBefore (λ e. (O.stamp_of e).pass) self.passes (O.journal result) }
     {
         let Turn { board } = self;
         let (seat, _) = pass.into_parts();
