@@ -7,7 +7,7 @@ use Rattle.book_turn.specs.Numbers.{numbers_from}
 use Rattle.book_history.specs.History.{left_all}
 use Rattle.book_history.specs.Requests.{BookState}
 use Rattle.bim_session.specs.Replay.{stated_settings}
-use Rattle.serve_lanes.specs.Histories.{Service, DoorServed, AreOfLanes, some_lacked}
+use Rattle.serve_lanes.specs.Histories.{Service, DoorServed, AreOfLanes, some_lacked, some_spent}
 use Rattle.bim_server.specs.declared.serve_words.ServeCounts.{ServeCounts}
 use Rattle.bim_server.specs.declared.serve_words.ServeWords.{ServeWords}
 use Rattle.bim_server.specs.declared.serve.Ended.{Ended}
@@ -52,7 +52,7 @@ IsOverAt links status d =
 -- Doors were served, and handed back once, in their order. There is one history, the journal of the book that is given
 -- back: in it the connections of each door were served, one after another, by the pass of the door's number, and each of
 -- its entries other than those of checked buckets carries the pass of one of the lanes. Where a session ended for want of
--- memory, the status is 6. All buckets of live versions are checked, or the status is 6 or 7.
+-- memory, the status is 6; for want of a turn, 6 or 7. All buckets of live versions are checked, or the status is 6 or 7.
 pub record ServesAll (counts : ServeCounts) (host host' : HostSeen) (book : BookState)
     (status : ℕ) : Type 0 where
   pub others : host' ≡ record host {
@@ -66,6 +66,7 @@ pub record ServesAll (counts : ServeCounts) (host host' : HostSeen) (book : Book
   pub entries : AreOfLanes counts.lanes book.journal
   pub over : All (IsOverAt counts.links status) host'.closed
   pub memory : some_lacked host'.closed ≡ true → status ≡ 6
+  pub turns : some_spent host'.closed ≡ true → (status ≡ 6) ⊎ (status ≡ 7)
   pub failed : some_failed host'.closed ≡ true → (status ≡ 4) ⊎ ((status ≡ 6) ⊎ (status ≡ 7))
   pub sound : status ≡ 4 → some_failed host'.closed ≡ true
   pub buckets : (left_all book.settings.projects book.journal ≡ 0) ⊎ ((status ≡ 6) ⊎ (status ≡ 7))

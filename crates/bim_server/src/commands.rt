@@ -8,7 +8,7 @@ ghost use Rattle.bim_server.specs.Serving.{without_book};
 ghost use Rattle.bim_server.specs.Commands.{Does, ReplaysBy, Runs, command_of, Ends, asked_by};
 
 use crate::serve::{Ended, run_serve};
-use crate::session::{run_session, status_of};
+use crate::session::{replay_session, status_of};
 use crate::words::{ReplayWords, Time, replay_words};
 use batch_commands::{print_usage, run_check, run_generate};
 use bim_files::Files;
@@ -40,11 +40,11 @@ fn replay<S: Source, K: Sink, C: Clock>(
 {
     match said.time {
         Time::OfClock => {
-            status_of(run_session(alloc, said.projects, said.buckets, source, sink, clock))
+            status_of(replay_session(alloc, said.projects, said.buckets, source, sink, clock))
         }
         Time::At(moment) => {
             let mut one_moment = MemClock::new(moment);
-            let end = run_session(
+            let end = replay_session(
                 alloc,
                 said.projects,
                 said.buckets,

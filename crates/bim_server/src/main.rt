@@ -1,6 +1,7 @@
 //! The coordination server for building models.
 #![tactic(auto)]
 
+mod alone;
 mod commands;
 mod one_thread;
 mod serve;

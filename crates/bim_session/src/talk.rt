@@ -4,15 +4,18 @@ ghost use Rattle.bim_model.specs.Moments.{IsMoment};
 ghost use Rattle.http_frame.specs.Framers.{Stands};
 ghost use Rattle.bim_session.specs.Session.{most_requests, closes_after, continue_bytes, IsFaultResponse};
 ghost use Rattle.bcf_http.specs.Answers.{IsResponse};
-ghost use Rattle.bim_session.specs.Talking.{fresh, Feeds, Stays, with_answer, with_fault, with_framer, with_memory, WantsFor, Writes, Wants, StopsNext, LacksNext, Replies, LacksFor, AtRest, IsReady, IsOwnLeaving, IsOwnWant, leaving_after, asks_change, is_refusal, changes_nothing, IsCallable};
+ghost use Rattle.bim_session.specs.Notes.{project_read, Noted};
+ghost use Rattle.bim_session.specs.Talking.{fresh, Feeds, Stays, with_answer, with_call, with_fault, with_framer, with_memory, with_notes, with_spent, KeepsNone, WantsFor, Writes, Wants, StopsNext, LacksNext, Replies, LacksFor, AtRest, IsReady, IsOwnLeaving, IsOwnWant, leaving_after, asks_change, is_refusal, changes_nothing, IsCallable};
 
 use crate::calls::call_of;
 use crate::end::SessionEnd;
+use crate::notes::{Notes, project_read};
 use crate::want::{Waiting, Want};
 use bcf_http::{Answer, ReplyKind, Routes, kind_of, to_response};
 use bim_io::Clock;
 use bim_model::Bytes;
-use book_history::{BookRequest, ReplyBody};
+use book_history::{BookReply, BookRequest, ReplyBody};
+use book_turn::fault::CallFault;
 use book_turn::turn::Receipt;
 use federation_book::Book;
 use http_frame::{FrameError, FrameFault, FrameStep, Framer, HttpRequest};
@@ -36,6 +39,7 @@ pub struct Talk {
     ended: bool,
     served: u64,
     waits: Option<Waiting>,
+    notes: Notes,
     leaving: Option<SessionEnd>,
 }
 
@@ -55,6 +59,7 @@ impl Model for Talk {
       ended = t.ended;
       served = t.served;
       waits = t.waits;
+      notes = t.notes;
       leaving = t.leaving;
     } };
 
@@ -131,9 +136,10 @@ fn changes_nothing(changes: bool, reply: &ReplyBody) -> bool
 }
 
 impl Talk {
-    /// A talk that has been fed nothing.
-    pub fn new(alloc: Global) -> Result<Talk, AllocError>
-        ensures fresh { IfOk result (λ talk. talk ≡ fresh talk.framer) }
+    /// A talk that has been fed nothing. This is the last turn that was taken before.
+    pub fn new(alloc: Global, turn: u64) -> Result<Talk, AllocError>
+        ensures fresh { IfOk result (λ talk. talk ≡ fresh talk.framer talk.notes) }
+        ensures none { IfOk result (λ talk. KeepsNone turn talk.notes) }
         ensures stands { IfOk result (λ talk. Stands talk.framer [] false) }
     {
         let framer = Framer::new(alloc)?;
@@ -145,6 +151,7 @@ impl Talk {
             ended: false,
             served: 0,
             waits: None,
+            notes: Notes::new(alloc, turn),
             leaving: None,
         })
     }
@@ -328,30 +335,46 @@ impl Talk {
     {
         let kind = kind_of(&self.routes, &request);
         let close = closes_after(&request, self.served + 1);
+        let at_once = Waiting {
+            kind,
+            close,
+            changes: false,
+            reads: None,
+        };
         match call_of(self.alloc, &self.routes, request, moment) {
-            Ok(call) => {
-                let changes = asks_change(&call);
-                self.waits = Some(Waiting {
-                    kind,
-                    close,
-                    changes,
-                });
-                Ok(Want::Call(call))
-            }
-            Err(answer) => {
-                let waiting = Waiting {
-                    kind,
-                    close,
-                    changes: false,
-                };
-                self.respond(&answer, waiting, None)
-            }
+            Ok(call) => match self.notes.reply_to(&call)? {
+                Some(reply) => {
+                    let turn = self.notes.turn;
+                    self.respond(&Answer::Book(reply), at_once, Some(turn))
+                }
+                None => Ok(self.call(call, kind, close)),
+            },
+            Err(answer) => self.respond(&answer, at_once, None),
         }
     }
 
-    /// Takes the book's answer to the call that waits, or want of memory for it, and says what is to be done
-    /// next: the response is written, or the talk ends for want of memory. An `Err` does not come.
-    pub fn answer(&mut self, receipt: Result<Receipt<Book>, AllocError>) -> Result<Want, AllocError>
+    // The book is to be called.
+    fn call(&mut self, call: BookRequest, kind: ReplyKind, close: bool) -> Want
+        ensures { result ≡ Want.Call call }
+        ensures state { self.new ≡ with_call (record {
+          kind = kind;
+          close = close;
+          changes = asks_change call;
+          reads = project_read call;
+        }) self.old }
+    {
+        self.waits = Some(Waiting {
+            kind,
+            close,
+            changes: asks_change(&call),
+            reads: project_read(&call),
+        });
+        Want::Call(call)
+    }
+
+    /// Takes the book's answer to the call that waits, or why there is none, and says what is to be done next: the
+    /// response is written; or the talk ends, for want of memory or since no turn is left. An `Err` does not come.
+    pub fn answer(&mut self, receipt: Result<Receipt<Book>, CallFault>) -> Result<Want, AllocError>
         requires waits { IsSome self.old.waits }
         requires open_ { self.old.leaving ≡ None }
         ensures want { IfOk result (λ want.
@@ -363,8 +386,22 @@ impl Talk {
         };
         match receipt {
             Ok(receipt) => self.answer_receipt(waiting, receipt),
-            Err(_) => self.answer_memory(waiting),
+            Err(CallFault::Memory) => self.answer_memory(waiting),
+            Err(CallFault::PassSpent(_)) => Ok(Want::Leave(self.spend())),
         }
+    }
+
+    // No turn is left.
+    fn spend(&mut self) -> SessionEnd
+        ensures end { result ≡ SessionEnd.SpentTurns self.old.served }
+        ensures state { self.new ≡ with_spent self.old }
+    {
+        let end = SessionEnd::SpentTurns {
+            served: self.served,
+        };
+        self.waits = None;
+        self.leaving = Some(end);
+        end
     }
 
     // The response to a call for which memory was wanting.
@@ -391,7 +428,7 @@ impl Talk {
     {
         let Receipt { turn, reply } = receipt;
         let changes_nothing = changes_nothing(waiting.changes, &reply.body);
-        match self.respond(&Answer::Book(reply), waiting, Some(turn)) {
+        match self.respond_noted(waiting, turn, reply) {
             Ok(want) => Ok(want),
             Err(_) => {
                 if changes_nothing {
@@ -400,5 +437,31 @@ impl Talk {
                 Ok(Want::Leave(self.give_up()))
             }
         }
+    }
+
+    // The response of the book's reply, which is noted.
+    fn respond_noted(
+        &mut self,
+        waiting: Waiting,
+        turn: u64,
+        reply: BookReply,
+    ) -> Result<Want, AllocError>
+        requires { self.old.leaving ≡ None }
+        ensures want { IfOk result (Writes (IsResponse (Answer.Book reply) waiting.kind (Some turn) waiting.close)) }
+        ensures noted { OnOk result (Noted turn waiting.reads reply self.old.notes self.new.notes) }
+        ensures ok { OnOk result (self.new ≡ with_notes self.new.notes (with_answer waiting.close self.old)) }
+        ensures err { OnErr result (self.new ≡ self.old) }
+    {
+        let served = self.served + 1;
+        let answer = Answer::Book(reply);
+        let bytes = to_response(self.alloc, &answer, waiting.kind, Some(turn), waiting.close)?;
+        let Answer::Book(reply) = answer else {
+            unreachable!()
+        };
+        self.notes.take(turn, waiting.reads, &reply)?;
+        self.served = served;
+        self.waits = None;
+        self.leaving = leaving_after(served, waiting.close);
+        Ok(Want::Write(bytes))
     }
 }

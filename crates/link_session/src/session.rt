@@ -1,22 +1,16 @@
-//! One session over one connection, by a pass.
+//! One session over a source and a sink.
 ghost use Rattle.std.specs.Prelude.{◌≡◌, false, None, IsSome};
 ghost use Rattle.bim_io.specs.Seen.{outside};
-ghost use Rattle.book_turn.specs.Passes.{IsSingle};
-ghost use Rattle.book_passes.specs.Lessons.{caller_of};
 ghost use Rattle.bcf_http.specs.Calls.{BringsNone};
 ghost use Rattle.link_session.specs.Serving.{Serves};
-ghost use Rattle.link_session.specs.Loop.{Reading, Writing, Calls, Called, StepsOn};
+ghost use Rattle.link_session.specs.Loop.{Reading, Writing, Called, StepsOn, WorksOn, StepsAndWorks};
 
+use crate::caller::Caller;
 use crate::sinks::write_whole;
 use bim_io::{Clock, Sink, Source};
-use bim_net::{Gate, Link};
 use bim_session::{MOST_READ, SessionEnd, Talk, Want};
 use book_history::BookRequest;
-use book_turn::pass::Pass;
-use book_turn::turn::{Receipt, Turn};
-use federation_book::Book;
-use std::alloc::{AllocError, Global};
-use std::sync::Wait;
+use std::alloc::Global;
 
 /// Whether a session goes on after a step.
 #[derive(Clone, Copy, Debug, PartialEq, Eq)]
@@ -52,47 +46,24 @@ fn write_bytes<K: Sink>(served: u64, sink: &mut K, bytes: &[u8]) -> Progress
     }
 }
 
-// Calls the book at a turn, once the gate lets the pass go. A pass that has made all its turns is answered like want of
-// memory.
-fn call_turn<R: Wait, G: Gate>(
-    rt: &R,
-    turn: &Turn<Book>,
-    pass: &mut Pass<Book>,
-    gate: &G,
-    call: BookRequest,
-) -> Result<Receipt<Book>, AllocError>
-    requires own { IsSingle turn.now pass.old }
-    requires none { BringsNone call }
-    ensures own { IsSingle turn.now pass.new }
-    ensures calls { Calls turn.now.settings call (caller_of pass.old) result (caller_of pass.new) }
-{
-    gate.before_call(pass.number(), false);
-    match turn.call(rt, pass, call) {
-        Ok(receipt) => Ok(receipt),
-        Err(_) => Err(AllocError),
-    }
-}
-
 // Calls the book for the request that waits, and writes the response.
-fn call_book<R: Wait, K: Sink, G: Gate>(
-    rt: &R,
+fn call_book<B: Caller, K: Sink>(
     talk: &mut Talk,
-    turn: &Turn<Book>,
-    pass: &mut Pass<Book>,
-    gate: &G,
+    caller: &B,
+    own: &mut B::Own,
     sink: &mut K,
     call: BookRequest,
 ) -> Progress
     requires waits { IsSome talk.old.waits }
     requires leaving { talk.old.leaving ≡ None }
-    requires own { IsSingle turn.now pass.old }
+    requires fits { B.fits caller.now own.old }
     requires none { BringsNone call }
-    ensures own { IsSingle turn.now pass.new }
-    ensures step { Called turn.now.settings call (K.seen sink.old) (K.seen sink.new) talk.old (caller_of pass.old)
-        result talk.new (caller_of pass.new) }
+    ensures fits { B.fits caller.now own.new }
+    ensures step { Called (B.settings caller.now) (B.goes caller.now) call (K.seen sink.old) (K.seen sink.new) talk.old
+        (B.seen own.old) result talk.new (B.seen own.new) }
 {
     let served = talk.served();
-    let receipt = call_turn(rt, turn, pass, gate, call);
+    let receipt = caller.call(own, call);
     match talk.answer(receipt) {
         Ok(Want::Write(bytes)) => write_bytes(served, sink, bytes.as_slice()),
         Ok(Want::Leave(end)) => Progress::End(end),
@@ -103,57 +74,99 @@ fn call_book<R: Wait, K: Sink, G: Gate>(
 }
 
 // Asks the talk what it wants, and does it.
-fn take_step<R: Wait, S: Source + Drop, K: Sink + Drop, C: Clock, G: Gate>(
-    rt: &R,
+fn take_step<B: Caller, S: Source, K: Sink, C: Clock>(
     talk: &mut Talk,
-    link: &mut Link<S, K>,
-    turn: &Turn<Book>,
-    pass: &mut Pass<Book>,
+    caller: &B,
+    own: &mut B::Own,
+    source: &mut S,
+    sink: &mut K,
     clock: &mut C,
-    gate: &G,
 ) -> Progress
     requires idle { talk.old.waits ≡ None }
-    requires own { IsSingle turn.now pass.old }
-    ensures own { IsSingle turn.now pass.new }
-    ensures step { StepsOn turn.now.settings
-        (outside (S.seen link.old.source) (K.seen link.old.sink) (C.seen clock.old))
-        (outside (S.seen link.new.source) (K.seen link.new.sink) (C.seen clock.new)) talk.old (caller_of pass.old)
-        result talk.new (caller_of pass.new) }
+    requires fits { B.fits caller.now own.old }
+    ensures fits { B.fits caller.now own.new }
+    ensures step { StepsOn (B.settings caller.now) (B.goes caller.now)
+        (outside (S.seen source.old) (K.seen sink.old) (C.seen clock.old))
+        (outside (S.seen source.new) (K.seen sink.new) (C.seen clock.new)) talk.old (B.seen own.old)
+        result talk.new (B.seen own.new) }
 {
     let served = talk.served();
     match talk.next(clock) {
-        Ok(Want::More) => read_more(talk, &mut link.source),
-        Ok(Want::Write(bytes)) => write_bytes(served, &mut link.sink, bytes.as_slice()),
-        Ok(Want::Call(call)) => call_book(rt, talk, turn, pass, gate, &mut link.sink, call),
+        Ok(Want::More) => read_more(talk, source),
+        Ok(Want::Write(bytes)) => write_bytes(served, sink, bytes.as_slice()),
+        Ok(Want::Call(call)) => call_book(talk, caller, own, sink, call),
         Ok(Want::Leave(end)) => Progress::End(end),
         Err(_) => Progress::End(SessionEnd::Memory { served }),
     }
 }
 
-/// Reads requests from a connection, and answers them by the pass, until the session ends. What the pass had seen is a
-/// front of what it has seen; each reply that prints a turn is the book's at the entries below that turn; and of the
-/// entries that are new the pass made just those that its accepted requests added.
-pub fn serve_link<R: Wait, S: Source + Drop, K: Sink + Drop, C: Clock, G: Gate>(
-    rt: &R,
-    alloc: Global,
-    link: &mut Link<S, K>,
-    turn: &Turn<Book>,
-    pass: &mut Pass<Book>,
-    clock: &mut C,
-    gate: &G,
-) -> SessionEnd
-    requires own { IsSingle turn.now pass.old }
-    ensures own { IsSingle turn.now pass.new }
-    ensures serves { Serves turn.now.settings (caller_of pass.old) (caller_of pass.new)
-        (outside (S.seen link.old.source) (K.seen link.old.sink) (C.seen clock.old))
-        (outside (S.seen link.new.source) (K.seen link.new.sink) (C.seen clock.new)) result }
+// The work behind an answer.
+fn work_behind<B: Caller>(served: u64, caller: &B, own: &mut B::Own) -> Progress
+    requires fits { B.fits caller.now own.old }
+    ensures fits { B.fits caller.now own.new }
+    ensures works { WorksOn (B.settings caller.now) (B.buckets caller.now) (B.goes caller.now) served (B.seen own.old)
+        result (B.seen own.new) }
 {
-    let Ok(mut talk) = Talk::new(alloc) else {
+    match caller.work(own) {
+        Ok(()) => Progress::Again,
+        Err(_) => Progress::End(SessionEnd::Memory { served }),
+    }
+}
+
+// Does what the talk wants, and behind the answer to a request the caller's work.
+fn step_and_work<B: Caller, S: Source, K: Sink, C: Clock>(
+    talk: &mut Talk,
+    caller: &B,
+    own: &mut B::Own,
+    source: &mut S,
+    sink: &mut K,
+    clock: &mut C,
+) -> Progress
+    requires idle { talk.old.waits ≡ None }
+    requires fits { B.fits caller.now own.old }
+    ensures fits { B.fits caller.now own.new }
+    ensures step { StepsAndWorks (B.settings caller.now) (B.buckets caller.now) (B.goes caller.now)
+        (outside (S.seen source.old) (K.seen sink.old) (C.seen clock.old))
+        (outside (S.seen source.new) (K.seen sink.new) (C.seen clock.new)) talk.old (B.seen own.old)
+        result talk.new (B.seen own.new) }
+{
+    let served = talk.served();
+    match take_step(talk, caller, own, source, sink, clock) {
+        Progress::Again => {
+            let now = talk.served();
+            if now > served {
+                work_behind(now, caller, own)
+            } else {
+                Progress::Again
+            }
+        }
+        Progress::End(end) => Progress::End(end),
+    }
+}
+
+/// Reads requests, and answers them by the caller, until the session ends; behind each answered request the caller works.
+/// What the caller had seen is a front of what it has seen; each reply that prints a turn is the book's at the entries
+/// below that turn, or, of clashes that the session was answered before, at the entries up to the turn printed last.
+pub fn run_session<B: Caller, S: Source, K: Sink, C: Clock>(
+    alloc: Global,
+    caller: &B,
+    own: &mut B::Own,
+    source: &mut S,
+    sink: &mut K,
+    clock: &mut C,
+) -> SessionEnd
+    requires fits { B.fits caller.now own.old }
+    ensures fits { B.fits caller.now own.new }
+    ensures serves { Serves (B.settings caller.now) (B.buckets caller.now) (B.goes caller.now) (B.seen own.old)
+        (B.seen own.new) (outside (S.seen source.old) (K.seen sink.old) (C.seen clock.old))
+        (outside (S.seen source.new) (K.seen sink.new) (C.seen clock.new)) result }
+{
+    let Ok(mut talk) = Talk::new(alloc, caller.last(own)) else {
         return SessionEnd::Memory { served: 0 };
     };
     // No session comes near so many steps: each one answers, or reads a piece of a request whose bytes are bounded.
     'steps: for _ in 0..u64::MAX {
-        match take_step(rt, &mut talk, link, turn, pass, clock, gate) {
+        match step_and_work(&mut talk, caller, own, source, sink, clock) {
             Progress::Again => {}
             Progress::End(end) => return end,
         }

@@ -10,9 +10,10 @@ use Rattle.book_history.specs.declared.changes.Entry.{Entry}
 use Rattle.book_passes.specs.Lessons.{BookPass, caller_of, own_of}
 use Rattle.bim_session.specs.Replay.{stated_settings}
 use Rattle.check_workers.specs.Working.{IsDone, AreDone}
+use Rattle.serve_lanes.specs.declared.workers.Lack.{Lack}
 use Rattle.serve_lanes.specs.declared.lane.LaneEnd.{LaneEnd}
 use Rattle.serve_lanes.specs.declared.lane.LaneEnd.TheVariants.{Closed, Full, Failed}
-use Rattle.serve_lanes.specs.Lanes.{ServedLink, LaneServed, ChainIn, IsBalanced, seen_at, end_turn, some_memory}
+use Rattle.serve_lanes.specs.Lanes.{ServedLink, LaneServed, ChainIn, IsBalanced, seen_at, end_turn, some_memory, some_turns}
 
 -- what holds of all lanes of a server: whether its doors tell what was given back, the one moment of its clocks, where
 -- there is one, and the settings of its book
@@ -37,13 +38,21 @@ pub record IsReady (s : Service) (turn : TurnState Settings) (pass : BookPass) (
   pub new : IsNew s.tells door.number door
   pub one : clock.one ≡ s.one
 
+-- nothing was lacked yet
+abbrev pub nothing_lacked : Lack
+nothing_lacked = record { memory = false; spent = None }
+
+-- the same of what is noted
+abbrev pub LacksNone : Lack → Type 0
+LacksNone lack = lack ≡ nothing_lacked
+
 -- A door's connections were served by the pass of the door's number, from the first on: it had seen nothing before, and
--- then this, up to its turn `last`. `memory` says whether one of the sessions ended for want of memory.
+-- then this, up to its turn `last`. `lack` says whether one of the sessions ended for want of memory, or of a turn.
 pub record LaneDone (s : Service) (seen : List Entry) (last : ℕ) (door : DoorSeen)
-    (memory : Bool) : Type 0 where
+    (lack : Lack) : Type 0 where
   pub first : DoorSeen
   pub new : IsNew s.tells door.number first
-  pub lane : LaneServed (ServedLink s.one s.settings door.number) [] 0 seen last first door false memory
+  pub lane : LaneServed (ServedLink s.one s.settings door.number) [] 0 seen last first door nothing_lacked lack
 
 -- each entry that carries the pass of this number is of a turn up to `top`
 abbrev pub OwnWithin : ℕ → ℕ → List Entry → Type 0
@@ -55,8 +64,8 @@ OwnWithin number top (e ∷ es) = (e.stamp.pass ≡ number → e.stamp.turn ≤ 
 pub record DoorDone (s : Service) (history : List Entry) (top : ℕ) (door : DoorSeen) : Type 0 where
   pub seen : List Entry
   pub last : ℕ
-  pub memory : Bool
-  pub done : LaneDone s seen last door memory
+  pub lack : Lack
+  pub done : LaneDone s seen last door lack
   pub front : seen ≡ seen_at last history
   pub within : last ≤ top
   pub own : OwnWithin door.number last history
@@ -105,6 +114,15 @@ lacked_memory d = told_memory d.ended
 -- whether one of the doors tells of such a session
 abbrev pub some_lacked : List DoorSeen → Bool
 some_lacked doors = list_any lacked_memory doors
+
+-- whether one of these sessions ended for want of a turn, where they are told
+abbrev pub told_turns : Option (List EndedLink) → Bool
+told_turns None = false
+told_turns (Some ended) = some_turns ended
+
+-- whether one of the doors tells of such a session
+abbrev pub some_spent : List DoorSeen → Bool
+some_spent doors = list_any (λ (d : DoorSeen). told_turns d.ended) doors
 
 -- ---- workers, and whose entries a history has
 

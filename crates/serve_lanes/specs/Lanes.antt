@@ -1,5 +1,5 @@
 -- The sessions of one lane, one after another, and what they are in one history.
-use Rattle.std.specs.Prelude.{◌≡◌, ◌≤◌, ℕ, ◌+◌, List, [], ◌∷◌, length, Bool, true, false, ◌||◌, Option, IfSome, IsSome}
+use Rattle.std.specs.Prelude.{◌≡◌, ◌≤◌, ℕ, ◌+◌, List, [], ◌∷◌, length, Bool, true, false, ◌||◌, Option, Some, IfSome, IsSome}
 use Rattle.std.specs.List.{list_any}
 use Rattle.bim_io.specs.Seen.{ClockSeen, outside}
 use Rattle.bim_net.specs.declared.ends.EndKind.{EndKind}
@@ -12,7 +12,9 @@ use Rattle.book_history.specs.declared.changes.Entry.{Entry}
 use Rattle.book_passes.specs.Lessons.{CallerSeen, turn_of}
 use Rattle.bim_session.specs.declared.end.SessionEnd.{SessionEnd}
 use Rattle.bim_session.specs.declared.end.SessionEnd.TheVariants as end
+use Rattle.link_session.specs.Callers.{GoesByPass}
 use Rattle.link_session.specs.Serving.{Serves}
+use Rattle.serve_lanes.specs.declared.workers.Lack.{Lack}
 
 -- the kind of a session's end
 abbrev pub kind_of : SessionEnd → EndKind
@@ -23,6 +25,7 @@ kind_of (end.ReadFault n) = kind.ReadFault
 kind_of (end.WriteFault n) = kind.WriteFault
 kind_of (end.Frame n fault) = kind.Frame
 kind_of (end.Spent n) = kind.Spent
+kind_of (end.SpentTurns n) = kind.SpentTurns
 kind_of (end.Memory n) = kind.Memory
 
 -- whether a session of this kind of end ended for want of memory
@@ -33,6 +36,21 @@ is_memory _ = false
 -- whether one of the sessions over these connections did
 abbrev pub some_memory : List EndedLink → Bool
 some_memory links = list_any (λ (x : EndedLink). is_memory x.end.kind) links
+
+-- whether a session of this kind of end ended for want of a turn
+abbrev pub is_spent : EndKind → Bool
+is_spent kind.SpentTurns = true
+is_spent _ = false
+
+-- whether one of the sessions over these connections did
+abbrev pub some_turns : List EndedLink → Bool
+some_turns links = list_any (λ (x : EndedLink). is_spent x.end.kind) links
+
+-- what was noted before stays, and the end of a session of this kind is noted
+pub record NotesEnd (ended : EndKind) (old new : Lack) : Type 0 where
+  pub memory : new.memory ≡ (old.memory || is_memory ended)
+  pub turns : is_spent ended ≡ true → IsSome new.spent
+  pub kept : IsSome old.spent → IsSome new.spent
 
 -- the turn that stands at a connection that was given back
 abbrev pub end_turn : EndedLink → ℕ
@@ -57,7 +75,7 @@ pub record ServedLink (one : Option ℕ) (settings : Settings) (number : ℕ) (b
   pub last_is : v.last ≡ last
   pub history_is : w.seen ≡ history
   pub turn_is : w.last ≡ x.end.last
-  pub serves : Serves settings v w (outside first.source first.sink clock)
+  pub serves : Serves settings (Some 0) GoesByPass v w (outside first.source first.sink clock)
       (outside x.link.source x.link.sink clock_after) end
 
 -- Connections, one after another: `serves` holds of each, of what was seen before it up to which turn, and of what was seen
@@ -74,9 +92,9 @@ IsBalanced d = IfSome d.ended (λ es. length es ≡ d.gave)
 
 -- A lane: its door gave these connections and its list grew by them, and they are a chain in what its pass came to see. A
 -- door that gave as many as it took back still does, and still tells them if it did. It is noted whether one of the
--- sessions ended for want of memory, and what was noted before stays.
+-- sessions ended for want of memory, or of a turn, and what was noted before stays.
 pub record LaneServed (serves : List Entry → ℕ → EndedLink → List Entry → Type 0) (before : List Entry)
-    (last : ℕ) (history : List Entry) (top : ℕ) (old new : DoorSeen) (noted noted' : Bool) : Type 0 where
+    (last : ℕ) (history : List Entry) (top : ℕ) (old new : DoorSeen) (noted noted' : Lack) : Type 0 where
   pub links : List EndedLink
   pub grown : GrowsBy old.ended new.ended links
   pub chain : Chain serves before last links history top
@@ -86,7 +104,9 @@ pub record LaneServed (serves : List Entry → ℕ → EndedLink → List Entry 
   pub balanced : IsBalanced old → IsBalanced new
   pub tells : IsBalanced old → IsSome old.ended → IsSome new.ended
   pub faults : old.faults ≤ new.faults
-  pub memory : noted' ≡ (noted || some_memory links)
+  pub memory : noted'.memory ≡ (noted.memory || some_memory links)
+  pub turns : some_turns links ≡ true → IsSome noted'.spent
+  pub kept : IsSome noted.spent → IsSome noted'.spent
 
 -- the entries of a history with turns up to this one
 abbrev pub seen_at : ℕ → List Entry → List Entry

@@ -1,12 +1,16 @@
 //! One lane.
-ghost use Rattle.std.specs.Prelude.{◌≡◌, ◌≢◌, ◌+◌, ◌<◌, ◌||◌, true};
+ghost use Rattle.std.specs.Prelude.{◌≡◌, ◌≢◌, ◌+◌, ◌<◌, ◌||◌, true, IsSome};
 ghost use Rattle.bim_io.specs.Causes.{Rose};
 ghost use Rattle.book_turn.specs.Passes.{IsSingle};
-ghost use Rattle.serve_lanes.specs.Lanes.{ServedLink, LaneServed, kind_of, is_memory};
+ghost use Rattle.book_turn.specs.declared.limits.TheConstants.{MOST_TURNS};
+ghost use Rattle.serve_lanes.specs.Lanes.{ServedLink, LaneServed, kind_of, is_memory, NotesEnd};
 
+use crate::workers::Lack;
 use bim_io::Clock;
 use bim_net::{Door, EndKind, Gate, LinkEnd};
 use bim_session::SessionEnd;
+use book_history::BookRequest;
+use book_turn::fault::{CallFault, SpentPass};
 use book_turn::pass::Pass;
 use book_turn::turn::Turn;
 use federation_book::Book;
@@ -42,16 +46,36 @@ fn kind_of(end: SessionEnd) -> EndKind
         SessionEnd::WriteFault { .. } => EndKind::WriteFault,
         SessionEnd::Frame { .. } => EndKind::Frame,
         SessionEnd::Spent { .. } => EndKind::Spent,
+        SessionEnd::SpentTurns { .. } => EndKind::SpentTurns,
         SessionEnd::Memory { .. } => EndKind::Memory,
     }
 }
 
-// Notes whether a session ended for want of memory.
-fn note(kind: EndKind, memory: &mut bool)
-    ensures { memory.new ≡ (memory.old || is_memory kind) }
+// A pass that has made all its turns: it is asked once more, which takes no turn.
+fn spent_of<R: Wait>(rt: &R, turn: &Turn<Book>, pass: &mut Pass<Book>) -> Option<SpentPass>
+    requires own { IsSingle turn.now pass.old }
+    requires spent { pass.old.made ≡ MOST_TURNS }
+    ensures some { IsSome result }
+    ensures same { pass.new ≡ pass.old }
+{
+    match turn.call(rt, pass, BookRequest::ListProjects) {
+        Err(CallFault::PassSpent(spent)) => Some(spent),
+        _ => unreachable!(),
+    }
+}
+
+// Notes whether a session ended for want of memory, or of a turn.
+fn note<R: Wait>(rt: &R, turn: &Turn<Book>, pass: &mut Pass<Book>, kind: EndKind, lack: &mut Lack)
+    requires own { IsSingle turn.now pass.old }
+    requires spent { kind ≡ EndKind.SpentTurns → pass.old.made ≡ MOST_TURNS }
+    ensures same { pass.new ≡ pass.old }
+    ensures noted { NotesEnd kind lack.old lack.new }
 {
     if kind == EndKind::Memory {
-        *memory = true;
+        lack.memory = true;
+    }
+    if kind == EndKind::SpentTurns {
+        lack.spent = spent_of(rt, turn, pass);
     }
 }
 
@@ -64,7 +88,7 @@ fn serve_next<R: Wait, D: Door, C: Clock, G: Gate>(
     door: &mut D,
     clock: &mut C,
     gate: &G,
-    memory: &mut bool,
+    lack: &mut Lack,
 ) -> Next
     requires own { IsSingle turn.now pass.old }
     ensures own { IsSingle turn.now pass.new }
@@ -72,7 +96,7 @@ fn serve_next<R: Wait, D: Door, C: Clock, G: Gate>(
     ensures clock { (C.seen clock.new).one ≡ (C.seen clock.old).one }
     ensures served { LaneServed (ServedLink (C.seen clock.old).one turn.now.settings pass.old.number)
         pass.old.seen pass.old.last pass.new.seen pass.new.last (D.seen door.old) (D.seen door.new)
-        memory.old memory.new }
+        lack.old lack.new }
     ensures failed { result ≡ Next.Stop LaneEnd.Failed
         → Rose (D.seen door.old).faults (D.seen door.new).faults }
     ensures sound { result ≢ Next.Stop LaneEnd.Failed → (D.seen door.new).faults ≡ (D.seen door.old).faults }
@@ -85,8 +109,8 @@ fn serve_next<R: Wait, D: Door, C: Clock, G: Gate>(
             let mut link = link;
             let end = serve_link(rt, alloc, &mut link, turn, pass, clock, gate);
             let kind = kind_of(end);
-            note(kind, memory);
             let last = pass.last();
+            note(rt, turn, pass, kind, lack);
             door.give_back(link, LinkEnd { kind, last });
             Next::More
         }
@@ -96,8 +120,8 @@ fn serve_next<R: Wait, D: Door, C: Clock, G: Gate>(
 }
 
 /// Accepts, serves and gives back connection after connection, until the door is closed or fails, or so many were served; 0
-/// is no limit. Each is given back with the kind of its session's end and the last turn of the pass then. `memory` becomes
-/// true where a session ended for want of memory.
+/// is no limit. Each is given back with the kind of its session's end and the last turn of the pass then. `lack` tells
+/// whether a session ended for want of memory, or of a turn.
 pub fn serve_lane<R: Wait, D: Door, C: Clock, G: Gate>(
     rt: &R,
     alloc: Global,
@@ -107,7 +131,7 @@ pub fn serve_lane<R: Wait, D: Door, C: Clock, G: Gate>(
     clock: &mut C,
     gate: &G,
     links: u64,
-    memory: &mut bool,
+    lack: &mut Lack,
 ) -> LaneEnd
     requires own { IsSingle turn.now pass.old }
     ensures own { IsSingle turn.now pass.new }
@@ -115,7 +139,7 @@ pub fn serve_lane<R: Wait, D: Door, C: Clock, G: Gate>(
     ensures clock { (C.seen clock.new).one ≡ (C.seen clock.old).one }
     ensures served { LaneServed (ServedLink (C.seen clock.old).one turn.now.settings pass.old.number)
         pass.old.seen pass.old.last pass.new.seen pass.new.last (D.seen door.old) (D.seen door.new)
-        memory.old memory.new }
+        lack.old lack.new }
     ensures failed { result ≡ LaneEnd.Failed → Rose (D.seen door.old).faults (D.seen door.new).faults }
     ensures sound { result ≢ LaneEnd.Failed → (D.seen door.new).faults ≡ (D.seen door.old).faults }
     ensures closed { result ≡ LaneEnd.Closed → (D.seen door.new).closed ≡ true }
@@ -124,7 +148,7 @@ pub fn serve_lane<R: Wait, D: Door, C: Clock, G: Gate>(
 {
     let mut left = links;
     for _ in rt.forever() {
-        match serve_next(rt, alloc, turn, pass, door, clock, gate, memory) {
+        match serve_next(rt, alloc, turn, pass, door, clock, gate, lack) {
             Next::More => {}
             Next::Stop(end) => return end,
         }

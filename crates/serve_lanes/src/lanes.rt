@@ -5,7 +5,7 @@ ghost use Rattle.book_turn.specs.Passes.{BelongsTo, IsSingle, new_passes};
 ghost use Rattle.bim_net.specs.Hosts.{AreNew, some_failed};
 ghost use Rattle.book_history.specs.History.{left_all};
 ghost use Rattle.serve_lanes.specs.Histories.{Service, IsReady, LaneDone, DoorDone, DoorServed, EndsLane, IsOver};
-ghost use Rattle.serve_lanes.specs.Histories.{some_lacked, IsNewWorker, WorkerDone, AreOfLanes};
+ghost use Rattle.serve_lanes.specs.Histories.{LacksNone, some_lacked, some_spent, IsNewWorker, WorkerDone, AreOfLanes};
 
 use crate::lane::{LaneEnd, serve_lane};
 use crate::workers::{Lack, Worker, join_workers, make_workers, run_workers, work_out};
@@ -41,8 +41,8 @@ pub struct Lane<D: Door + Drop, C: Clock + Drop> {
     pub clock: C,
     /// Why it serves no more.
     pub end: LaneEnd,
-    /// Whether one of its sessions ended for want of memory.
-    pub memory: bool,
+    /// Whether one of its sessions ended for want of memory, or of a turn.
+    pub lack: Lack,
 }
 
 // Serves one lane, and tells the gate that it has ended.
@@ -55,10 +55,10 @@ fn run_lane<K: Serving, R: Wait, D: Door + Drop, C: Clock + Drop, G: Gate>(
     links: u64,
 )
     requires ready { IsReady K.service turn.now lane.old.pass (D.seen lane.old.door) (C.seen lane.old.clock) }
-    requires unnoted { lane.old.memory ≡ false }
+    requires unnoted { LacksNone lane.old.lack }
     ensures own { IsSingle turn.now lane.new.pass }
     ensures done { LaneDone K.service lane.new.pass.seen lane.new.pass.last (D.seen lane.new.door)
-        lane.new.memory }
+        lane.new.lack }
     ensures ends { EndsLane links lane.new.end (D.seen lane.new.door) }
     ensures number { (D.seen lane.new.door).number ≡ (D.seen lane.old.door).number }
 {
@@ -71,7 +71,7 @@ fn run_lane<K: Serving, R: Wait, D: Door + Drop, C: Clock + Drop, G: Gate>(
         &mut lane.clock,
         gate,
         links,
-        &mut lane.memory,
+        &mut lane.lack,
     );
     gate.lane_ended(lane.pass.number());
 }
@@ -88,9 +88,9 @@ where
     D::S: Send,
     D::K: Send,
     requires ready { All (λ l.
-        IsReady K.service turn.now l.pass (D.seen l.door) (C.seen l.clock) × (l.memory ≡ false)) lanes.old }
+        IsReady K.service turn.now l.pass (D.seen l.door) (C.seen l.clock) × LacksNone l.lack) lanes.old }
     ensures own { All (λ l. IsSingle turn.entry.now l.pass) lanes.new }
-    ensures done { All (λ l. LaneDone K.service l.pass.seen l.pass.last (D.seen l.door) l.memory) lanes.new }
+    ensures done { All (λ l. LaneDone K.service l.pass.seen l.pass.last (D.seen l.door) l.lack) lanes.new }
     ensures ends { All (λ l. EndsLane links l.end (D.seen l.door)) lanes.new }
     ensures numbers { map (λ l. (D.seen l.door).number) lanes.new
         ≡ map (λ l. (D.seen l.door).number) lanes.old }
@@ -101,10 +101,10 @@ where
         64,
         &|_, lane: &mut Lane<D, C>|
             requires { IsReady K.service turn.now lane.old.pass (D.seen lane.old.door) (C.seen lane.old.clock)
-                × (lane.old.memory ≡ false) }
+                × LacksNone lane.old.lack }
             ensures { IsSingle turn.entry.now lane.new.pass
                 × LaneDone K.service lane.new.pass.seen lane.new.pass.last
-                    (D.seen lane.new.door) lane.new.memory
+                (D.seen lane.new.door) lane.new.lack
                 × EndsLane links lane.new.end (D.seen lane.new.door)
                 × ((D.seen lane.new.door).number ≡ (D.seen lane.old.door).number) }
         { run_lane::<K, R, D, C, G>(rt, alloc, turn, lane, gate, links) },
@@ -130,10 +130,10 @@ where
     D::S: Send,
     D::K: Send,
     requires ready { All (λ l.
-        IsReady K.service turn.now l.pass (D.seen l.door) (C.seen l.clock) × (l.memory ≡ false)) lanes.items }
+        IsReady K.service turn.now l.pass (D.seen l.door) (C.seen l.clock) × LacksNone l.lack) lanes.items }
     ensures own { All (λ l. IsSingle turn.now l.pass) result.items }
     ensures done { All (λ l. LaneDone K.service l.pass.seen l.pass.last
-        (D.seen l.door) l.memory) result.items }
+        (D.seen l.door) l.lack) result.items }
     ensures ends { All (λ l. EndsLane links l.end (D.seen l.door)) result.items }
     ensures numbers { map (λ l. (D.seen l.door).number) result.items
         ≡ map (λ l. (D.seen l.door).number) lanes.items }
@@ -157,7 +157,7 @@ fn make_lanes<K: Serving, D: Door + Drop, C: Clock + Drop>(
     requires clocks { vec_len clocks ≡ vec_len doors }
     requires one { All (λ c. (C.seen c).one ≡ K.service.one) clocks.items }
     ensures ready { IfOk result (λ lanes.
-        All (λ l. IsReady K.service turn.now l.pass (D.seen l.door) (C.seen l.clock) × (l.memory ≡ false))
+        All (λ l. IsReady K.service turn.now l.pass (D.seen l.door) (C.seen l.clock) × LacksNone l.lack)
         lanes.items) }
     ensures numbers { IfOk result (λ lanes.
         map (λ l. (D.seen l.door).number) lanes.items ≡ numbers_from 0 (vec_len doors)) }
@@ -178,7 +178,7 @@ fn make_lanes<K: Serving, D: Door + Drop, C: Clock + Drop>(
             door,
             clock,
             end: LaneEnd::Closed,
-            memory: false,
+            lack: Lack::none(),
         })?;
     }
     Ok(lanes)
@@ -190,11 +190,11 @@ struct JoinedLanes<D: Door + Drop> {
     into: Pass<Book>,
     doors: Vec<D>,
     failed: bool,
-    memory: bool,
+    lack: Lack,
 }
 
 // Joins the passes of all lanes into one, and gives that and the doors, in their order, with whether one of the lanes ended
-// by a fault of its door, and whether a session ended for want of memory.
+// by a fault of its door, and what sessions lacked.
 fn join_lanes<K: Serving, D: Door + Drop, C: Clock + Drop>(
     turn: &Turn<Book>,
     own: Pass<Book>,
@@ -206,7 +206,7 @@ fn join_lanes<K: Serving, D: Door + Drop, C: Clock + Drop>(
     requires room { (room.items ≡ []) × (vec_len lanes ≤ vec_capacity room) }
     requires lanes { All (λ l. IsSingle turn.now l.pass) lanes.items }
     requires done { All (λ l. LaneDone K.service l.pass.seen l.pass.last
-        (D.seen l.door) l.memory) lanes.items }
+        (D.seen l.door) l.lack) lanes.items }
     requires ends { All (λ l. EndsLane links l.end (D.seen l.door)) lanes.items }
     ensures own { BelongsTo turn.now result.into }
     ensures all { length result.into.numbers ≡ length own.numbers + vec_len lanes }
@@ -216,13 +216,14 @@ fn join_lanes<K: Serving, D: Door + Drop, C: Clock + Drop>(
         ≡ map (λ l. (D.seen l.door).number) lanes.items }
     ensures over { All (λ d. IsOver links result.failed (D.seen d)) result.doors.items }
     ensures failed { result.failed ≡ some_failed (map D.seen result.doors.items) }
-    ensures memory { some_lacked (map D.seen result.doors.items) ≡ true → result.memory ≡ true }
+    ensures memory { some_lacked (map D.seen result.doors.items) ≡ true → result.lack.memory ≡ true }
+    ensures turns { some_spent (map D.seen result.doors.items) ≡ true → IsSome result.lack.spent }
 {
     let _links = links;
     let mut into = own;
     let mut doors = room;
     let mut failed = false;
-    let mut memory = false;
+    let mut lack = Lack::none();
     let mut lanes = VecDeque::from_vec(lanes);
     while let Some(lane) = lanes.pop_front() {
         let Lane {
@@ -230,18 +231,18 @@ fn join_lanes<K: Serving, D: Door + Drop, C: Clock + Drop>(
             door,
             clock: _,
             end,
-            memory: lacked,
+            lack: own,
         } = lane;
         turn.join(&mut into, pass);
         doors.push_reserved(door);
         failed = failed || end == LaneEnd::Failed;
-        memory = memory || lacked;
+        lack = lack.and(own);
     }
     JoinedLanes {
         into,
         doors,
         failed,
-        memory,
+        lack,
     }
 }
 
@@ -285,11 +286,11 @@ where
     D::S: Send,
     D::K: Send,
     requires ready { All (λ l.
-        IsReady K.service turn.now l.pass (D.seen l.door) (C.seen l.clock) × (l.memory ≡ false)) lanes.items }
+        IsReady K.service turn.now l.pass (D.seen l.door) (C.seen l.clock) × LacksNone l.lack) lanes.items }
     requires new { All (λ w. IsNewWorker turn.now w.pass) workers.items }
     ensures own { All (λ l. IsSingle turn.now l.pass) result.0.items }
     ensures done { All (λ l. LaneDone K.service l.pass.seen l.pass.last
-        (D.seen l.door) l.memory) result.0.items }
+        (D.seen l.door) l.lack) result.0.items }
     ensures ends { All (λ l. EndsLane links l.end (D.seen l.door)) result.0.items }
     ensures numbers { map (λ l. (D.seen l.door).number) result.0.items
         ≡ map (λ l. (D.seen l.door).number) lanes.items }
@@ -301,9 +302,9 @@ where
         rt,
         move || -> Vec<Lane<D, C>>
             requires { All (λ l. IsReady K.service turn.now l.pass (D.seen l.door) (C.seen l.clock)
-                × (l.memory ≡ false)) lanes.items }
+                × LacksNone l.lack) lanes.items }
             ensures { All (λ l. IsSingle turn.entry.now l.pass) result.items
-                × All (λ l. LaneDone K.service l.pass.seen l.pass.last (D.seen l.door) l.memory) result.items
+                × All (λ l. LaneDone K.service l.pass.seen l.pass.last (D.seen l.door) l.lack) result.items
                 × All (λ l. EndsLane links l.end (D.seen l.door)) result.items
                 × (map (λ l. (D.seen l.door).number) result.items
                 ≡ map (λ l. (D.seen l.door).number) lanes.items) }
@@ -348,7 +349,7 @@ fn close_all<K: Serving, R: Wait, D: Door + Drop, C: Clock + Drop, G: Gate>(
     requires room { (room.items ≡ []) × (vec_len lanes ≤ vec_capacity room) }
     requires lanes { All (λ l. IsSingle turn l.pass) lanes.items }
     requires done { All (λ l. LaneDone K.service l.pass.seen l.pass.last
-        (D.seen l.door) l.memory) lanes.items }
+        (D.seen l.door) l.lack) lanes.items }
     requires ends { All (λ l. EndsLane links l.end (D.seen l.door)) lanes.items }
     requires workers { All (λ w. IsSingle turn w.pass) workers.items }
     requires worked { All (λ w. WorkerDone w.pass) workers.items }
@@ -360,6 +361,7 @@ fn close_all<K: Serving, R: Wait, D: Door + Drop, C: Clock + Drop, G: Gate>(
     ensures over { All (λ d. IsOver links result.failed (D.seen d)) result.doors.items }
     ensures failed { result.failed ≡ some_failed (map D.seen result.doors.items) }
     ensures memory { some_lacked (map D.seen result.doors.items) ≡ true → result.memory ≡ true }
+    ensures turns { some_spent (map D.seen result.doors.items) ≡ true → IsSome result.spent }
     ensures work { (left_all result.book.settings.projects result.book.journal ≡ 0)
         ⊎ ((result.memory ≡ true) ⊎ IsSome result.spent) }
 {
@@ -367,20 +369,17 @@ fn close_all<K: Serving, R: Wait, D: Door + Drop, C: Clock + Drop, G: Gate>(
         into,
         doors,
         failed,
-        memory,
+        lack,
     } = join_lanes::<K, D, C>(&turn, own, lanes, room, links);
     let mut into = into;
-    let lack = join_workers(&turn, &mut into, workers);
+    let of_workers = join_workers(&turn, &mut into, workers);
     let left = work_out(rt, alloc, &turn, &mut into, 0, gate);
-    let Lack {
-        memory: lacked,
-        spent,
-    } = lack.and(left);
+    let Lack { memory, spent } = lack.and(of_workers).and(left);
     Served {
         book: turn.close(into),
         doors,
         failed,
-        memory: memory || lacked,
+        memory,
         spent,
     }
 }
@@ -423,6 +422,7 @@ where
     ensures over { IfOk result (λ r. All (λ d. IsOver links r.failed (D.seen d)) r.doors.items) }
     ensures failed { IfOk result (λ r. r.failed ≡ some_failed (map D.seen r.doors.items)) }
     ensures memory { IfOk result (λ r. some_lacked (map D.seen r.doors.items) ≡ true → r.memory ≡ true) }
+    ensures turns { IfOk result (λ r. some_spent (map D.seen r.doors.items) ≡ true → IsSome r.spent) }
     ensures work { IfOk result (λ r. (left_all r.book.settings.projects r.book.journal ≡ 0)
         ⊎ ((r.memory ≡ true) ⊎ IsSome r.spent)) }
 {

@@ -1,7 +1,7 @@
 //! Lanes over doors in memory.
 ghost use Rattle.std.specs.Prelude.{◌≤◌};
 
-use crate::{LaneEnd, run_lanes, serve_lane};
+use crate::{Lack, LaneEnd, run_lanes, serve_lane};
 use bim_io::MemClock;
 use bim_model::{Bytes, Items};
 use bim_net::{EndKind, FreeGate, MemDoor, mem_link};
@@ -44,33 +44,17 @@ fn a_lane_ends_as_its_door_does(rt: HostRuntime) -> Result<(), Fail> {
     let mut pass = passes.pop().ok_or("a pass")?;
     let mut clock = MemClock::new(1_714_564_800);
     let gate = FreeGate::new(1);
-    let mut memory = false;
+    let mut lack = Lack::none();
     let inputs = [MAKE, b"".as_slice(), MAKE, b"GET".as_slice()];
     let mut first = door(alloc, &inputs, 0)?;
     let end = serve_lane(
-        &rt,
-        alloc,
-        &turn,
-        &mut pass,
-        &mut first,
-        &mut clock,
-        &gate,
-        3,
-        &mut memory,
+        &rt, alloc, &turn, &mut pass, &mut first, &mut clock, &gate, 3, &mut lack,
     );
     assert_eq!(rt; end, LaneEnd::Full);
     let closed = EndKind::Closed;
     assert_ended(&rt, &first, &[(closed, 1), (closed, 1), (closed, 2)]);
     let end = serve_lane(
-        &rt,
-        alloc,
-        &turn,
-        &mut pass,
-        &mut first,
-        &mut clock,
-        &gate,
-        0,
-        &mut memory,
+        &rt, alloc, &turn, &mut pass, &mut first, &mut clock, &gate, 0, &mut lack,
     );
     assert_eq!(rt; end, LaneEnd::Closed);
     assert_ended(
@@ -88,11 +72,11 @@ fn a_lane_ends_as_its_door_does(rt: HostRuntime) -> Result<(), Fail> {
         &mut clock,
         &gate,
         0,
-        &mut memory,
+        &mut lack,
     );
     assert_eq!(rt; end, LaneEnd::Failed);
     assert_ended(&rt, &second, &[(closed, 3)]);
-    assert!(rt; !memory);
+    assert!(rt; !lack.memory && lack.spent.is_none());
     assert_eq!(rt; turn.close(pass).journal().len(), 3);
     Ok(())
 }
