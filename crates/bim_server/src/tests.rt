@@ -105,6 +105,28 @@ pub(crate) const FOUND: &[u8] =
 const FOUND_ANSWERS: &[u8] =
     b"HTTP/1.1 200 OK\r\nContent-Type: application/json\r\nX-Book-Turn: 1\r\nContent-Length: 49\r\n\r\n{\"elements\":0,\"left\":0,\"triangles\":0,\"version\":1}HTTP/1.1 201 Created\r\nContent-Type: application/json\r\nX-Book-Turn: 2\r\nContent-Length: 49\r\n\r\n{\"elements\":2,\"left\":4,\"triangles\":2,\"version\":2}HTTP/1.1 200 OK\r\nContent-Type: application/json\r\nX-Book-Turn: 11\r\nContent-Length: 170\r\n\r\n{\"clashes\":[{\"a\":{\"guid\":\"0000000000000000000011\",\"model\":\"m\"},\"b\":{\"guid\":\"0000000000000000000012\",\"model\":\"m\"},\"distance\":50,\"rule\":0}],\"first\":0,\"total\":1,\"version\":2}";
 
+const FOUND_AGAIN: &[u8] =
+    b"GET /coord/1/projects/00000001-0000-8000-8000-000000000000/versions/2/clashes?first=1 HTTP/1.1\r\nHost: h\r\n\r\nGET /bcf/3.0/projects/00000001-0000-8000-8000-000000000000/topics HTTP/1.1\r\nHost: h\r\n\r\n";
+
+const FOUND_AGAIN_ANSWERS: &[u8] =
+    b"HTTP/1.1 200 OK\r\nContent-Type: application/json\r\nX-Book-Turn: 11\r\nContent-Length: 46\r\n\r\n{\"clashes\":[],\"first\":1,\"total\":1,\"version\":2}HTTP/1.1 200 OK\r\nContent-Type: application/json\r\nX-Book-Turn: 12\r\nContent-Length: 2\r\n\r\n[]";
+
+fn joined(alloc: Global, first: &[u8], second: &[u8]) -> Result<Vec<u8>, Fail> {
+    let mut bytes = Vec::new(alloc);
+    bytes.extend_from_slice(first)?;
+    bytes.extend_from_slice(second)?;
+    Ok(bytes)
+}
+
+// Clashes that were answered are answered again, also another part of them, without a turn; the next request takes one.
+#[test]
+fn clashes_are_answered_again_without_a_turn(rt: HostRuntime) -> Result<(), Fail> {
+    let alloc = rt.alloc();
+    let input = joined(alloc, FOUND, FOUND_AGAIN)?;
+    let output = joined(alloc, FOUND_ANSWERS, FOUND_AGAIN_ANSWERS)?;
+    assert_replays(&rt, alloc, 9, input.as_slice(), output.as_slice())
+}
+
 // All four buckets are checked, by eight turns, before the next request is read.
 #[test]
 fn a_pair_in_four_cells_is_found_once(rt: HostRuntime) -> Result<(), Fail> {

@@ -152,13 +152,17 @@ with_fault fault s = record s { leaving = Some (end.Frame s.served fault) }
 abbrev pub with_notes : Notes → TalkState → TalkState
 with_notes notes s = record s { notes = notes }
 
+-- the talk ends so, and no call waits
+abbrev pub with_end : SessionEnd → TalkState → TalkState
+with_end e s = record s { waits = None; leaving = Some e }
+
 -- no turn is left for the call that waits, which ends the talk
 abbrev pub with_spent : TalkState → TalkState
-with_spent s = record s { waits = None; leaving = Some (end.SpentTurns s.served) }
+with_spent s = with_end (end.SpentTurns s.served) s
 
 -- memory was wanting, which ends the talk
 abbrev pub with_memory : TalkState → TalkState
-with_memory s = record s { waits = None; leaving = Some (end.Memory s.served) }
+with_memory s = with_end (end.Memory s.served) s
 
 -- ---- what a talk wants
 

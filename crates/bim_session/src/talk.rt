@@ -5,7 +5,7 @@ ghost use Rattle.http_frame.specs.Framers.{Stands};
 ghost use Rattle.bim_session.specs.Session.{most_requests, closes_after, continue_bytes, IsFaultResponse};
 ghost use Rattle.bcf_http.specs.Answers.{IsResponse};
 ghost use Rattle.bim_session.specs.Notes.{project_read, Noted};
-ghost use Rattle.bim_session.specs.Talking.{fresh, Feeds, Stays, with_answer, with_call, with_fault, with_framer, with_memory, with_notes, with_spent, KeepsNone, WantsFor, Writes, Wants, StopsNext, LacksNext, Replies, LacksFor, AtRest, IsReady, IsOwnLeaving, IsOwnWant, leaving_after, asks_change, is_refusal, changes_nothing, IsCallable};
+ghost use Rattle.bim_session.specs.Talking.{fresh, Feeds, Stays, with_answer, with_call, with_fault, with_framer, with_memory, with_notes, with_spent, with_end, KeepsNone, WantsFor, Writes, Wants, StopsNext, LacksNext, Replies, LacksFor, AtRest, IsReady, IsOwnEnd, IsOwnLeaving, IsOwnWant, leaving_after, asks_change, is_refusal, changes_nothing, IsCallable};
 
 use crate::calls::call_of;
 use crate::end::SessionEnd;
@@ -240,9 +240,17 @@ impl Talk {
         ensures end { result ≡ SessionEnd.Memory self.old.served }
         ensures state { self.new ≡ with_memory self.old }
     {
-        let end = SessionEnd::Memory {
+        self.leave(SessionEnd::Memory {
             served: self.served,
-        };
+        })
+    }
+
+    // Ends the talk so.
+    fn leave(&mut self, end: SessionEnd) -> SessionEnd
+        requires own { IsOwnEnd end }
+        ensures end { result ≡ end }
+        ensures state { self.new ≡ with_end end self.old }
+    {
         self.waits = None;
         self.leaving = Some(end);
         end
@@ -396,12 +404,9 @@ impl Talk {
         ensures end { result ≡ SessionEnd.SpentTurns self.old.served }
         ensures state { self.new ≡ with_spent self.old }
     {
-        let end = SessionEnd::SpentTurns {
+        self.leave(SessionEnd::SpentTurns {
             served: self.served,
-        };
-        self.waits = None;
-        self.leaving = Some(end);
-        end
+        })
     }
 
     // The response to a call for which memory was wanting.
