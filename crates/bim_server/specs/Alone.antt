@@ -18,7 +18,8 @@ seen_alone s = record {
 
 -- It went from v to w by these steps, a turn each. Behind any run with one actor by as many steps as v had taken turns,
 -- which made what v had seen, they go on as such a run, which makes what w has seen.
-pub record GoesAlone (settings : Settings) (v : CallerSeen) (steps : List Step) (w : CallerSeen) : Type 0 where
+pub record GoesAlone (settings : Settings) (v : CallerSeen) (steps : List Step)
+    (w : CallerSeen) : Type 0 where
   pub learns : LearnsBy v w
   pub turns : w.last ≡ v.last + length steps
   pub one_thread : IsOneThread steps

@@ -179,7 +179,8 @@ reply_to s step = reply_of s.settings (at_turn step.stamp.turn s.history) step.s
 pub record IsBooked (a : Asking) (bytes : List ℕ) (steps : List Step) (printed : Printed) : Type 0 where
   pub unkept : ¬ (IsKept a)
   pub taken : TakesTurn a steps
-  pub response : IsResponseTo a (answer.Book (reply_to a.standing taken.step)) (Some taken.step.stamp.turn) bytes
+  pub response : IsResponseTo a (answer.Book (reply_to a.standing taken.step))
+      (Some taken.step.stamp.turn) bytes
   pub above : a.standing.printed.turn < taken.step.stamp.turn
   pub printed_is : printed ≡ printed_after taken.step (reply_to a.standing taken.step) a.standing.printed
 

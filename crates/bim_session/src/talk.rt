@@ -452,7 +452,8 @@ impl Talk {
         reply: BookReply,
     ) -> Result<Want, AllocError>
         requires { self.old.leaving ≡ None }
-        ensures want { IfOk result (Writes (IsResponse (Answer.Book reply) waiting.kind (Some turn) waiting.close)) }
+        ensures want { IfOk result (Writes
+            (IsResponse (Answer.Book reply) waiting.kind (Some turn) waiting.close)) }
         ensures noted { OnOk result (Noted turn waiting.reads reply self.old.notes self.new.notes) }
         ensures ok { OnOk result (self.new ≡ with_notes self.new.notes (with_answer waiting.close self.old)) }
         ensures err { OnErr result (self.new ≡ self.old) }

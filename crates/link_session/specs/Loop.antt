@@ -74,7 +74,8 @@ Called settings goes call sink sink' talk server (End e) talk' server' =
 -- ---- a step
 
 -- what a talk wanted was done, before which so many requests were answered
-abbrev pub Does : Settings → Going → ℕ → Outside → Outside → TalkState → CallerSeen → Want → Progress → TalkState
+abbrev pub Does : Settings → Going → ℕ → Outside → Outside → TalkState → CallerSeen → Want → Progress
+    → TalkState
     → CallerSeen → Type 0
 Does settings goes served before after talk server More progress talk' server' =
     Reading before.source after.source talk progress talk' × (after.sink ≡ before.sink) × (server' ≡ server)
@@ -108,10 +109,12 @@ abbrev pub WorksOn : Settings → Option ℕ → Going → ℕ → CallerSeen �
 WorksOn settings buckets goes served server Again server' =
     WorksBehind settings buckets goes server (Ok tt) server'
 WorksOn settings buckets goes served server (End e) server' =
-    (e ≡ end.Memory served) × ((fault : AllocError) × WorksBehind settings buckets goes server (Err fault) server')
+    (e ≡ end.Memory served) × ((fault : AllocError)
+        × WorksBehind settings buckets goes server (Err fault) server')
 
 -- behind a step there is work exactly where it answered a request
-abbrev pub WorksAfter : Settings → Option ℕ → Going → ℕ → TalkState → CallerSeen → Progress → Progress → CallerSeen
+abbrev pub WorksAfter : Settings → Option ℕ → Going → ℕ → TalkState → CallerSeen → Progress → Progress
+    → CallerSeen
     → Type 0
 WorksAfter settings buckets goes served talk server (End e) progress server' =
     (progress ≡ End e) × (server' ≡ server)

@@ -51,7 +51,8 @@ pub trait Caller {
     fn work(&self, own: &mut Self::Own) -> Result<(), AllocError>
         requires fits { fits self.now own.old }
         ensures fits { fits self.now own.new }
-        ensures works { WorksBehind (settings self.now) (buckets self.now) (goes self.now) (seen own.old) result
+        ensures works { WorksBehind (settings self.now) (buckets self.now) (goes self.now)
+            (seen own.old) result
             (seen own.new) };
 
     /// By no steps it stays where it is.

@@ -59,7 +59,8 @@ fn call_book<B: Caller, K: Sink>(
     requires fits { B.fits caller.now own.old }
     requires none { BringsNone call }
     ensures fits { B.fits caller.now own.new }
-    ensures step { Called (B.settings caller.now) (B.goes caller.now) call (K.seen sink.old) (K.seen sink.new) talk.old
+    ensures step { Called (B.settings caller.now) (B.goes caller.now) call (K.seen sink.old)
+        (K.seen sink.new) talk.old
         (B.seen own.old) result talk.new (B.seen own.new) }
 {
     let served = talk.served();
@@ -104,7 +105,8 @@ fn take_step<B: Caller, S: Source, K: Sink, C: Clock>(
 fn work_behind<B: Caller>(served: u64, caller: &B, own: &mut B::Own) -> Progress
     requires fits { B.fits caller.now own.old }
     ensures fits { B.fits caller.now own.new }
-    ensures works { WorksOn (B.settings caller.now) (B.buckets caller.now) (B.goes caller.now) served (B.seen own.old)
+    ensures works { WorksOn (B.settings caller.now) (B.buckets caller.now) (B.goes caller.now) served
+        (B.seen own.old)
         result (B.seen own.new) }
 {
     match caller.work(own) {
@@ -157,7 +159,8 @@ pub fn run_session<B: Caller, S: Source, K: Sink, C: Clock>(
 ) -> SessionEnd
     requires fits { B.fits caller.now own.old }
     ensures fits { B.fits caller.now own.new }
-    ensures serves { Serves (B.settings caller.now) (B.buckets caller.now) (B.goes caller.now) (B.seen own.old)
+    ensures serves { Serves (B.settings caller.now) (B.buckets caller.now) (B.goes caller.now)
+        (B.seen own.old)
         (B.seen own.new) (outside (S.seen source.old) (K.seen sink.old) (C.seen clock.old))
         (outside (S.seen source.new) (K.seen sink.new) (C.seen clock.new)) result }
 {

@@ -52,7 +52,8 @@ pub record LaneDone (s : Service) (seen : List Entry) (last : ℕ) (door : DoorS
     (lack : Lack) : Type 0 where
   pub first : DoorSeen
   pub new : IsNew s.tells door.number first
-  pub lane : LaneServed (ServedLink s.one s.settings door.number) [] 0 seen last first door nothing_lacked lack
+  pub lane : LaneServed (ServedLink s.one s.settings door.number)
+      [] 0 seen last first door nothing_lacked lack
 
 -- each entry that carries the pass of this number is of a turn up to `top`
 abbrev pub OwnWithin : ℕ → ℕ → List Entry → Type 0
