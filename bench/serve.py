@@ -2,7 +2,8 @@
 """Serves over real sockets on the loopback address, and checks each reply against what one thread answers: the requests of
 all connections, in the order of the turns that their replies print, are replayed over one connection, and each reply is to
 be the same but for its turn and for the dates that the server took from the clock. Beside that turns differ, those of a
-connection rise, and a request that began after another's reply has the later turn. Work on clashes goes on beside the
+connection rise, and a request that began after another's reply has the later turn; but clashes that a connection was
+answered before are answered again with the turn that was printed last there. Work on clashes goes on beside the
 connections, so of what is still to be checked only the bounds are compared.
 
 serve.py PROGRAM [ROW..], where PROGRAM is the built program. ROWS below has the rows; `cases=FOLDER` sends the streams of a
@@ -11,6 +12,7 @@ import json
 import os
 import random
 import re
+import shutil
 import signal
 import socket
 import struct
@@ -23,6 +25,7 @@ import time
 HOST = "127.0.0.1"
 TURN = re.compile(rb"X-Book-Turn: (\d+)\r\n")
 DATE = re.compile(rb'"(creation|modified)_date":"[^"]*"')
+CLASHES = re.compile(r"/coord/1/projects/([^/]+)/versions/(\d+|newest)/clashes(\?.*)?$")
 
 
 def project_id(number):
@@ -96,7 +99,7 @@ class Exchange:
     def __init__(self, method, target, body=None, user=None):
         self.method, self.target, self.body, self.user = method, target, body, user
         self.sent = self.came = self.status = self.reply = self.turn = None
-        self.close = False
+        self.close = self.shelved = False
 
     def bytes_of(self, last=False):
         head = f"{self.method} {self.target} HTTP/1.1\r\nHost: h\r\n"
@@ -197,14 +200,31 @@ def without_left(body):
     return re.sub(rb'"left":\d+', b'"left":', body)
 
 
+def find_shelved(log):
+    """Which replies of a connection are of clashes that it was answered before: these print the turn that was printed last,
+    and the others a later one."""
+    printed, shelf = 0, set()
+    for it in log:
+        if it.turn is None:
+            continue
+        asked = CLASHES.match(it.target) if it.method == "GET" and it.status == 200 else None
+        it.shelved = asked is not None and (asked[1], asked[2]) in shelf
+        if it.shelved:
+            want(it.turn == printed, f"a shelved reply prints turn {it.turn}, and {printed} was printed last")
+        else:
+            want(it.turn > printed, f"turn {it.turn} is printed behind {printed}")
+        if asked:
+            shelf.add((asked[1], str(json.loads(it.reply)["version"])))
+        printed = it.turn
+
+
 def check_turns(logs):
     """Turns differ, those of a connection rise, and a later request has a later turn."""
-    taken = [it for log in logs for it in log if it.turn is not None]
+    for log in logs:
+        find_shelved(log)
+    taken = [it for log in logs for it in log if it.turn is not None and not it.shelved]
     turns = [it.turn for it in taken]
     want(len(set(turns)) == len(turns), "two replies print one turn")
-    for log in logs:
-        own = [it.turn for it in log if it.turn is not None]
-        want(own == sorted(own), f"turns of a connection fall: {own}")
     later, least = sorted(taken, key=lambda it: it.sent), sorted(taken, key=lambda it: it.came)
     top, at = 0, 0
     for it in later:
@@ -217,7 +237,7 @@ def check_turns(logs):
 def check_replies(program, projects, logs):
     """Each reply is one thread's at its turn."""
     check_turns(logs)
-    asked = sorted((it for log in logs for it in log if it.turn is not None), key=lambda it: it.turn)
+    asked = sorted((it for log in logs for it in log if it.turn is not None), key=lambda it: (it.turn, it.shelved))
     pending = [it for it in asked if it.status == 202]
     for it in pending:
         want(left_of(it.reply) and set(json.loads(it.reply)) == {"left", "version"}, f"turn {it.turn}: {it.reply!r}")
@@ -616,6 +636,46 @@ def clashes(program):
     return f"{count[0]} replies compared, {count[1]} pending; an upload to sleeping workers was checked after {fresh * 1000:.1f} ms"
 
 
+def curl(program):
+    """The same through curl, whose requests come one after another: two models, rules, the clashes, a topic of one."""
+    if shutil.which("curl") is None:
+        subprocess.run(["apt-get", "install", "-y", "curl"], stdout=subprocess.DEVNULL, check=True)
+    with Server(program, lanes=2, workers=1) as server, tempfile.TemporaryDirectory() as folder:
+        server.connect().close()
+        log, v = [], f"/coord/1/projects/{project_id(1)}"
+
+        def ask(method, target, body=None):
+            it = Exchange(method, target, body)
+            given = ["-X", method]
+            if body is not None:
+                with open(f"{folder}/body", "wb") as file:
+                    file.write(body)
+                given += ["-H", "Content-Type: application/octet-stream", "-H", "Expect:", "--data-binary", f"@{folder}/body"]
+            it.sent = time.monotonic()
+            run = subprocess.run(["curl", "-s", "-S", "-i", "--max-time", "30", *given, f"http://{HOST}:{server.port}{target}"],
+                                 stdout=subprocess.PIPE, check=True)
+            it.came = time.monotonic()
+            it.status, it.turn, _, it.reply, rest = take_response(run.stdout)
+            want(rest == b"", f"bytes behind the reply: {rest[:80]!r}")
+            log.append(it)
+            return it
+        ask("PUT", f"{v}/rules", RULES[2])
+        for number in range(2):
+            ask("PUT", f"{v}/models/{'ab'[number]}", model(program, 60, number))
+        end = time.monotonic() + 60
+        while (found := ask("GET", f"{v}/versions/3/clashes")).status == 202:
+            want(time.monotonic() < end, "the clashes do not come")
+        total = json.loads(found.reply)["total"]
+        want(found.status == 200 and total > 0, f"{found.status} {found.reply[:80]!r}")
+        made = ask("POST", f"{v}/versions/3/clashes/0/topic", b"{}")
+        want(made.status == 201, f"{made.status} {made.reply!r}")
+        guid = json.loads(made.reply)["guid"]
+        want(ask("GET", f"{topics_of()}/{guid}").reply == made.reply, "another topic")
+        want(len(json.loads(ask("GET", topics_of()).reply)) == 1, "not one topic")
+    count = check_replies(program, 1, [[it] for it in log])
+    return f"{count[0]} replies compared, {count[1]} pending, {total} clashes"
+
+
 def words(program):
     """Words outside the grammar, and an address that can't be had."""
     usage = b"usage: bim_server replay|check|generate|serve\n"
@@ -740,7 +800,7 @@ def cases(program, folder):
     return f"{count} streams"
 
 
-ROWS = {it.__name__: it for it in (words, pipelined, many_clients, interleaved, clashes, slow, never_reads, cut,
+ROWS = {it.__name__: it for it in (words, pipelined, many_clients, interleaved, clashes, curl, slow, never_reads, cut,
                                    refused_at_once, end_by_links, end_by_signal, silent)}
 
 
