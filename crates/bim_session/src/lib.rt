@@ -10,6 +10,6 @@ mod want;
 
 pub use end::SessionEnd;
 pub use laws::{answers_are_to_the_events, no_reply_is_pending};
-pub use notes::{Notes, project_read};
+pub use notes::Notes;
 pub use talk::{MOST_READ, MOST_REQUESTS, Talk};
 pub use want::{Waiting, Want};

@@ -29,8 +29,8 @@ fn named_project(id: u128) -> Option<u32>
     }
 }
 
-/// The number of the project whose clashes a call asks for.
-pub fn project_read(call: &BookRequest) -> Option<u32>
+// The number of the project whose clashes a call asks for.
+pub(crate) fn project_read(call: &BookRequest) -> Option<u32>
     ensures { result ≡ project_read call.now }
 {
     match call {
