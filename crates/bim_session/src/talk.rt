@@ -363,7 +363,7 @@ impl Talk {
 
     // The book is to be called.
     fn call(&mut self, call: BookRequest, kind: ReplyKind, close: bool) -> Want
-        ensures { result ≡ Want.Call call }
+        ensures want { result ≡ Want.Call call }
         ensures state { self.new ≡ with_call (record {
           kind = kind;
           close = close;
