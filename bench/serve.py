@@ -714,6 +714,15 @@ def split(data):
     return pieces + ([data] if data else [])
 
 
+def replies_in(data):
+    """How many whole replies the bytes begin with, a Continue not counted."""
+    count = 0
+    while got := take_response(data):
+        count += got[0] != 100
+        data = got[4]
+    return count
+
+
 def settled(client, projects):
     """No version of a project has buckets that are to be checked."""
     for number in range(1, projects + 1):
@@ -752,12 +761,11 @@ def case(program, folder, name, has_clashes):
         reader = threading.Thread(target=take)
         reader.start()
         try:
-            for piece in split(data) if has_clashes else [data]:
-                before = sum(map(len, output))
+            for number, piece in enumerate(split(data) if has_clashes else [data], 1):
                 it.sendall(piece)
                 if has_clashes:
-                    end = time.monotonic() + 0.3
-                    while sum(map(len, output)) == before and time.monotonic() < end and reader.is_alive():
+                    end = time.monotonic() + 2
+                    while replies_in(b"".join(output)) < number and time.monotonic() < end and reader.is_alive():
                         time.sleep(0.0005)
                     settled(other, projects)
             it.shutdown(socket.SHUT_WR)
