@@ -15,6 +15,7 @@ use bucket_check::{BucketSet, Room, check};
 use federation_book::Book;
 use std::alloc::{AllocError, Global};
 use std::marker::{Brand, Model};
+use std::mem::drop;
 use std::sync::ledger::{Blank, Ledger};
 
 /// A book, how many turns were taken of it, and room for the work on its buckets.
@@ -93,6 +94,7 @@ impl OneThread {
         ensures settings { self.new.settings ≡ self.old.settings }
     {
         let Some(turn) = self.turns.checked_add(1) else {
+            drop(request);
             return Err(AllocError);
         };
         let stamp = Stamp {
@@ -118,7 +120,8 @@ impl OneThread {
             unreachable!()
         };
         let set = set_of::<Brand>(alloc, Blank::new(1), &mut self.room, order)?;
-        let _receipt = self.call(BookRequest::Finish { set })?;
+        let brought = self.call(BookRequest::Finish { set })?;
+        drop(brought);
         Ok(())
     }
 

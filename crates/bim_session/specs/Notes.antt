@@ -59,4 +59,4 @@ pub record Noted (turn : ℕ) (project : Option ℕ) (told : BookReply) (old new
   pub horizon_is : new.horizon ≡ told.horizon
   pub sets_are : (p v : ℕ) → set_of new.shelf p v
       ≡ cond (is_live told.horizon.newest p v)
-          (put_set project (set_told told.body) (set_of old.shelf) p v) None
+      (put_set project (set_told told.body) (set_of old.shelf) p v) None

@@ -202,6 +202,27 @@ Writes P (Write bytes) = P bytes
 Writes P (Call call) = ⊥
 Writes P (Leave e) = ⊥
 
+-- what the response needs to a call that is to be made
+abbrev pub waiting_on : BookRequest → Waiting → Waiting
+waiting_on call waiting = record {
+  kind = waiting.kind;
+  close = waiting.close;
+  changes = asks_change call;
+  reads = project_read call;
+}
+
+-- what a talk wants for a call, of whose response this is needed: the answer, where the call asks for clashes that are
+-- kept; else it is to be made
+abbrev pub Asks : Waiting → BookRequest → TalkState → Want → TalkState → Type 0
+Asks waiting call old More new = ⊥
+Asks waiting call old (Call other) new =
+    (other ≡ call) × ¬ (AsksKept old.notes call) × (new ≡ with_call (waiting_on call waiting) old)
+Asks waiting call old (Write bytes) new =
+    ((kept : BookReply) × IsKeptReply old.notes call kept
+    × IsResponse (answer.Book kept) waiting.kind (Some old.notes.turn) waiting.close bytes)
+    × (new ≡ with_answer waiting.close old)
+Asks waiting call old (Leave e) new = ⊥
+
 -- what a talk wants for a request that it took
 abbrev pub WantsFor : ℕ → HttpRequest → TalkState → Want → TalkState → Type 0
 WantsFor moment request old More new = ⊥
@@ -331,6 +352,11 @@ changes_nothing changes body = not changes || is_refusal body
 -- the book's answer to a call, with the turn that the call took
 abbrev pub BookReceipt : Type 0
 BookReceipt = Receipt Book BookRequest BookReply Entry Settings
+
+-- an answer of the book is noted, which is printed with this turn
+abbrev pub IsNoted : ℕ → Option ℕ → Answer → Notes → Notes → Type 0
+IsNoted turn reads (answer.Book reply) old new = Noted turn reads reply old new
+IsNoted turn reads other old new = new ≡ old
 
 -- The response to a call that the book answered with this receipt, which is noted; or for which memory was wanting, and
 -- then the notes stay.

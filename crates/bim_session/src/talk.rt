@@ -5,7 +5,7 @@ ghost use Rattle.http_frame.specs.Framers.{Stands};
 ghost use Rattle.bim_session.specs.Session.{most_requests, closes_after, continue_bytes, IsFaultResponse};
 ghost use Rattle.bcf_http.specs.Answers.{IsResponse};
 ghost use Rattle.bim_session.specs.Notes.{project_read, Noted};
-ghost use Rattle.bim_session.specs.Talking.{fresh, Feeds, Stays, with_answer, with_call, with_fault, with_framer, with_memory, with_notes, with_spent, with_end, KeepsNone, WantsFor, Writes, Wants, StopsNext, LacksNext, Replies, LacksFor, AtRest, IsReady, IsOwnEnd, IsOwnLeaving, IsOwnWant, leaving_after, asks_change, is_refusal, changes_nothing, IsCallable};
+ghost use Rattle.bim_session.specs.Talking.{fresh, Feeds, Stays, with_answer, with_call, with_fault, with_framer, with_memory, with_notes, with_spent, with_end, Asks, waiting_on, IsNoted, KeepsNone, WantsFor, Writes, Wants, StopsNext, LacksNext, Replies, LacksFor, AtRest, IsReady, IsOwnEnd, IsOwnLeaving, IsOwnWant, leaving_after, asks_change, is_refusal, changes_nothing, IsCallable};
 
 use crate::calls::call_of;
 use crate::end::SessionEnd;
@@ -21,6 +21,7 @@ use federation_book::Book;
 use http_frame::{FrameError, FrameFault, FrameStep, Framer, HttpRequest};
 use std::alloc::{AllocError, Global};
 use std::marker::Model;
+use std::mem::drop;
 
 /// The most requests that a session is answered.
 pub const MOST_REQUESTS: u64 = 10_000;
@@ -133,6 +134,32 @@ fn changes_nothing(changes: bool, reply: &ReplyBody) -> bool
     ensures { result ≡ changes_nothing changes reply.now }
 {
     !changes || is_refusal(reply)
+}
+
+// The bytes of the response to an answer, which is large, and so is let go by a call.
+fn response_of(
+    alloc: Global,
+    answer: Answer,
+    kind: ReplyKind,
+    turn: Option<u64>,
+    close: bool,
+) -> Result<Bytes, AllocError>
+    ensures { IfOk result (IsResponse answer kind turn close) }
+{
+    let bytes = to_response(alloc, &answer, kind, turn, close);
+    drop(answer);
+    bytes
+}
+
+// Notes an answer of the book, which is printed with this turn. An `Err` leaves the notes as they were.
+fn note(notes: &mut Notes, turn: u64, reads: Option<u32>, answer: &Answer) -> Result<(), AllocError>
+    ensures ok { OnOk result (IsNoted turn reads answer.now notes.old notes.new) }
+    ensures err { OnErr result (notes.new ≡ notes.old) }
+{
+    match answer {
+        Answer::Book(reply) => notes.take(turn, reads, reply),
+        _ => Ok(()),
+    }
 }
 
 impl Talk {
@@ -294,9 +321,9 @@ impl Talk {
         ensures own { IfOk result IsOwnWant }
         ensures callable { IfOk result IsCallable }
     {
-        let bytes = to_response(
+        let bytes = response_of(
             self.alloc,
-            &Answer::Frame(fault),
+            Answer::Frame(fault),
             ReplyKind::none(),
             None,
             true,
@@ -311,12 +338,12 @@ impl Talk {
     // The response to one more request.
     fn respond(
         &mut self,
-        answer: &Answer,
+        answer: Answer,
         waiting: Waiting,
         turn: Option<u64>,
     ) -> Result<Want, AllocError>
         requires { self.old.leaving ≡ None }
-        ensures want { IfOk result (Writes (IsResponse answer.now waiting.kind turn waiting.close)) }
+        ensures want { IfOk result (Writes (IsResponse answer waiting.kind turn waiting.close)) }
         ensures ok { OnOk result (self.new ≡ with_answer waiting.close self.old) }
         ensures err { OnErr result (self.new ≡ self.old) }
         ensures ready { IfOk result (λ want. IsReady want self.new) }
@@ -324,7 +351,7 @@ impl Talk {
         ensures callable { IfOk result IsCallable }
     {
         let served = self.served + 1;
-        let bytes = to_response(self.alloc, answer, waiting.kind, turn, waiting.close)?;
+        let bytes = response_of(self.alloc, answer, waiting.kind, turn, waiting.close)?;
         self.served = served;
         self.waits = None;
         self.leaving = leaving_after(served, waiting.close);
@@ -343,39 +370,53 @@ impl Talk {
     {
         let kind = kind_of(&self.routes, &request);
         let close = closes_after(&request, self.served + 1);
-        let at_once = Waiting {
+        let waiting = Waiting {
             kind,
             close,
             changes: false,
             reads: None,
         };
         match call_of(self.alloc, &self.routes, request, moment) {
-            Ok(call) => match self.notes.reply_to(&call)? {
-                Some(reply) => {
-                    let turn = self.notes.turn;
-                    self.respond(&Answer::Book(reply), at_once, Some(turn))
-                }
-                None => Ok(self.call(call, kind, close)),
-            },
-            Err(answer) => self.respond(&answer, at_once, None),
+            Ok(call) => self.ask(waiting, call),
+            Err(answer) => self.respond(answer, waiting, None),
         }
     }
 
-    // The book is to be called.
-    fn call(&mut self, call: BookRequest, kind: ReplyKind, close: bool) -> Want
-        ensures want { result ≡ Want.Call call }
-        ensures state { self.new ≡ with_call (record {
-          kind = kind;
-          close = close;
-          changes = asks_change call;
-          reads = project_read call;
-        }) self.old }
+    // What is wanted for a call: its answer, where it asks for clashes that are kept; else it is to be made.
+    fn ask(&mut self, waiting: Waiting, call: BookRequest) -> Result<Want, AllocError>
+        requires open_ { self.old.leaving ≡ None }
+        ensures want { IfOk result (λ want. Asks waiting call self.old want self.new) }
+        ensures err { OnErr result (self.new ≡ self.old) }
+        ensures ready { IfOk result (λ want. IsReady want self.new) }
+        ensures own { IfOk result IsOwnWant }
+        ensures callable { IfOk result (λ want. IsCallable (Want.Call call) → IsCallable want) }
     {
+        match self.notes.reply_to(&call) {
+            Ok(Some(reply)) => {
+                drop(call);
+                let turn = self.notes.turn;
+                self.respond(Answer::Book(reply), waiting, Some(turn))
+            }
+            Ok(None) => Ok(self.wait(waiting, call)),
+            Err(error) => {
+                drop(call);
+                Err(error)
+            }
+        }
+    }
+
+    // The call is to be made, and waits.
+    fn wait(&mut self, waiting: Waiting, call: BookRequest) -> Want
+        ensures want { result ≡ Want.Call call }
+        ensures state { self.new ≡ with_call (waiting_on call waiting) self.old }
+    {
+        let changes = asks_change(&call);
+        let reads = project_read(&call);
         self.waits = Some(Waiting {
-            kind,
-            close,
-            changes: asks_change(&call),
-            reads: project_read(&call),
+            kind: waiting.kind,
+            close: waiting.close,
+            changes,
+            reads,
         });
         Want::Call(call)
     }
@@ -415,7 +456,7 @@ impl Talk {
         ensures want { IfOk result (λ want. LacksFor waiting self.old want self.new) }
         ensures ok { IsOk result }
     {
-        match self.respond(&Answer::Memory, waiting, None) {
+        match self.respond(Answer::Memory, waiting, None) {
             Ok(want) => Ok(want),
             Err(_) => Ok(Want::Leave(self.give_up())),
         }
@@ -460,14 +501,29 @@ impl Talk {
     {
         let served = self.served + 1;
         let answer = Answer::Book(reply);
-        let bytes = to_response(self.alloc, &answer, waiting.kind, Some(turn), waiting.close)?;
-        let Answer::Book(reply) = answer else {
-            unreachable!()
-        };
-        self.notes.take(turn, waiting.reads, &reply)?;
+        let printed = self.print_noted(waiting, turn, &answer);
+        drop(answer);
+        let bytes = printed?;
         self.served = served;
         self.waits = None;
         self.leaving = leaving_after(served, waiting.close);
         Ok(Want::Write(bytes))
+    }
+
+    // The bytes of that response.
+    fn print_noted(
+        &mut self,
+        waiting: Waiting,
+        turn: u64,
+        answer: &Answer,
+    ) -> Result<Bytes, AllocError>
+        ensures bytes { IfOk result (IsResponse answer.now waiting.kind (Some turn) waiting.close) }
+        ensures noted { OnOk result (IsNoted turn waiting.reads answer.now self.old.notes self.new.notes) }
+        ensures ok { OnOk result (self.new ≡ with_notes self.new.notes self.old) }
+        ensures err { OnErr result (self.new ≡ self.old) }
+    {
+        let bytes = to_response(self.alloc, answer, waiting.kind, Some(turn), waiting.close)?;
+        note(&mut self.notes, turn, waiting.reads, answer)?;
+        Ok(bytes)
     }
 }
