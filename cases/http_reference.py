@@ -1,7 +1,8 @@
 #!/usr/bin/env python3
 """What `replay --at N` must write for the bytes of one connection: the HTTP profile read anew, in plain Python, from its
-own text (docs/API.md) and not from the program. Cases of heads, chunks and clients are worked out with it. It knows
-topics by title, empty versions, and uploads of one small file; where a stream asks for more it stops (Beyond).
+own text (docs/API.md) and not from the program. Cases of heads, chunks, clients and bodies are worked out with it. It knows
+topics, comments and viewpoints, empty versions, and uploads of one small file; where a stream asks for more it stops
+(Beyond).
 
     python3 cases/http_reference.py --at N [--projects N] <input >output      ends with the status of the run
     python3 cases/http_reference.py --cases FOLDER     compares with the cases KKK.json, KKK.in, KKK.out of a folder
@@ -273,22 +274,14 @@ class Book:
     def __init__(self, projects, moment):
         self.projects, self.moment, self.turn = projects, moment, 0
         self.printed, self.shelf = 0, set()  # the turn printed last, and the versions whose clashes were answered
-        self.topics = {n: [] for n in range(1, projects + 1)}
+        self.boards = {n: Board(n, moment) for n in range(1, projects + 1)}
         self.versions = {n: [Version([], [])] for n in range(1, projects + 1)}
 
     def project(self, identifier):
-        for n in self.topics:
+        for n in self.boards:
             if identifier == n.to_bytes(4, "big") + bytes.fromhex("000080008000") + bytes(6):
                 return n
         return None
-
-    def topic(self, n, serial, made):
-        title, user = made
-        date = (datetime.datetime(1970, 1, 1) + datetime.timedelta(seconds=self.moment)).strftime("%Y-%m-%dT%H:%M:%SZ")
-        if self.moment < 0 or date[0] == "-":
-            raise Beyond("a date")
-        return {"creation_author": user, "creation_date": date, "guid": f"{n:08x}-0000-8000-8000-{serial:012x}",
-                "server_assigned_id": str(serial), "title": title}
 
     def booked(self, status, tree):
         self.turn += 1
@@ -313,8 +306,262 @@ class Book:
                     buckets -= 1
 
 
+class Refused(Exception):
+    """A fault of a body: its code, its name, and its fields."""
+
+    def __init__(self, code, word, **fields):
+        self.code, self.word, self.fields = code, word, fields
+
+
+def present(tree):
+    return {name: value for name, value in tree.items() if value is not None}
+
+
+def is_text(value, most, least=0):
+    return isinstance(value, str) and least <= len(value.encode()) <= most
+
+
+def is_index(value):
+    return isinstance(value, int) and not isinstance(value, bool) and -2**31 <= value < 2**31
+
+
+# the last moment that the crate `jiff` knows
+LAST_MOMENT = 253402207200
+
+DATE = re.compile(r"(\d{4}|[+-]\d{6})(-?)(\d\d)\2(\d\d)[Tt ](\d\d)(?:(:?)(\d\d)(?:\6(\d\d)(?:[.,]\d{1,9})?)?)?"
+                  r"([Zz]|([+-])(\d\d)(?:(:?)(\d\d)(?:\12(\d\d))?)?)((?:\[[^\[\]]*\])*)", re.ASCII)
+
+
+def seconds_of(text):
+    """The seconds since 1970 of a date, as `jiff` reads an instant; None where it reads none, or one before 1970."""
+    match = DATE.fullmatch(text)
+    if not match or match.group(1) == "-000000":
+        return None
+    notes = re.findall(r"\[([^\]]*)\]", match.group(15))
+    if any(not re.fullmatch(r"!u-ca=x|u-ca=gregory|Europe/Berlin|[+-]\d\d:\d\d", note) for note in notes):
+        raise Beyond("what is noted behind a date")
+    if "!u-ca=x" in notes:
+        return None
+    year, month, day, hour, minute, second = (int(match.group(n) or 0) for n in (1, 3, 4, 5, 7, 8))
+    sign, hours, minutes, seconds = match.group(10), *(int(match.group(n) or 0) for n in (11, 13, 14))
+    if hour > 23 or minute > 59 or second > 60 or hours > 25 or minutes > 59 or seconds > 59:
+        return None
+    try:
+        moment = datetime.datetime(year, month, day, hour, minute, min(second, 59))
+    except ValueError:
+        return None
+    offset = (hours * 60 + minutes) * 60 + seconds
+    found = int((moment - datetime.datetime(1970, 1, 1)).total_seconds()) - (-offset if sign == "-" else offset)
+    return found if 0 <= found <= LAST_MOMENT else None
+
+
+def member_fault(name):
+    return Refused("B4", "BadMember", name=name)
+
+
+def check_members(tree, checks):
+    """Refuses the first member by its bytes that fails its check."""
+    for name in sorted(checks):
+        if name in tree and not checks[name](tree[name]):
+            raise member_fault(name)
+
+
+def topic_in(tree):
+    tree = present(tree)
+    if not is_text(tree.get("title"), 1024, 1):
+        raise Refused("B3", "Title")
+    words = ("topic_type", "topic_status", "priority", "assigned_to", "stage", "description")
+    checks = {name: lambda value: is_text(value, 4096) for name in words}
+    checks["index"] = is_index
+    checks["labels"] = lambda value: isinstance(value, list) and len(value) <= 20 and all(is_text(v, 256) for v in value)
+    checks["due_date"] = lambda value: isinstance(value, str) and seconds_of(value) is not None
+    check_members(tree, checks)
+    body = {name: tree[name] for name in ("title", "index", *words) if name in tree}
+    if tree.get("labels"):
+        body["labels"] = tree["labels"]
+    if "due_date" in tree:
+        body["due_date"] = date_of(seconds_of(tree["due_date"]))
+    return body
+
+
+def comment_in(tree):
+    tree = present(tree)
+    if not is_text(tree.get("comment"), 8192, 1):
+        raise member_fault("comment")
+    check_members(tree, {"viewpoint_guid": lambda value: isinstance(value, str) and identifier_in(value)})
+    return tree["comment"], identifier_in(tree["viewpoint_guid"]) if "viewpoint_guid" in tree else None
+
+
+def list_in(tree, name):
+    value = tree.get(name, [])
+    if not isinstance(value, list):
+        raise member_fault("components")
+    return value
+
+
+def component_in(tree):
+    if not isinstance(tree, dict):
+        raise Refused("B8", "BadComponent")
+    tree = present(tree)
+    good = {"ifc_guid": lambda value: isinstance(value, str) and re.fullmatch("[0-9A-Za-z_$]{22}", value),
+            "originating_system": lambda value: is_text(value, 64), "authoring_tool_id": lambda value: is_text(value, 64)}
+    if any(name in tree and not good[name](tree[name]) for name in good):
+        raise Refused("B8", "BadComponent")
+    return {name: tree[name] for name in good if name in tree}
+
+
+def coloring_in(tree):
+    tree = present(tree) if isinstance(tree, dict) else {}
+    if not isinstance(tree.get("color"), str) or not re.fullmatch("#?([0-9a-fA-F]{6}|[0-9a-fA-F]{8})", tree["color"]):
+        raise member_fault("components")
+    return tree["color"], list_in(tree, "components")
+
+
+def view_in(tree):
+    tree = present(tree)
+    parts = tree.get("components", {})
+    if not isinstance(parts, dict):
+        raise member_fault("components")
+    parts = present(parts)
+    shown = parts.get("visibility", {})
+    if not isinstance(shown, dict) or not isinstance(present(shown).get("default_visibility", False), bool):
+        raise member_fault("components")
+    shown = present(shown)
+    selection, exceptions = list_in(parts, "selection"), list_in(shown, "exceptions")
+    coloring = [coloring_in(item) for item in list_in(parts, "coloring")]
+    check_members(tree, {"index": is_index})
+    body = {"selection": [component_in(item) for item in selection],
+            "coloring": [{"color": color, "components": [component_in(item) for item in items]} for color, items in coloring],
+            "visibility": {"default_visibility": shown.get("default_visibility", False),
+                           "exceptions": [component_in(item) for item in exceptions]}}
+    if len(selection) + len(exceptions) + sum(len(items) for _, items in coloring) > 1000:
+        raise Refused("B8", "BadComponent")
+    return {"index": tree["index"]} if "index" in tree else {}, body
+
+
+def date_of(seconds):
+    return (datetime.datetime(1970, 1, 1) + datetime.timedelta(seconds=seconds)).strftime("%Y-%m-%dT%H:%M:%SZ")
+
+
+class Board:
+    """What is said in a project: topics, comments and viewpoints by their numbers, which are given out together."""
+
+    def __init__(self, number, moment):
+        self.number, self.made, self.moment = number, 0, moment
+        self.topics, self.comments, self.views = {}, {}, {}
+
+    @property
+    def date(self):
+        return date_of(self.moment)
+
+    def guid(self, serial):
+        return f"{self.number:08x}-0000-8000-8000-{serial:012x}"
+
+    def serial(self, identifier):
+        front = self.number.to_bytes(4, "big") + bytes.fromhex("000080008000")
+        return int.from_bytes(identifier[10:], "big") if identifier[:10] == front else None
+
+    def next(self):
+        self.made += 1
+        return self.made
+
+    def topic(self, serial, body, user):
+        self.topics[serial] = dict(body, creation_author=user, creation_date=self.date, guid=self.guid(serial),
+                                   server_assigned_id=str(serial))
+        return self.topics[serial]
+
+    def view(self, topic, serial, own, parts):
+        self.views[serial] = (topic, dict(own, guid=self.guid(serial)), parts)
+        return self.views[serial][1]
+
+    def replaced(self, tree, body, user, kept):
+        tree = {name: tree[name] for name in kept}
+        return dict(tree, **body, modified_author=user, modified_date=self.date)
+
+    def delete_topic(self, serial):
+        del self.topics[serial]
+        self.comments = {s: c for s, c in self.comments.items() if c[0] != serial}
+        self.views = {s: v for s, v in self.views.items() if v[0] != serial}
+
+
+TOPIC_KEPT = ("creation_author", "creation_date", "guid", "server_assigned_id")
+COMMENT_KEPT = ("author", "date", "guid", "topic_guid")
+
+
+def on_topics(board, method, body, user, ids):
+    if not ids:
+        if method == "GET":
+            return 200, [board.topics[s] for s in sorted(board.topics)]
+        return 201, board.topic(board.next(), body, user)
+    serial = board.serial(ids[0])
+    if serial not in board.topics:
+        return 404, error("B1", "NoTopic")
+    if method == "DELETE":
+        board.delete_topic(serial)
+        return 200, {}
+    if method == "PUT":
+        board.topics[serial] = board.replaced(board.topics[serial], body, user, TOPIC_KEPT)
+    return 200, board.topics[serial]
+
+
+def on_comments(board, method, body, user, ids):
+    topic = board.serial(ids[0])
+    if topic not in board.topics:
+        return 404, error("B1", "NoTopic")
+    if len(ids) == 1 and method == "GET":
+        return 200, [board.comments[s][1] for s in sorted(board.comments) if board.comments[s][0] == topic]
+    serial = board.serial(ids[1]) if len(ids) > 1 else None
+    if len(ids) > 1 and board.comments.get(serial, (None,))[0] != topic:
+        return 404, error("B2", "NoComment")
+    if method == "GET":
+        return 200, board.comments[serial][1]
+    if method == "DELETE":
+        del board.comments[serial]
+        return 200, {}
+    said = {"comment": body[0]}
+    if body[1] is not None:
+        view = board.serial(body[1])
+        if board.views.get(view, (None,))[0] != topic:
+            return 404, error("B7", "NoViewpoint")
+        said["viewpoint_guid"] = board.guid(view)
+    if method == "POST":
+        serial = board.next()
+        tree = dict(said, author=user, date=board.date, guid=board.guid(serial), topic_guid=board.guid(topic))
+    else:
+        tree = board.replaced(board.comments[serial][1], said, user, COMMENT_KEPT)
+    board.comments[serial] = (topic, tree)
+    return 201 if method == "POST" else 200, tree
+
+
+def on_views(board, method, body, ids, part):
+    topic = board.serial(ids[0])
+    if topic not in board.topics:
+        return 404, error("B1", "NoTopic")
+    if len(ids) == 1 and method == "GET":
+        return 200, [board.views[s][1] for s in sorted(board.views) if board.views[s][0] == topic]
+    if method == "POST":
+        return 201, board.view(topic, board.next(), *body)
+    serial = board.serial(ids[1])
+    if board.views.get(serial, (None,))[0] != topic:
+        return 404, error("B7", "NoViewpoint")
+    if method == "DELETE":
+        del board.views[serial]
+        return 200, {}
+    return 200, {part: board.views[serial][2][part]} if part else board.views[serial][1]
+
+
 PART = r"([^/]+)"
-ROWS = [(re.compile(f"/bcf/3.0/projects/{PART}/topics$"), "topics", ["GET", "POST"]),
+TOPIC = f"/bcf/3.0/projects/{PART}/topics/{PART}"
+ROWS = [(re.compile("/bcf/3.0/projects$"), "projects", ["GET"]),
+        (re.compile(f"/bcf/3.0/projects/{PART}$"), "project", ["GET"]),
+        (re.compile(f"/bcf/3.0/projects/{PART}/topics$"), "topics", ["GET", "POST"]),
+        (re.compile(f"{TOPIC}$"), "topics", ["GET", "PUT", "DELETE"]),
+        (re.compile(f"{TOPIC}/comments$"), "comments", ["GET", "POST"]),
+        (re.compile(f"{TOPIC}/comments/{PART}$"), "comments", ["GET", "PUT", "DELETE"]),
+        (re.compile(f"{TOPIC}/viewpoints$"), "views", ["GET", "POST"]),
+        (re.compile(f"{TOPIC}/viewpoints/{PART}$"), "views", ["GET", "DELETE"]),
+        (re.compile(f"{TOPIC}/viewpoints/{PART}/(selection|coloring|visibility)$"), "part", ["GET"]),
+        (re.compile(f"/coord/1/projects/{PART}/versions/{PART}/clashes/{PART}/topic$"), "clash topic", ["POST"]),
         (re.compile(f"/coord/1/projects/{PART}/models/{PART}$"), "model", ["PUT", "DELETE"]),
         (re.compile(f"/coord/1/projects/{PART}/rules$"), "rules", ["PUT"]),
         (re.compile(f"/coord/1/projects/{PART}/versions/{PART}$"), "version", ["GET"]),
@@ -336,6 +583,12 @@ def finite(text):
     return float(text)
 
 
+def whole(text):
+    """An integer of 64 bits; any other is read as a float, and so is a zero with a sign."""
+    value = int(text)
+    return value if text != "-0" and -2**63 <= value < 2**64 else finite(text)
+
+
 def constant(text):
     raise ValueError(text)
 
@@ -348,11 +601,18 @@ def depth(tree):
 
 def object_in(body):
     """The object of a body, as serde_json reads it: at most 127 levels, no lone surrogates, no number beyond a float."""
-    tree = json.loads(body.decode(), parse_float=finite, parse_int=lambda text: finite(text) and int(text), parse_constant=constant)
+    tree = json.loads(body.decode(), parse_float=finite, parse_int=whole, parse_constant=constant)
     json.dumps(tree, ensure_ascii=False).encode()
     if not isinstance(tree, dict) or depth(tree) > 127:
         raise ValueError("no object")
     return tree
+
+
+READERS = {"topics": topic_in, "comments": comment_in, "views": view_in}
+
+
+def project_tree(number):
+    return {"name": f"Project {number}", "project_id": f"{number:08x}-0000-8000-8000-000000000000"}
 
 
 def answer(book, request):
@@ -371,12 +631,15 @@ def answer(book, request):
             break
     else:
         return no_route
-    identifier = identifier_in(found.group(1))
-    if identifier is None:
+    ids = [identifier_in(part) for part in (found.groups() if "/bcf/" in row.pattern else found.groups()[:1])
+           if part not in ("selection", "coloring", "visibility")]
+    if None in ids:
         return no_route
     if kind == "model" and not re.fullmatch(r"[A-Za-z0-9_.\-]{1,64}", found.group(2)):
         return no_route
-    if kind in ("version", "clashes") and not re.fullmatch("newest|[0-9]{1,15}", found.group(2)):
+    if kind == "clash topic" and not re.fullmatch("[0-9]{1,15}", found.group(3)):
+        return no_route
+    if kind in ("version", "clashes", "clash topic") and not re.fullmatch("newest|[0-9]{1,15}", found.group(2)):
         return no_route
     method = request.method.decode()
     if method not in methods:
@@ -394,15 +657,15 @@ def answer(book, request):
         if name in given or not good:
             return refused("H11", "Query", 400, name=name.decode())
         given[name] = value
-    number = book.project(identifier)
-    if kind == "topics" and method == "POST":
+    number = book.project(ids[0]) if ids else None
+    body = None
+    if method in ("POST", "PUT") and kind in READERS:
         try:
-            tree = object_in(request.body)
+            body = READERS[kind](object_in(request.body))
         except (ValueError, RecursionError):
             return refused("H9", "BadJson", 400)
-        title = tree.get("title")
-        if not isinstance(title, str) or not 1 <= len(title.encode()) <= 1024:
-            return refused("B3", "Title", 422)
+        except Refused as fault:
+            return refused(fault.code, fault.word, 422, **fault.fields)
     if kind == "rules":
         try:
             tree = object_in(request.body)
@@ -413,14 +676,19 @@ def answer(book, request):
             return refused(fault[0], fault[1], 422, **fault[2])
     if kind == "model" and method == "PUT" and request.body != SMALL_FILE:
         raise Beyond("another file")
+    if kind == "projects":
+        return book.booked(200, [project_tree(n) for n in sorted(book.boards)])
     if number is None:
         return book.booked(404, error("K1", "NoProject"))
-    if kind == "topics" and method == "POST":
-        book.topics[number].append((title, request.user))
-        made = book.topics[number]
-        return book.booked(201, book.topic(number, len(made), made[-1]))
+    board, user = book.boards[number], request.user
+    if kind == "project":
+        return book.booked(200, project_tree(number))
     if kind == "topics":
-        return book.booked(200, [book.topic(number, i + 1, t) for i, t in enumerate(book.topics[number])])
+        return book.booked(*on_topics(board, method, body, user, ids[1:]))
+    if kind == "comments":
+        return book.booked(*on_comments(board, method, body, user, ids[1:]))
+    if kind in ("views", "part"):
+        return book.booked(*on_views(board, method, body, ids[1:], found.groups()[-1] if kind == "part" else None))
     versions = book.versions[number]
     newest, last = len(versions) - 1, versions[-1]
     if kind == "rules":
@@ -442,6 +710,16 @@ def answer(book, request):
         return book.booked(200, {"models": models, "newest": newest, "rules": version.rules, "version": asked})
     if version.undone:
         return book.booked(202, {"left": len(version.undone), "version": asked})
+    if kind == "clash topic":
+        pairs, place = version.clashes(), int(found.group(3))
+        if place >= len(pairs):
+            return book.booked(404, error("K12", "NoClash", place=place, total=len(pairs)))
+        a, b = pairs[place]["a"]["guid"], pairs[place]["b"]["guid"]
+        topic = board.topic(board.next(), {"title": f"Clash of {a} and {b}", "topic_type": "Clash", "topic_status": "Open"}, user)
+        parts = {"selection": [{"ifc_guid": a}, {"ifc_guid": b}], "coloring": [],
+                 "visibility": {"default_visibility": False, "exceptions": []}}
+        board.view(board.made, board.next(), {}, parts)
+        return book.booked(201, topic)
     pairs, first = version.clashes(), int(given.get(b"first", b"0"))
     page = pairs[first:first + int(given.get(b"count", b"1000"))]
     tree = {"clashes": page, "first": first, "total": len(pairs), "version": asked}
