@@ -1,5 +1,6 @@
 pub mod Known
 pub mod Turns
+pub mod Passes
 pub mod SoFar
 pub mod Growing
 pub mod Events

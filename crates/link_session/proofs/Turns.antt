@@ -1,5 +1,5 @@
 -- What a pass has come to know, with the steps of its session.
-use Rattle.std.proofs.Common.{◌≡◌, ◌||◌, ℕ, ◌<◌, ◌≤◌, List, [], ◌∷◌, ◌++◌, true, false, if◌then◌else◌, inl, inr, refl, sym, ◌∙◌, ap, subst, arith, append_assoc, append-nil, eq-eqb}
+use Rattle.std.proofs.Common.{◌≡◌, ◌||◌, ℕ, ◌<◌, ◌≤◌, List, [], ◌∷◌, ◌++◌, true, false, if◌then◌else◌, Result, Ok, Err, inl, inr, refl, sym, ◌∙◌, ap, subst, arith, append_assoc, append-nil, eq-eqb}
 use Rattle.book_turn.specs.declared.object.Stamp.{Stamp}
 use Rattle.book_turn.specs.Numbers.{has}
 use Rattle.book_turn.specs.Entries.{AllAfter, calls_by, listed}
@@ -13,15 +13,12 @@ use Rattle.book_history.specs.Runs.{Step}
 use Rattle.book_history.proofs.Histories.{AreOf, AreAbove, added_of, before_all, of_turn-grown, of_turn-new}
 use Rattle.book_passes.specs.Lessons.{CallerSeen, TakesTurn, Learns, own_of, stamp_in, turn_of}
 use Rattle.book_passes.proofs.Learning.{learns_none, learns_turn, learns_trans}
-use Rattle.link_session.specs.Serving.{entries_of, AreBy}
-use Rattle.link_session.specs.Loop.{Skips}
+use Rattle.book_turn.specs.declared.fault.CallFault.{CallFault}
+use Rattle.book_turn.specs.declared.fault.CallFault.TheVariants.{Memory, PassSpent}
+use Rattle.bim_session.specs.Talking.{BookReceipt}
+use Rattle.link_session.specs.Callers.{entries_of, AreBy, AreWithin, GoesByPass, Skips, Calls, steps_of}
 
 -- ---- steps
-
--- the steps took turns up to this one
-abbrev pub AreWithin : ℕ → List Step → Type 0
-AreWithin top [] = Unit {0}
-AreWithin top (s ∷ ss) = (s.stamp.turn ≤ top) × AreWithin top ss
 
 by_append : (n : ℕ) (a b : List Step) → AreBy n a → AreBy n b → AreBy n (a ++ b)
 by_append n [] b p q = q
@@ -68,16 +65,7 @@ added_own settings h stamp call ps alone =
 
 -- ---- what is known
 
--- what the pass v knows as w, by these steps
-pub record Known (v w : CallerSeen) (steps : List Step) : Type 0 where
-  pub alone : v.numbers ≡ v.number ∷ []
-  pub news : List Entry
-  pub learns : Learns v w news
-  pub by_pass : AreBy v.number steps
-  pub within : AreWithin w.last steps
-  pub own : own_of v news ≡ entries_of w.seen steps
-
-pub known_none : (v : CallerSeen) → v.numbers ≡ v.number ∷ [] → Known v v []
+pub known_none : (v : CallerSeen) → v.numbers ≡ v.number ∷ [] → GoesByPass v [] v
 known_none v alone = record {
   alone = alone;
   news = [];
@@ -87,8 +75,8 @@ known_none v alone = record {
   own = refl;
 }
 
-known_turn : (v w w' : CallerSeen) (steps first : List Step) (turn : ℕ) (others added : List Entry) → Known v w steps → TakesTurn turn others added w w'
-    → own_of v added ≡ added → entries_of w'.seen first ≡ added → AreBy v.number first → AreWithin turn first → Known v w' (steps ++ first)
+known_turn : (v w w' : CallerSeen) (steps first : List Step) (turn : ℕ) (others added : List Entry) → GoesByPass v steps w → TakesTurn turn others added w w'
+    → own_of v added ≡ added → entries_of w'.seen first ≡ added → AreBy v.number first → AreWithin turn first → GoesByPass v (steps ++ first) w'
 known_turn v w w' steps first turn others added k t mine entries by within =
     let above : w.last < turn = t.above in
     let last : w'.last ≡ turn = t.last in
@@ -114,10 +102,10 @@ known_turn v w w' steps first turn others added k t mine entries by within =
     }
 
 -- no call was answered
-pub known_skip : (v w w' : CallerSeen) (steps : List Step) → Known v w steps → Skips w w' → Known v w' steps
-known_skip v w w' steps k (inl same) = subst (λ (x : CallerSeen). Known v x steps) (sym same) k
+pub known_skip : (v w w' : CallerSeen) (steps : List Step) → GoesByPass v steps w → Skips w w' → GoesByPass v steps w'
+known_skip v w w' steps k (inl same) = subst (λ (x : CallerSeen). GoesByPass v steps x) (sym same) k
 known_skip v w w' steps k (inr (turn, others, takes)) =
-    subst (λ (ss : List Step). Known v w' ss) (append-nil steps) (known_turn v w w' steps [] turn others [] k takes refl refl tt tt)
+    subst (λ (ss : List Step). GoesByPass v ss w') (append-nil steps) (known_turn v w w' steps [] turn others [] k takes refl refl tt tt)
 
 pub skip_rises : (w w' : CallerSeen) → Skips w w' → w.last ≤ w'.last
 skip_rises w w' (inl same) = (let e : w'.last ≡ w.last = ap (λ (x : CallerSeen). x.last) same in omega (arith, e))
@@ -128,8 +116,8 @@ abbrev pub step_in : ℕ → CallerSeen → BookRequest → Step
 step_in turn w call = record { stamp = stamp_in turn w; request = call }
 
 -- a call was answered
-pub known_call : (settings : Settings) (v w w' : CallerSeen) (steps : List Step) (turn : ℕ) (call : BookRequest) (others : List Entry) → Known v w steps
-    → TakesTurn turn others (added_by settings (w.seen ++ others) (stamp_in turn w) call) w w' → Known v w' (steps ++ step_in turn w call ∷ [])
+pub known_call : (settings : Settings) (v w w' : CallerSeen) (steps : List Step) (turn : ℕ) (call : BookRequest) (others : List Entry) → GoesByPass v steps w
+    → TakesTurn turn others (added_by settings (w.seen ++ others) (stamp_in turn w) call) w w' → GoesByPass v (steps ++ step_in turn w call ∷ []) w'
 known_call settings v w w' steps turn call others k t =
     let h : List Entry = w.seen ++ others in
     let added : List Entry = added_by settings h (stamp_in turn w) call in
@@ -140,3 +128,33 @@ known_call settings v w w' steps turn call others k t =
     known_turn v w w' steps (step_in turn w call ∷ []) turn others added k t
     (added_own settings h (stamp_in turn w) call v.numbers (k.alone ∙ ap (λ n. n ∷ []) (sym number)))
     (append-nil (of_turn turn w'.seen) ∙ entries) (number, tt) ((let same : turn ≤ turn = omega arith in same), tt)
+
+-- a call, answered or not
+pub goes_call : (settings : Settings) (call : BookRequest) (v : CallerSeen) (result : Result BookReceipt CallFault) (w : CallerSeen) → v.numbers ≡ v.number ∷ []
+    → Calls settings call v result w → GoesByPass v (steps_of call v result) w
+goes_call settings call v (Ok receipt) w alone calls = known_call settings v v w [] receipt.turn call calls.others (known_none v alone) calls.takes
+goes_call settings call v (Err Memory) w alone skips = known_skip v v w [] (known_none v alone) skips
+goes_call settings call v (Err (PassSpent pass)) w alone stays = subst (λ (x : CallerSeen). GoesByPass v [] x) (sym stays.1) (known_none v alone)
+
+-- it goes on where it stopped
+pub known_trans : (u v w : CallerSeen) (first second : List Step) → GoesByPass u first v → GoesByPass v second w → GoesByPass u (first ++ second) w
+known_trans u v w first second a b =
+    let number : v.number ≡ u.number = a.learns.keeps.number in
+    let numbers : v.numbers ≡ u.numbers = a.learns.keeps.numbers in
+    let pass : Entry → ℕ = λ (e : Entry). e.stamp.pass in
+    let same : entries_of w.seen first ≡ entries_of v.seen first =
+    ap (λ h. entries_of h first) b.learns.seen ∙ entries_grown v.seen b.news v.last first a.within (above_all v.last b.news b.learns.later) in
+    let own : own_of u (a.news ++ b.news) ≡ entries_of v.seen first ++ entries_of w.seen second =
+    calls_by-append pass u.numbers a.news b.news
+    ∙ ap (λ es. es ++ own_of u b.news) a.own
+    ∙ ap (λ es. entries_of v.seen first ++ es) (ap (λ (ps : List ℕ). calls_by pass ps b.news) (sym numbers) ∙ b.own) in
+    let whole : entries_of w.seen (first ++ second) ≡ entries_of v.seen first ++ entries_of w.seen second =
+    entries_append w.seen first second ∙ ap (λ es. es ++ entries_of w.seen second) same in
+    record {
+      alone = a.alone;
+      news = a.news ++ b.news;
+      learns = learns_trans u v w a.news b.news a.learns b.learns;
+      by_pass = by_append u.number first second a.by_pass (subst (λ (n : ℕ). AreBy n second) number b.by_pass);
+      within = within_append w.last first second (within_later v.last w.last first b.learns.rises a.within) b.within;
+      own = own ∙ sym whole;
+    }
