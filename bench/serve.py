@@ -715,12 +715,8 @@ def split(data):
 
 
 def replies_in(data):
-    """How many whole replies the bytes begin with, a Continue not counted."""
-    count = 0
-    while got := take_response(data):
-        count += got[0] != 100
-        data = got[4]
-    return count
+    """How many replies have begun, a Continue not counted. Each is one write."""
+    return len(re.findall(rb"HTTP/1\.1 (?!100)\d{3} [A-Za-z -]+\r\nContent-Type: ", data))
 
 
 def settled(client, projects):
