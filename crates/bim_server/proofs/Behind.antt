@@ -1,8 +1,7 @@
 -- A step of a session with the work behind it.
-use Rattle.std.proofs.Common.{◌≡◌, ◌⊎◌, ℕ, ◌<◌, ◌≤◌, Option, inl, inr, sym, subst, arith}
+use Rattle.std.proofs.Common.{ℕ, Option, inl, inr, sym, subst, arith}
 use Rattle.bim_io.specs.Seen.{Outside, EndsEmpty}
 use Rattle.bim_session.specs.declared.end.SessionEnd.{SessionEnd}
-use Rattle.bim_session.specs.declared.end.SessionEnd.TheVariants as end
 use Rattle.bim_session.specs.Replay.{Replays}
 use Rattle.bim_session.specs.Talking.{TalkState}
 use Rattle.bim_server.specs.Loop.{ServerState}

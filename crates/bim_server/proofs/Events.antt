@@ -10,6 +10,10 @@ use Rattle.book_history.specs.declared.changes.Change.{Change}
 use Rattle.book_history.specs.declared.changes.Change.TheVariants as change
 use Rattle.bcf_topics.specs.declared.topic.Topic.{Topic}
 use Rattle.bcf_topics.specs.declared.comment.Comment.{Comment}
+use Rattle.bcf_topics.specs.Comments.{comments_on}
+use Rattle.bcf_viewpoints.specs.Views.{views_on}
+use Rattle.book_topics.specs.Boards.{topic_at, comment_at, view_at}
+use Rattle.book_topics.specs.Named.{topic_named, comment_named, view_named}
 use Rattle.book_history.specs.declared.faults.BookFault.{BookFault}
 use Rattle.book_history.specs.declared.faults.BookFault.TheVariants.{NoTopic, NoComment, NoViewpoint}
 use Rattle.book_history.specs.declared.replies.ReplyBody.{ReplyBody}
@@ -21,9 +25,9 @@ use Rattle.book_history.specs.declared.requests.BookRequest.TheVariants.{ListPro
 use Rattle.book_history.specs.Orders.{OrderValue}
 use Rattle.book_history.specs.Versions.{VersionState, version_at}
 use Rattle.book_history.specs.Projects.{ProjectState, newest, with_change}
-use Rattle.book_history.specs.History.{state_of, at_turn, IsBefore}
+use Rattle.book_history.specs.History.{state_of, board_of, at_turn, IsBefore}
 use Rattle.book_history.specs.Refusals.{project_of, wanted_in, not_yet, dropped, pending}
-use Rattle.book_history.specs.Requests.{Outcome, Refusal, Answer, Accepted, unless, found, in_project, topic_told, comment_told, clash_told, order_for, all_orders, version_read, clashes_read, outcome_of, reply_to, body_of, entry_by, reply_of, added_by}
+use Rattle.book_history.specs.Requests.{Outcome, Refusal, Answer, Accepted, unless, found, in_project, in_topic, in_comment, in_view, topic_told, comment_told, view_told, order_for, all_orders, version_read, clashes_read, outcome_of, reply_to, body_of, entry_by, reply_of, added_by}
 use Rattle.book_history.specs.Runs.{Step, IsRun, IsOneThread}
 use Rattle.book_history.proofs.Histories.{AreOf, added_of, above_of, at_turn-new, of_turn-new, Runs_push, follows_one, one_push}
 use Rattle.bcf_http.specs.declared.answers.Answer.TheVariants as answer
@@ -124,6 +128,20 @@ clashes_idle h wanted first count n =
     let version : VersionState = version_at project.versions v in
     idle_unless (not_yet project v ∷ dropped project v ∷ pending v version ∷ []) (reply.Clashes v version.content first count)
 
+-- a comment that is read, a viewpoint
+abbrev comment_read : List Entry → ℕ → ℕ → ℕ → Outcome
+comment_read h n t c = Answer (comment_told (comment_at (board_of n h) t c))
+
+abbrev view_read : List Entry → ℕ → ℕ → ℕ → Outcome
+view_read h n t v = Answer (view_told v (view_at (board_of n h) t v))
+
+-- what a topic answers
+idle_topic : (settings : Settings) (h : List Entry) (id topic : ℕ) (f : ℕ → ℕ → Outcome) → ((n t : ℕ) → IsIdle (f n t))
+    → IsIdle (in_project (project_of settings.projects id) (λ n. in_topic h n topic (f n)))
+idle_topic settings h id topic f idle =
+    idle_in (project_of settings.projects id) (λ n. in_topic h n topic (f n))
+    (λ n. idle_found NoTopic (topic_named n (board_of n h) topic) (f n) (idle n))
+
 -- a call that asks for no change
 reads_idle : (settings : Settings) (h : List Entry) (call : BookRequest) → asks_change call ≡ false → IsIdle (outcome_of settings h call)
 reads_idle settings h ListProjects reads = tt
@@ -136,19 +154,23 @@ reads_idle settings h (ReadClashes id wanted first count) reads =
     idle_in (project_of settings.projects id) (clashes_read h wanted first count) (λ n. clashes_idle h wanted first count n)
 reads_idle settings h (ClashTopic id wanted place author weight) reads = cc
 reads_idle settings h (ListTopics id) reads = idle_in (project_of settings.projects id) _ (λ n. tt)
-reads_idle settings h (ReadTopic id topic) reads = idle_in (project_of settings.projects id) _ (λ n. idle_found NoTopic _ _ (λ t. tt))
+reads_idle settings h (ReadTopic id topic) reads = idle_topic settings h id topic (λ n t. Answer (topic_told (topic_at (board_of n h) t))) (λ n t. tt)
 reads_idle settings h (PostTopic id body author weight) reads = cc
 reads_idle settings h (PutTopic id topic body author weight) reads = cc
 reads_idle settings h (DeleteTopic id topic) reads = cc
-reads_idle settings h (ListComments id topic) reads = idle_in (project_of settings.projects id) _ (λ n. idle_found NoTopic _ _ (λ t. tt))
+reads_idle settings h (ListComments id topic) reads =
+    idle_topic settings h id topic (λ n t. Answer (reply.CommentList (comments_on t (board_of n h).discussion.comments))) (λ n t. tt)
 reads_idle settings h (ReadComment id topic comment) reads =
-    idle_in (project_of settings.projects id) _ (λ n. idle_found NoTopic _ _ (λ t. idle_found NoComment _ _ (λ c. tt)))
+    idle_topic settings h id topic (λ n t. in_comment h n t comment (comment_read h n t))
+    (λ n t. idle_found NoComment (comment_named n (board_of n h) t comment) (comment_read h n t) (λ c. tt))
 reads_idle settings h (PostComment id topic body author weight) reads = cc
 reads_idle settings h (PutComment id topic comment body author weight) reads = cc
 reads_idle settings h (DeleteComment id topic comment) reads = cc
-reads_idle settings h (ListViews id topic) reads = idle_in (project_of settings.projects id) _ (λ n. idle_found NoTopic _ _ (λ t. tt))
+reads_idle settings h (ListViews id topic) reads =
+    idle_topic settings h id topic (λ n t. Answer (reply.ViewList (views_on t (board_of n h).views))) (λ n t. tt)
 reads_idle settings h (ReadView id topic view) reads =
-    idle_in (project_of settings.projects id) _ (λ n. idle_found NoTopic _ _ (λ t. idle_found NoViewpoint _ _ (λ v. tt)))
+    idle_topic settings h id topic (λ n t. in_view h n t view (view_read h n t))
+    (λ n t. idle_found NoViewpoint (view_named n (board_of n h) t view) (view_read h n t) (λ v. tt))
 reads_idle settings h (PostView id topic body weight) reads = cc
 reads_idle settings h (DeleteView id topic view) reads = cc
 reads_idle settings h (TakeWork seat) reads = idle_order h (all_orders settings.projects h) seat

@@ -1,5 +1,5 @@
 -- A bucket that a one-thread book gives out, and its set.
-use Rattle.std.proofs.Common.{◌≡◌, ◌⊎◌, ℕ, ◌+◌, ◌<◌, ◌≤◌, List, [], ◌∷◌, ◌++◌, length, Ok, sym, ◌∙◌, ap, subst, refl, length-append, arith}
+use Rattle.std.proofs.Common.{◌≡◌, ℕ, ◌+◌, ◌<◌, List, [], ◌∷◌, ◌++◌, length, Ok, sym, ◌∙◌, ap, subst, refl, length-append, arith}
 use Rattle.std.specs.List.{flat_map, sum_by}
 use Rattle.std.proofs.lemmas.List.{length-map}
 use Rattle.std.proofs.lemmas.List.Sums.{sum_by-cons}
@@ -83,11 +83,9 @@ gives_some s some =
     let count : length (all_orders s.settings.projects s.history) ≡ left_of s = flat_length s.history (project_numbers s.settings.projects) in
     some_order s.history (all_orders s.settings.projects s.history) (omega (arith, some, count))
 
--- ---- a set
-
 -- ---- the two calls
 
--- .. and how it takes the next turn
+-- a call takes the next turn
 pub calls_ok : (call : BookRequest) (old : ServerState) (settings : Settings) (history : List Entry) (turn : ℕ) (reply : BookReply) → turn ≡ old.turns + 1
     → reply ≡ reply_of old.settings old.history (stamp_of turn) call → history ≡ old.history ++ added_by old.settings old.history (stamp_of turn) call → settings ≡ old.settings
     → Calls call old (Ok (record { turn = turn; reply = reply })) (record { settings = settings; history = history; turns = turn })

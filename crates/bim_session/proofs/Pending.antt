@@ -17,8 +17,15 @@ use Rattle.book_history.specs.declared.faults.BookFault.{BookFault}
 use Rattle.bim_model.specs.declared.topic.Author.{Author}
 use Rattle.bcf_topics.specs.declared.topic.Topic.{Topic}
 use Rattle.bcf_topics.specs.declared.comment.Comment.{Comment}
+use Rattle.bcf_topics.specs.declared.comment.CommentIn.{CommentIn}
+use Rattle.bcf_topics.specs.declared.comment.CommentBody.{CommentBody}
+use Rattle.bcf_topics.specs.Comments.{comments_on}
+use Rattle.bcf_viewpoints.specs.Views.{views_on}
+use Rattle.book_topics.specs.Boards.{topic_at, comment_at, view_at}
+use Rattle.book_topics.specs.Named.{topic_named, comment_named, view_named, comment_kept}
 use Rattle.bcf_viewpoints.specs.declared.view.ViewBody.{ViewBody}
-use Rattle.book_history.specs.declared.faults.BookFault.TheVariants.{Pending, NoModel, NoProject, NoTopic, NoComment, NoViewpoint}
+use Rattle.bcf_viewpoints.specs.declared.view.ViewIs.{ViewIs}
+use Rattle.book_history.specs.declared.faults.BookFault.TheVariants.{Pending, NoModel, NoTopic, NoComment, NoViewpoint}
 use Rattle.book_history.specs.declared.replies.ReplyBody.TheVariants as reply
 use Rattle.book_history.specs.declared.requests.Wanted.{Wanted}
 use Rattle.book_history.specs.declared.requests.BookRequest.{BookRequest}
@@ -26,7 +33,7 @@ use Rattle.book_history.specs.declared.requests.BookRequest.TheVariants.{ListPro
 use Rattle.book_history.specs.Orders.{OrderValue}
 use Rattle.book_history.specs.Versions.{VersionState, nothing, version_at, live_in}
 use Rattle.book_history.specs.Projects.{ProjectState, newest, with_change}
-use Rattle.book_history.specs.History.{state_of, at_turn, left_in, live_of, left_all, project_numbers}
+use Rattle.book_history.specs.History.{state_of, board_of, at_turn, left_in, live_of, left_all, project_numbers}
 use Rattle.book_history.specs.Refusals.{project_of, wanted_in, not_yet, dropped, pending, no_clash, done_before, no_model, full, not_noted}
 use Rattle.book_history.specs.Requests.{Outcome, Answer, Accepted, unless, found, in_project, in_topic, in_comment, in_view, with_body, changed, noted, version_read, clashes_read, clash_noted, topic_told, comment_told, view_told, order_for, all_orders, finished, outcome_of, reply_to, body_of, reply_of, added_by}
 use Rattle.book_history.specs.Runs.{Step, Runs, IsRun}
@@ -86,6 +93,12 @@ calm_comment (Some comment) p = let e = p.2 in cc
 calm_view : (serial : ℕ) (o : Option ViewBody) → IsPending (view_told serial o) → ⊥
 calm_view serial None p = let e = p.2 in cc
 calm_view serial (Some body) p = let e = p.2 in cc
+
+calm_comments : (comments : List Comment) → IsPending (reply.CommentList comments) → ⊥
+calm_comments comments p = let e = p.2 in cc
+
+calm_views : (views : List ViewIs) → IsPending (reply.ViewList views) → ⊥
+calm_views views p = let e = p.2 in cc
 
 calm_accepted : (h : List Entry) (n : ℕ) (before after : ProjectState) (c : Change) → IsPending (reply_to before c after) → ⊥
 calm_accepted h n before after (change.PostTopic body author weight) p = let e = p.2 in cc
@@ -294,6 +307,38 @@ calm_version h wanted n =
     calm_unless h (not_yet p v ∷ dropped p v ∷ []) (Answer (reply.Version v (newest p) (version_at p.versions v).content))
     (other_if _ _ (λ v l e. cc), (other_if _ _ (λ v l e. cc), tt)) (λ q. let e = q.2 in cc)
 
+-- what a topic answers by its number, what a comment on it answers, and a viewpoint of it
+calm_topic_of : (settings : Settings) (h : List Entry) (id topic : ℕ) (f : ℕ → ℕ → Outcome) → ((n t : ℕ) → IsCalm h (f n t))
+    → IsCalm h (in_project (project_of settings.projects id) (λ n. in_topic h n topic (f n)))
+calm_topic_of settings h id topic f calm =
+    calm_in h (project_of settings.projects id) (λ n. in_topic h n topic (f n))
+    (λ n is. calm_found h NoTopic (topic_named n (board_of n h) topic) (f n) (λ v l e. cc) (calm n))
+
+calm_comment_of : (settings : Settings) (h : List Entry) (id topic comment : ℕ) (f : ℕ → ℕ → ℕ → Outcome) → ((n t c : ℕ) → IsCalm h (f n t c))
+    → IsCalm h (in_project (project_of settings.projects id) (λ n. in_topic h n topic (λ t. in_comment h n t comment (f n t))))
+calm_comment_of settings h id topic comment f calm =
+    calm_topic_of settings h id topic (λ n t. in_comment h n t comment (f n t))
+    (λ n t. calm_found h NoComment (comment_named n (board_of n h) t comment) (f n t) (λ v l e. cc) (calm n t))
+
+calm_view_of : (settings : Settings) (h : List Entry) (id topic view : ℕ) (f : ℕ → ℕ → ℕ → Outcome) → ((n t v : ℕ) → IsCalm h (f n t v))
+    → IsCalm h (in_project (project_of settings.projects id) (λ n. in_topic h n topic (λ t. in_view h n t view (f n t))))
+calm_view_of settings h id topic view f calm =
+    calm_topic_of settings h id topic (λ n t. in_view h n t view (f n t))
+    (λ n t. calm_found h NoViewpoint (view_named n (board_of n h) t view) (f n t) (λ v l e. cc) (calm n t))
+
+-- a change of a topic of this number
+calm_noted_of : (settings : Settings) (h : List Entry) (id topic : ℕ) (make : ℕ → Change)
+    → IsCalm h (in_project (project_of settings.projects id) (λ n. in_topic h n topic (λ t. noted settings h n (make t))))
+calm_noted_of settings h id topic make =
+    calm_topic_of settings h id topic (λ n t. noted settings h n (make t)) (λ n t. calm_noted settings h (make t) n)
+
+-- a change that a comment's body makes
+calm_body : (settings : Settings) (h : List Entry) (n t : ℕ) (sent : CommentIn) (make : CommentBody → Change)
+    → IsCalm h (with_body h n t sent (λ b. noted settings h n (make b)))
+calm_body settings h n t sent make =
+    calm_found h NoViewpoint (comment_kept n (board_of n h) t sent) (λ b. noted settings h n (make b)) (λ v l e. cc)
+    (λ b. calm_noted settings h (make b) n)
+
 -- where nothing is left to check, no call is answered so
 calm_call : (settings : Settings) (h : List Entry) (call : BookRequest) → left_all settings.projects h ≡ 0 → IsCalm h (outcome_of settings h call)
 calm_call settings h ListProjects none = λ p. (let e = p.2 in cc)
@@ -321,25 +366,28 @@ calm_call settings h (ClashTopic id wanted place author weight) none =
     calm_in h (project_of settings.projects id) _
     (λ n is. let range = project_within settings.projects id n is in calm_clash_topic settings h wanted place author weight n none range.0 range.1)
 calm_call settings h (ListTopics id) none = calm_in h (project_of settings.projects id) _ (λ n is p. let e = p.2 in cc)
-calm_call settings h (ReadTopic id topic) none = calm_in h (project_of settings.projects id) _ (λ n is. calm_found h NoTopic _ _ (λ v l e. cc) (λ t. calm_topic _))
+calm_call settings h (ReadTopic id topic) none = calm_topic_of settings h id topic (λ n t. Answer (topic_told (topic_at (board_of n h) t))) (λ n t. calm_topic _)
 calm_call settings h (PostTopic id body author weight) none = calm_in h (project_of settings.projects id) _ (λ n is. calm_noted settings h (change.PostTopic body author weight) n)
-calm_call settings h (PutTopic id topic body author weight) none =
-    calm_in h (project_of settings.projects id) _ (λ n is. calm_found h NoTopic _ _ (λ v l e. cc) (λ t. calm_noted settings h (change.PutTopic t body author weight) n))
-calm_call settings h (DeleteTopic id topic) none = calm_in h (project_of settings.projects id) _ (λ n is. calm_found h NoTopic _ _ (λ v l e. cc) (λ t. calm_noted settings h (change.DeleteTopic t) n))
-calm_call settings h (ListComments id topic) none = calm_in h (project_of settings.projects id) _ (λ n is. calm_found h NoTopic _ _ (λ v l e. cc) (λ t p. let e = p.2 in cc))
+calm_call settings h (PutTopic id topic body author weight) none = calm_noted_of settings h id topic (λ t. change.PutTopic t body author weight)
+calm_call settings h (DeleteTopic id topic) none = calm_noted_of settings h id topic (λ t. change.DeleteTopic t)
+calm_call settings h (ListComments id topic) none =
+    calm_topic_of settings h id topic (λ n t. Answer (reply.CommentList (comments_on t (board_of n h).discussion.comments))) (λ n t. calm_comments _)
 calm_call settings h (ReadComment id topic comment) none =
-    calm_in h (project_of settings.projects id) _ (λ n is. calm_found h NoTopic _ _ (λ v l e. cc) (λ t. calm_found h NoComment _ _ (λ v l e. cc) (λ c. calm_comment _)))
+    calm_comment_of settings h id topic comment (λ n t c. Answer (comment_told (comment_at (board_of n h) t c))) (λ n t c. calm_comment _)
 calm_call settings h (PostComment id topic body author weight) none =
-    calm_in h (project_of settings.projects id) _ (λ n is. calm_found h NoTopic _ _ (λ v l e. cc) (λ t. calm_found h NoViewpoint _ _ (λ v l e. cc) (λ b. calm_noted settings h (change.PostComment t b author weight) n)))
+    calm_topic_of settings h id topic (λ n t. with_body h n t body (λ b. noted settings h n (change.PostComment t b author weight)))
+    (λ n t. calm_body settings h n t body (λ b. change.PostComment t b author weight))
 calm_call settings h (PutComment id topic comment body author weight) none =
-    calm_in h (project_of settings.projects id) _ (λ n is. calm_found h NoTopic _ _ (λ v l e. cc) (λ t. calm_found h NoComment _ _ (λ v l e. cc) (λ c. calm_found h NoViewpoint _ _ (λ v l e. cc) (λ b. calm_noted settings h (change.PutComment t c b author weight) n))))
+    calm_comment_of settings h id topic comment (λ n t c. with_body h n t body (λ b. noted settings h n (change.PutComment t c b author weight)))
+    (λ n t c. calm_body settings h n t body (λ b. change.PutComment t c b author weight))
 calm_call settings h (DeleteComment id topic comment) none =
-    calm_in h (project_of settings.projects id) _ (λ n is. calm_found h NoTopic _ _ (λ v l e. cc) (λ t. calm_found h NoComment _ _ (λ v l e. cc) (λ c. calm_noted settings h (change.DeleteComment t c) n)))
-calm_call settings h (ListViews id topic) none = calm_in h (project_of settings.projects id) _ (λ n is. calm_found h NoTopic _ _ (λ v l e. cc) (λ t p. let e = p.2 in cc))
-calm_call settings h (ReadView id topic view) none = calm_in h (project_of settings.projects id) _ (λ n is. calm_found h NoTopic _ _ (λ v l e. cc) (λ t. calm_found h NoViewpoint _ _ (λ v l e. cc) (λ v. calm_view v _)))
-calm_call settings h (PostView id topic body weight) none = calm_in h (project_of settings.projects id) _ (λ n is. calm_found h NoTopic _ _ (λ v l e. cc) (λ t. calm_noted settings h (change.PostView t body weight) n))
+    calm_comment_of settings h id topic comment (λ n t c. noted settings h n (change.DeleteComment t c)) (λ n t c. calm_noted settings h (change.DeleteComment t c) n)
+calm_call settings h (ListViews id topic) none = calm_topic_of settings h id topic (λ n t. Answer (reply.ViewList (views_on t (board_of n h).views))) (λ n t. calm_views _)
+calm_call settings h (ReadView id topic view) none =
+    calm_view_of settings h id topic view (λ n t v. Answer (view_told v (view_at (board_of n h) t v))) (λ n t v. calm_view v _)
+calm_call settings h (PostView id topic body weight) none = calm_noted_of settings h id topic (λ t. change.PostView t body weight)
 calm_call settings h (DeleteView id topic view) none =
-    calm_in h (project_of settings.projects id) _ (λ n is. calm_found h NoTopic _ _ (λ v l e. cc) (λ t. calm_found h NoViewpoint _ _ (λ v l e. cc) (λ v. calm_noted settings h (change.DeleteView t v) n)))
+    calm_view_of settings h id topic view (λ n t v. noted settings h n (change.DeleteView t v)) (λ n t v. calm_noted settings h (change.DeleteView t v) n)
 calm_call settings h (TakeWork seat) none = calm_order h (all_orders settings.projects h) seat
 calm_call settings h (Finish set) none = calm_finish h set
 

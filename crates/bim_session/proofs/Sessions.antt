@@ -6,7 +6,6 @@ use Rattle.http_frame.specs.Events.{Event}
 use Rattle.http_frame.specs.Events as frame
 use Rattle.book_history.specs.declared.limits.Settings.{Settings}
 use Rattle.book_history.specs.declared.changes.Entry.{Entry}
-use Rattle.book_history.specs.declared.replies.ReplyBody.TheVariants as reply
 use Rattle.book_history.specs.History.{at_turn, of_turn, left_all, IsBefore}
 use Rattle.book_history.specs.Requests.{reply_of, added_by}
 use Rattle.book_history.specs.Runs.{Step, Runs}

@@ -74,9 +74,9 @@ pub record ReadsAsNeeded (most : Option ℕ) (input : List ℕ) (events : List E
 
 -- A source gave the input and has nothing left once it answered its end, a clock gave the moments, and a sink
 -- took the output. The steps of the session are the turns of a run with one actor, from 1 without a gap, and
--- its history is the one whose entries below a printed turn decide the reply. They are those of the requests, and
--- behind each answer those of the work on buckets. It ends by a fault exactly where a read or a write failed. Where an object doesn't tell, some input, some moments and some output are
--- meant.
+-- its history is the one whose entries below a printed turn decide the reply. They are those of the requests,
+-- and behind each answer those of the work on buckets. It ends by a fault exactly where a read or a write
+-- failed. Where an object doesn't tell, some input, some moments and some output are meant.
 --
 -- What is written before a read: since a session ends by the first call that fails, a read or a write,
 -- nothing is written after a read that fails, and nothing is read after a write that fails. So a source whose
