@@ -355,7 +355,7 @@ BookReceipt = Receipt Book BookRequest BookReply Entry Settings
 
 -- an answer of the book is noted, which is printed with this turn
 abbrev pub IsNoted : ℕ → Option ℕ → Answer → Notes → Notes → Type 0
-IsNoted turn reads (answer.Book reply) old new = Noted turn reads reply old new
+IsNoted turn reads (answer.Book told) old new = Noted turn reads told old new
 IsNoted turn reads other old new = new ≡ old
 
 -- The response to a call that the book answered with this receipt, which is noted; or for which memory was wanting, and
