@@ -1,4 +1,5 @@
 pub mod Talks
 pub mod Reading
+pub mod Staying
 pub mod Sessions
 pub mod Pending

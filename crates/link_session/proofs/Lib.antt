@@ -1,0 +1,10 @@
+pub mod Known
+pub mod Turns
+pub mod Passes
+pub mod SoFar
+pub mod Growing
+pub mod Events
+pub mod Ending
+pub mod Stepping
+pub mod Running
+pub mod Calling

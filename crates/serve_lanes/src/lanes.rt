@@ -1,0 +1,438 @@
+//! Lanes in threads of their own, over one book.
+ghost use Rattle.std.specs.Prelude.{◌≡◌, ◌⊎◌, ◌+◌, ◌<◌, ◌≤◌, ◌||◌, [], true, false, Some, None, IsSome, length, vec_len, vec_capacity, map, All, IfOk};
+ghost use Rattle.book_turn.specs.Numbers.{numbers_from};
+ghost use Rattle.book_turn.specs.Passes.{BelongsTo, IsSingle, new_passes};
+ghost use Rattle.bim_net.specs.Hosts.{AreNew, some_failed};
+ghost use Rattle.book_history.specs.History.{left_all};
+ghost use Rattle.serve_lanes.specs.Histories.{Service, IsReady, LaneDone, DoorDone, DoorServed, EndsLane, IsOver};
+ghost use Rattle.serve_lanes.specs.Histories.{LacksNone, some_lacked, some_spent, IsNewWorker, WorkerDone, AreOfLanes};
+
+use crate::lane::{LaneEnd, serve_lane};
+use crate::workers::{Lack, Worker, join_workers, make_workers, run_workers, work_out};
+use bim_io::Clock;
+use bim_net::{Door, Gate};
+use book_turn::fault::SpentPass;
+use book_turn::limits::MOST_PASSES;
+use book_turn::pass::Pass;
+use book_turn::turn::Turn;
+use federation_book::Book;
+use std::alloc::{AllocError, Global};
+use std::collections::VecDeque;
+use std::marker::Brand;
+use std::sync::Wait;
+use std::thread::{Threads, for_each_mut, join};
+
+/// What holds of all lanes of a server. It is there for proofs alone.
+pub trait Serving {
+    ghost service: { Service };
+}
+
+impl Serving for Brand {
+    ghost use Rattle.serve_lanes.specs.Histories.{no_service};
+
+    ghost service = { no_service };
+}
+
+/// A lane: a pass to the book, a door and a clock.
+#[derive(Drop)]
+pub struct Lane<D: Door + Drop, C: Clock + Drop> {
+    pub pass: Pass<Book>,
+    pub door: D,
+    pub clock: C,
+    /// Why it serves no more.
+    pub end: LaneEnd,
+    /// Whether one of its sessions ended for want of memory, or of a turn.
+    pub lack: Lack,
+}
+
+// Serves one lane, and tells the gate that it has ended.
+fn run_lane<K: Serving, R: Wait, D: Door + Drop, C: Clock + Drop, G: Gate>(
+    rt: &R,
+    alloc: Global,
+    turn: &Turn<Book>,
+    lane: &mut Lane<D, C>,
+    gate: &G,
+    links: u64,
+)
+    requires ready { IsReady K.service turn.now lane.old.pass (D.seen lane.old.door) (C.seen lane.old.clock) }
+    requires unnoted { LacksNone lane.old.lack }
+    ensures own { IsSingle turn.now lane.new.pass }
+    ensures done { LaneDone K.service lane.new.pass.seen lane.new.pass.last (D.seen lane.new.door)
+        lane.new.lack }
+    ensures ends { EndsLane links lane.new.end (D.seen lane.new.door) }
+    ensures number { (D.seen lane.new.door).number ≡ (D.seen lane.old.door).number }
+{
+    lane.end = serve_lane(
+        rt,
+        alloc,
+        turn,
+        &mut lane.pass,
+        &mut lane.door,
+        &mut lane.clock,
+        gate,
+        links,
+        &mut lane.lack,
+    );
+    gate.lane_ended(lane.pass.number());
+}
+
+// Runs all lanes, each in a thread of its own.
+fn run_all<
+    K: Serving,
+    R: Threads + Wait + Sync,
+    D: Door + Send + Drop,
+    C: Clock + Send + Drop,
+    G: Gate + Sync,
+>(rt: &R, alloc: Global, turn: &Turn<Book>, lanes: &mut [Lane<D, C>], gate: &G, links: u64)
+where
+    D::S: Send,
+    D::K: Send,
+    requires ready { All (λ l.
+        IsReady K.service turn.now l.pass (D.seen l.door) (C.seen l.clock) × LacksNone l.lack) lanes.old }
+    ensures own { All (λ l. IsSingle turn.entry.now l.pass) lanes.new }
+    ensures done { All (λ l. LaneDone K.service l.pass.seen l.pass.last (D.seen l.door) l.lack) lanes.new }
+    ensures ends { All (λ l. EndsLane links l.end (D.seen l.door)) lanes.new }
+    ensures numbers { map (λ l. (D.seen l.door).number) lanes.new
+        ≡ map (λ l. (D.seen l.door).number) lanes.old }
+{
+    for_each_mut(
+        rt,
+        lanes,
+        64,
+        &|_, lane: &mut Lane<D, C>|
+            requires { IsReady K.service turn.now lane.old.pass (D.seen lane.old.door) (C.seen lane.old.clock)
+                × LacksNone lane.old.lack }
+            ensures { IsSingle turn.entry.now lane.new.pass
+                × LaneDone K.service lane.new.pass.seen lane.new.pass.last
+                (D.seen lane.new.door) lane.new.lack
+                × EndsLane links lane.new.end (D.seen lane.new.door)
+                × ((D.seen lane.new.door).number ≡ (D.seen lane.old.door).number) }
+        { run_lane::<K, R, D, C, G>(rt, alloc, turn, lane, gate, links) },
+    );
+}
+
+// The same for lanes in a vector.
+fn run_vec<
+    K: Serving,
+    R: Threads + Wait + Sync,
+    D: Door + Send + Drop,
+    C: Clock + Send + Drop,
+    G: Gate + Sync,
+>(
+    rt: &R,
+    alloc: Global,
+    turn: &Turn<Book>,
+    lanes: Vec<Lane<D, C>>,
+    gate: &G,
+    links: u64,
+) -> Vec<Lane<D, C>>
+where
+    D::S: Send,
+    D::K: Send,
+    requires ready { All (λ l.
+        IsReady K.service turn.now l.pass (D.seen l.door) (C.seen l.clock) × LacksNone l.lack) lanes.items }
+    ensures own { All (λ l. IsSingle turn.now l.pass) result.items }
+    ensures done { All (λ l. LaneDone K.service l.pass.seen l.pass.last
+        (D.seen l.door) l.lack) result.items }
+    ensures ends { All (λ l. EndsLane links l.end (D.seen l.door)) result.items }
+    ensures numbers { map (λ l. (D.seen l.door).number) result.items
+        ≡ map (λ l. (D.seen l.door).number) lanes.items }
+{
+    let mut lanes = lanes;
+    run_all::<K, R, D, C, G>(rt, alloc, turn, lanes.as_mut_slice(), gate, links);
+    lanes
+}
+
+// A lane for each door, with the pass of its number.
+fn make_lanes<K: Serving, D: Door + Drop, C: Clock + Drop>(
+    alloc: Global,
+    turn: &Turn<Book>,
+    passes: Vec<Pass<Book>>,
+    doors: Vec<D>,
+    clocks: Vec<C>,
+) -> Result<Vec<Lane<D, C>>, AllocError>
+    requires settings { turn.now.settings ≡ K.service.settings }
+    requires passes { passes.items ≡ new_passes turn.now 0 (vec_len doors) }
+    requires doors { AreNew K.service.tells 0 (map D.seen doors.items) }
+    requires clocks { vec_len clocks ≡ vec_len doors }
+    requires one { All (λ c. (C.seen c).one ≡ K.service.one) clocks.items }
+    ensures ready { IfOk result (λ lanes.
+        All (λ l. IsReady K.service turn.now l.pass (D.seen l.door) (C.seen l.clock) × LacksNone l.lack)
+        lanes.items) }
+    ensures numbers { IfOk result (λ lanes.
+        map (λ l. (D.seen l.door).number) lanes.items ≡ numbers_from 0 (vec_len doors)) }
+{
+    let mut passes = VecDeque::from_vec(passes);
+    let mut doors = VecDeque::from_vec(doors);
+    let mut clocks = VecDeque::from_vec(clocks);
+    let mut lanes = Vec::new(alloc);
+    while let Some(pass) = passes.pop_front() {
+        let Some(door) = doors.pop_front() else {
+            unreachable!()
+        };
+        let Some(clock) = clocks.pop_front() else {
+            unreachable!()
+        };
+        lanes.push(Lane {
+            pass,
+            door,
+            clock,
+            end: LaneEnd::Closed,
+            lack: Lack::none(),
+        })?;
+    }
+    Ok(lanes)
+}
+
+// What is left of lanes whose passes were joined.
+#[derive(Drop)]
+struct JoinedLanes<D: Door + Drop> {
+    into: Pass<Book>,
+    doors: Vec<D>,
+    failed: bool,
+    lack: Lack,
+}
+
+// Joins the passes of all lanes into one, and gives that and the doors, in their order, with whether one of the lanes ended
+// by a fault of its door, and what sessions lacked.
+fn join_lanes<K: Serving, D: Door + Drop, C: Clock + Drop>(
+    turn: &Turn<Book>,
+    own: Pass<Book>,
+    lanes: Vec<Lane<D, C>>,
+    room: Vec<D>,
+    links: u64,
+) -> JoinedLanes<D>
+    requires own { BelongsTo turn.now own }
+    requires room { (room.items ≡ []) × (vec_len lanes ≤ vec_capacity room) }
+    requires lanes { All (λ l. IsSingle turn.now l.pass) lanes.items }
+    requires done { All (λ l. LaneDone K.service l.pass.seen l.pass.last
+        (D.seen l.door) l.lack) lanes.items }
+    requires ends { All (λ l. EndsLane links l.end (D.seen l.door)) lanes.items }
+    ensures own { BelongsTo turn.now result.into }
+    ensures all { length result.into.numbers ≡ length own.numbers + vec_len lanes }
+    ensures doors { All (λ d. DoorDone K.service result.into.seen result.into.last
+        (D.seen d)) result.doors.items }
+    ensures numbers { map (λ d. (D.seen d).number) result.doors.items
+        ≡ map (λ l. (D.seen l.door).number) lanes.items }
+    ensures over { All (λ d. IsOver links result.failed (D.seen d)) result.doors.items }
+    ensures failed { result.failed ≡ some_failed (map D.seen result.doors.items) }
+    ensures memory { some_lacked (map D.seen result.doors.items) ≡ true → result.lack.memory ≡ true }
+    ensures turns { some_spent (map D.seen result.doors.items) ≡ true → IsSome result.lack.spent }
+{
+    let _links = links;
+    let mut into = own;
+    let mut doors = room;
+    let mut failed = false;
+    let mut lack = Lack::none();
+    let mut lanes = VecDeque::from_vec(lanes);
+    while let Some(lane) = lanes.pop_front() {
+        let Lane {
+            pass,
+            door,
+            clock: _,
+            end,
+            lack: own,
+        } = lane;
+        turn.join(&mut into, pass);
+        doors.push_reserved(door);
+        failed = failed || end == LaneEnd::Failed;
+        lack = lack.and(own);
+    }
+    JoinedLanes {
+        into,
+        doors,
+        failed,
+        lack,
+    }
+}
+
+// A turn over the book, so many passes, and one more.
+fn open_turn(
+    alloc: Global,
+    book: Book,
+    count: u32,
+) -> Result<(Turn<Book>, Pass<Book>, Vec<Pass<Book>>), AllocError>
+    requires empty { book.journal ≡ [] }
+    requires few { count < MOST_PASSES }
+    ensures settings { IfOk result (λ r. r.0.settings ≡ book.settings) }
+    ensures passes { IfOk result (λ r. r.0.passes ≡ count + 1) }
+    ensures own { IfOk result (λ r. IsSingle r.0 r.1) }
+    ensures others { IfOk result (λ r. r.2.items ≡ new_passes r.0 0 count) }
+{
+    let (turn, mut passes) = Turn::new(alloc, book, count + 1)?;
+    let Some(own) = passes.pop() else {
+        unreachable!()
+    };
+    Ok((turn, own, passes))
+}
+
+// Runs the lanes and the workers side by side.
+fn run_both<
+    K: Serving,
+    R: Threads + Wait + Sync,
+    D: Door + Send + Drop,
+    C: Clock + Send + Drop,
+    G: Gate + Sync,
+>(
+    rt: &R,
+    alloc: Global,
+    turn: &Turn<Book>,
+    lanes: Vec<Lane<D, C>>,
+    workers: Vec<Worker>,
+    gate: &G,
+    links: u64,
+) -> (Vec<Lane<D, C>>, Vec<Worker>)
+where
+    D::S: Send,
+    D::K: Send,
+    requires ready { All (λ l.
+        IsReady K.service turn.now l.pass (D.seen l.door) (C.seen l.clock) × LacksNone l.lack) lanes.items }
+    requires new { All (λ w. IsNewWorker turn.now w.pass) workers.items }
+    ensures own { All (λ l. IsSingle turn.now l.pass) result.0.items }
+    ensures done { All (λ l. LaneDone K.service l.pass.seen l.pass.last
+        (D.seen l.door) l.lack) result.0.items }
+    ensures ends { All (λ l. EndsLane links l.end (D.seen l.door)) result.0.items }
+    ensures numbers { map (λ l. (D.seen l.door).number) result.0.items
+        ≡ map (λ l. (D.seen l.door).number) lanes.items }
+    ensures workers { All (λ w. IsSingle turn.now w.pass) result.1.items }
+    ensures worked { All (λ w. WorkerDone w.pass) result.1.items }
+    ensures count { vec_len result.1 ≡ vec_len workers }
+{
+    join(
+        rt,
+        move || -> Vec<Lane<D, C>>
+            requires { All (λ l. IsReady K.service turn.now l.pass (D.seen l.door) (C.seen l.clock)
+                × LacksNone l.lack) lanes.items }
+            ensures { All (λ l. IsSingle turn.entry.now l.pass) result.items
+                × All (λ l. LaneDone K.service l.pass.seen l.pass.last (D.seen l.door) l.lack) result.items
+                × All (λ l. EndsLane links l.end (D.seen l.door)) result.items
+                × (map (λ l. (D.seen l.door).number) result.items
+                ≡ map (λ l. (D.seen l.door).number) lanes.items) }
+        { run_vec::<K, R, D, C, G>(rt, alloc, turn, lanes, gate, links) },
+        move || -> Vec<Worker>
+            requires { All (λ w. IsNewWorker turn.now w.pass) workers.items }
+            ensures { All (λ w. IsSingle turn.entry.now w.pass) result.items
+                × All (λ w. WorkerDone w.pass) result.items × (vec_len result ≡ vec_len workers) }
+        { run_workers(rt, alloc, turn, workers, gate) },
+    )
+}
+
+/// What is left when all lanes have ended.
+#[derive(Drop)]
+pub struct Served<D: Door + Drop> {
+    pub book: Book,
+    /// In their order.
+    pub doors: Vec<D>,
+    /// Whether a lane ended by a fault of its door.
+    pub failed: bool,
+    /// Whether memory was wanting, for a session or for work.
+    pub memory: bool,
+    /// A pass that had made all its turns.
+    pub spent: Option<SpentPass>,
+}
+
+// Joins all passes into one, works what is left by it, and takes the book back.
+fn close_all<K: Serving, R: Wait, D: Door + Drop, C: Clock + Drop, G: Gate>(
+    rt: &R,
+    alloc: Global,
+    turn: Turn<Book>,
+    own: Pass<Book>,
+    lanes: Vec<Lane<D, C>>,
+    workers: Vec<Worker>,
+    room: Vec<D>,
+    gate: &G,
+    links: u64,
+) -> Served<D>
+    requires own { IsSingle turn own }
+    requires all { turn.passes ≡ (vec_len lanes + vec_len workers) + 1 }
+    requires settings { turn.settings ≡ K.service.settings }
+    requires room { (room.items ≡ []) × (vec_len lanes ≤ vec_capacity room) }
+    requires lanes { All (λ l. IsSingle turn l.pass) lanes.items }
+    requires done { All (λ l. LaneDone K.service l.pass.seen l.pass.last
+        (D.seen l.door) l.lack) lanes.items }
+    requires ends { All (λ l. EndsLane links l.end (D.seen l.door)) lanes.items }
+    requires workers { All (λ w. IsSingle turn w.pass) workers.items }
+    requires worked { All (λ w. WorkerDone w.pass) workers.items }
+    requires numbers { map (λ l. (D.seen l.door).number) lanes.items ≡ numbers_from 0 (vec_len lanes) }
+    ensures settings { result.book.settings ≡ turn.settings }
+    ensures served { All (λ d. DoorServed K.service result.book.journal (D.seen d)) result.doors.items }
+    ensures numbers { map (λ d. (D.seen d).number) result.doors.items ≡ numbers_from 0 (vec_len lanes) }
+    ensures entries { AreOfLanes (vec_len lanes) result.book.journal }
+    ensures over { All (λ d. IsOver links result.failed (D.seen d)) result.doors.items }
+    ensures failed { result.failed ≡ some_failed (map D.seen result.doors.items) }
+    ensures memory { some_lacked (map D.seen result.doors.items) ≡ true → result.memory ≡ true }
+    ensures turns { some_spent (map D.seen result.doors.items) ≡ true → IsSome result.spent }
+    ensures work { (left_all result.book.settings.projects result.book.journal ≡ 0)
+        ⊎ ((result.memory ≡ true) ⊎ IsSome result.spent) }
+{
+    let JoinedLanes {
+        into,
+        doors,
+        failed,
+        lack,
+    } = join_lanes::<K, D, C>(&turn, own, lanes, room, links);
+    let mut into = into;
+    let of_workers = join_workers(&turn, &mut into, workers);
+    let left = work_out(rt, alloc, &turn, &mut into, 0, gate);
+    let Lack { memory, spent } = lack.and(of_workers).and(left);
+    Served {
+        book: turn.close(into),
+        doors,
+        failed,
+        memory,
+        spent,
+    }
+}
+
+/// Serves connections in lanes, each in a thread of its own with a pass, a door and a clock of its own, until all have
+/// ended; beside them workers check buckets, each in a thread with a pass of its own. Then the passes are joined into one,
+/// which works what is left, and the book is given back, with the doors in their order: all connections were served in the
+/// one history that is its journal. At an `Err`, which comes before the first connection is accepted, the book is dropped.
+pub fn run_lanes<
+    R: Threads + Wait + Sync,
+    D: Door + Send + Drop,
+    C: Clock + Send + Drop,
+    G: Gate + Sync,
+>(
+    rt: &R,
+    alloc: Global,
+    book: Book,
+    doors: Vec<D>,
+    clocks: Vec<C>,
+    workers: u32,
+    gate: &G,
+    links: u64,
+) -> Result<Served<D>, AllocError>
+where
+    D::S: Send,
+    D::K: Send,
+    ghost service: { Service }
+    requires empty { book.journal ≡ [] }
+    requires settings { book.settings ≡ service.settings }
+    requires few { vec_len doors + workers < MOST_PASSES }
+    requires doors { AreNew service.tells 0 (map D.seen doors.items) }
+    requires clocks { vec_len clocks ≡ vec_len doors }
+    requires one { All (λ c. (C.seen c).one ≡ service.one) clocks.items }
+    ensures settings { IfOk result (λ r. r.book.settings ≡ book.settings) }
+    ensures served { IfOk result (λ r. All
+        (λ d. DoorServed service r.book.journal (D.seen d)) r.doors.items) }
+    ensures numbers { IfOk result (λ r.
+        map (λ d. (D.seen d).number) r.doors.items ≡ numbers_from 0 (vec_len doors)) }
+    ensures entries { IfOk result (λ r. AreOfLanes (vec_len doors) r.book.journal) }
+    ensures over { IfOk result (λ r. All (λ d. IsOver links r.failed (D.seen d)) r.doors.items) }
+    ensures failed { IfOk result (λ r. r.failed ≡ some_failed (map D.seen r.doors.items)) }
+    ensures memory { IfOk result (λ r. some_lacked (map D.seen r.doors.items) ≡ true → r.memory ≡ true) }
+    ensures turns { IfOk result (λ r. some_spent (map D.seen r.doors.items) ≡ true → IsSome r.spent) }
+    ensures work { IfOk result (λ r. (left_all r.book.settings.projects r.book.journal ≡ 0)
+        ⊎ ((r.memory ≡ true) ⊎ IsSome r.spent)) }
+{
+    let room = Vec::with_capacity(alloc, doors.len())?;
+    let count = doors.len() as u32;
+    let (turn, own, mut passes) = open_turn(alloc, book, count + workers)?;
+    let workers = make_workers(alloc, &turn, &mut passes, workers, count)?;
+    let lanes = make_lanes::<Brand, D, C>(alloc, &turn, passes, doors, clocks)?;
+    let (lanes, workers) = run_both::<Brand, R, D, C, G>(
+        rt, alloc, &turn, lanes, workers, gate, links,
+    );
+    Ok(close_all::<Brand, R, D, C, G>(rt, alloc, turn, own, lanes, workers, room, gate, links))
+}

@@ -1,0 +1,13 @@
+//! Lanes: each serves connection after connection of its door by one pass of the book. Workers beside them check buckets.
+#![tactic(auto)]
+
+mod lane;
+mod lanes;
+mod workers;
+
+pub use lane::{LaneEnd, serve_lane};
+pub use lanes::{Lane, Served, Serving, run_lanes};
+pub use workers::{Lack, Worker};
+
+#[cfg(test)]
+mod tests;
