@@ -3,6 +3,7 @@ use Rattle.std.specs.Prelude.{◌≡◌, ℕ, ◌+◌, List, [], ◌∷◌, ◌+
 use Rattle.book_history.specs.declared.limits.Settings.{Settings}
 use Rattle.book_history.specs.Runs.{Step, IsRun, IsOneThread}
 use Rattle.book_passes.specs.Lessons.{CallerSeen}
+use Rattle.bim_session.specs.Works.{last_turn}
 use Rattle.link_session.specs.Callers.{LearnsBy}
 use Rattle.bim_server.specs.Turns.{ServerState}
 
@@ -22,6 +23,7 @@ pub record GoesAlone (settings : Settings) (v : CallerSeen) (steps : List Step)
     (w : CallerSeen) : Type 0 where
   pub learns : LearnsBy v w
   pub turns : w.last ≡ v.last + length steps
+  pub last : w.last ≡ last_turn v.last steps
   pub one_thread : IsOneThread steps
   pub run : (before : List Step) → IsRun settings before v.seen → IsOneThread before → length before ≡ v.last
       → IsRun settings (before ++ steps) w.seen

@@ -3,7 +3,7 @@ ghost use Rattle.std.specs.Prelude.{Some};
 ghost use Rattle.book_turn.specs.Passes.{IsSingle};
 ghost use Rattle.book_passes.specs.Lessons.{caller_of};
 ghost use Rattle.link_session.specs.Callers.{GoesByPass};
-ghost use Rattle.link_session.proofs.Passes.{stays_by_pass, goes_on_by_pass, learns_by_pass};
+ghost use Rattle.link_session.proofs.Passes.{stays_by_pass, goes_on_by_pass, learns_by_pass, in_step_by_pass};
 
 use crate::caller::Caller;
 use bim_net::Gate;
@@ -55,4 +55,6 @@ impl<'a, R: Wait, G: Gate> Caller for ByTurn<'a, R, G> {
     ghost goes_on = { goes_on_by_pass };
 
     ghost learns = { learns_by_pass };
+
+    ghost in_step = { in_step_by_pass };
 }

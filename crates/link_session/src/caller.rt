@@ -1,9 +1,10 @@
 //! Who calls the book for a session.
-ghost use Rattle.std.specs.Prelude.{◌≡◌, ℕ, List, [], ◌++◌, Option};
+ghost use Rattle.std.specs.Prelude.{◌≡◌, ◌⊎◌, ℕ, List, [], ◌++◌, Option, Some};
 ghost use Rattle.book_history.specs.declared.limits.Settings.{Settings};
 ghost use Rattle.book_history.specs.Runs.{Step};
 ghost use Rattle.bcf_http.specs.Calls.{BringsNone};
 ghost use Rattle.book_passes.specs.Lessons.{CallerSeen};
+ghost use Rattle.bim_session.specs.Works.{last_turn};
 ghost use Rattle.link_session.specs.Callers.{Calls, steps_of, WorksBehind, LearnsBy};
 
 use book_history::BookRequest;
@@ -64,4 +65,8 @@ pub trait Caller {
 
     /// What it has seen is a front of what it sees later.
     ghost learns: { (c : Self) (v w : CallerSeen) (steps : List Step) → goes c v steps w → LearnsBy v w };
+
+    /// Where it works buckets, its last turn is that of its last step.
+    ghost in_step: { (c : Self) (v w : CallerSeen) (steps : List Step) → goes c v steps w
+        → (buckets c ≡ Some 0) ⊎ (w.last ≡ last_turn v.last steps) };
 }
