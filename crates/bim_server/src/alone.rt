@@ -2,7 +2,6 @@
 ghost use Rattle.std.specs.Prelude.{◌≡◌};
 ghost use Rattle.bim_session.specs.Replay.{stated_settings};
 ghost use Rattle.bim_server.specs.Alone.{seen_alone, GoesAlone};
-ghost use Rattle.bim_server.proofs.Alone.{stays_alone, goes_on_alone, learns_alone, in_step_alone};
 
 use crate::one_thread::OneThread;
 use book_history::BookRequest;
@@ -48,12 +47,4 @@ impl Caller for Alone {
     fn work(&self, own: &mut OneThread) -> Result<(), AllocError> {
         own.work(self.alloc, self.buckets)
     }
-
-    ghost stays = { stays_alone };
-
-    ghost goes_on = { goes_on_alone };
-
-    ghost learns = { learns_alone };
-
-    ghost in_step = { in_step_alone };
 }

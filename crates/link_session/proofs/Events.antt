@@ -232,7 +232,7 @@ keeps_learnt settings w w' notes printed le (news, lesson) keeps =
 
 pub last_of : (k : Service) (v : CallerSeen) (w a : Outside) (old : TalkState) (server : CallerSeen) (so : SoFar k v w a old server) → last_turn v.last so.steps ≤ server.last
 last_of k v w a old server so =
-    let lesson = k.learns v server so.steps so.known in
+    let lesson = k.laws.learns v server so.steps so.known in
     answered_last (start k v server) so.events so.asked so.out so.steps so.printed so.answered lesson.1.rises
 
 -- ---- a turn

@@ -43,11 +43,11 @@ module _ (k : Service) (v : CallerSeen) (w a b : Outside) (old new : TalkState) 
     (x : Replied k v w a old new server mid so asked bytes) (gave : Exchanges a b [] asked bytes) (quiet : IsQuiet a b) (later : CallerSeen) (steps : List Step)
     (goes : k.goes mid steps later) where
   lesson : LearnsBy mid later
-  lesson = k.learns mid later steps goes
+  lesson = k.laws.learns mid later steps goes
 
   -- the last turn of the session's steps, where buckets are worked
   in_step : (k.buckets ≡ Some 0) ⊎ (mid.last ≡ last_turn (last_turn v.last so.steps) x.own)
-  in_step = of_kind (k.in_step v mid (so.steps ++ x.own) x.known)
+  in_step = of_kind (k.laws.in_step v mid (so.steps ++ x.own) x.known)
     where
       of_kind : (k.buckets ≡ Some 0) ⊎ (mid.last ≡ last_turn v.last (so.steps ++ x.own)) → (k.buckets ≡ Some 0) ⊎ (mid.last ≡ last_turn (last_turn v.last so.steps) x.own)
       of_kind (inl none) = inl none
@@ -61,14 +61,14 @@ module _ (k : Service) (v : CallerSeen) (w a b : Outside) (old new : TalkState) 
 
   answered_later : Answered (start k v later) so.events so.asked so.out so.steps so.printed
   answered_later =
-      let before = k.learns v server so.steps so.known in
+      let before = k.laws.learns v server so.steps so.known in
       let first : v.last ≤ server.last = before.1.rises in
       let rises = x.learnt.1.rises in
       answered_learnt k v mid later so.events so.asked so.out so.steps so.printed (omega (arith, first, rises)) lesson
       (answered_learnt k v server mid so.events so.asked so.out so.steps so.printed first x.learnt so.answered)
 
   known_later : k.goes v (so.steps ++ (x.own ++ steps)) later
-  known_later = subst (λ (ss : List Step). k.goes v ss later) (append_assoc so.steps x.own steps) (k.goes_on v mid later (so.steps ++ x.own) steps x.known goes)
+  known_later = subst (λ (ss : List Step). k.goes v ss later) (append_assoc so.steps x.own steps) (k.laws.goes_on v mid later (so.steps ++ x.own) steps x.known goes)
 
   -- the work was done
   whole_behind : b.source.ended ≡ a.source.ended → Works (start k mid later) steps → SoFar k v w b new later

@@ -8,25 +8,26 @@ use Rattle.book_history.specs.Runs.{Step}
 use Rattle.book_passes.specs.Lessons.{CallerSeen}
 use Rattle.bim_session.specs.declared.end.SessionEnd.{SessionEnd}
 use Rattle.bim_session.specs.declared.end.SessionEnd.TheVariants as end
-use Rattle.bim_session.specs.Works.{Standing, Printed, Works, WorksShort, last_turn}
+use Rattle.bim_session.specs.Works.{Standing, Printed, Works, WorksShort}
 use Rattle.bim_session.specs.Session.{Stop, Ends, Reads, Answered, IsBare, behind, is_closed, requests, most_requests}
 use Rattle.bim_session.specs.Replay.{ReadsAsNeeded}
 use Rattle.bim_session.specs.Talking.{TalkState}
-use Rattle.link_session.specs.Callers.{LearnsBy, start_of}
+use Rattle.link_session.specs.Callers.{CallerLaws, start_of}
 use Rattle.link_session.specs.Loop.{Going}
 use Rattle.link_session.specs.Serving.{Serves}
 use Rattle.link_session.specs.declared.session.Progress.{Progress}
 use Rattle.link_session.specs.declared.session.Progress.TheVariants.{Again, End}
 use Rattle.link_session.proofs.Kept.{Keeps}
 
--- who calls the book: its settings, how many buckets are worked behind answers, how it goes on, and the laws of that
+-- who calls the book: its settings, how many buckets it works behind answers, how it goes on, and the laws of that
 pub record Service : Type 1 where
   pub settings : Settings
   pub buckets : Option ℕ
   pub goes : Going
-  pub goes_on : (u v w : CallerSeen) (first second : List Step) → goes u first v → goes v second w → goes u (first ++ second) w
-  pub learns : (v w : CallerSeen) (steps : List Step) → goes v steps w → LearnsBy v w
-  pub in_step : (v w : CallerSeen) (steps : List Step) → goes v steps w → (buckets ≡ Some 0) ⊎ (w.last ≡ last_turn v.last steps)
+  pub laws : CallerLaws buckets goes
+
+abbrev pub service_of : (settings : Settings) (buckets : Option ℕ) (goes : Going) → CallerLaws buckets goes → Service
+service_of settings buckets goes laws = record { settings = settings; buckets = buckets; goes = goes; laws = laws }
 
 -- where a session by the caller v begins, which ends as w
 abbrev pub start : Service → CallerSeen → CallerSeen → Standing

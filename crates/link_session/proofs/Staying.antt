@@ -122,8 +122,8 @@ read_settled h number v first count content s live =
     not_refused p v version (Answer (reply.Clashes v version.content first count)) made kept none
     ∙ ap (λ (c : Version). Answer (reply.Clashes v c first count)) s.is
 
-some_version : (v w : ℕ) (a b : Version) (o : Option (ℕ × Version)) → o ≡ Some (v, a) → o ≡ Some (w, b) → (v ≡ w) × (a ≡ b)
-some_version v w a b o e d = (cc, cc)
+some_is : (x y : ℕ × Version) → Some x ≡ Some y → x ≡ y
+some_is x y e = cc
 
 -- what is told of a version's clashes, by the tests of its refusals
 told_by_tests : (h : List Entry) (p : ProjectState) (v first count w : ℕ) (content : Version) (a b c : Bool) → nat_lt (newest p) v ≡ a → nat_le (v + 16) (newest p) ≡ b
@@ -135,8 +135,8 @@ told_by_tests h p v first count w content false true c ea eb ec told = absurd (l
 told_by_tests h p v first count w content false false true ea eb ec told = absurd (let none = rw (ea, eb, ec) at told in cc)
 told_by_tests h p v first count w content false false false ea eb ec told =
     let is = rw (ea, eb, ec) at told in
-    let same = some_version v w (version_at p.versions v).content content (Some (v, (version_at p.versions v).content)) refl is in
-    (same.0, same.1, refl, refl, refl)
+    let same = some_is (v, (version_at p.versions v).content) (w, content) is in
+    (ap (λ (x : ℕ × Version). x.0) same, ap (λ (x : ℕ × Version). x.1) same, refl, refl, refl)
 
 -- a version whose clashes are told is live, and checked
 pub read_told : (h : List Entry) (wanted : Wanted) (first count number w : ℕ) (content : Version)

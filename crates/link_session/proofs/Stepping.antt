@@ -457,14 +457,14 @@ module _ (k : Service) (v : CallerSeen) (w a b : Outside) (old mid : TalkState) 
   -- what is known once the call was made
   module _ (receipt : Result BookReceipt CallFault) (goes : k.goes server (steps_of call server receipt) server') where
     learnt : LearnsBy server server'
-    learnt = k.learns server server' (steps_of call server receipt) goes
+    learnt = k.laws.learns server server' (steps_of call server receipt) goes
 
     known_then : k.goes v (so.steps ++ steps_of call server receipt) server'
-    known_then = k.goes_on v server server' so.steps (steps_of call server receipt) so.known goes
+    known_then = k.laws.goes_on v server server' so.steps (steps_of call server receipt) so.known goes
 
     answered_then : session.Answered (start k v server') so.events so.asked so.out so.steps so.printed
     answered_then =
-        let before = k.learns v server so.steps so.known in
+        let before = k.laws.learns v server so.steps so.known in
         answered_learnt k v server server' so.events so.asked so.out so.steps so.printed before.1.rises learnt so.answered
 
     few_then : so.printed.turn ≤ server'.last
