@@ -1,5 +1,6 @@
 use Rattle.bim_io.specs.Seen.{outside}
-use Rattle.link_session.proofs.SoFar.{SoFar}
+use Rattle.link_session.specs.Callers.{CallerLaws}
+use Rattle.link_session.proofs.SoFar.{SoFar, service_of}
 use Rattle.link_session.proofs.session.run_session.Given as goal
 
 abbrev pub invariant-steps : goal.invariant-steps
