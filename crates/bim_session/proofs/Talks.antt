@@ -23,7 +23,7 @@ use Rattle.bim_session.specs.declared.want.Want.TheVariants.{More, Write, Call, 
 use Rattle.bim_session.specs.declared.notes.Notes.{Notes}
 use Rattle.bim_session.specs.Notes.{project_read, AsksKept}
 use Rattle.bim_session.specs.Session.{closes_after, continue_bytes, IsFaultResponse, Means}
-use Rattle.bim_session.specs.Talking.{TalkState, IsOwnLeaving, IsOwnWant, GrowsBy, Feeds, is_end, Wants, StopsNext, TakesRequest, Writes, WantsFor, AtRest, Asks, waiting_for, waiting_on, with_answer, with_call, with_fault, with_framer, with_memory, with_notes, asks_change, changes_nothing, IsUnasked, AnswersAlone, AnswersKept, BookReceipt, LacksFor, Replies}
+use Rattle.bim_session.specs.Talking.{TalkState, IsOwnLeaving, IsOwnWant, GrowsBy, Feeds, is_end, Wants, StopsNext, TakesRequest, Writes, WantsFor, AtRest, AsksFor, waiting_for, waiting_on, with_answer, with_call, with_fault, with_framer, with_memory, with_notes, asks_change, changes_nothing, IsUnasked, AnswersAlone, AnswersKept, BookReceipt, LacksFor, Replies}
 
 pub none_of : (o : Option SessionEnd) → ((e : SessionEnd) → o ≡ Some e → ⊥) → o ≡ None
 none_of None not_some = refl
@@ -200,7 +200,7 @@ wants_refusal m r refusal old new kind close result kind_is close_is unasked wri
 
 -- a request whose call is asked for, where the response needs this
 asked : (m : ℕ) (r : HttpRequest) (call : BookRequest) (waiting : Waiting) (old new : TalkState) (want : Want) → waiting.kind ≡ kind_of r
-    → waiting.close ≡ closes_after r (old.served + 1) → Means m r call → Asks waiting call old want new → WantsFor m r old want new
+    → waiting.close ≡ closes_after r (old.served + 1) → Means m r call → AsksFor waiting call old want new → WantsFor m r old want new
 asked m r call waiting old new More kind_is close_is means asks = absurd asks
 asked m r call waiting old new (Call other) kind_is close_is means asks =
     let same : waiting_on call waiting ≡ waiting_for r (old.served + 1) (asks_change call) (project_read call) =
@@ -221,7 +221,7 @@ asked m r call waiting old new (Write bytes) kind_is close_is means asks = (
 asked m r call waiting old new (Leave e) kind_is close_is means asks = absurd asks
 
 pub wants_asked : (m : ℕ) (r : HttpRequest) (call : BookRequest) (waiting : Waiting) (old new : TalkState) (result : Result Want AllocError) → waiting.kind ≡ kind_of r
-    → waiting.close ≡ closes_after r (old.served + 1) → Means m r call → IfOk result (λ want. Asks waiting call old want new)
+    → waiting.close ≡ closes_after r (old.served + 1) → Means m r call → IfOk result (λ want. AsksFor waiting call old want new)
     → IfOk result (λ want. WantsFor m r old want new)
 wants_asked m r call waiting old new (Ok want) kind_is close_is means asks = asked m r call waiting old new want kind_is close_is means asks
 wants_asked m r call waiting old new (Err e) kind_is close_is means asks = tt

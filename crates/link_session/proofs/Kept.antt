@@ -1,7 +1,7 @@
 -- What a session's shelf holds, by what was printed and by the history.
 use Rattle.std.proofs.Common.{◌≡◌, ◌⊎◌, ◌==◌, ◌&&◌, ℕ, zero, suc, ◌+◌, ◌<◌, ◌≤◌, Bool, true, false, cond, nat_lt, nat_le, if◌then◌else◌, List, [], ◌∷◌, ◌++◌, length, map, Option, Some, None, Result, Ok, Err, inl, inr, refl, sym, ◌∙◌, ap, subst, arith, append-nil, append_assoc}
 use Rattle.std.specs.List.{Contains, slice_index_or}
-use Rattle.std.proofs.lemmas.Bool.{and_parts, eqb-true, le-leb, lt-ltb, ltb-true}
+use Rattle.std.proofs.lemmas.Bool.{and_parts, and_from, eq-eqb, eqb-true, le-leb, lt-ltb, ltb-true}
 use Rattle.std.proofs.lemmas.Bool.Decides.{nat_tests}
 use Rattle.std.proofs.lemmas.List.Elements.{Contains-append_right, Contains-append_cases}
 use Rattle.bim_model.specs.Snapshots.{Version}
@@ -295,7 +295,7 @@ put_some (Some q) (Some x) sets p v content e = by (q == p && x.0 == v) refl
     by false t = (content, ap (λ b. cond b (Some x.1) (sets p v)) t ∙ e)
 
 put_new : (sets : ℕ → ℕ → Option Version) (p v : ℕ) (content : Version) → put_set (Some p) (Some (v, content)) sets p v ≡ Some content
-put_new sets p v content = grind (arith, nat_tests)
+put_new sets p v content = ap (λ b. cond b (Some content) (sets p v)) (and_from (p == p) (v == v) (eq-eqb p p refl) (eq-eqb v v refl))
 
 with_old : (read : Option ℕ) (told : Option (ℕ × Version)) (sets : List (ℕ × ℕ)) (x : ℕ × ℕ) → Contains sets x → Contains (with_set read told sets) x
 with_old None told sets x c = c
@@ -306,8 +306,8 @@ with_new : (p v : ℕ) (content : Version) (sets : List (ℕ × ℕ)) → Contai
 with_new p v content sets = (0, omega arith, refl)
 
 one_in : (x y : ℕ × ℕ) → Contains (x ∷ []) y → x ≡ y
-one_in x y (zero, (lt, e)) = e
-one_in x y (suc k, (lt, e)) = absurd (omega (arith, lt))
+one_in x y (zero, lt, e) = e
+one_in x y (suc k, lt, e) = absurd (omega (arith, lt))
 
 with_cases : (read : Option ℕ) (told : Option (ℕ × Version)) (sets : List (ℕ × ℕ)) (p v : ℕ) → Contains (with_set read told sets) (p, v)
     → Contains sets (p, v) ⊎ ((content : Version) × (read ≡ Some p) × (told ≡ Some (v, content)))
@@ -315,7 +315,7 @@ with_cases None told sets p v c = inl c
 with_cases (Some q) None sets p v c = inl c
 with_cases (Some q) (Some x) sets p v c = of_two (Contains-append_cases ((q, x.0) ∷ []) sets (p, v) c)
   where
-    of_two : Contains ((q, x.0) ∷ []) (p, v) ⊎ Contains sets (p, v) → Contains sets (p, v) ⊎ ((content : Version) × (Some q ≡ Some p) × (Some x ≡ Some (v, content)))
+    of_two : Contains {X = ℕ × ℕ} ((q, x.0) ∷ []) (p, v) ⊎ Contains sets (p, v) → Contains sets (p, v) ⊎ ((content : Version) × (Some q ≡ Some p) × (Some x ≡ Some (v, content)))
     of_two (inl own) =
         let e = one_in (q, x.0) (p, v) own in
         inr (x.1, ap (λ (y : ℕ × ℕ). Some y.0) e, pair_is x v x.1 (ap (λ (y : ℕ × ℕ). y.1) e) refl)
