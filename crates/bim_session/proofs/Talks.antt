@@ -1,5 +1,5 @@
 -- From what the framer and the parts of a talk answer to what a talk wants.
-use Rattle.std.proofs.Common.{◌≡◌, ◌⊎◌, ℕ, ◌+◌, ◌≤◌, length, arith, Bool, true, false, IsTrue, List, [], ◌∷◌, Option, Some, None, Result, Ok, Err, IfOk, OnOk, OnErr, inl, inr, refl, sym, ap, ◌∙◌, subst}
+use Rattle.std.proofs.Common.{◌≡◌, ◌⊎◌, ℕ, ◌+◌, ◌≤◌, length, arith, Bool, true, false, List, [], ◌∷◌, Option, Some, None, Result, Ok, Err, IfOk, OnOk, OnErr, inl, inr, refl, sym, ap, ◌∙◌, subst}
 use Rattle.std.specs.declared.alloc.AllocError.{AllocError}
 use Rattle.http_frame.specs.declared.types.HttpRequest.{HttpRequest}
 use Rattle.http_frame.specs.declared.types.FrameFault.{FrameFault}
@@ -10,8 +10,8 @@ use Rattle.http_frame.specs.Framers.{Stands, Answered}
 use Rattle.bim_io.specs.Seen.{ClockSeen, ClockGives}
 use Rattle.bim_io.proofs.Calls.{clock_none}
 use Rattle.bcf_http.specs.declared.calls.ReplyKind.{ReplyKind}
-use Rattle.book_turn.specs.declared.fault.CallFault.TheVariants as call_fault
 use Rattle.book_history.specs.declared.requests.BookRequest.{BookRequest}
+use Rattle.book_history.specs.declared.replies.BookReply.{BookReply}
 use Rattle.bcf_http.specs.declared.answers.Answer.{Answer}
 use Rattle.bcf_http.specs.declared.answers.Answer.TheVariants as answer
 use Rattle.bcf_http.specs.Calls.{kind_of}
@@ -20,10 +20,9 @@ use Rattle.bim_session.specs.declared.end.SessionEnd.{SessionEnd}
 use Rattle.bim_session.specs.declared.want.Waiting.{Waiting}
 use Rattle.bim_session.specs.declared.want.Want.{Want}
 use Rattle.bim_session.specs.declared.want.Want.TheVariants.{More, Write, Call, Leave}
-use Rattle.bim_session.specs.declared.notes.Notes.{Notes}
-use Rattle.bim_session.specs.Notes.{project_read, AsksKept}
-use Rattle.bim_session.specs.Session.{closes_after, continue_bytes, IsFaultResponse, Means}
-use Rattle.bim_session.specs.Talking.{TalkState, IsOwnLeaving, IsOwnWant, GrowsBy, Feeds, is_end, Wants, StopsNext, TakesRequest, Writes, WantsFor, AtRest, AsksFor, waiting_for, waiting_on, with_answer, with_call, with_fault, with_framer, with_memory, with_notes, asks_change, changes_nothing, IsUnasked, AnswersAlone, AnswersKept, BookReceipt, LacksFor, Replies}
+use Rattle.bim_session.specs.Notes.{project_read, IsKeptReply}
+use Rattle.bim_session.specs.Session.{closes_after, continue_bytes, IsFaultResponse}
+use Rattle.bim_session.specs.Talking.{TalkState, IsOwnEnd, IsOwnLeaving, IsOwnWant, GrowsBy, Feeds, is_end, Wants, StopsNext, TakesRequest, Writes, WantsFor, AtRest, AsksFor, waiting_for, with_answer, with_call, with_fault, with_framer, asks_change, IsUnasked, AnswersAlone}
 
 pub none_of : (o : Option SessionEnd) → ((e : SessionEnd) → o ≡ Some e → ⊥) → o ≡ None
 none_of None not_some = refl
@@ -35,6 +34,16 @@ leave_is a b e = cc
 -- a talk that leaves does so by an end of its own
 pub own_leaving : (leaving : Option SessionEnd) (e : SessionEnd) → IsOwnLeaving leaving → leaving ≡ Some e → IsOwnWant (Leave e)
 own_leaving leaving e own is = λ n. (λ w. (own n).0 (is ∙ ap Some (leave_is e _ w)), λ w. (own n).1 (is ∙ ap Some (leave_is e _ w)))
+
+some_is : (a b : SessionEnd) → Some a ≡ Some b → a ≡ b
+some_is a b e = cc
+
+pub some_none : (a : SessionEnd) → Some a ≡ None → ⊥
+some_none a e = cc
+
+-- .. to which it comes by such an end
+pub own_some : (e : SessionEnd) → IsOwnEnd e → IsOwnLeaving (Some e)
+own_some e own = λ n. (λ is. (own n).0 (some_is e _ is), λ is. (own n).1 (some_is e _ is))
 
 -- ---- what a framer stands for
 
@@ -196,55 +205,21 @@ wants_refusal m r refusal old new kind close result kind_is close_is unasked wri
     (subst (λ (k : ReplyKind). IfOk result (Writes (IsResponse refusal k None (closes_after r (old.served + 1))))) kind_is closing)
     (subst (λ (b : Bool). OnOk result (new ≡ with_answer b old)) close_is is)
 
--- ---- a request that becomes a call
+-- ---- a request that asks for what is kept
 
--- a request whose call is asked for, where the response needs this
-asked : (m : ℕ) (r : HttpRequest) (call : BookRequest) (waiting : Waiting) (old new : TalkState) (want : Want) → waiting.kind ≡ kind_of r
-    → waiting.close ≡ closes_after r (old.served + 1) → Means m r call → AsksFor waiting call old want new → WantsFor m r old want new
-asked m r call waiting old new More kind_is close_is means asks = absurd asks
-asked m r call waiting old new (Call other) kind_is close_is means asks =
-    let same : waiting_on call waiting ≡ waiting_for r (old.served + 1) (asks_change call) (project_read call) =
-    λ i. record { kind = kind_is i; close = close_is i; changes = asks_change call; reads = project_read call } in
-    subst (λ (c : BookRequest). Means m r c × ¬ (AsksKept old.notes c) × (new ≡ with_call (waiting_for r (old.served + 1) (asks_change c) (project_read c)) old))
-    (sym asks.0) (means, asks.1, asks.2 ∙ ap (λ (w : Waiting). with_call w old) same)
-asked m r call waiting old new (Write bytes) kind_is close_is means asks = (
-  inr (record {
-    call = call;
-    kept = asks.0.0;
-    means = means;
-    is_kept = asks.0.1;
-    response = subst (λ (k : ReplyKind). IsResponse (answer.Book asks.0.0) k (Some old.notes.turn) (closes_after r (old.served + 1)) bytes) kind_is
-        (subst (λ (b : Bool). IsResponse (answer.Book asks.0.0) waiting.kind (Some old.notes.turn) b bytes) close_is asks.0.2);
-  }),
-  asks.1 ∙ ap (λ (b : Bool). with_answer b old) close_is,
-)
-asked m r call waiting old new (Leave e) kind_is close_is means asks = absurd asks
+kept_write : (waiting : Waiting) (call : BookRequest) (old new : TalkState) (kept : BookReply) (want : Want) → IsKeptReply old.notes call kept
+    → Writes (IsResponse (answer.Book kept) waiting.kind (Some old.notes.turn) waiting.close) want → new ≡ with_answer waiting.close old → AsksFor waiting call old want new
+kept_write waiting call old new kept More is writes state = absurd writes
+kept_write waiting call old new kept (Write bytes) is writes state = ((kept, is, writes), state)
+kept_write waiting call old new kept (Call other) is writes state = absurd writes
+kept_write waiting call old new kept (Leave e) is writes state = absurd writes
 
-pub wants_asked : (m : ℕ) (r : HttpRequest) (call : BookRequest) (waiting : Waiting) (old new : TalkState) (result : Result Want AllocError) → waiting.kind ≡ kind_of r
-    → waiting.close ≡ closes_after r (old.served + 1) → Means m r call → IfOk result (λ want. AsksFor waiting call old want new)
-    → IfOk result (λ want. WantsFor m r old want new)
-wants_asked m r call waiting old new (Ok want) kind_is close_is means asks = asked m r call waiting old new want kind_is close_is means asks
-wants_asked m r call waiting old new (Err e) kind_is close_is means asks = tt
-
--- ---- the answer to a call
-
--- the response to a call for which memory was wanting, whether the book has answered it or not
-pub replies_lacking : (receipt : BookReceipt) (waiting : Waiting) (old new : TalkState) (want : Want) → IsTrue (changes_nothing waiting.changes receipt.reply.body)
-    → LacksFor waiting old want new → Replies (Ok receipt) waiting old want new
-replies_lacking receipt waiting old new More idle lacks = absurd lacks
-replies_lacking receipt waiting old new (Call call) idle lacks = absurd lacks
-replies_lacking receipt waiting old new (Write bytes) idle lacks =
-    let same : new.notes ≡ old.notes = ap (λ (s : TalkState). s.notes) lacks.1 in
-    (inr (idle, lacks.0, same), lacks.1 ∙ ap (λ (n : Notes). with_notes n (with_answer waiting.close old)) (sym same))
-replies_lacking receipt waiting old new (Leave e) idle lacks = lacks
-
-pub replies_memory : (waiting : Waiting) (old new : TalkState) (want : Want) → LacksFor waiting old want new → Replies (Err call_fault.Memory) waiting old want new
-replies_memory waiting old new More lacks = absurd lacks
-replies_memory waiting old new (Call call) lacks = absurd lacks
-replies_memory waiting old new (Write bytes) lacks =
-    let same : new.notes ≡ old.notes = ap (λ (s : TalkState). s.notes) lacks.1 in
-    ((lacks.0, same), lacks.1 ∙ ap (λ (n : Notes). with_notes n (with_answer waiting.close old)) (sym same))
-replies_memory waiting old new (Leave e) lacks = lacks
+-- its answer
+pub asks_kept : (waiting : Waiting) (call : BookRequest) (old new : TalkState) (kept : BookReply) (result : Result Want AllocError) → IsKeptReply old.notes call kept
+    → IfOk result (Writes (IsResponse (answer.Book kept) waiting.kind (Some old.notes.turn) waiting.close)) → OnOk result (new ≡ with_answer waiting.close old)
+    → IfOk result (λ want. AsksFor waiting call old want new)
+asks_kept waiting call old new kept (Ok want) is writes state = kept_write waiting call old new kept want is writes state
+asks_kept waiting call old new kept (Err e) is writes state = tt
 
 -- ---- want of memory
 

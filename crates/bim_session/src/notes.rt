@@ -77,18 +77,21 @@ impl Notes {
         match call {
             BookRequest::ReadClashes {
                 project,
-                version: Wanted::Number(version),
+                version,
                 first,
                 count,
             } => {
+                let Wanted::Number(version) = *version else {
+                    return Ok(None);
+                };
                 let Some(number) = named_project(*project) else {
                     return Ok(None);
                 };
-                let Some(set) = self.shelf.get(number, *version) else {
+                let Some(set) = self.shelf.get(number, version) else {
                     return Ok(None);
                 };
                 let body = ReplyBody::Clashes {
-                    version: *version,
+                    version,
                     set: set.share()?,
                     first: *first,
                     count: *count,
