@@ -6,7 +6,7 @@ use Rattle.bim_net.specs.Seen.{EndedLink, DoorSeen, IsNew, told}
 use Rattle.bim_net.specs.Doors.{GrowsBy}
 use Rattle.bim_net.specs.Hosts.{some_failed}
 use Rattle.book_turn.specs.Numbers.{has}
-use Rattle.book_turn.specs.Entries.{AllBefore, calls_by}
+use Rattle.book_turn.specs.Entries.{AllBefore, OwnUpTo, calls_by}
 use Rattle.book_turn.specs.Passes.{TurnState, BelongsTo, IsSingle}
 use Rattle.book_history.specs.declared.limits.Settings.{Settings}
 use Rattle.book_history.specs.declared.changes.Entry.{Entry}
@@ -57,6 +57,11 @@ pub record LaneDone (s : Service) (seen : List Entry) (last : ℕ) (door : DoorS
 
 -- ---- why lanes end
 
+-- whether a lane ended by a fault of its door
+abbrev pub is_failed : LaneEnd → Bool
+is_failed Failed = true
+is_failed _ = false
+
 -- why a lane that was to serve so many connections, 0 for any number, serves no more: its door failed exactly where it
 -- ended so
 abbrev pub EndsLane : ℕ → LaneEnd → DoorSeen → Type 0
@@ -80,10 +85,13 @@ IsOver links failed d = (d.closed ≡ true)
 
 -- ---- doors in one history
 
+-- the number of the pass that made an entry
+abbrev pub pass_of : Entry → ℕ
+pass_of e = e.stamp.pass
+
 -- each entry that carries the pass of this number is of a turn up to `top`
 abbrev pub OwnWithin : ℕ → ℕ → List Entry → Type 0
-OwnWithin number top [] = Unit {0}
-OwnWithin number top (e ∷ es) = (e.stamp.pass ≡ number → e.stamp.turn ≤ top) × OwnWithin number top es
+OwnWithin number top es = OwnUpTo turn_of pass_of (number ∷ []) top es
 
 -- A door whose pass was joined into another one, v, which has another number: the pass has seen the front up to a turn of
 -- what v has seen, and made no entry of a later one.
@@ -158,12 +166,11 @@ HasEach first end numbers = (k : ℕ) → first ≤ k → k < end → has k numb
 
 -- the entries that carry the pass of this number
 abbrev pub of_pass : ℕ → List Entry → List Entry
-of_pass number es = calls_by (λ (e : Entry). e.stamp.pass) (number ∷ []) es
+of_pass number es = calls_by pass_of (number ∷ []) es
 
 -- each entry says that a bucket is checked, or carries the pass of one of so many lanes
 abbrev pub AreOfLanes : ℕ → List Entry → Type 0
-AreOfLanes lanes [] = Unit {0}
-AreOfLanes lanes (e ∷ es) = (IsDone e ⊎ (e.stamp.pass < lanes)) × AreOfLanes lanes es
+AreOfLanes lanes es = All (λ e. IsDone e ⊎ (e.stamp.pass < lanes)) es
 
 -- A pass took others in, or took turns: what it had seen is the front, up to its last turn then, of what it has seen. Of
 -- the passes that were joined into it none is gone, and none but that of its own number has more entries.
@@ -184,8 +191,7 @@ pub record ExtendsByWork (v w : BookPass) : Type 0 where
 
 -- each entry carries one of these passes
 abbrev pub AreAmong : List ℕ → List Entry → Type 0
-AreAmong numbers [] = Unit {0}
-AreAmong numbers (e ∷ es) = (has e.stamp.pass numbers ≡ true) × AreAmong numbers es
+AreAmong numbers es = All (λ e. has e.stamp.pass numbers ≡ true) es
 
 -- The passes of lanes were joined into one, which made no entry itself: these are their doors, in their order, and whether
 -- one of them failed, and what their sessions lacked.

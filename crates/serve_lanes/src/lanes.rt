@@ -4,7 +4,7 @@ ghost use Rattle.book_turn.specs.Numbers.{numbers_from};
 ghost use Rattle.book_turn.specs.Passes.{IsSingle, new_passes};
 ghost use Rattle.bim_net.specs.Hosts.{AreNew, some_failed};
 ghost use Rattle.book_history.specs.History.{left_all};
-ghost use Rattle.serve_lanes.specs.Histories.{Service, IsReady, LaneOver, LanesJoined, DoorServed, IsOver};
+ghost use Rattle.serve_lanes.specs.Histories.{Service, IsReady, LaneOver, LanesJoined, DoorServed, IsOver, is_failed};
 ghost use Rattle.serve_lanes.specs.Histories.{some_lacked, some_spent, IsNewWorker, WorkerOver, HasEach, AreOfLanes};
 
 use crate::lane::{LaneEnd, serve_lane};
@@ -185,6 +185,16 @@ struct JoinedLanes<D: Door + Drop> {
     lack: Lack,
 }
 
+fn has_failed(end: LaneEnd) -> bool
+    ensures { result ≡ is_failed end }
+{
+    match end {
+        LaneEnd::Closed => false,
+        LaneEnd::Full => false,
+        LaneEnd::Failed => true,
+    }
+}
+
 // One more lane is joined.
 fn join_lane<K: Serving, D: Door + Drop, C: Clock + Drop>(
     turn: &Turn<Book>,
@@ -214,7 +224,8 @@ fn join_lane<K: Serving, D: Door + Drop, C: Clock + Drop>(
     } = lane;
     turn.join(&mut joined.into, pass);
     joined.doors.push_reserved(door);
-    joined.failed = joined.failed || end == LaneEnd::Failed;
+    let fails = has_failed(end);
+    joined.failed = joined.failed || fails;
     joined.lack.add(lack);
 }
 

@@ -1,11 +1,11 @@
 //! Workers in threads of their own, over one book.
-ghost use Rattle.std.specs.Prelude.{◌≡◌, ◌⊎◌, ◌+◌, ◌||◌, ◌++◌, All, IfOk, OnOk, true, false, None, IsSome, vec_len, map};
+ghost use Rattle.std.specs.Prelude.{◌≡◌, ◌⊎◌, ◌+◌, ◌||◌, ◌++◌, All, IfOk, OnOk, true, IsSome, vec_len, map};
 ghost use Rattle.book_turn.specs.Entries.{AllBefore};
 ghost use Rattle.book_turn.specs.Passes.{BelongsTo, IsSingle, new_passes};
 ghost use Rattle.book_history.specs.History.{left_all};
 ghost use Rattle.book_passes.specs.Lessons.{caller_of, turn_of};
 ghost use Rattle.check_workers.specs.Working.{Teaches};
-ghost use Rattle.serve_lanes.specs.Histories.{IsNewWorker, WorkerOver, HasEach, ExtendsByWork};
+ghost use Rattle.serve_lanes.specs.Histories.{IsNewWorker, WorkerOver, HasEach, ExtendsByWork, nothing_lacked};
 
 use bim_net::Gate;
 use book_turn::fault::{CallFault, SpentPass};
@@ -31,8 +31,7 @@ pub struct Lack {
 impl Lack {
     /// Nothing did.
     pub fn none() -> Lack
-        ensures memory { result.memory ≡ false }
-        ensures spent { result.spent ≡ None }
+        ensures { result ≡ nothing_lacked }
     {
         Lack {
             memory: false,
