@@ -4,3 +4,4 @@ pub mod Links
 pub mod Joins
 pub mod Histories
 pub mod Lanes
+pub mod Making

@@ -9,6 +9,8 @@ use Rattle.book_history.specs.declared.limits.Settings.{Settings}
 use Rattle.book_history.specs.declared.changes.Entry.{Entry}
 use Rattle.book_passes.specs.Lessons.{CallerSeen, turn_of}
 use Rattle.bim_session.specs.declared.end.SessionEnd.{SessionEnd}
+use Rattle.bim_session.specs.declared.end.SessionEnd.TheVariants as ends
+use Rattle.bim_net.specs.declared.ends.EndKind.TheVariants as kinds
 use Rattle.link_session.specs.Callers.{GoesByPass}
 use Rattle.link_session.specs.Serving.{Serves}
 use Rattle.serve_lanes.specs.declared.workers.Lack.{Lack}
@@ -36,6 +38,18 @@ served_link settings v w first after clock clock' end x fresh serves kind last =
   turn_is = sym last;
   serves = serves;
 }
+
+-- a session whose end is of that kind ended for want of a turn
+pub spent_end : (end : SessionEnd) → kind_of end ≡ kinds.SpentTurns → (n : ℕ) × (end ≡ ends.SpentTurns n)
+spent_end (ends.Closed n) is = cc
+spent_end (ends.Asked n) is = cc
+spent_end (ends.Cut n) is = cc
+spent_end (ends.ReadFault n) is = cc
+spent_end (ends.WriteFault n) is = cc
+spent_end (ends.Frame n fault) is = cc
+spent_end (ends.Spent n) is = cc
+spent_end (ends.SpentTurns n) is = (n, refl)
+spent_end (ends.Memory n) is = cc
 
 -- what a pass had seen grows by a connection that it served
 pub link_grew : (one : Option ℕ) (settings : Settings) (number : ℕ) (before : List Entry) (last : ℕ) (x : EndedLink) (history : List Entry)

@@ -1,0 +1,12 @@
+use Rattle.std.proofs.Common.{◌≡◌, ◌++◌, map, All}
+use Rattle.book_turn.specs.Passes.{BelongsTo}
+use Rattle.serve_lanes.specs.Histories.{WorkerOver, ExtendsByWork}
+use Rattle.serve_lanes.proofs.workers.join_workers.Given as goal
+
+abbrev pub invariant-loop-workers : goal.invariant-loop-workers
+invariant-loop-workers l = record {
+  own : BelongsTo l.fn.turn l.into;
+  extends : ExtendsByWork l.fn.into l.into;
+  over : All (λ w. WorkerOver l.fn.turn w.pass) l.workers.items;
+  numbers : l.into.numbers ++ map (λ w. w.pass.number) l.workers.items ≡ l.fn.into.numbers ++ map (λ w. w.pass.number) l.fn.workers.items;
+}
