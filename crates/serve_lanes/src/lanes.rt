@@ -1,5 +1,5 @@
 //! Lanes in threads of their own, over one book.
-ghost use Rattle.std.specs.Prelude.{◌≡◌, ◌⊎◌, ◌+◌, ◌≢◌, ◌++◌, ◌≤◌, ◌<◌, [], ◌∷◌, true, IsSome, vec_len, vec_capacity, map, All, IfOk};
+ghost use Rattle.std.specs.Prelude.{◌≡◌, ◌⊎◌, ◌+◌, ◌≢◌, ◌||◌, ◌++◌, ◌≤◌, ◌<◌, [], ◌∷◌, true, IsSome, vec_len, vec_capacity, map, All, IfOk};
 ghost use Rattle.book_turn.specs.Numbers.{numbers_from};
 ghost use Rattle.book_turn.specs.Passes.{IsSingle, new_passes};
 ghost use Rattle.bim_net.specs.Hosts.{AreNew, some_failed};
@@ -185,9 +185,13 @@ struct JoinedLanes<D: Door + Drop> {
     lack: Lack,
 }
 
-fn has_failed(end: LaneEnd) -> bool
-    ensures { result ≡ is_failed end }
+// Whether one of the lanes ended by a fault of its door, when one more has ended so.
+fn has_failed(failed: bool, end: LaneEnd) -> bool
+    ensures { result ≡ (failed || is_failed end) }
 {
+    if failed {
+        return true;
+    }
     match end {
         LaneEnd::Closed => false,
         LaneEnd::Full => false,
@@ -224,8 +228,7 @@ fn join_lane<K: Serving, D: Door + Drop, C: Clock + Drop>(
     } = lane;
     turn.join(&mut joined.into, pass);
     joined.doors.push_reserved(door);
-    let fails = has_failed(end);
-    joined.failed = joined.failed || fails;
+    joined.failed = has_failed(joined.failed, end);
     joined.lack.add(lack);
 }
 

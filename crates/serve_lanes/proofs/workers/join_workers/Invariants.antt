@@ -1,12 +1,16 @@
 use Rattle.std.proofs.Common.{◌≡◌, ◌++◌, map, All}
+use Rattle.std.specs.VecDeque.{deque_len}
 use Rattle.book_turn.specs.Passes.{BelongsTo}
 use Rattle.serve_lanes.specs.Histories.{WorkerOver, ExtendsByWork}
 use Rattle.serve_lanes.proofs.workers.join_workers.Given as goal
 
-abbrev pub invariant-loop-workers : goal.invariant-loop-workers
-invariant-loop-workers l = record {
+abbrev pub invariant-loop-worker : goal.invariant-loop-worker
+invariant-loop-worker l = record {
   own : BelongsTo l.fn.turn l.into;
   extends : ExtendsByWork l.fn.into l.into;
   over : All (λ w. WorkerOver l.fn.turn w.pass) l.workers.items;
   numbers : l.into.numbers ++ map (λ w. w.pass.number) l.workers.items ≡ l.fn.into.numbers ++ map (λ w. w.pass.number) l.fn.workers.items;
 }
+
+abbrev pub decreases-loop-worker : goal.decreases-loop-worker
+decreases-loop-worker l = deque_len l.workers
