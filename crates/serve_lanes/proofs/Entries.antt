@@ -23,7 +23,7 @@ pub either : {P : Type 0} (a b c : Bool) → c ≡ (a || b) → (a ≡ true → 
 either true b c same first then is = first refl
 either false b c same first then is = then (sym same ∙ is)
 
-or_assoc : (a b c : Bool) → (a || (b || c)) ≡ ((a || b) || c)
+pub or_assoc : (a b c : Bool) → (a || (b || c)) ≡ ((a || b) || c)
 or_assoc true b c = refl
 or_assoc false b c = refl
 

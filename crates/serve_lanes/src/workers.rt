@@ -1,5 +1,6 @@
 //! Workers in threads of their own, over one book.
 ghost use Rattle.std.specs.Prelude.{◌≡◌, ◌⊎◌, ◌+◌, ◌||◌, ◌++◌, All, IfOk, OnOk, true, IsSome, vec_len, map};
+ghost use Rattle.std.specs.List.{list_any};
 ghost use Rattle.book_turn.specs.Entries.{AllBefore};
 ghost use Rattle.book_turn.specs.Passes.{BelongsTo, IsSingle, new_passes};
 ghost use Rattle.book_history.specs.History.{left_all};
@@ -191,6 +192,7 @@ pub fn join_workers(turn: &Turn<Book>, into: &mut Pass<Book>, workers: Vec<Worke
     ensures own { BelongsTo turn.now into.new }
     ensures extends { ExtendsByWork into.old into.new }
     ensures numbers { into.new.numbers ≡ into.old.numbers ++ map (λ w. w.pass.number) workers.items }
+    ensures memory { result.memory ≡ list_any (λ w. w.lack.memory) workers.items }
 {
     let mut lack = Lack::none();
     let mut workers = VecDeque::from_vec(workers);
