@@ -38,7 +38,7 @@ ends_lane links Full old new none zero_given failed sound closed full =
     let gave : new.gave ≡ old.gave + links = f.1 in
     (f.0, (let is : new.gave ≡ links = omega (arith, gave, zero_given) in is), sound (λ is. cc) ∙ none)
 ends_lane links Failed old new none zero_given failed sound closed full =
-    let rose : Rose old.faults new.faults = failed refl in omega (arith, rose, none)
+    let rose : 1 ≤ new.faults = subst (λ (n : ℕ). Rose n new.faults) none (failed refl) in omega arith
 
 pub lane_over : (s : Service) (links : ℕ) (turn : TurnState Settings) (v w : BookPass) (door door' : DoorSeen) (clock : ClockSeen) (lack lack' : Lack) (end : LaneEnd)
     → IsReady s turn v door clock lack → IsSingle turn w → w.number ≡ v.number
@@ -76,13 +76,13 @@ over_more links a b d more (inl closed) = inl closed
 over_more links a b d more (inr (inl failed)) = inr (inl (failed.0, more failed.1))
 over_more links a b d more (inr (inr full)) = inr (inr full)
 
-memory_told : (tells : Bool) (o o' : Option (List EndedLink)) (links : List EndedLink) → o ≡ told tells [] → GrowsBy o o' links → told_memory o' ≡ some_memory links ⊎ (told_memory o' ≡ false)
+memory_told : (tells : Bool) (o o' : Option (List EndedLink)) (links : List EndedLink) → o ≡ told tells [] → GrowsBy o o' links → (told_memory o' ≡ some_memory links) ⊎ (told_memory o' ≡ false)
 memory_told tells o None links is grows = inr refl
 memory_told true o (Some ys) links is grows =
     let all : ys ≡ links = subst (λ (p : Option (List EndedLink)). GrowsBy p (Some ys) links) is grows in inl (ap some_memory all)
 memory_told false o (Some ys) links is grows = absurd (subst (λ (p : Option (List EndedLink)). GrowsBy p (Some ys) links) is grows)
 
-turns_told : (tells : Bool) (o o' : Option (List EndedLink)) (links : List EndedLink) → o ≡ told tells [] → GrowsBy o o' links → told_turns o' ≡ some_turns links ⊎ (told_turns o' ≡ false)
+turns_told : (tells : Bool) (o o' : Option (List EndedLink)) (links : List EndedLink) → o ≡ told tells [] → GrowsBy o o' links → (told_turns o' ≡ some_turns links) ⊎ (told_turns o' ≡ false)
 turns_told tells o None links is grows = inr refl
 turns_told true o (Some ys) links is grows =
     let all : ys ≡ links = subst (λ (p : Option (List EndedLink)). GrowsBy p (Some ys) links) is grows in inl (ap some_turns all)
@@ -92,14 +92,14 @@ turns_told false o (Some ys) links is grows = absurd (subst (λ (p : Option (Lis
 memory_noted : (s : Service) (seen : List Entry) (last : ℕ) (door : DoorSeen) (lack : Lack) → LaneDone s seen last door lack → lacked_memory door ≡ true → lack.memory ≡ true
 memory_noted s seen last door lack d is = of_told (memory_told s.tells d.first.ended door.ended d.lane.links d.new.none_ended d.lane.grown)
   where
-    of_told : told_memory door.ended ≡ some_memory d.lane.links ⊎ (told_memory door.ended ≡ false) → lack.memory ≡ true
+    of_told : (told_memory door.ended ≡ some_memory d.lane.links) ⊎ (told_memory door.ended ≡ false) → lack.memory ≡ true
     of_told (inl same) = d.lane.memory ∙ sym same ∙ is
     of_told (inr none) = absurd (cc)
 
 turns_noted : (s : Service) (seen : List Entry) (last : ℕ) (door : DoorSeen) (lack : Lack) → LaneDone s seen last door lack → told_turns door.ended ≡ true → IsSome lack.spent
 turns_noted s seen last door lack d is = of_told (turns_told s.tells d.first.ended door.ended d.lane.links d.new.none_ended d.lane.grown)
   where
-    of_told : told_turns door.ended ≡ some_turns d.lane.links ⊎ (told_turns door.ended ≡ false) → IsSome lack.spent
+    of_told : (told_turns door.ended ≡ some_turns d.lane.links) ⊎ (told_turns door.ended ≡ false) → IsSome lack.spent
     of_told (inl same) = d.lane.turns (sym same ∙ is)
     of_told (inr none) = absurd (cc)
 
