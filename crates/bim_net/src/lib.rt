@@ -17,6 +17,3 @@ pub use hosts::{Host, HostFault, Opening};
 pub use memory::{HoldHost, MemHost, SureHost};
 pub use store::{FreshLink, GivenBack};
 pub use traits::{Door, Gate, Link};
-
-#[cfg(test)]
-mod tests;

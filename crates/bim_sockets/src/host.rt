@@ -1,6 +1,6 @@
 //! A host over sockets.
 ghost use Rattle.std.specs.Prelude.{◌≡◌, [], false, None, Some, IfOk, IfSome, OnErr, vec_len, map};
-ghost use Rattle.bim_net.specs.Hosts.{AreNew, Closes};
+ghost use Rattle.bim_net.specs.Hosts.{AreNew, Closes, some_failed};
 ghost use Rattle.bim_sockets.specs.Sockets.{door_seen, host_seen};
 
 use crate::doors::TcpDoor;
@@ -50,11 +50,26 @@ fn doors_of(alloc: Global, listener: TcpListener, n: u32) -> Result<Vec<TcpDoor>
         let Ok(own) = listener.try_clone() else {
             return Err(HostFault::Failed);
         };
-        if doors.push(TcpDoor::new(own, number)).is_err() {
+        let Ok(()) = doors.push(TcpDoor::new(own, number)) else {
             return Err(HostFault::Memory);
-        }
+        };
     }
     Ok(doors)
+}
+
+// Whether one of the doors has failed.
+fn some_failed(doors: &[TcpDoor]) -> bool
+    ensures { result ≡ some_failed (map door_seen doors.now) }
+{
+    doors.iter().any(|door| door.has_failed())
+}
+
+fn shut_all(doors: &mut [TcpDoor])
+    ensures { doors.new ≡ doors.old }
+{
+    for door in doors.iter_mut() {
+        door.shut();
+    }
 }
 
 impl<R: Net<Listener = TcpListener, Stream = TcpStream> + Clock + Copy + Drop> NetHost<R> {
@@ -116,10 +131,8 @@ impl<R: Net<Listener = TcpListener, Stream = TcpStream> + Clock + Copy + Drop> H
         ensures host { Closes (map door_seen doors.items) (host_seen self.old) (host_seen self.new) }
     {
         let mut doors = doors;
-        let failed = doors.iter().any(|door| door.has_failed());
-        for door in doors.iter_mut() {
-            door.shut();
-        }
+        let failed = some_failed(doors.as_slice());
+        shut_all(doors.as_mut_slice());
         self.closings = self.closings.saturating_add(1);
         self.handed = doors;
         if failed {

@@ -8,6 +8,3 @@ mod host;
 pub use doors::{SILENCE, TcpDoor, TcpLink, TcpSink, TcpSource};
 pub use gate::IdleGate;
 pub use host::NetHost;
-
-#[cfg(test)]
-mod tests;

@@ -41,12 +41,18 @@ abbrev pub AreDone : List Entry → Type 0
 AreDone [] = Unit {0}
 AreDone (e ∷ es) = IsDone e × AreDone es
 
--- What a pass had seen is a front of what it has seen. Of the entries behind that front, those that it made say that
--- buckets are checked, and nothing else.
+-- each of the entries carries the pass of this number
+abbrev pub AreMadeBy : ℕ → List Entry → Type 0
+AreMadeBy number [] = Unit {0}
+AreMadeBy number (e ∷ es) = (e.stamp.pass ≡ number) × AreMadeBy number es
+
+-- What a pass had seen is a front of what it has seen. Of the entries behind that front, those that it made, or a pass
+-- that was joined into it, carry its own number and say that buckets are checked, and nothing else.
 pub record Teaches (v w : CallerSeen) : Type 0 where
   pub news : List Entry
   pub learns : Learns v w news
   pub done : AreDone (own_of v news)
+  pub made_by : AreMadeBy v.number (own_of v news)
 
 -- no bucket was to be checked at the turn that was taken
 pub record FindsNone (settings : Settings) (seat : ℕ) (v w : BookPass) : Type 0 where

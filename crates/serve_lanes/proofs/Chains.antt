@@ -1,5 +1,5 @@
 -- Connections one after another, and what they are in one history.
-use Rattle.std.proofs.Common.{◌≡◌, ℕ, ◌+◌, ◌<◌, ◌≤◌, List, [], ◌∷◌, ◌++◌, length-append, if◌then◌else◌, Option, Some, None, refl, sym, ◌∙◌, ap, subst, arith, append_assoc, append-nil, le-leb, Bool, true, false, ◌||◌}
+use Rattle.std.proofs.Common.{◌≡◌, ℕ, ◌+◌, ◌<◌, ◌≤◌, List, [], ◌∷◌, ◌++◌, length-append, if◌then◌else◌, Option, Some, None, IsSome, refl, sym, ◌∙◌, ap, subst, arith, append_assoc, append-nil, le-leb, Bool, true, false, ◌||◌}
 use Rattle.std.proofs.lemmas.List.Folds.{list_any-append}
 use mathlib.Core.Logic.{dite}
 use native.Mathlib.Decide.{dec_le}
@@ -10,7 +10,9 @@ use Rattle.book_turn.specs.Entries.{AllBefore, AllAfter, up_to}
 use Rattle.book_turn.proofs.Prefixes.{up_to_later, up_to_all}
 use Rattle.book_history.specs.declared.changes.Entry.{Entry}
 use Rattle.book_passes.specs.Lessons.{turn_of}
-use Rattle.serve_lanes.specs.Lanes.{Chain, ChainIn, LaneServed, seen_at, end_turn, is_memory, some_memory}
+use Rattle.serve_lanes.specs.declared.workers.Lack.{Lack}
+use Rattle.serve_lanes.specs.Lanes.{Chain, ChainIn, LaneServed, seen_at, end_turn, is_memory, some_memory, is_spent, some_turns}
+use Rattle.serve_lanes.proofs.Entries.{either}
 
 pub grows_by_none : {X : Type 0} (o : Option (List X)) → GrowsBy o o []
 grows_by_none None = tt
@@ -39,6 +41,12 @@ noted_both a b c xs ys first then =
     then ∙ ap (λ b. b || some_memory ys) first ∙ or_both a (some_memory xs) (some_memory ys)
     ∙ ap (λ n. a || n) (sym (list_any-append (λ (x : EndedLink). is_memory x.end.kind) xs ys))
 
+-- .. and of ends for want of a turn
+turns_both : (n o : Lack) (xs ys : List EndedLink) → (some_turns xs ≡ true → IsSome n.spent) → (some_turns ys ≡ true → IsSome o.spent) → (IsSome n.spent → IsSome o.spent)
+    → some_turns (xs ++ ys) ≡ true → IsSome o.spent
+turns_both n o xs ys first then kept is =
+    either (some_turns xs) (some_turns ys) (some_turns (xs ++ ys)) (list_any-append (λ (x : EndedLink). is_spent x.end.kind) xs ys) (λ a. kept (first a)) then is
+
 module _ (serves : List Entry → ℕ → EndedLink → List Entry → Type 0) where
   pub chain_append : (before : List Entry) (last : ℕ) (xs ys : List EndedLink) (mid : List Entry) (between : ℕ) (history : List Entry) (top : ℕ)
       → Chain serves before last xs mid between → Chain serves mid between ys history top → Chain serves before last (xs ++ ys) history top
@@ -46,7 +54,7 @@ module _ (serves : List Entry → ℕ → EndedLink → List Entry → Type 0) w
       subst (λ (h : List Entry). Chain serves h last ys history top) p.0 (subst (λ (n : ℕ). Chain serves mid n ys history top) p.1 q)
   chain_append before last (x ∷ xs) ys mid between history top p q = (p.0, p.1, chain_append p.0 (end_turn x) xs ys mid between history top p.2 q)
 
-  pub lane_start : (before : List Entry) (last : ℕ) (d : DoorSeen) (noted : Bool) → LaneServed serves before last before last d d noted noted
+  pub lane_start : (before : List Entry) (last : ℕ) (d : DoorSeen) (noted : Lack) → LaneServed serves before last before last d d noted noted
   lane_start before last d noted = record {
     links = [];
     grown = grows_by_none d.ended;
@@ -57,10 +65,12 @@ module _ (serves : List Entry → ℕ → EndedLink → List Entry → Type 0) w
     balanced = λ b. b;
     tells = λ b s. s;
     faults = omega arith;
-    memory = or_none noted;
+    memory = or_none noted.memory;
+    turns = λ is. cc;
+    kept = λ some. some;
   }
 
-  pub lane_trans : (before : List Entry) (last : ℕ) (mid : List Entry) (between : ℕ) (history : List Entry) (top : ℕ) (a b c : DoorSeen) (m n o : Bool)
+  pub lane_trans : (before : List Entry) (last : ℕ) (mid : List Entry) (between : ℕ) (history : List Entry) (top : ℕ) (a b c : DoorSeen) (m n o : Lack)
       → LaneServed serves before last mid between a b m n → LaneServed serves mid between history top b c n o → LaneServed serves before last history top a c m o
   lane_trans before last mid between history top a b c m n o p q = record {
     links = p.links ++ q.links;
@@ -72,7 +82,9 @@ module _ (serves : List Entry → ℕ → EndedLink → List Entry → Type 0) w
     balanced = λ even. q.balanced (p.balanced even);
     tells = λ even some. q.tells (p.balanced even) (p.tells even some);
     faults = (let first = p.faults in let then = q.faults in omega (arith, first, then));
-    memory = noted_both m n o p.links q.links p.memory q.memory;
+    memory = noted_both m.memory n.memory o.memory p.links q.links p.memory q.memory;
+    turns = turns_both n o p.links q.links p.turns q.turns q.kept;
+    kept = λ some. q.kept (p.kept some);
   }
 
 -- ---- what is seen up to a turn

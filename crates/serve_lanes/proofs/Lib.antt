@@ -1,3 +1,7 @@
+pub mod Entries
 pub mod Chains
 pub mod Links
+pub mod Joins
 pub mod Histories
+pub mod Lanes
+pub mod Making

@@ -9,13 +9,17 @@ use Rattle.book_history.specs.declared.limits.Settings.{Settings}
 use Rattle.book_history.specs.declared.changes.Entry.{Entry}
 use Rattle.book_passes.specs.Lessons.{CallerSeen, turn_of}
 use Rattle.bim_session.specs.declared.end.SessionEnd.{SessionEnd}
+use Rattle.bim_session.specs.declared.end.SessionEnd.TheVariants as ends
+use Rattle.bim_net.specs.declared.ends.EndKind.TheVariants as kinds
+use Rattle.link_session.specs.Callers.{GoesByPass}
 use Rattle.link_session.specs.Serving.{Serves}
-use Rattle.serve_lanes.specs.Lanes.{ServedLink, LaneServed, IsBalanced, kind_of, end_turn, is_memory}
+use Rattle.serve_lanes.specs.declared.workers.Lack.{Lack}
+use Rattle.serve_lanes.specs.Lanes.{ServedLink, LaneServed, NotesEnd, IsBalanced, kind_of, end_turn, is_memory, is_spent}
 use Rattle.serve_lanes.proofs.Chains.{Grew, grows_by_none}
 
 -- the session over a connection that was given back
 pub served_link : (settings : Settings) (v w : CallerSeen) (first after : LinkSeen) (clock clock' : ClockSeen) (end : SessionEnd) (x : LinkEnd) → IsFresh first
-    → Serves settings v w (outside first.source first.sink clock) (outside after.source after.sink clock') end → x.kind ≡ kind_of end → x.last ≡ w.last
+    → Serves settings (Some 0) GoesByPass v w (outside first.source first.sink clock) (outside after.source after.sink clock') end → x.kind ≡ kind_of end → x.last ≡ w.last
     → ServedLink clock.one settings v.number v.seen v.last (record { link = after; end = x }) w.seen
 served_link settings v w first after clock clock' end x fresh serves kind last = record {
   end = end;
@@ -35,18 +39,31 @@ served_link settings v w first after clock clock' end x fresh serves kind last =
   serves = serves;
 }
 
+-- a session whose end is of that kind ended for want of a turn
+pub spent_end : (end : SessionEnd) → kind_of end ≡ kinds.SpentTurns → (n : ℕ) × (end ≡ ends.SpentTurns n)
+spent_end (ends.Closed n) is = cc
+spent_end (ends.Asked n) is = cc
+spent_end (ends.Cut n) is = cc
+spent_end (ends.ReadFault n) is = cc
+spent_end (ends.WriteFault n) is = cc
+spent_end (ends.Frame n fault) is = cc
+spent_end (ends.Spent n) is = cc
+spent_end (ends.SpentTurns n) is = (n, refl)
+spent_end (ends.Memory n) is = cc
+
 -- what a pass had seen grows by a connection that it served
 pub link_grew : (one : Option ℕ) (settings : Settings) (number : ℕ) (before : List Entry) (last : ℕ) (x : EndedLink) (history : List Entry)
     → ServedLink one settings number before last x history → Grew before last history (end_turn x)
 link_grew one settings number before last x history s =
-    let l = s.serves.learns in
+    let news : List Entry = s.serves.learns.0 in
+    let l = s.serves.learns.1 in
     let rises : s.v.last ≤ s.w.last = l.rises in
     let first : s.v.last ≡ last = s.last_is in
     let then : s.w.last ≡ x.end.last = s.turn_is in
     record {
-      news = s.serves.news;
-      grown = sym s.history_is ∙ l.seen ∙ ap (λ h. h ++ s.serves.news) s.before_is;
-      later = subst (λ (n : ℕ). AllAfter turn_of n s.serves.news) s.last_is l.later;
+      news = news;
+      grown = sym s.history_is ∙ l.seen ∙ ap (λ h. h ++ news) s.before_is;
+      later = subst (λ (n : ℕ). AllAfter turn_of n news) s.last_is l.later;
       rises = (let le : last ≤ x.end.last = omega (arith, rises, first, then) in le);
       up_to = λ are.
           let at : AllBefore turn_of (s.v.last + 1) s.v.seen =
@@ -92,10 +109,14 @@ noted_none : (m : Bool) → m ≡ (m || false)
 noted_none true = refl
 noted_none false = refl
 
+one_spent : {P : Type 0} (b : Bool) → (b ≡ true → P) → (b || false) ≡ true → P
+one_spent true noted is = noted refl
+one_spent false noted is = cc
+
 -- a lane that served one connection
-pub lane_one : (serves : List Entry → ℕ → EndedLink → List Entry → Type 0) (before : List Entry) (last : ℕ) (x : EndedLink) (history : List Entry) (top : ℕ) (a b c : DoorSeen) (m n : Bool)
+pub lane_one : (serves : List Entry → ℕ → EndedLink → List Entry → Type 0) (before : List Entry) (last : ℕ) (x : EndedLink) (history : List Entry) (top : ℕ) (a b c : DoorSeen) (m n : Lack)
     → b ≡ record a { gave = a.gave + 1 } → TakesBack x b c → serves before last x history → end_turn x ≡ top
-    → (AllBefore turn_of (last + 1) before → AllBefore turn_of (top + 1) history) → n ≡ (m || is_memory x.end.kind)
+    → (AllBefore turn_of (last + 1) before → AllBefore turn_of (top + 1) history) → NotesEnd x.end.kind m n
     → LaneServed serves before last history top a c m n
 lane_one serves before last x history top a b c m n given back one is up noted =
     let ended : b.ended ≡ a.ended = ap (λ (d : DoorSeen). d.ended) given in
@@ -110,11 +131,13 @@ lane_one serves before last x history top a b c m n given back one is up noted =
       balanced = λ even. back_even b c x back (gives_out a b given even);
       tells = λ even some. back.tells (has_out b.ended b.gave (gives_out a b given even) (subst IsSome (sym ended) some));
       faults = omega (arith, faults);
-      memory = noted_one m n (is_memory x.end.kind) noted;
+      memory = noted_one m.memory n.memory (is_memory x.end.kind) noted.memory;
+      turns = one_spent (is_spent x.end.kind) noted.turns;
+      kept = noted.kept;
     }
 
 -- a lane that served none: its door is closed, or failed
-pub lane_none : (serves : List Entry → ℕ → EndedLink → List Entry → Type 0) (before : List Entry) (last : ℕ) (a c : DoorSeen) (m : Bool)
+pub lane_none : (serves : List Entry → ℕ → EndedLink → List Entry → Type 0) (before : List Entry) (last : ℕ) (a c : DoorSeen) (m : Lack)
     → c.ended ≡ a.ended → c.gave ≡ a.gave → c.number ≡ a.number → a.faults ≤ c.faults → LaneServed serves before last before last a c m m
 lane_none serves before last a c m ended gave number faults = record {
   links = [];
@@ -126,5 +149,7 @@ lane_none serves before last a c m ended gave number faults = record {
   balanced = λ even. subst (λ n. IfSome c.ended (λ es. length es ≡ n)) (sym gave) (subst (λ o. IfSome o (λ es. length es ≡ a.gave)) (sym ended) even);
   tells = λ even some. subst IsSome (sym ended) some;
   faults = faults;
-  memory = noted_none m;
+  memory = noted_none m.memory;
+  turns = λ is. cc;
+  kept = λ some. some;
 }

@@ -1,13 +1,16 @@
 -- Many lanes over one book, and the one history in which all their connections stand.
-use Rattle.std.specs.Prelude.{◌≡◌, ◌≤◌, ◌<◌, ◌⊎◌, ℕ, List, [], ◌∷◌, length, Bool, true, false, Option, None, Some, IsSome}
+use Rattle.std.specs.Prelude.{◌≡◌, ◌≢◌, ◌≤◌, ◌<◌, ◌⊎◌, ℕ, ◌+◌, List, [], ◌∷◌, ◌++◌, map, length, Bool, true, false, Option, None, Some, IsSome, All}
 use Rattle.std.specs.List.{list_any}
 use Rattle.bim_io.specs.Seen.{ClockSeen}
 use Rattle.bim_net.specs.Seen.{EndedLink, DoorSeen, IsNew, told}
 use Rattle.bim_net.specs.Doors.{GrowsBy}
-use Rattle.book_turn.specs.Passes.{TurnState, IsSingle}
+use Rattle.bim_net.specs.Hosts.{some_failed}
+use Rattle.book_turn.specs.Numbers.{has}
+use Rattle.book_turn.specs.Entries.{AllBefore, OwnUpTo, calls_by}
+use Rattle.book_turn.specs.Passes.{TurnState, BelongsTo, IsSingle}
 use Rattle.book_history.specs.declared.limits.Settings.{Settings}
 use Rattle.book_history.specs.declared.changes.Entry.{Entry}
-use Rattle.book_passes.specs.Lessons.{BookPass, caller_of, own_of}
+use Rattle.book_passes.specs.Lessons.{BookPass, caller_of, own_of, turn_of}
 use Rattle.bim_session.specs.Replay.{stated_settings}
 use Rattle.check_workers.specs.Working.{IsDone, AreDone}
 use Rattle.serve_lanes.specs.declared.workers.Lack.{Lack}
@@ -26,10 +29,14 @@ pub record Service : Type 0 where
 abbrev pub no_service : Service
 no_service = record { tells = false; one = None; settings = stated_settings 0 }
 
--- a lane that has not begun: a pass that has seen nothing, a door of its number on which no call was made yet, and a clock
--- of the service
+-- nothing was lacked yet
+abbrev pub nothing_lacked : Lack
+nothing_lacked = record { memory = false; spent = None }
+
+-- a lane that has not begun: a pass that has seen nothing, a door of its number on which no call was made yet, a clock of
+-- the service, and nothing noted
 pub record IsReady (s : Service) (turn : TurnState Settings) (pass : BookPass) (door : DoorSeen)
-    (clock : ClockSeen) : Type 0 where
+    (clock : ClockSeen) (lack : Lack) : Type 0 where
   pub own : IsSingle turn pass
   pub settings : turn.settings ≡ s.settings
   pub number : pass.number ≡ door.number
@@ -37,14 +44,7 @@ pub record IsReady (s : Service) (turn : TurnState Settings) (pass : BookPass) (
   pub untaken : pass.last ≡ 0
   pub new : IsNew s.tells door.number door
   pub one : clock.one ≡ s.one
-
--- nothing was lacked yet
-abbrev pub nothing_lacked : Lack
-nothing_lacked = record { memory = false; spent = None }
-
--- the same of what is noted
-abbrev pub LacksNone : Lack → Type 0
-LacksNone lack = lack ≡ nothing_lacked
+  pub unnoted : lack ≡ nothing_lacked
 
 -- A door's connections were served by the pass of the door's number, from the first on: it had seen nothing before, and
 -- then this, up to its turn `last`. `lack` says whether one of the sessions ended for want of memory, or of a turn.
@@ -55,21 +55,56 @@ pub record LaneDone (s : Service) (seen : List Entry) (last : ℕ) (door : DoorS
   pub lane : LaneServed (ServedLink s.one s.settings door.number)
       [] 0 seen last first door nothing_lacked lack
 
+-- ---- why lanes end
+
+-- whether a lane ended by a fault of its door
+abbrev pub is_failed : LaneEnd → Bool
+is_failed Failed = true
+is_failed _ = false
+
+-- why a lane that was to serve so many connections, 0 for any number, serves no more: its door failed exactly where it
+-- ended so
+abbrev pub EndsLane : ℕ → LaneEnd → DoorSeen → Type 0
+EndsLane links Closed d = (d.closed ≡ true) × (d.faults ≡ 0)
+EndsLane links Full d = (0 < links) × (d.gave ≡ links) × (d.faults ≡ 0)
+EndsLane links Failed d = 0 < d.faults
+
+-- a lane that has ended: its pass served all connections of its door
+pub record LaneOver (s : Service) (links : ℕ) (turn : TurnState Settings) (pass : BookPass)
+    (door : DoorSeen) (end : LaneEnd) (lack : Lack) : Type 0 where
+  pub own : IsSingle turn pass
+  pub number : pass.number ≡ door.number
+  pub done : LaneDone s pass.seen pass.last door lack
+  pub ends : EndsLane links end door
+
+-- why a door serves no more, where `failed` says whether one of them failed: it is closed, or it failed, or it gave as many
+-- connections as it was to
+abbrev pub IsOver : ℕ → Bool → DoorSeen → Type 0
+IsOver links failed d = (d.closed ≡ true)
+    ⊎ (((0 < d.faults) × (failed ≡ true)) ⊎ ((0 < links) × (d.gave ≡ links)))
+
+-- ---- doors in one history
+
+-- the number of the pass that made an entry
+abbrev pub pass_of : Entry → ℕ
+pass_of e = e.stamp.pass
+
 -- each entry that carries the pass of this number is of a turn up to `top`
 abbrev pub OwnWithin : ℕ → ℕ → List Entry → Type 0
-OwnWithin number top [] = Unit {0}
-OwnWithin number top (e ∷ es) = (e.stamp.pass ≡ number → e.stamp.turn ≤ top) × OwnWithin number top es
+OwnWithin number top es = OwnUpTo turn_of pass_of (number ∷ []) top es
 
--- the same of a door whose pass has seen the front of this history up to a turn, which is not above `top`, and made no
--- entry of a later one
-pub record DoorDone (s : Service) (history : List Entry) (top : ℕ) (door : DoorSeen) : Type 0 where
+-- A door whose pass was joined into another one, v, which has another number: the pass has seen the front up to a turn of
+-- what v has seen, and made no entry of a later one.
+pub record DoorDone (s : Service) (v : BookPass) (door : DoorSeen) : Type 0 where
   pub seen : List Entry
   pub last : ℕ
   pub lack : Lack
   pub done : LaneDone s seen last door lack
-  pub front : seen ≡ seen_at last history
-  pub within : last ≤ top
-  pub own : OwnWithin door.number last history
+  pub front : seen ≡ seen_at last v.seen
+  pub within : last ≤ v.last
+  pub named : has door.number v.numbers ≡ true
+  pub other : door.number ≢ v.number
+  pub own : OwnWithin door.number last v.seen
 
 -- the turn that stands at the last of these connections, or the turn before them
 abbrev pub last_turn : ℕ → List EndedLink → ℕ
@@ -87,21 +122,6 @@ pub record DoorServed (s : Service) (history : List Entry) (door : DoorSeen) : T
   pub tells : s.tells ≡ true → IsSome door.ended
   pub chain : ChainIn (ServedLink s.one s.settings door.number) history 0 links
   pub own : OwnWithin door.number (last_turn 0 links) history
-
--- ---- why lanes end, and what their ends say
-
--- why a lane that was to serve so many connections, 0 for any number, serves no more: its door failed exactly where it
--- ended so
-abbrev pub EndsLane : ℕ → LaneEnd → DoorSeen → Type 0
-EndsLane links Closed d = (d.closed ≡ true) × (d.faults ≡ 0)
-EndsLane links Full d = (0 < links) × (d.gave ≡ links) × (d.faults ≡ 0)
-EndsLane links Failed d = 0 < d.faults
-
--- why a door serves no more, where `failed` says whether one of them failed: it is closed, or it failed, or it gave as many
--- connections as it was to
-abbrev pub IsOver : ℕ → Bool → DoorSeen → Type 0
-IsOver links failed d = (d.closed ≡ true)
-    ⊎ (((0 < d.faults) × (failed ≡ true)) ⊎ ((0 < links) × (d.gave ≡ links)))
 
 -- whether one of them did, where they are told
 abbrev pub told_memory : Option (List EndedLink) → Bool
@@ -125,7 +145,7 @@ told_turns (Some ended) = some_turns ended
 abbrev pub some_spent : List DoorSeen → Bool
 some_spent doors = list_any (λ (d : DoorSeen). told_turns d.ended) doors
 
--- ---- workers, and whose entries a history has
+-- ---- workers
 
 -- a worker that has not begun: a pass that has seen nothing
 pub record IsNewWorker (turn : TurnState Settings) (pass : BookPass) : Type 0 where
@@ -133,11 +153,56 @@ pub record IsNewWorker (turn : TurnState Settings) (pass : BookPass) : Type 0 wh
   pub unseen : pass.seen ≡ []
   pub untaken : pass.last ≡ 0
 
--- each entry that a worker's pass made says that a bucket is checked
-abbrev pub WorkerDone : BookPass → Type 0
-WorkerDone pass = AreDone (own_of (caller_of pass) pass.seen)
+-- a worker that has ended: each entry that its pass made says that a bucket is checked
+pub record WorkerOver (turn : TurnState Settings) (pass : BookPass) : Type 0 where
+  pub own : IsSingle turn pass
+  pub done : AreDone (own_of (caller_of pass) pass.seen)
+
+-- each number from the first up to the end, which is left out, is among these
+abbrev pub HasEach : ℕ → ℕ → List ℕ → Type 0
+HasEach first end numbers = (k : ℕ) → first ≤ k → k < end → has k numbers ≡ true
+
+-- ---- passes that are joined, and whose entries a history has
+
+-- the entries that carry the pass of this number
+abbrev pub of_pass : ℕ → List Entry → List Entry
+of_pass number es = calls_by pass_of (number ∷ []) es
 
 -- each entry says that a bucket is checked, or carries the pass of one of so many lanes
 abbrev pub AreOfLanes : ℕ → List Entry → Type 0
-AreOfLanes lanes [] = Unit {0}
-AreOfLanes lanes (e ∷ es) = (IsDone e ⊎ (e.stamp.pass < lanes)) × AreOfLanes lanes es
+AreOfLanes lanes es = All (λ e. IsDone e ⊎ (e.stamp.pass < lanes)) es
+
+-- A pass took others in, or took turns: what it had seen is the front, up to its last turn then, of what it has seen. Of
+-- the passes that were joined into it none is gone, and none but that of its own number has more entries.
+pub record Extends (v w : BookPass) : Type 0 where
+  pub number : w.number ≡ v.number
+  pub named : (k : ℕ) → has k v.numbers ≡ true → has k w.numbers ≡ true
+  pub front : v.seen ≡ seen_at v.last w.seen
+  pub rises : v.last ≤ w.last
+  pub stay : (k : ℕ) → has k v.numbers ≡ true → k ≢ v.number → of_pass k w.seen ≡ of_pass k v.seen
+  pub up_to : AllBefore turn_of (w.last + 1) w.seen
+
+-- the same of one that took workers in, or worked: where its entries, and those of the passes that were joined into it, said
+-- that buckets are checked or were of lanes, they are so now
+pub record ExtendsByWork (v w : BookPass) : Type 0 where
+  pub extends : Extends v w
+  pub entries : (lanes : ℕ) → AreOfLanes lanes (own_of (caller_of v) v.seen)
+      → AreOfLanes lanes (own_of (caller_of w) w.seen)
+
+-- each entry carries one of these passes
+abbrev pub AreAmong : List ℕ → List Entry → Type 0
+AreAmong numbers es = All (λ e. has e.stamp.pass numbers ≡ true) es
+
+-- The passes of lanes were joined into one, which made no entry itself: these are their doors, in their order, and whether
+-- one of them failed, and what their sessions lacked.
+pub record LanesJoined (s : Service) (links : ℕ) (turn : TurnState Settings) (into : BookPass)
+    (doors : List DoorSeen) (failed : Bool) (lack : Lack) : Type 0 where
+  pub belongs : BelongsTo turn into
+  pub numbers : into.numbers ≡ into.number ∷ map (λ d. d.number) doors
+  pub done : All (DoorDone s into) doors
+  pub over : All (IsOver links failed) doors
+  pub failed_is : failed ≡ some_failed doors
+  pub memory : some_lacked doors ≡ true → lack.memory ≡ true
+  pub turns : some_spent doors ≡ true → IsSome lack.spent
+  pub entries : AreAmong (map (λ d. d.number) doors) (own_of (caller_of into) into.seen)
+  pub up_to : AllBefore turn_of (into.last + 1) into.seen

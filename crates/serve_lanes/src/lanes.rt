@@ -1,11 +1,11 @@
 //! Lanes in threads of their own, over one book.
-ghost use Rattle.std.specs.Prelude.{◌≡◌, ◌⊎◌, ◌+◌, ◌<◌, ◌≤◌, ◌||◌, [], true, false, Some, None, IsSome, length, vec_len, vec_capacity, map, All, IfOk};
+ghost use Rattle.std.specs.Prelude.{◌≡◌, ◌⊎◌, ◌+◌, ◌≢◌, ◌||◌, ◌++◌, ◌≤◌, ◌<◌, [], ◌∷◌, true, IsSome, vec_len, vec_capacity, map, All, IfOk};
 ghost use Rattle.book_turn.specs.Numbers.{numbers_from};
-ghost use Rattle.book_turn.specs.Passes.{BelongsTo, IsSingle, new_passes};
+ghost use Rattle.book_turn.specs.Passes.{IsSingle, new_passes};
 ghost use Rattle.bim_net.specs.Hosts.{AreNew, some_failed};
 ghost use Rattle.book_history.specs.History.{left_all};
-ghost use Rattle.serve_lanes.specs.Histories.{Service, IsReady, LaneDone, DoorDone, DoorServed, EndsLane, IsOver};
-ghost use Rattle.serve_lanes.specs.Histories.{LacksNone, some_lacked, some_spent, IsNewWorker, WorkerDone, AreOfLanes};
+ghost use Rattle.serve_lanes.specs.Histories.{Service, IsReady, LaneOver, LanesJoined, DoorServed, IsOver, is_failed};
+ghost use Rattle.serve_lanes.specs.Histories.{some_lacked, some_spent, IsNewWorker, WorkerOver, HasEach, AreOfLanes};
 
 use crate::lane::{LaneEnd, serve_lane};
 use crate::workers::{Lack, Worker, join_workers, make_workers, run_workers, work_out};
@@ -54,12 +54,10 @@ fn run_lane<K: Serving, R: Wait, D: Door + Drop, C: Clock + Drop, G: Gate>(
     gate: &G,
     links: u64,
 )
-    requires ready { IsReady K.service turn.now lane.old.pass (D.seen lane.old.door) (C.seen lane.old.clock) }
-    requires unnoted { LacksNone lane.old.lack }
-    ensures own { IsSingle turn.now lane.new.pass }
-    ensures done { LaneDone K.service lane.new.pass.seen lane.new.pass.last (D.seen lane.new.door)
-        lane.new.lack }
-    ensures ends { EndsLane links lane.new.end (D.seen lane.new.door) }
+    requires ready { IsReady K.service turn.now lane.old.pass (D.seen lane.old.door) (C.seen lane.old.clock)
+        lane.old.lack }
+    ensures over { LaneOver K.service links turn.now lane.new.pass (D.seen lane.new.door)
+        lane.new.end lane.new.lack }
     ensures number { (D.seen lane.new.door).number ≡ (D.seen lane.old.door).number }
 {
     lane.end = serve_lane(
@@ -87,11 +85,10 @@ fn run_all<
 where
     D::S: Send,
     D::K: Send,
-    requires ready { All (λ l.
-        IsReady K.service turn.now l.pass (D.seen l.door) (C.seen l.clock) × LacksNone l.lack) lanes.old }
-    ensures own { All (λ l. IsSingle turn.entry.now l.pass) lanes.new }
-    ensures done { All (λ l. LaneDone K.service l.pass.seen l.pass.last (D.seen l.door) l.lack) lanes.new }
-    ensures ends { All (λ l. EndsLane links l.end (D.seen l.door)) lanes.new }
+    requires ready { All (λ l. IsReady K.service turn.now l.pass (D.seen l.door) (C.seen l.clock) l.lack)
+        lanes.old }
+    ensures over { All (λ l. LaneOver K.service links turn.entry.now l.pass (D.seen l.door) l.end l.lack)
+        lanes.new }
     ensures numbers { map (λ l. (D.seen l.door).number) lanes.new
         ≡ map (λ l. (D.seen l.door).number) lanes.old }
 {
@@ -101,11 +98,9 @@ where
         64,
         &|_, lane: &mut Lane<D, C>|
             requires { IsReady K.service turn.now lane.old.pass (D.seen lane.old.door) (C.seen lane.old.clock)
-                × LacksNone lane.old.lack }
-            ensures { IsSingle turn.entry.now lane.new.pass
-                × LaneDone K.service lane.new.pass.seen lane.new.pass.last
-                (D.seen lane.new.door) lane.new.lack
-                × EndsLane links lane.new.end (D.seen lane.new.door)
+                lane.old.lack }
+            ensures { LaneOver K.service links turn.entry.now lane.new.pass (D.seen lane.new.door)
+                lane.new.end lane.new.lack
                 × ((D.seen lane.new.door).number ≡ (D.seen lane.old.door).number) }
         { run_lane::<K, R, D, C, G>(rt, alloc, turn, lane, gate, links) },
     );
@@ -129,12 +124,10 @@ fn run_vec<
 where
     D::S: Send,
     D::K: Send,
-    requires ready { All (λ l.
-        IsReady K.service turn.now l.pass (D.seen l.door) (C.seen l.clock) × LacksNone l.lack) lanes.items }
-    ensures own { All (λ l. IsSingle turn.now l.pass) result.items }
-    ensures done { All (λ l. LaneDone K.service l.pass.seen l.pass.last
-        (D.seen l.door) l.lack) result.items }
-    ensures ends { All (λ l. EndsLane links l.end (D.seen l.door)) result.items }
+    requires ready { All (λ l. IsReady K.service turn.now l.pass (D.seen l.door) (C.seen l.clock) l.lack)
+        lanes.items }
+    ensures over { All (λ l. LaneOver K.service links turn.now l.pass (D.seen l.door) l.end l.lack)
+        result.items }
     ensures numbers { map (λ l. (D.seen l.door).number) result.items
         ≡ map (λ l. (D.seen l.door).number) lanes.items }
 {
@@ -157,8 +150,7 @@ fn make_lanes<K: Serving, D: Door + Drop, C: Clock + Drop>(
     requires clocks { vec_len clocks ≡ vec_len doors }
     requires one { All (λ c. (C.seen c).one ≡ K.service.one) clocks.items }
     ensures ready { IfOk result (λ lanes.
-        All (λ l. IsReady K.service turn.now l.pass (D.seen l.door) (C.seen l.clock) × LacksNone l.lack)
-        lanes.items) }
+        All (λ l. IsReady K.service turn.now l.pass (D.seen l.door) (C.seen l.clock) l.lack) lanes.items) }
     ensures numbers { IfOk result (λ lanes.
         map (λ l. (D.seen l.door).number) lanes.items ≡ numbers_from 0 (vec_len doors)) }
 {
@@ -193,6 +185,53 @@ struct JoinedLanes<D: Door + Drop> {
     lack: Lack,
 }
 
+// Whether one of the lanes ended by a fault of its door, when one more has ended so.
+fn has_failed(failed: bool, end: LaneEnd) -> bool
+    ensures { result ≡ (failed || is_failed end) }
+{
+    if failed {
+        return true;
+    }
+    match end {
+        LaneEnd::Closed => false,
+        LaneEnd::Full => false,
+        LaneEnd::Failed => true,
+    }
+}
+
+// One more lane is joined.
+fn join_lane<K: Serving, D: Door + Drop, C: Clock + Drop>(
+    turn: &Turn<Book>,
+    joined: &mut JoinedLanes<D>,
+    lane: Lane<D, C>,
+    links: u64,
+)
+    requires room { vec_len joined.old.doors < vec_capacity joined.old.doors }
+    requires joined { LanesJoined K.service links turn.now joined.old.into
+        (map D.seen joined.old.doors.items) joined.old.failed joined.old.lack }
+    requires over { LaneOver K.service links turn.now lane.pass (D.seen lane.door) lane.end lane.lack }
+    requires other { (D.seen lane.door).number ≢ joined.old.into.number }
+    ensures number { joined.new.into.number ≡ joined.old.into.number }
+    ensures room { vec_capacity joined.new.doors ≡ vec_capacity joined.old.doors }
+    ensures doors { map D.seen joined.new.doors.items
+        ≡ map D.seen joined.old.doors.items ++ D.seen lane.door ∷ [] }
+    ensures joined { LanesJoined K.service links turn.now joined.new.into
+        (map D.seen joined.new.doors.items) joined.new.failed joined.new.lack }
+{
+    let _links = links;
+    let Lane {
+        pass,
+        door,
+        clock: _,
+        end,
+        lack,
+    } = lane;
+    turn.join(&mut joined.into, pass);
+    joined.doors.push_reserved(door);
+    joined.failed = has_failed(joined.failed, end);
+    joined.lack.add(lack);
+}
+
 // Joins the passes of all lanes into one, and gives that and the doors, in their order, with whether one of the lanes ended
 // by a fault of its door, and what sessions lacked.
 fn join_lanes<K: Serving, D: Door + Drop, C: Clock + Drop>(
@@ -202,48 +241,28 @@ fn join_lanes<K: Serving, D: Door + Drop, C: Clock + Drop>(
     room: Vec<D>,
     links: u64,
 ) -> JoinedLanes<D>
-    requires own { BelongsTo turn.now own }
+    requires own { IsNewWorker turn.now own }
+    requires other { vec_len lanes ≤ own.number }
     requires room { (room.items ≡ []) × (vec_len lanes ≤ vec_capacity room) }
-    requires lanes { All (λ l. IsSingle turn.now l.pass) lanes.items }
-    requires done { All (λ l. LaneDone K.service l.pass.seen l.pass.last
-        (D.seen l.door) l.lack) lanes.items }
-    requires ends { All (λ l. EndsLane links l.end (D.seen l.door)) lanes.items }
-    ensures own { BelongsTo turn.now result.into }
-    ensures all { length result.into.numbers ≡ length own.numbers + vec_len lanes }
-    ensures doors { All (λ d. DoorDone K.service result.into.seen result.into.last
-        (D.seen d)) result.doors.items }
-    ensures numbers { map (λ d. (D.seen d).number) result.doors.items
-        ≡ map (λ l. (D.seen l.door).number) lanes.items }
-    ensures over { All (λ d. IsOver links result.failed (D.seen d)) result.doors.items }
-    ensures failed { result.failed ≡ some_failed (map D.seen result.doors.items) }
-    ensures memory { some_lacked (map D.seen result.doors.items) ≡ true → result.lack.memory ≡ true }
-    ensures turns { some_spent (map D.seen result.doors.items) ≡ true → IsSome result.lack.spent }
+    requires over { All (λ l. LaneOver K.service links turn.now l.pass (D.seen l.door) l.end l.lack)
+        lanes.items }
+    requires numbers { map (λ l. (D.seen l.door).number) lanes.items ≡ numbers_from 0 (vec_len lanes) }
+    ensures number { result.into.number ≡ own.number }
+    ensures joined { LanesJoined K.service links turn.now result.into
+        (map D.seen result.doors.items) result.failed result.lack }
+    ensures numbers { map (λ d. d.number) (map D.seen result.doors.items) ≡ numbers_from 0 (vec_len lanes) }
 {
-    let _links = links;
-    let mut into = own;
-    let mut doors = room;
-    let mut failed = false;
-    let mut lack = Lack::none();
+    let mut joined = JoinedLanes {
+        into: own,
+        doors: room,
+        failed: false,
+        lack: Lack::none(),
+    };
     let mut lanes = VecDeque::from_vec(lanes);
     while let Some(lane) = lanes.pop_front() {
-        let Lane {
-            pass,
-            door,
-            clock: _,
-            end,
-            lack: own,
-        } = lane;
-        turn.join(&mut into, pass);
-        doors.push_reserved(door);
-        failed = failed || end == LaneEnd::Failed;
-        lack = lack.and(own);
+        join_lane::<K, D, C>(turn, &mut joined, lane, links);
     }
-    JoinedLanes {
-        into,
-        doors,
-        failed,
-        lack,
-    }
+    joined
 }
 
 // A turn over the book, so many passes, and one more.
@@ -256,7 +275,8 @@ fn open_turn(
     requires few { count < MOST_PASSES }
     ensures settings { IfOk result (λ r. r.0.settings ≡ book.settings) }
     ensures passes { IfOk result (λ r. r.0.passes ≡ count + 1) }
-    ensures own { IfOk result (λ r. IsSingle r.0 r.1) }
+    ensures own { IfOk result (λ r. IsNewWorker r.0 r.1) }
+    ensures number { IfOk result (λ r. r.1.number ≡ count) }
     ensures others { IfOk result (λ r. r.2.items ≡ new_passes r.0 0 count) }
 {
     let (turn, mut passes) = Turn::new(alloc, book, count + 1)?;
@@ -285,34 +305,30 @@ fn run_both<
 where
     D::S: Send,
     D::K: Send,
-    requires ready { All (λ l.
-        IsReady K.service turn.now l.pass (D.seen l.door) (C.seen l.clock) × LacksNone l.lack) lanes.items }
+    requires ready { All (λ l. IsReady K.service turn.now l.pass (D.seen l.door) (C.seen l.clock) l.lack)
+        lanes.items }
     requires new { All (λ w. IsNewWorker turn.now w.pass) workers.items }
-    ensures own { All (λ l. IsSingle turn.now l.pass) result.0.items }
-    ensures done { All (λ l. LaneDone K.service l.pass.seen l.pass.last
-        (D.seen l.door) l.lack) result.0.items }
-    ensures ends { All (λ l. EndsLane links l.end (D.seen l.door)) result.0.items }
+    ensures over { All (λ l. LaneOver K.service links turn.now l.pass (D.seen l.door) l.end l.lack)
+        result.0.items }
     ensures numbers { map (λ l. (D.seen l.door).number) result.0.items
         ≡ map (λ l. (D.seen l.door).number) lanes.items }
-    ensures workers { All (λ w. IsSingle turn.now w.pass) result.1.items }
-    ensures worked { All (λ w. WorkerDone w.pass) result.1.items }
-    ensures count { vec_len result.1 ≡ vec_len workers }
+    ensures workers { All (λ w. WorkerOver turn.now w.pass) result.1.items }
+    ensures seats { map (λ w. w.pass.number) result.1.items ≡ map (λ w. w.pass.number) workers.items }
 {
     join(
         rt,
         move || -> Vec<Lane<D, C>>
-            requires { All (λ l. IsReady K.service turn.now l.pass (D.seen l.door) (C.seen l.clock)
-                × LacksNone l.lack) lanes.items }
-            ensures { All (λ l. IsSingle turn.entry.now l.pass) result.items
-                × All (λ l. LaneDone K.service l.pass.seen l.pass.last (D.seen l.door) l.lack) result.items
-                × All (λ l. EndsLane links l.end (D.seen l.door)) result.items
+            requires { All (λ l. IsReady K.service turn.now l.pass (D.seen l.door) (C.seen l.clock) l.lack)
+                lanes.items }
+            ensures { All (λ l. LaneOver K.service links turn.entry.now l.pass (D.seen l.door) l.end l.lack)
+                result.items
                 × (map (λ l. (D.seen l.door).number) result.items
                 ≡ map (λ l. (D.seen l.door).number) lanes.items) }
         { run_vec::<K, R, D, C, G>(rt, alloc, turn, lanes, gate, links) },
         move || -> Vec<Worker>
             requires { All (λ w. IsNewWorker turn.now w.pass) workers.items }
-            ensures { All (λ w. IsSingle turn.entry.now w.pass) result.items
-                × All (λ w. WorkerDone w.pass) result.items × (vec_len result ≡ vec_len workers) }
+            ensures { All (λ w. WorkerOver turn.entry.now w.pass) result.items
+                × (map (λ w. w.pass.number) result.items ≡ map (λ w. w.pass.number) workers.items) }
         { run_workers(rt, alloc, turn, workers, gate) },
     )
 }
@@ -343,22 +359,20 @@ fn close_all<K: Serving, R: Wait, D: Door + Drop, C: Clock + Drop, G: Gate>(
     gate: &G,
     links: u64,
 ) -> Served<D>
-    requires own { IsSingle turn own }
-    requires all { turn.passes ≡ (vec_len lanes + vec_len workers) + 1 }
+    requires own { IsNewWorker turn own }
+    requires number { own.number ≡ vec_len lanes + vec_len workers }
+    requires all { turn.passes ≡ own.number + 1 }
     requires settings { turn.settings ≡ K.service.settings }
     requires room { (room.items ≡ []) × (vec_len lanes ≤ vec_capacity room) }
-    requires lanes { All (λ l. IsSingle turn l.pass) lanes.items }
-    requires done { All (λ l. LaneDone K.service l.pass.seen l.pass.last
-        (D.seen l.door) l.lack) lanes.items }
-    requires ends { All (λ l. EndsLane links l.end (D.seen l.door)) lanes.items }
-    requires workers { All (λ w. IsSingle turn w.pass) workers.items }
-    requires worked { All (λ w. WorkerDone w.pass) workers.items }
+    requires over { All (λ l. LaneOver K.service links turn l.pass (D.seen l.door) l.end l.lack) lanes.items }
     requires numbers { map (λ l. (D.seen l.door).number) lanes.items ≡ numbers_from 0 (vec_len lanes) }
+    requires workers { All (λ w. WorkerOver turn w.pass) workers.items }
+    requires seats { HasEach (vec_len lanes) own.number (map (λ w. w.pass.number) workers.items) }
     ensures settings { result.book.settings ≡ turn.settings }
-    ensures served { All (λ d. DoorServed K.service result.book.journal (D.seen d)) result.doors.items }
-    ensures numbers { map (λ d. (D.seen d).number) result.doors.items ≡ numbers_from 0 (vec_len lanes) }
+    ensures served { All (DoorServed K.service result.book.journal) (map D.seen result.doors.items) }
+    ensures numbers { map (λ d. d.number) (map D.seen result.doors.items) ≡ numbers_from 0 (vec_len lanes) }
     ensures entries { AreOfLanes (vec_len lanes) result.book.journal }
-    ensures over { All (λ d. IsOver links result.failed (D.seen d)) result.doors.items }
+    ensures over { All (IsOver links result.failed) (map D.seen result.doors.items) }
     ensures failed { result.failed ≡ some_failed (map D.seen result.doors.items) }
     ensures memory { some_lacked (map D.seen result.doors.items) ≡ true → result.memory ≡ true }
     ensures turns { some_spent (map D.seen result.doors.items) ≡ true → IsSome result.spent }
@@ -372,9 +386,10 @@ fn close_all<K: Serving, R: Wait, D: Door + Drop, C: Clock + Drop, G: Gate>(
         lack,
     } = join_lanes::<K, D, C>(&turn, own, lanes, room, links);
     let mut into = into;
-    let of_workers = join_workers(&turn, &mut into, workers);
-    let left = work_out(rt, alloc, &turn, &mut into, 0, gate);
-    let Lack { memory, spent } = lack.and(of_workers).and(left);
+    let mut lack = lack;
+    lack.add(join_workers(&turn, &mut into, workers));
+    lack.add(work_out(rt, alloc, &turn, &mut into, 0, gate));
+    let Lack { memory, spent } = lack;
     Served {
         book: turn.close(into),
         doors,
@@ -414,12 +429,12 @@ where
     requires clocks { vec_len clocks ≡ vec_len doors }
     requires one { All (λ c. (C.seen c).one ≡ service.one) clocks.items }
     ensures settings { IfOk result (λ r. r.book.settings ≡ book.settings) }
-    ensures served { IfOk result (λ r. All
-        (λ d. DoorServed service r.book.journal (D.seen d)) r.doors.items) }
+    ensures served { IfOk result (λ r.
+        All (DoorServed service r.book.journal) (map D.seen r.doors.items)) }
     ensures numbers { IfOk result (λ r.
-        map (λ d. (D.seen d).number) r.doors.items ≡ numbers_from 0 (vec_len doors)) }
+        map (λ d. d.number) (map D.seen r.doors.items) ≡ numbers_from 0 (vec_len doors)) }
     ensures entries { IfOk result (λ r. AreOfLanes (vec_len doors) r.book.journal) }
-    ensures over { IfOk result (λ r. All (λ d. IsOver links r.failed (D.seen d)) r.doors.items) }
+    ensures over { IfOk result (λ r. All (IsOver links r.failed) (map D.seen r.doors.items)) }
     ensures failed { IfOk result (λ r. r.failed ≡ some_failed (map D.seen r.doors.items)) }
     ensures memory { IfOk result (λ r. some_lacked (map D.seen r.doors.items) ≡ true → r.memory ≡ true) }
     ensures turns { IfOk result (λ r. some_spent (map D.seen r.doors.items) ≡ true → IsSome r.spent) }

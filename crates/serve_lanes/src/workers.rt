@@ -1,10 +1,12 @@
 //! Workers in threads of their own, over one book.
-ghost use Rattle.std.specs.Prelude.{◌≡◌, ◌+◌, ◌||◌, All, IfOk, OnOk, false, None, IsSome, length, vec_len};
+ghost use Rattle.std.specs.Prelude.{◌≡◌, ◌⊎◌, ◌+◌, ◌||◌, ◌++◌, All, IfOk, OnOk, true, IsSome, vec_len, map};
+ghost use Rattle.std.specs.List.{list_any};
+ghost use Rattle.book_turn.specs.Entries.{AllBefore};
 ghost use Rattle.book_turn.specs.Passes.{BelongsTo, IsSingle, new_passes};
 ghost use Rattle.book_history.specs.History.{left_all};
-ghost use Rattle.book_passes.specs.Lessons.{caller_of};
+ghost use Rattle.book_passes.specs.Lessons.{caller_of, turn_of};
 ghost use Rattle.check_workers.specs.Working.{Teaches};
-ghost use Rattle.serve_lanes.specs.Histories.{IsNewWorker, WorkerDone};
+ghost use Rattle.serve_lanes.specs.Histories.{IsNewWorker, WorkerOver, HasEach, ExtendsByWork, nothing_lacked};
 
 use bim_net::Gate;
 use book_turn::fault::{CallFault, SpentPass};
@@ -14,6 +16,7 @@ use bucket_check::Room;
 use check_workers::work_loop;
 use federation_book::Book;
 use std::alloc::{AllocError, Global};
+use std::collections::VecDeque;
 use std::sync::Wait;
 use std::thread::{Threads, for_each_mut};
 
@@ -29,8 +32,7 @@ pub struct Lack {
 impl Lack {
     /// Nothing did.
     pub fn none() -> Lack
-        ensures memory { result.memory ≡ false }
-        ensures spent { result.spent ≡ None }
+        ensures { result ≡ nothing_lacked }
     {
         Lack {
             memory: false,
@@ -40,7 +42,7 @@ impl Lack {
 
     /// A call got no reply.
     pub fn of(fault: CallFault) -> Lack
-        ensures { result.memory ≡ false → IsSome result.spent }
+        ensures { (result.memory ≡ true) ⊎ IsSome result.spent }
     {
         match fault {
             CallFault::Memory => Lack {
@@ -54,26 +56,16 @@ impl Lack {
         }
     }
 
-    /// What kept either from being done.
-    pub fn and(self, other: Lack) -> Lack
-        ensures memory { result.memory ≡ (self.memory || other.memory) }
-        ensures spent { result.spent ≡ None → (self.spent ≡ None) × (other.spent ≡ None) }
+    /// What kept something else from being done is noted too.
+    pub fn add(&mut self, other: Lack)
+        ensures memory { self.new.memory ≡ (self.old.memory || other.memory) }
+        ensures kept { IsSome self.old.spent → IsSome self.new.spent }
+        ensures added { IsSome other.spent → IsSome self.new.spent }
     {
-        let Lack {
-            memory: first,
-            spent: one,
-        } = self;
-        let Lack {
-            memory: second,
-            spent: two,
-        } = other;
-        let spent = match one {
-            Some(spent) => Some(spent),
-            None => two,
-        };
-        Lack {
-            memory: first || second,
-            spent,
+        let Lack { memory, spent } = other;
+        self.memory = self.memory || memory;
+        if self.spent.is_none() {
+            self.spent = spent;
         }
     }
 }
@@ -98,8 +90,8 @@ pub fn work_out<R: Wait, G: Gate>(
     requires own { BelongsTo turn.now pass.old }
     ensures own { BelongsTo turn.now pass.new }
     ensures teaches { Teaches (caller_of pass.old) (caller_of pass.new) }
-    ensures done { result.memory ≡ false → result.spent ≡ None
-        → left_all turn.now.settings.projects pass.new.seen ≡ 0 }
+    ensures done { (left_all turn.now.settings.projects pass.new.seen ≡ 0)
+        ⊎ ((result.memory ≡ true) ⊎ IsSome result.spent) }
 {
     let mut room = Room::new(alloc);
     match work_loop(rt, alloc, turn, pass, &mut room, seat, gate) {
@@ -116,8 +108,8 @@ fn run_worker<R: Wait, G: Gate>(
     gate: &G,
 )
     requires new { IsNewWorker turn.now worker.old.pass }
-    ensures own { IsSingle turn.now worker.new.pass }
-    ensures done { WorkerDone worker.new.pass }
+    ensures over { WorkerOver turn.now worker.new.pass }
+    ensures number { worker.new.pass.number ≡ worker.old.pass.number }
 {
     worker.lack = work_out(rt, alloc, turn, &mut worker.pass, worker.seat, gate);
 }
@@ -130,9 +122,8 @@ fn run_all<R: Threads + Wait + Sync, G: Gate + Sync>(
     gate: &G,
 )
     requires new { All (λ w. IsNewWorker turn.now w.pass) workers.old }
-    ensures own { All (λ w. IsSingle turn.entry.now w.pass) workers.new }
-    ensures done { All (λ w. WorkerDone w.pass) workers.new }
-    ensures count { length workers.new ≡ length workers.old }
+    ensures over { All (λ w. WorkerOver turn.entry.now w.pass) workers.new }
+    ensures numbers { map (λ w. w.pass.number) workers.new ≡ map (λ w. w.pass.number) workers.old }
 {
     for_each_mut(
         rt,
@@ -140,7 +131,8 @@ fn run_all<R: Threads + Wait + Sync, G: Gate + Sync>(
         64,
         &|_, worker: &mut Worker|
             requires { IsNewWorker turn.now worker.old.pass }
-            ensures { IsSingle turn.entry.now worker.new.pass × WorkerDone worker.new.pass }
+            ensures { WorkerOver turn.entry.now worker.new.pass
+                × (worker.new.pass.number ≡ worker.old.pass.number) }
         { run_worker(rt, alloc, turn, worker, gate) },
     );
 }
@@ -154,9 +146,8 @@ pub fn run_workers<R: Threads + Wait + Sync, G: Gate + Sync>(
     gate: &G,
 ) -> Vec<Worker>
     requires new { All (λ w. IsNewWorker turn.now w.pass) workers.items }
-    ensures own { All (λ w. IsSingle turn.now w.pass) result.items }
-    ensures done { All (λ w. WorkerDone w.pass) result.items }
-    ensures count { vec_len result ≡ vec_len workers }
+    ensures over { All (λ w. WorkerOver turn.now w.pass) result.items }
+    ensures numbers { map (λ w. w.pass.number) result.items ≡ map (λ w. w.pass.number) workers.items }
 {
     let mut workers = workers;
     run_all(rt, alloc, turn, workers.as_mut_slice(), gate);
@@ -173,6 +164,8 @@ pub fn make_workers(
 ) -> Result<Vec<Worker>, AllocError>
     requires { passes.old.items ≡ new_passes turn.now 0 (first + count) }
     ensures new { IfOk result (λ ws. All (λ w. IsNewWorker turn.now w.pass) ws.items) }
+    ensures numbers { IfOk result (λ ws.
+        HasEach first (first + count) (map (λ w. w.pass.number) ws.items)) }
     ensures count { IfOk result (λ ws. vec_len ws ≡ count) }
     ensures others { OnOk result (passes.new.items ≡ new_passes turn.now 0 first) }
 {
@@ -194,20 +187,23 @@ pub fn make_workers(
 /// Joins the passes of all workers into one, and tells what kept them from working.
 pub fn join_workers(turn: &Turn<Book>, into: &mut Pass<Book>, workers: Vec<Worker>) -> Lack
     requires own { BelongsTo turn.now into.old }
-    requires workers { All (λ w. IsSingle turn.now w.pass) workers.items }
+    requires up_to { AllBefore turn_of (into.old.last + 1) into.old.seen }
+    requires over { All (λ w. WorkerOver turn.now w.pass) workers.items }
     ensures own { BelongsTo turn.now into.new }
-    ensures all { length into.new.numbers ≡ length into.old.numbers + vec_len workers }
+    ensures extends { ExtendsByWork into.old into.new }
+    ensures numbers { into.new.numbers ≡ into.old.numbers ++ map (λ w. w.pass.number) workers.items }
+    ensures memory { result.memory ≡ list_any (λ w. w.lack.memory) workers.items }
 {
     let mut lack = Lack::none();
-    let mut workers = workers;
-    while let Some(worker) = workers.pop() {
+    let mut workers = VecDeque::from_vec(workers);
+    while let Some(worker) = workers.pop_front() {
         let Worker {
             pass,
             seat: _,
             lack: own,
         } = worker;
         turn.join(into, pass);
-        lack = lack.and(own);
+        lack.add(own);
     }
     lack
 }

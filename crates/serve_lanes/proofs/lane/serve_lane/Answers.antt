@@ -9,6 +9,7 @@ loop-init g c = record {
   own = c.requires.own;
   number = refl;
   clock = refl;
+  sound = refl;
   left = λ some. (some, refl);
   served = lane_start _ _ _ _ _;
 }
@@ -32,6 +33,7 @@ loop-preserved-else-left-eq0 g c = record {
   own = c.serve_next.ensures.own;
   number = c.serve_next.ensures.number ∙ c.loop.invariant.number;
   clock = c.serve_next.ensures.clock ∙ c.loop.invariant.clock;
+  sound = c.serve_next.ensures.sound (λ is. cc) ∙ c.loop.invariant.sound;
   served = lane_trans _ _ _ _ _ _ _ _ _ _ _ _ _ c.loop.invariant.served (rw (c.loop.invariant.clock, c.loop.invariant.number) at c.serve_next.ensures.served);
 }
 
@@ -43,5 +45,6 @@ loop-preserved g c = record {
   own = c.serve_next.ensures.own;
   number = c.serve_next.ensures.number ∙ c.loop.invariant.number;
   clock = c.serve_next.ensures.clock ∙ c.loop.invariant.clock;
+  sound = c.serve_next.ensures.sound (λ is. cc) ∙ c.loop.invariant.sound;
   served = lane_trans _ _ _ _ _ _ _ _ _ _ _ _ _ c.loop.invariant.served (rw (c.loop.invariant.clock, c.loop.invariant.number) at c.serve_next.ensures.served);
 }

@@ -14,5 +14,5 @@ invariant-loop g l = record {
   left : 0 < l.links → (0 < l.left) × ((g.D.Door.seen l.door).gave + l.left ≡ (g.D.Door.seen l.initial.door).gave + l.links);
   served : LaneServed (ServedLink (g.C.Clock.seen l.initial.clock).one l.fn.turn.settings l.initial.pass.number)
       l.initial.pass.seen l.initial.pass.last l.pass.seen l.pass.last (g.D.Door.seen l.initial.door) (g.D.Door.seen l.door)
-      l.initial.memory l.memory;
+      l.initial.lack l.lack;
 }

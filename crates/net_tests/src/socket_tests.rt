@@ -1,8 +1,8 @@
 //! A connection over the loopback address.
-use crate::{NetHost, TcpDoor};
 use bim_io::{Clock, Sink, Source};
 use bim_model::Text;
 use bim_net::{Door, EndKind, Gate, Host, LinkEnd};
+use bim_sockets::{NetHost, TcpDoor};
 use std::io::{Read, Write};
 use std::net::{TcpListener, TcpStream};
 use std::test::Fail;

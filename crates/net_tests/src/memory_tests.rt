@@ -3,12 +3,12 @@ ghost use Rattle.std.specs.Prelude.{true, IfOk, All};
 ghost use Rattle.bim_net.specs.Stores.{door_of};
 ghost use Rattle.bim_net.specs.Seen.{IsNew};
 
-use crate::{
+use bim_io::{Clock, MemSink, MemSource, Sink, Source, SureSink, SureSource};
+use bim_model::{Bytes, Items, Text};
+use bim_net::{
     Door, EndKind, FreeGate, FreshLink, Gate, Hold, HoldCount, HoldHost, Host, HostFault, LinkEnd,
     MemDoor, MemHost, SureDoor, SureHost, mem_link, sure_link,
 };
-use bim_io::{Clock, MemSink, MemSource, Sink, Source, SureSink, SureSource};
-use bim_model::{Bytes, Items, Text};
 use std::alloc::{AllocError, Global};
 use std::process::Abort;
 use std::test::Fail;
