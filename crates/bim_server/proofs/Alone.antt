@@ -1,5 +1,5 @@
 -- A caller alone goes on as a session's caller does.
-use Rattle.std.proofs.Common.{◌≡◌, ◌⊎◌, ℕ, zero, suc, ◌+◌, ◌*◌, ◌<◌, ◌≤◌, List, [], ◌∷◌, ◌++◌, length, Option, Some, Result, Ok, Err, inl, inr, refl, sym, ◌∙◌, ap, subst, arith, append-nil, append_assoc, length-append}
+use Rattle.std.proofs.Common.{◌≡◌, ◌⊎◌, ℕ, zero, suc, ◌+◌, ◌*◌, ◌<◌, ◌≤◌, List, [], ◌∷◌, ◌++◌, length, Option, Some, Result, Ok, Err, OnOk, OnErr, inl, inr, refl, sym, ◌∙◌, ap, subst, arith, append-nil, append_assoc, length-append}
 use Rattle.std.proofs.lemmas.List.Elements.{All-append}
 use Rattle.std.specs.declared.alloc.AllocError.{AllocError}
 use Rattle.book_turn.specs.Entries.{AllBefore, AllAfter}
@@ -184,3 +184,8 @@ stopped_alone settings buckets old new fault ready works =
       alone_of settings old new (earlier ++ more) ready e,
       subst (λ (z : Standing). WorksShort z (earlier ++ more)) (start_is settings buckets old new (e.settings ∙ ready.settings_are)) short,
     )
+
+pub works_alone : (settings : Settings) (buckets : Option ℕ) (old new : ServerState) (result : Result (Unit {0}) AllocError) → IsSettled settings old → OnOk result (WorksAll buckets old new)
+    → OnErr result (WorksSome buckets old new) → WorksBehind settings buckets (GoesAlone settings) (seen_alone old) result (seen_alone new)
+works_alone settings buckets old new (Ok u) ready whole some = worked_alone settings buckets old new ready whole
+works_alone settings buckets old new (Err fault) ready whole some = stopped_alone settings buckets old new fault ready some

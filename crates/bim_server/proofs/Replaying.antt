@@ -1,5 +1,5 @@
 -- A session by a caller alone over a new book is a run with one actor.
-use Rattle.std.proofs.Common.{◌≡◌, ℕ, List, [], length, Option, refl, sym, subst}
+use Rattle.std.proofs.Common.{◌≡◌, ℕ, ◌+◌, List, [], length, Option, refl, sym, subst, arith}
 use Rattle.bim_io.specs.Seen.{Outside, EndsEmpty}
 use Rattle.book_history.specs.declared.limits.Settings.{Settings}
 use Rattle.book_history.proofs.Histories.{one_none, none_before}
@@ -29,7 +29,8 @@ replays_of settings buckets first last before after end is serves =
     let s : Serves settings buckets (GoesAlone settings) (seen_alone (new_server settings)) (seen_alone last) before after end =
     subst (λ (z : ServerState). Serves settings buckets (GoesAlone settings) (seen_alone z) (seen_alone last) before after end) is serves in
     let x = s.session in
-    let count : last.turns ≡ length s.steps = s.goes_by.turns in
+    let turns : last.turns ≡ 0 + length s.steps = s.goes_by.turns in
+    let count : last.turns ≡ length s.steps = omega (arith, turns) in
     record {
       input = s.input;
       moments = s.moments;
