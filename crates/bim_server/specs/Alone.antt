@@ -1,6 +1,7 @@
 -- A caller of a book that no one else calls.
 use Rattle.std.specs.Prelude.{◌≡◌, ℕ, ◌+◌, List, [], ◌∷◌, ◌++◌, length}
 use Rattle.book_history.specs.declared.limits.Settings.{Settings}
+use Rattle.book_history.specs.History.{IsBefore}
 use Rattle.book_history.specs.Runs.{Step, IsRun, IsOneThread}
 use Rattle.book_passes.specs.Lessons.{CallerSeen}
 use Rattle.bim_session.specs.Works.{last_turn}
@@ -16,6 +17,11 @@ seen_alone s = record {
   last = s.turns;
   made = s.turns;
 }
+
+-- its book has these settings, and no entry of a turn behind the last
+pub record IsSettled (settings : Settings) (s : ServerState) : Type 0 where
+  pub settings_are : s.settings ≡ settings
+  pub before : IsBefore (s.turns + 1) s.history
 
 -- It went from v to w by these steps, a turn each. Behind any run with one actor by as many steps as v had taken turns,
 -- which made what v had seen, they go on as such a run, which makes what w has seen.

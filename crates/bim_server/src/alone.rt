@@ -1,7 +1,6 @@
 //! A caller of a book that no one else calls.
-ghost use Rattle.std.specs.Prelude.{◌≡◌};
 ghost use Rattle.bim_session.specs.Replay.{stated_settings};
-ghost use Rattle.bim_server.specs.Alone.{seen_alone, GoesAlone};
+ghost use Rattle.bim_server.specs.Alone.{seen_alone, IsSettled, GoesAlone};
 
 use crate::one_thread::OneThread;
 use book_history::BookRequest;
@@ -27,7 +26,7 @@ impl Caller for Alone {
 
     ghost buckets = { λ c. c.buckets };
 
-    ghost fits = { λ c own. own.settings ≡ stated_settings c.projects };
+    ghost fits = { λ c own. IsSettled (stated_settings c.projects) own };
 
     ghost seen = { seen_alone };
 

@@ -20,6 +20,7 @@ use Rattle.bim_session.specs.declared.end.SessionEnd.{SessionEnd}
 use Rattle.bim_session.specs.declared.want.Waiting.{Waiting}
 use Rattle.bim_session.specs.declared.want.Want.{Want}
 use Rattle.bim_session.specs.declared.want.Want.TheVariants.{More, Write, Call, Leave}
+use Rattle.bim_session.specs.declared.notes.Notes.{Notes}
 use Rattle.bim_session.specs.Notes.{project_read, IsKeptReply}
 use Rattle.bim_session.specs.Session.{closes_after, continue_bytes, IsFaultResponse}
 use Rattle.bim_session.specs.Talking.{TalkState, IsOwnEnd, IsOwnLeaving, IsOwnWant, GrowsBy, Feeds, is_end, Wants, StopsNext, TakesRequest, Writes, WantsFor, AtRest, AsksFor, waiting_for, with_answer, with_call, with_fault, with_framer, asks_change, IsUnasked, AnswersAlone}
@@ -148,7 +149,7 @@ requested old new f m r (Call call) a b here steps gives wants = λ rest told st
           wants.0,
           wants.1,
           wants.2
-          ∙ ap (λ (g : Framer). with_call (waiting_for r (old.served + 1) (asks_change call) (project_read call)) (with_framer g old)) (sym same),
+              ∙ ap (λ (g : Framer). with_call (waiting_for r (old.served + 1) (asks_change call) (project_read call)) (with_framer g old)) (sym same),
         ),
       ),
     )
@@ -215,11 +216,13 @@ kept_write waiting call old new kept (Call other) is writes state = absurd write
 kept_write waiting call old new kept (Leave e) is writes state = absurd writes
 
 -- its answer
-pub asks_kept : (waiting : Waiting) (call : BookRequest) (old new : TalkState) (kept : BookReply) (result : Result Want AllocError) → IsKeptReply old.notes call kept
-    → IfOk result (Writes (IsResponse (answer.Book kept) waiting.kind (Some old.notes.turn) waiting.close)) → OnOk result (new ≡ with_answer waiting.close old)
-    → IfOk result (λ want. AsksFor waiting call old want new)
-asks_kept waiting call old new kept (Ok want) is writes state = kept_write waiting call old new kept want is writes state
-asks_kept waiting call old new kept (Err e) is writes state = tt
+pub asks_kept : (waiting : Waiting) (call : BookRequest) (old new : TalkState) (notes : Notes) (kept : BookReply) (result : Result Want AllocError) → notes ≡ old.notes
+    → IsKeptReply notes call kept → IfOk result (Writes (IsResponse (answer.Book kept) waiting.kind (Some notes.turn) waiting.close))
+    → OnOk result (new ≡ with_answer waiting.close old) → IfOk result (λ want. AsksFor waiting call old want new)
+asks_kept waiting call old new notes kept (Ok want) same is writes state =
+    kept_write waiting call old new kept want (subst (λ (n : Notes). IsKeptReply n call kept) same is)
+    (subst (λ (n : Notes). Writes (IsResponse (answer.Book kept) waiting.kind (Some n.turn) waiting.close) want) same writes) state
+asks_kept waiting call old new notes kept (Err e) same is writes state = tt
 
 -- ---- want of memory
 

@@ -1,6 +1,5 @@
 -- One connection as a machine: what each of its calls does.
 use Rattle.std.specs.Prelude.{◌≡◌, ◌≢◌, ◌⊎◌, ℕ, ◌+◌, ◌==◌, ◌++◌, List, [], ◌∷◌, ◌||◌, Bool, true, false, not, IsTrue, if◌then◌else◌, Option, Some, None, IsSome, Result, Ok, Err}
-use Rattle.std.specs.declared.alloc.AllocError.{AllocError}
 use Rattle.bim_io.specs.Seen.{ClockSeen, ClockGives}
 use Rattle.http_frame.specs.declared.types.HttpRequest.{HttpRequest}
 use Rattle.http_frame.specs.declared.types.FrameFault.{FrameFault}
