@@ -1,8 +1,8 @@
 use Rattle.std.proofs.Common.{inl, inr}
 use Rattle.ifc_schema.specs.StageFive.{used_ids}
-use Rattle.model_build.specs.Elements.{IsModelOf}
-use Rattle.model_build.proofs.Clears.{square_clear, items_clear}
-use Rattle.model_build.proofs.Thens.{then_ok, then_err}
+use Rattle.model_build.specs.Profile.{IsModelOf}
+use Rattle.model_build.proofs.StagesClear.{square_clear, items_clear}
+use Rattle.model_build.proofs.FirstOfStages.{then_ok, then_err}
 use Rattle.model_build.proofs.stages.after_chains.Goals as goal
 
 pub returns-in-Some-item_fault-clause-fault : goal.returns-in-Some-item_fault-clause-fault

@@ -1,6 +1,6 @@
-use Rattle.model_build.proofs.Framed.{none_lacks}
-use Rattle.model_build.proofs.Readied.{elements_ready}
-use Rattle.model_build.proofs.Thens.{of_none}
+use Rattle.model_build.proofs.FramesThere.{none_lacks}
+use Rattle.model_build.proofs.ElementsReady.{elements_ready}
+use Rattle.ifc_elements.proofs.CasesOfAnswers.{of_none}
 use Rattle.model_build.proofs.stages.after_cuts.Goals as goal
 
 pub unreachable-requires : goal.unreachable-requires

@@ -1,12 +1,11 @@
 use Rattle.std.proofs.Common.{ℕ, List, Contains, inl, inr, subst}
 use Rattle.ifc_schema.specs.StageFive.{used_ids}
-use Rattle.model_build.specs.Stages.{LeastFault}
-use Rattle.model_build.specs.PointTables.{LengthFault}
-use Rattle.model_build.specs.Elements.{IsModelOf}
+use Rattle.model_build.specs.Faults.{LeastFault}
+use Rattle.model_build.specs.LengthFaults.{LengthFault}
+use Rattle.model_build.specs.Profile.{IsModelOf}
 use Rattle.model_build.specs.Outcomes.{AreMeasured}
-use Rattle.model_build.proofs.Clears.{corners_clear}
-use Rattle.model_build.proofs.Profiled.{measured_clear, measured_fault}
-use Rattle.model_build.proofs.Thens.{then_ok, then_err}
+use Rattle.model_build.proofs.StagesClear.{corners_clear, measured_clear, measured_fault}
+use Rattle.model_build.proofs.FirstOfStages.{then_ok, then_err}
 use Rattle.model_build.proofs.stages.after_indexes.Goals as goal
 
 pub returns-in-Some-clause-fault : goal.returns-in-Some-clause-fault

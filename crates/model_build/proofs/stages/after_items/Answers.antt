@@ -1,8 +1,9 @@
 use Rattle.std.proofs.Common.{inl, inr}
 use Rattle.ifc_schema.specs.StageFive.{used_ids}
-use Rattle.model_build.specs.Elements.{IsModelOf}
-use Rattle.model_build.proofs.Clears.{voids_clear, indexes_clear}
-use Rattle.model_build.proofs.Thens.{then_ok, then_err, of_none, of_some}
+use Rattle.model_build.specs.Profile.{IsModelOf}
+use Rattle.model_build.proofs.StagesClear.{voids_clear, indexes_clear}
+use Rattle.model_build.proofs.FirstOfStages.{then_ok, then_err}
+use Rattle.ifc_elements.proofs.CasesOfAnswers.{of_none, of_some}
 use Rattle.model_build.proofs.stages.after_items.Goals as goal
 
 pub returns-in-Some-2-clause-fault : goal.returns-in-Some-2-clause-fault

@@ -1,8 +1,9 @@
 use Rattle.ifc_schema.specs.StageFive.{IsModelElement, element_ids}
-use Rattle.model_build.specs.Elements.{IsModelOf}
-use Rattle.model_build.proofs.Told.{repeats_clear}
-use Rattle.model_build.proofs.Checking.{chains_clear}
-use Rattle.model_build.proofs.Thens.{then_ok, then_err, then_error, first_error, of_none}
+use Rattle.model_build.specs.Profile.{IsModelOf}
+use Rattle.model_build.proofs.RepeatedGuids.{repeats_clear}
+use Rattle.model_build.proofs.ChainsEnd.{chains_clear}
+use Rattle.model_build.proofs.FirstOfStages.{then_ok, then_err, then_error, first_error}
+use Rattle.ifc_elements.proofs.CasesOfAnswers.{of_none}
 use Rattle.model_build.proofs.stages.after_tree.Goals as goal
 
 pub returns-in-Ok-clause-model : goal.returns-in-Ok-clause-model

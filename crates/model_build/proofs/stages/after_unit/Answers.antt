@@ -1,6 +1,6 @@
-use Rattle.model_build.specs.Elements.{IsModelOf}
-use Rattle.model_build.proofs.Profiled.{tree_clear}
-use Rattle.model_build.proofs.Thens.{then_ok, then_err}
+use Rattle.model_build.specs.Profile.{IsModelOf}
+use Rattle.model_build.proofs.StagesClear.{tree_clear}
+use Rattle.model_build.proofs.FirstOfStages.{then_ok, then_err}
 use Rattle.model_build.proofs.stages.after_unit.Goals as goal
 
 pub returns-clause-model : goal.returns-clause-model

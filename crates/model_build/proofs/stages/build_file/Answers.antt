@@ -1,6 +1,6 @@
 use Rattle.std.proofs.Common.{inl, inr}
-use Rattle.model_build.proofs.Flawless.{survey_clear}
-use Rattle.model_build.proofs.Profiled.{unit_ok, unit_err}
+use Rattle.model_build.proofs.StagesClear.{survey_clear}
+use Rattle.model_build.proofs.ProfileOfStages.{unit_ok, unit_err}
 use Rattle.model_build.proofs.stages.build_file.Goals as goal
 
 pub returns-in-Ok-clause-model : goal.returns-in-Ok-clause-model

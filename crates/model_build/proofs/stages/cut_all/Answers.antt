@@ -1,11 +1,11 @@
 use Rattle.std.proofs.Common.{inl}
 use Rattle.ifc_schema.specs.StageFive.{used_ids, element_ids}
-use Rattle.model_build.specs.Elements.{IsModelOf}
-use Rattle.model_build.proofs.Readied.{sets_sound}
-use Rattle.model_build.proofs.Cutting.{sets_unstuck, stuck_clear}
-use Rattle.model_build.proofs.Staged.{triangles_clear}
-use Rattle.model_build.proofs.Made.{of_ok, of_err}
-use Rattle.model_build.proofs.Thens.{then_ok, then_err}
+use Rattle.model_build.specs.Profile.{IsModelOf}
+use Rattle.model_build.proofs.ElementsReady.{sets_sound}
+use Rattle.model_build.proofs.SetsCut.{sets_unstuck, stuck_clear}
+use Rattle.model_build.proofs.TrianglesCounted.{triangles_clear}
+use Rattle.ifc_elements.proofs.CasesOfAnswers.{of_ok, of_err}
+use Rattle.model_build.proofs.FirstOfStages.{then_ok, then_err}
 use Rattle.model_build.proofs.stages.cut_all.Goals as goal
 
 pub sets_of-requires-clause-sound : goal.sets_of-requires-clause-sound

@@ -1,6 +1,6 @@
 use Rattle.std.proofs.Common.{inl, inr}
-use Rattle.model_build.proofs.Cutting.{stuck_clear}
-use Rattle.model_build.proofs.Thens.{of_none, of_some}
+use Rattle.model_build.proofs.SetsCut.{stuck_clear}
+use Rattle.ifc_elements.proofs.CasesOfAnswers.{of_none, of_some}
 use Rattle.model_build.proofs.stages.fault_of_many.Goals as goal
 
 pub returns-in-Some : goal.returns-in-Some

@@ -3,10 +3,11 @@ use Rattle.std.specs.List.{AllZip}
 use Rattle.bim_model.specs.declared.element.Element.{Element}
 use Rattle.ifc_schema.specs.StageFive.{used_ids, element_ids}
 use Rattle.placement.specs.Placed.{frame_in}
-use Rattle.model_build.specs.Elements.{IsModelOf}
-use Rattle.model_build.specs.Outcomes.{IsNearElement, IsFirstLacking}
-use Rattle.model_build.proofs.Made.{all_framed, of_ok, of_err}
-use Rattle.model_build.proofs.Modelling.{model_made, model_is, reach_clear, reach_fault, never_unready}
+use Rattle.model_build.specs.Profile.{IsModelOf}
+use Rattle.ifc_elements.specs.Making.{IsNearElement, IsFirstLacking}
+use Rattle.ifc_elements.proofs.ElementsMade.{all_framed}
+use Rattle.ifc_elements.proofs.CasesOfAnswers.{of_ok, of_err}
+use Rattle.model_build.proofs.ModelMade.{model_made, model_is, reach_clear, reach_fault, never_unready}
 use Rattle.model_build.proofs.stages.model_of.Goals as goal
 
 pub elements_of-requires-clause-framed : goal.elements_of-requires-clause-framed

@@ -1,8 +1,8 @@
 use Rattle.std.proofs.Common.{ℕ, List, subst}
 use Rattle.ifc_schema.specs.StageFive.{used_ids}
-use Rattle.model_build.specs.Sound.{AreSets, IsUncut}
-use Rattle.model_build.proofs.Cutting.{uncut_stuck}
-use Rattle.model_build.proofs.Thens.{of_none, of_some}
+use Rattle.ifc_elements.specs.Sound.{AreSets, IsUncut}
+use Rattle.model_build.proofs.SetsCut.{uncut_stuck}
+use Rattle.ifc_elements.proofs.CasesOfAnswers.{of_none, of_some}
 use Rattle.model_build.proofs.stages.sets_of.Goals as goal
 
 pub returns-in-Some : goal.returns-in-Some
