@@ -20,7 +20,7 @@ use Rattle.model_build.specs.Faces.{IsStuckFace}
 use Rattle.model_build.specs.Triangles.{most_triangles}
 use Rattle.model_build.specs.Stages.{FormStage, UnitStage, TreeStage, TwiceStage, LoopStage, ObliqueStage, ItemStage, VoidStage, IndexStage, LengthStage, CornersStage, StuckStage, TrianglesStage, ReachStage, stages, FileFault}
 use Rattle.model_build.specs.Outcomes.{IsErrorOf, AreMeasured, IsOpened, IsSupported, IsMeasured, IsCut}
-use Rattle.model_build.proofs.FirstOfStages.{stop, pass, AllClear, all_clear, unit_error, unit_clear}
+use Rattle.model_build.proofs.FirstOfStages.{stop, pass, AllClear, all_clear, unit_clear}
 use Rattle.model_build.proofs.StagesClear.{survey_clear, tree_clear, square_clear, items_clear, voids_clear, indexes_clear, measured_clear, corners_clear}
 use Rattle.model_build.proofs.RepeatedGuids.{repeats_clear}
 use Rattle.model_build.proofs.ChainsEnd.{chains_clear}

@@ -31,11 +31,6 @@ all_clear [] clear fault h = h
 all_clear (S ∷ rest) clear fault (inl h) = clear.0 fault h
 all_clear (S ∷ rest) clear fault (inr h) = all_clear rest clear.1 fault h.1
 
--- a stage in the unit of the file is the stage in the one scale that this unit has
-
-pub unit_error : (world : List Instance) (S : Scale → Stage) (scale : Scale) (e : BuildError) → IsLengthUnit world scale → IsErrorOf (S scale) e → IsErrorOf (InUnit world S) e
-unit_error world S scale (errors.Fault fault) unit h = (scale, unit, h)
-unit_error world S scale errors.Memory unit h = h
-
+-- a stage in the unit of the file is clear where it is in the one scale that this unit has
 pub unit_clear : (world : List Instance) (S : Scale → Stage) (scale : Scale) → IsLengthUnit world scale → IsClear (S scale) → IsClear (InUnit world S)
 unit_clear world S scale unit clear fault h = clear fault (subst (λ (s : Scale). S s fault) (one_unit world h.0 scale h.1 unit) h.2)
