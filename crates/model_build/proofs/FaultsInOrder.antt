@@ -18,7 +18,7 @@ use Rattle.model_build.specs.Least.{NoneOf, IsVoided, IsOblique}
 use Rattle.model_build.specs.Unsupported.{IsUnsupported}
 use Rattle.model_build.specs.Faces.{IsStuckFace}
 use Rattle.model_build.specs.Triangles.{most_triangles}
-use Rattle.model_build.specs.Stages.{FormStage, UnitStage, TreeStage, TwiceStage, LoopStage, ObliqueStage, ItemStage, VoidStage, IndexStage, LengthStage, CornersStage, StuckStage, TrianglesStage, ReachStage, stages, FileFault}
+use Rattle.model_build.specs.Stages.{FormStage, UnitStage, TreeStage, TwiceStage, LoopStage, ObliqueStage, ItemStage, VoidStage, IndexStage, LengthStage, CornersStage, StuckStage, TrianglesStage, ReachStage, InUnit, stages, FileFault}
 use Rattle.model_build.specs.Outcomes.{IsErrorOf, AreMeasured, IsOpened, IsSupported, IsMeasured, IsCut}
 use Rattle.model_build.proofs.FirstOfStages.{stop, pass, AllClear, all_clear, unit_clear}
 use Rattle.model_build.proofs.StagesClear.{survey_clear, tree_clear, square_clear, items_clear, voids_clear, indexes_clear, measured_clear, corners_clear}
@@ -39,8 +39,8 @@ form_first world mode e h = stop (FormStage world) (drop 1 (stages world mode)) 
 past_forms : (world : List Instance) (mode : Mode) (survey : Survey) (e : BuildError) → Surveyed world survey → IsErrorOf (first_fault (drop 1 (stages world mode))) e → IsErrorOf (FileFault world mode) e
 past_forms world mode survey e s h = pass (FormStage world) (drop 1 (stages world mode)) e (survey_clear world survey s) h
 
-pub unit_first : (world : List Instance) (mode : Mode) (survey : Survey) (fault : UploadFault) → Surveyed world survey → UnitStage world fault → FileFault world mode fault
-unit_first world mode survey fault s h = past_forms world mode survey (errors.Fault fault) s (inl h)
+pub unit_first : (world : List Instance) (mode : Mode) (survey : Survey) (e : BuildError) → Surveyed world survey → IsErrorOf (UnitStage world) e → IsErrorOf (FileFault world mode) e
+unit_first world mode survey e s h = past_forms world mode survey e s (stop (UnitStage world) (drop 2 (stages world mode)) e h)
 
 past_unit : (world : List Instance) (mode : Mode) (survey : Survey) (e : BuildError) → Surveyed world survey → IsClear (UnitStage world) → IsErrorOf (first_fault (drop 2 (stages world mode))) e → IsErrorOf (FileFault world mode) e
 past_unit world mode survey e s u h = past_forms world mode survey e s (pass (UnitStage world) (drop 2 (stages world mode)) e u h)
@@ -88,7 +88,7 @@ past_items : (file : File) (e : BuildError) → IsOpened file → NoneOf (used_i
     → IsErrorOf (first_fault (drop 7 (stages file.exchange file.mode))) e → IsErrorOf (FileFault file.exchange file.mode) e
 past_items file e o a i h =
     let world = file.exchange in
-    past_axes file e o a (pass _ (drop 7 (stages world file.mode)) e (unit_clear world (ItemStage world file.mode) file.scale o.unit (items_clear world file.scale file.mode i)) h)
+    past_axes file e o a (pass (InUnit world (ItemStage world file.mode)) (drop 7 (stages world file.mode)) e (unit_clear world (ItemStage world file.mode) file.scale o.unit (items_clear world file.scale file.mode i)) h)
 
 pub void_first : (file : File) (fault : UploadFault) → IsOpened file → NoneOf (used_ids file.survey) (IsOblique file.exchange) → ((id : ℕ) → IsUnsupported file.exchange file.scale file.mode id → ⊥) → VoidStage file.exchange fault
     → FileFault file.exchange file.mode fault
@@ -117,7 +117,7 @@ past_lengths : (file : File) (e : BuildError) → IsSupported file → AreMeasur
 past_lengths file e s m h =
     let world = file.exchange in
     past_supported file e s
-    (pass _ (drop 10 (stages world file.mode)) e (unit_clear world (LengthStage world file.mode) file.scale s.opened.unit (measured_clear world file.scale file.mode (used_ids file.survey) s.opened.surveyed.used m)) h)
+    (pass (InUnit world (LengthStage world file.mode)) (drop 10 (stages world file.mode)) e (unit_clear world (LengthStage world file.mode) file.scale s.opened.unit (measured_clear world file.scale file.mode (used_ids file.survey) s.opened.surveyed.used m)) h)
 
 pub corners_first : (file : File) (fault : UploadFault) → IsSupported file → AreMeasured file.exchange file.scale file.mode (used_ids file.survey) → CornersStage file.exchange fault → FileFault file.exchange file.mode fault
 corners_first file fault s m h = past_lengths file (errors.Fault fault) s m (inl h)
@@ -136,7 +136,7 @@ past_stuck : (file : File) (e : BuildError) → IsMeasured file → ((id : ℕ) 
     → IsErrorOf (FileFault file.exchange file.mode) e
 past_stuck file e m n h =
     let world = file.exchange in
-    past_measured file e m (pass _ (drop 12 (stages world file.mode)) e (unit_clear world (StuckStage world file.mode) file.scale m.supported.opened.unit (stuck_clear world file.scale file.mode n)) h)
+    past_measured file e m (pass (InUnit world (StuckStage world file.mode)) (drop 12 (stages world file.mode)) e (unit_clear world (StuckStage world file.mode) file.scale m.supported.opened.unit (stuck_clear world file.scale file.mode n)) h)
 
 pub triangles_first : (file : File) (fault : UploadFault) → IsMeasured file → ((id : ℕ) → IsStuckFace file.exchange file.scale file.mode id → ⊥) → TrianglesStage file.exchange fault → FileFault file.exchange file.mode fault
 triangles_first file fault m n h = past_stuck file (errors.Fault fault) m n (inl h)

@@ -4,6 +4,7 @@ pub mod BodiesFormed
 pub mod ChainsEnd
 pub mod ElementsReady
 pub mod ElementsRise
+pub mod FaultsInOrder
 pub mod FirstIsLeast
 pub mod FirstLengthFault
 pub mod FirstOfStages

@@ -37,10 +37,7 @@ fn opened(alloc: Global, exchange: Exchange, mode: Mode) -> Result<File, BuildEr
     ensures fault { IfErr result (IsErrorOf (FileFault exchange mode)) }
 {
     let survey = survey(alloc, &exchange)?;
-    let scale = match length_unit(&exchange) {
-        Ok(scale) => scale,
-        Err(fault) => return Err(BuildError::Fault(fault)),
-    };
+    let scale = length_unit(&exchange)?;
     let tree = tree(alloc, &exchange)?;
     if let Some(fault) = guid_fault(alloc, &exchange, &survey)? {
         return Err(BuildError::Fault(fault));
