@@ -1,5 +1,5 @@
 -- The storeys that elements stand in.
-use Rattle.std.proofs.Common.{◌≡◌, ℕ, zero, suc, ◌<◌, ◌⊎◌, inl, inr, Contains, ◌==◌, Bool, true, false, List, [], ◌∷◌, length, get_or, None, refl, ap, ◌∙◌, arith}
+use Rattle.std.proofs.Common.{◌≡◌, ℕ, zero, suc, ◌<◌, inl, inr, Contains, ◌==◌, true, List, [], ◌∷◌, length, get_or, None, ap, ◌∙◌, arith}
 use Rattle.std.proofs.lemmas.Bool.{cases_Bool}
 use Rattle.std.proofs.lemmas.Bool.Decides.{nat_tests}
 use Rattle.p21_reader.specs.declared.value.Instance.{Instance}

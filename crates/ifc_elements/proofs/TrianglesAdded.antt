@@ -6,7 +6,7 @@ use Rattle.std.specs.Prelude.{IfOk}
 use Rattle.std.specs.Bool.{MatchBool}
 use Rattle.std.specs.Option.{MatchOption}
 use Rattle.std.specs.List.{All}
-use Rattle.std.proofs.lemmas.List.{take_more, map-append, length-map, length-append}
+use Rattle.std.proofs.lemmas.List.{take_more, length-map, length-append}
 use Rattle.std.proofs.lemmas.List.Elements.{All-nil, All-cons, All-append}
 use Rattle.std.proofs.lemmas.List.Sums.{sum_by-cons}
 use Rattle.std.proofs.lemmas.Grind.{flat_map-append}
