@@ -161,29 +161,15 @@ none_first file sets m c reach =
     let ids = element_ids file.survey in
     let s = m.supported in
     let o = s.opened in
-    let cut : AllClear (drop 11 (stages world mode)) = (
-      unit_clear world (StuckStage world mode) file.scale o.unit (stuck_clear world file.scale mode (unstuck file sets m c)),
-      triangles_clear world ids o.surveyed.elements c.few,
-      unit_clear world (ReachStage world mode) file.scale o.unit reach,
-      tt,
-    ) in
-    let measured : AllClear (drop 9 (stages world mode)) = (
-      unit_clear world (LengthStage world mode) file.scale o.unit (measured_clear world file.scale mode used o.surveyed.used m.measured),
-      corners_clear world used o.surveyed.used m.few,
-      cut,
-    ) in
-    let supported : AllClear (drop 5 (stages world mode)) = (
-      square_clear world used o.surveyed.used s.square,
-      unit_clear world (ItemStage world mode) file.scale o.unit (items_clear world file.scale mode s.supported),
-      voids_clear world used o.surveyed.used s.solid,
-      indexes_clear world used o.surveyed.used s.indexed,
-      measured,
-    ) in
-    all_clear (stages world mode) (
-      survey_clear world file.survey o.surveyed,
-      o.one_unit,
-      tree_clear world o.tree,
-      repeats_clear world (IsModelElement world) ids o.surveyed.elements o.distinct,
-      chains_clear world (IsModelElement world) ids file.chains o.surveyed.elements o.has_chains,
-      supported,
-    )
+    let reached : AllClear (drop 13 (stages world mode)) = (unit_clear world (ReachStage world mode) file.scale o.unit reach, tt) in
+    let counted : AllClear (drop 12 (stages world mode)) = (triangles_clear world ids o.surveyed.elements c.few, reached) in
+    let cut : AllClear (drop 11 (stages world mode)) = (unit_clear world (StuckStage world mode) file.scale o.unit (stuck_clear world file.scale mode (unstuck file sets m c)), counted) in
+    let faced : AllClear (drop 10 (stages world mode)) = (corners_clear world used o.surveyed.used m.few, cut) in
+    let measured : AllClear (drop 9 (stages world mode)) = (unit_clear world (LengthStage world mode) file.scale o.unit (measured_clear world file.scale mode used o.surveyed.used m.measured), faced) in
+    let indexed : AllClear (drop 8 (stages world mode)) = (indexes_clear world used o.surveyed.used s.indexed, measured) in
+    let solid : AllClear (drop 7 (stages world mode)) = (voids_clear world used o.surveyed.used s.solid, indexed) in
+    let supported : AllClear (drop 6 (stages world mode)) = (unit_clear world (ItemStage world mode) file.scale o.unit (items_clear world file.scale mode s.supported), solid) in
+    let square : AllClear (drop 5 (stages world mode)) = (square_clear world used o.surveyed.used s.square, supported) in
+    let chained : AllClear (drop 4 (stages world mode)) = (chains_clear world (IsModelElement world) ids file.chains o.surveyed.elements o.has_chains, square) in
+    let distinct : AllClear (drop 3 (stages world mode)) = (repeats_clear world (IsModelElement world) ids o.surveyed.elements o.distinct, chained) in
+    all_clear (stages world mode) (survey_clear world file.survey o.surveyed, (o.one_unit, (tree_clear world o.tree, distinct)))
