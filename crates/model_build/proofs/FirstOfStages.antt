@@ -1,5 +1,7 @@
 -- The first fault of stages in their order, one stage after another.
-use Rattle.std.proofs.Common.{inl, inr, List, [], ◌∷◌, subst}
+use Rattle.std.proofs.Common.{◌≡◌, inl, inr, List, [], ◌∷◌, Result, Ok, Err, sym, subst}
+use Rattle.std.specs.Prelude.{IsErrAnd}
+use Rattle.std.specs.Result.{IfErr}
 use Rattle.bim_model.specs.declared.upload.UploadFault.{UploadFault}
 use Rattle.bim_model.specs.declared.upload.BuildError.{BuildError}
 use Rattle.bim_model.specs.declared.upload.BuildError.TheVariants as errors
@@ -34,3 +36,8 @@ all_clear (S ∷ rest) clear fault (inr h) = all_clear rest clear.1 fault h.1
 -- a stage in the unit of the file is clear where it is in the one scale that this unit has
 pub unit_clear : (world : List Instance) (S : Scale → Stage) (scale : Scale) → IsLengthUnit world scale → IsClear (S scale) → IsClear (InUnit world S)
 unit_clear world S scale unit clear fault h = clear fault (subst (λ (s : Scale). S s fault) (one_unit world h.0 scale h.1 unit) h.2)
+
+-- the fault of what a `?` returns is that of its error
+pub returned : {A : Type 0} (S : Stage) (r : Result A BuildError) (e : BuildError) → IsErrAnd r (λ x. x ≡ e) → IsErrorOf S e → IfErr r (IsErrorOf S)
+returned S (Ok a) e h k = absurd h
+returned S (Err x) e h k = subst (IsErrorOf S) (sym h) k
