@@ -1,5 +1,5 @@
 -- Chains of placements that end, and the fault of one that never ends.
-use Rattle.std.proofs.Common.{ℕ, List, Result, Ok, Err, refl, ◌<◌, ◌≤◌, [], ◌∷◌, Contains}
+use Rattle.std.proofs.Common.{ℕ, List, Result, Ok, Err, refl, Contains}
 use Rattle.std.specs.Result.{IfErr}
 use Rattle.bim_model.specs.declared.upload.UploadFault.{UploadFault}
 use Rattle.bim_model.specs.declared.upload.UploadFault.TheVariants as faults

@@ -1,5 +1,5 @@
 -- The fault of a stage is the file's first one, where what is known says that the stages before it have none.
-use Rattle.std.proofs.Common.{ℕ, ◌≤◌, List, drop, sum_by, inl, inr}
+use Rattle.std.proofs.Common.{ℕ, List, drop, inl}
 use Rattle.bim_model.specs.declared.upload.Mode.{Mode}
 use Rattle.bim_model.specs.declared.upload.UploadFault.{UploadFault}
 use Rattle.bim_model.specs.declared.upload.BuildError.{BuildError}
@@ -7,17 +7,14 @@ use Rattle.bim_model.specs.declared.upload.BuildError.TheVariants as errors
 use Rattle.bim_model.specs.declared.geometry.Triangle.{Triangle}
 use Rattle.p21_reader.specs.declared.value.Instance.{Instance}
 use Rattle.ifc_schema.specs.declared.outcome.Survey.{Survey}
-use Rattle.ifc_schema.specs.StageFive.{Surveyed, IsSurveyError, IsModelElement, used_ids, element_ids}
+use Rattle.ifc_schema.specs.StageFive.{Surveyed, IsModelElement, used_ids, element_ids}
 use Rattle.spatial_tree.specs.Trees.{IsTree, IsRefused}
-use Rattle.ifc_elements.specs.Items.{count_of}
-use Rattle.ifc_elements.specs.Sound.{AreSets}
 use Rattle.model_build.specs.declared.file.File.{File}
 use Rattle.model_build.specs.Faults.{IsClear, first_fault}
 use Rattle.model_build.specs.Guids.{NoneRepeats}
 use Rattle.model_build.specs.Least.{NoneOf, IsVoided, IsOblique}
 use Rattle.model_build.specs.Unsupported.{IsUnsupported}
 use Rattle.model_build.specs.Faces.{IsStuckFace}
-use Rattle.model_build.specs.Triangles.{most_triangles}
 use Rattle.model_build.specs.Stages.{FormStage, UnitStage, TreeStage, TwiceStage, LoopStage, ObliqueStage, ItemStage, VoidStage, IndexStage, LengthStage, CornersStage, StuckStage, TrianglesStage, ReachStage, InUnit, stages, FileFault}
 use Rattle.model_build.specs.Outcomes.{IsErrorOf, AreMeasured, IsOpened, IsSupported, IsMeasured, IsCut}
 use Rattle.model_build.proofs.FirstOfStages.{stop, pass, AllClear, all_clear, unit_clear}
@@ -28,13 +25,6 @@ use Rattle.model_build.proofs.SetsCut.{sets_unstuck, stuck_clear}
 use Rattle.model_build.proofs.TrianglesCounted.{triangles_clear}
 
 -- Of a file that is being opened.
-
-survey_error : (world : List Instance) (e : BuildError) → IsSurveyError world e → IsErrorOf (FormStage world) e
-survey_error world (errors.Fault fault) h = h
-survey_error world errors.Memory h = h
-
-pub form_first : (world : List Instance) (mode : Mode) (e : BuildError) → IsSurveyError world e → IsErrorOf (FileFault world mode) e
-form_first world mode e h = stop (FormStage world) (drop 1 (stages world mode)) e (survey_error world e h)
 
 past_forms : (world : List Instance) (mode : Mode) (survey : Survey) (e : BuildError) → Surveyed world survey → IsErrorOf (first_fault (drop 1 (stages world mode))) e → IsErrorOf (FileFault world mode) e
 past_forms world mode survey e s h = pass (FormStage world) (drop 1 (stages world mode)) e (survey_clear world survey s) h

@@ -1,5 +1,5 @@
 -- The first of rising numbers whose lengths have a fault, as the points of a table tell it.
-use Rattle.std.proofs.Common.{◌≡◌, ℕ, ◌+◌, ◌<◌, ◌≤◌, inl, inr, List, [], ◌∷◌, ◌++◌, get_or, Option, Some, None, sym, ap, ◌∙◌, subst, ◌⊎◌, length, Contains, refl, arith}
+use Rattle.std.proofs.Common.{◌≡◌, ℕ, ◌+◌, ◌<◌, ◌≤◌, inl, inr, List, [], get_or, Option, Some, None, sym, ap, ◌∙◌, subst, length, Contains, refl, arith}
 use Rattle.std.specs.Option.{MatchOption, unwrap_or, option_and_then}
 use Rattle.std.specs.List.{slice_get}
 use Rattle.bim_model.specs.declared.upload.Mode.{Mode}

@@ -1,5 +1,5 @@
 -- The model of elements in reach, and the first that isn't.
-use Rattle.std.proofs.Common.{ℕ, zero, suc, ◌<◌, ◌≤◌, List, [], ◌∷◌, length, get_or, subst, arith, ◌≡◌, sum_by, Some, Contains, IsPermutation, refl, sym, ◌∙◌}
+use Rattle.std.proofs.Common.{ℕ, zero, suc, ◌<◌, ◌≤◌, List, [], ◌∷◌, length, get_or, subst, arith, ◌≡◌, sum_by, Contains, IsPermutation, refl, sym}
 use Rattle.std.specs.List.{All, AllZip, Any}
 use Rattle.std.specs.List.Sorted.{IsStrictlyIncreasing}
 use Rattle.std.proofs.lemmas.Slice.Zip.{AllZip-long}
@@ -18,7 +18,6 @@ use Rattle.bim_model.specs.declared.upload.UploadFault.TheVariants as faults
 use Rattle.bim_model.specs.declared.geometry.Point.{Point}
 use Rattle.bim_model.specs.declared.geometry.Triangle.{Triangle}
 use Rattle.bim_model.specs.Boxes.{corners_of}
-use Rattle.ifc_instances.specs.Looking.{look}
 use Rattle.model_build.specs.declared.file.File.{File}
 use Rattle.ifc_schema.specs.StageFive.{IsModelElement, Lists, used_ids, element_ids}
 use Rattle.ifc_units.specs.declared.scale.Scale.{Scale}

@@ -1,5 +1,5 @@
 -- What values that refer to items show to be unsupported.
-use Rattle.std.proofs.Common.{◌≡◌, ℕ, ◌+◌, ◌<◌, ◌≤◌, ◌⊎◌, inl, inr, true, false, List, [], ◌∷◌, ◌++◌, length, get_or, take, filter_map, Option, Some, None, Contains, refl, sym, ap, subst, arith}
+use Rattle.std.proofs.Common.{◌≡◌, ℕ, ◌+◌, ◌<◌, ◌≤◌, ◌⊎◌, inl, inr, true, List, [], ◌∷◌, ◌++◌, length, get_or, take, filter_map, Option, Some, None, Contains, refl, sym, subst, arith}
 use Rattle.std.specs.List.{cons_option}
 use Rattle.std.proofs.lemmas.List.Elements.{Contains-append_left, Contains-append_right, Contains-append_cases, filter_map-append}
 use Rattle.p21_reader.specs.declared.value.Value21.{Value21}
@@ -11,7 +11,7 @@ use Rattle.ifc_elements.specs.Finding.{Finds}
 use Rattle.ifc_elements.specs.Items.{spelled_items}
 use Rattle.ifc_instances.specs.Least.{LeastOf}
 use Rattle.model_build.specs.Showing.{lesser, HasOther, HasInner, BodyShows, MapShows}
-use Rattle.model_build.proofs.LeastOfParts.{InParts, least_none, least_more, least_all, only_one, same_least, lesser_least}
+use Rattle.model_build.proofs.LeastOfParts.{InParts, least_none, least_more, least_all, same_least, lesser_least}
 
 -- one of the values refers to that instance, and it holds of it
 abbrev pub Leads : List Instance → (Instance → Type 0) → List Value21 → ℕ → Type 0

@@ -1,5 +1,5 @@
 -- Which files make which model, and the first fault of the others.
-use Rattle.std.specs.Prelude.{◌≡◌, ℕ, List, IsPermutation, ◌⊎◌, Result, Ok, Err}
+use Rattle.std.specs.Prelude.{ℕ, List, IsPermutation, ◌⊎◌, Result, Ok, Err}
 use Rattle.std.specs.List.{AllZip}
 use Rattle.bim_model.specs.declared.upload.Mode.{Mode}
 use Rattle.bim_model.specs.declared.element.Element.{Element}

@@ -120,11 +120,7 @@ fn fault_of_many(
 }
 
 /// The triangles of the sets that are used, or the fault of a face that can't be cut. The table of points ends here.
-fn sets_of(
-    alloc: Global,
-    file: &File,
-    table: Vec<Option<Items<Point>>>,
-) -> Result<Sets, BuildError>
+fn sets_of(alloc: Global, file: &File, table: Vec<Option<Items<Point>>>) -> Result<Sets, BuildError>
     requires measured { IsMeasured file.now }
     requires table { IsTable file.now.exchange file.now.scale file.now.mode table.items }
     ensures sets { IfOk result
@@ -210,12 +206,7 @@ fn model_of(
 }
 
 /// The model of a file whose sets are cut: its placements are composed, and the names of its storeys read.
-fn placed(
-    alloc: Global,
-    file: &File,
-    shapes: &Shapes,
-    sets: &Sets,
-) -> Result<Model, BuildError>
+fn placed(alloc: Global, file: &File, shapes: &Shapes, sets: &Sets) -> Result<Model, BuildError>
     requires measured { IsMeasured file.now }
     requires shapes { AreShapes file.now.exchange shapes.now }
     requires cut { IsCut file.now sets.now }
@@ -223,13 +214,7 @@ fn placed(
         × IsModelOf file.now.exchange file.now.mode model) }
     ensures fault { IfErr result (IsErrorOf (FileFault file.now.exchange file.now.mode)) }
 {
-    let Some(frames) = Frames::of(
-        alloc,
-        &file.exchange,
-        &file.chains,
-        file.scale,
-        file.mode,
-    )?
+    let Some(frames) = Frames::of(alloc, &file.exchange, &file.chains, file.scale, file.mode)?
     else {
         unreachable!()
     };
