@@ -1,13 +1,17 @@
 //! Bodies are read and written, against texts worked out by hand. Many more are told apart by
 //! `bench/bcf_bodies`.
+ghost use Rattle.std.specs.Prelude.{IfOk};
+ghost use Rattle.bcf_viewpoints.specs.Views.{IsViewBody};
+
 use bcf_bodies::{
     BodyError, BodyFault, comment_in, comment_out, topic_in, topic_out, view_in, view_out,
 };
-use bcf_topics::{Author, Comment, CommentBody, Topic};
-use bcf_viewpoints::{ViewIs, ViewPart};
+use bcf_topics::{Author, Comment, CommentBody, CommentIn, Topic, TopicBody};
+use bcf_viewpoints::{ViewBody, ViewIs, ViewPart};
 use bim_model::{Moment, Text};
-use serde_json::Value;
+use serde_json::{Error, Value};
 use std::alloc::{AllocError, Global};
+use std::process::Abort;
 use std::test::Fail;
 
 fn author(alloc: Global, user: &str) -> Result<Author, AllocError> {
@@ -17,7 +21,29 @@ fn author(alloc: Global, user: &str) -> Result<Author, AllocError> {
     })
 }
 
-fn fault_text(alloc: Global, error: BodyError) -> Result<String, AllocError> {
+// Eva, if it was changed.
+fn editor(alloc: Global, changed: bool) -> Result<Option<Author>, AllocError> {
+    if changed {
+        Ok(Some(author(alloc, "eva")?))
+    } else {
+        Ok(None)
+    }
+}
+
+// Who made it and who changed it.
+fn authors(alloc: Global, changed: bool) -> Result<(Author, Option<Author>), AllocError> {
+    let modified = editor(alloc, changed)?;
+    let created = author(alloc, "anonymous")?;
+    Ok((created, modified))
+}
+
+fn text_of(alloc: Global, tree: Value) -> Result<String, AllocError> {
+    let text = tree.to_string(alloc);
+    drop(tree);
+    text
+}
+
+fn fault_text(alloc: Global, error: &BodyError) -> Result<String, AllocError> {
     match error {
         BodyError::Fault(BodyFault::Title) => String::from_str(alloc, "B3"),
         BodyError::Fault(BodyFault::BadMember { name }) => format!(in alloc;
@@ -29,21 +55,67 @@ fn fault_text(alloc: Global, error: BodyError) -> Result<String, AllocError> {
     }
 }
 
-// How a topic of such a body is written, or its fault.
-fn topic_text(alloc: Global, text: &str, modified: Option<Author>) -> Result<String, Fail> {
+fn refused(alloc: Global, error: BodyError) -> Result<String, AllocError> {
+    let text = fault_text(alloc, &error);
+    drop(error);
+    text
+}
+
+fn topic_read(alloc: Global, text: &str) -> Result<Result<TopicBody, BodyError>, Error> {
     let tree = Value::from_str(alloc, text)?;
-    match topic_in(alloc, &tree) {
-        Ok(body) => {
-            let topic = Topic {
-                serial: 1,
-                body,
-                created: author(alloc, "anonymous")?,
-                modified,
-            };
-            Ok(topic_out(alloc, 1, &topic)?.to_string(alloc)?)
+    let read = topic_in(alloc, &tree);
+    drop(tree);
+    Ok(read)
+}
+
+fn topic_tree(
+    alloc: Global,
+    body: TopicBody,
+    created: Author,
+    modified: Option<Author>,
+) -> Result<Value, AllocError> {
+    let topic = Topic {
+        serial: 1,
+        body,
+        created,
+        modified,
+    };
+    let tree = topic_out(alloc, 1, &topic);
+    drop(topic);
+    tree
+}
+
+fn topic_written(alloc: Global, body: TopicBody, changed: bool) -> Result<String, AllocError> {
+    match authors(alloc, changed) {
+        Ok((created, modified)) => {
+            let tree = topic_tree(alloc, body, created, modified)?;
+            text_of(alloc, tree)
         }
-        Err(error) => Ok(fault_text(alloc, error)?),
+        Err(error) => {
+            drop(body);
+            Err(error)
+        }
     }
+}
+
+// How a topic of such a body is written, or its fault.
+fn topic_text(alloc: Global, text: &str, changed: bool) -> Result<String, Fail> {
+    match topic_read(alloc, text)? {
+        Ok(body) => Ok(topic_written(alloc, body, changed)?),
+        Err(error) => Ok(refused(alloc, error)?),
+    }
+}
+
+fn try_topic(
+    rt: &impl Abort,
+    alloc: Global,
+    text: &str,
+    changed: bool,
+    wanted: &str,
+) -> Result<(), Fail> {
+    let written = topic_text(alloc, text, changed)?;
+    assert_eq!(rt; written.as_str(), wanted);
+    Ok(())
 }
 
 #[test]
@@ -66,40 +138,81 @@ fn topics_go_in_and_out(rt: HostRuntime) -> Result<(), Fail> {
         ),
     ];
     for (text, wanted) in cases {
-        let written = topic_text(alloc, text, Some(author(alloc, "eva")?))?;
-        assert_eq!(rt; written.as_str(), wanted);
+        try_topic(&rt, alloc, text, true, wanted)?;
     }
-    let written = topic_text(alloc, r#"{"title":"Pipe"}"#, None)?;
     let wanted =
         r#"{"creation_author":"anonymous","creation_date":"2024-05-01T12:00:00Z","guid":"00000001-0000-8000-8000-000000000001","server_assigned_id":"1","title":"Pipe"}"#;
-    assert_eq!(rt; written.as_str(), wanted);
-    Ok(())
+    try_topic(&rt, alloc, r#"{"title":"Pipe"}"#, false, wanted)
 }
 
-// How a comment of such a body is written, or its fault. The viewpoint that it names is told by its number
-// alone.
-fn comment_text(alloc: Global, text: &str, modified: Option<Author>) -> Result<String, Fail> {
+fn comment_read(alloc: Global, text: &str) -> Result<Result<CommentIn, BodyError>, Error> {
     let tree = Value::from_str(alloc, text)?;
-    match comment_in(alloc, &tree) {
-        Ok(body) => {
-            let viewpoint = match body.viewpoint {
-                Some(id) => Some((id % 1_000) as u64),
-                None => None,
-            };
-            let comment = Comment {
-                serial: 2,
-                topic: 1,
-                body: CommentBody {
-                    comment: body.comment,
-                    viewpoint,
-                },
-                created: author(alloc, "anonymous")?,
-                modified,
-            };
-            Ok(comment_out(alloc, 1, &comment)?.to_string(alloc)?)
-        }
-        Err(error) => Ok(fault_text(alloc, error)?),
+    let read = comment_in(alloc, &tree);
+    drop(tree);
+    Ok(read)
+}
+
+// The viewpoint that a comment names is told by its number alone.
+fn kept(body: CommentIn) -> CommentBody {
+    let viewpoint = match body.viewpoint {
+        Some(id) => Some((id % 1_000) as u64),
+        None => None,
+    };
+    CommentBody {
+        comment: body.comment,
+        viewpoint,
     }
+}
+
+fn comment_tree(
+    alloc: Global,
+    body: CommentIn,
+    created: Author,
+    modified: Option<Author>,
+) -> Result<Value, AllocError> {
+    let comment = Comment {
+        serial: 2,
+        topic: 1,
+        body: kept(body),
+        created,
+        modified,
+    };
+    let tree = comment_out(alloc, 1, &comment);
+    drop(comment);
+    tree
+}
+
+fn comment_written(alloc: Global, body: CommentIn, changed: bool) -> Result<String, AllocError> {
+    match authors(alloc, changed) {
+        Ok((created, modified)) => {
+            let tree = comment_tree(alloc, body, created, modified)?;
+            text_of(alloc, tree)
+        }
+        Err(error) => {
+            drop(body);
+            Err(error)
+        }
+    }
+}
+
+// How a comment of such a body is written, or its fault.
+fn comment_text(alloc: Global, text: &str, changed: bool) -> Result<String, Fail> {
+    match comment_read(alloc, text)? {
+        Ok(body) => Ok(comment_written(alloc, body, changed)?),
+        Err(error) => Ok(refused(alloc, error)?),
+    }
+}
+
+fn try_comment(
+    rt: &impl Abort,
+    alloc: Global,
+    text: &str,
+    changed: bool,
+    wanted: &str,
+) -> Result<(), Fail> {
+    let written = comment_text(alloc, text, changed)?;
+    assert_eq!(rt; written.as_str(), wanted);
+    Ok(())
 }
 
 #[test]
@@ -117,27 +230,50 @@ fn comments_go_in_and_out(rt: HostRuntime) -> Result<(), Fail> {
         ),
     ];
     for (text, wanted) in cases {
-        let written = comment_text(alloc, text, Some(author(alloc, "eva")?))?;
-        assert_eq!(rt; written.as_str(), wanted);
+        try_comment(&rt, alloc, text, true, wanted)?;
     }
     let text = r#"{"comment":"Move it","viewpoint_guid":"{00000000-0000-0000-0000-000000000003}"}"#;
     let wanted =
         r#"{"author":"anonymous","comment":"Move it","date":"2024-05-01T12:00:00Z","guid":"00000001-0000-8000-8000-000000000002","topic_guid":"00000001-0000-8000-8000-000000000001","viewpoint_guid":"00000001-0000-8000-8000-000000000003"}"#;
-    let written = comment_text(alloc, text, None)?;
-    assert_eq!(rt; written.as_str(), wanted);
-    Ok(())
+    try_comment(&rt, alloc, text, false, wanted)
+}
+
+fn view_read(alloc: Global, text: &str) -> Result<Result<ViewBody, BodyError>, Error>
+    ensures { IfOk result (λ read. IfOk read IsViewBody) }
+{
+    let tree = Value::from_str(alloc, text)?;
+    let read = view_in(alloc, &tree);
+    drop(tree);
+    Ok(read)
+}
+
+fn view_written(alloc: Global, body: ViewBody, part: ViewPart) -> Result<String, AllocError>
+    requires { IsViewBody body }
+{
+    let view = ViewIs { serial: 3, body };
+    let tree = view_out(alloc, 1, &view, part);
+    drop(view);
+    text_of(alloc, tree?)
 }
 
 // How a part of a viewpoint of such a body is written, or its fault.
 fn view_text(alloc: Global, text: &str, part: ViewPart) -> Result<String, Fail> {
-    let tree = Value::from_str(alloc, text)?;
-    match view_in(alloc, &tree) {
-        Ok(body) => {
-            let view = ViewIs { serial: 3, body };
-            Ok(view_out(alloc, 1, &view, part)?.to_string(alloc)?)
-        }
-        Err(error) => Ok(fault_text(alloc, error)?),
+    match view_read(alloc, text)? {
+        Ok(body) => Ok(view_written(alloc, body, part)?),
+        Err(error) => Ok(refused(alloc, error)?),
     }
+}
+
+fn try_view(
+    rt: &impl Abort,
+    alloc: Global,
+    text: &str,
+    part: ViewPart,
+    wanted: &str,
+) -> Result<(), Fail> {
+    let written = view_text(alloc, text, part)?;
+    assert_eq!(rt; written.as_str(), wanted);
+    Ok(())
 }
 
 #[test]
@@ -195,8 +331,7 @@ fn viewpoints_go_in_and_out(rt: HostRuntime) -> Result<(), Fail> {
         ),
     ];
     for (text, part, wanted) in cases {
-        let written = view_text(alloc, text, part)?;
-        assert_eq!(rt; written.as_str(), wanted);
+        try_view(&rt, alloc, text, part, wanted)?;
     }
     Ok(())
 }
