@@ -50,77 +50,114 @@ fn files_of(alloc: Global, opens: &[u64], reads: &[u64]) -> Result<MemFiles, Fai
     Ok(MemFiles::new(alloc, files, 1000, numbers(alloc, opens)?)?)
 }
 
-// What a check of the words prints, where the openings and reads of those numbers fail, and its status.
+fn sink_of(alloc: Global, most: u64, fails: &[u64]) -> Result<MemSink, Fail> {
+    let fails = numbers(alloc, fails)?;
+    Ok(MemSink::new(alloc, most, fails)?)
+}
+
+// What a check of the words prints over the files, and its status.
+fn assert_printed(
+    rt: &impl Abort,
+    alloc: Global,
+    words: &[Text],
+    files: &mut MemFiles,
+    writes: &[u64],
+    (status, output): (u8, &str),
+) -> Result<(), Fail> {
+    let mut sink = sink_of(alloc, 7, writes)?;
+    let answered = run_check(alloc, words, files, &mut sink);
+    assert_eq!(rt; answered, status);
+    assert_eq!(rt; sink.bytes(), output.as_bytes());
+    drop(sink);
+    Ok(())
+}
+
+fn assert_files(
+    rt: &impl Abort,
+    alloc: Global,
+    words: &[Text],
+    (opens, reads, writes): (&[u64], &[u64], &[u64]),
+    wanted: (u8, &str),
+) -> Result<(), Fail> {
+    let mut files = files_of(alloc, opens, reads)?;
+    let printed = assert_printed(rt, alloc, words, &mut files, writes, wanted);
+    drop(files);
+    printed
+}
+
+// What a check of the words prints, where the openings, the reads of the pipes and the writes of those numbers
+// fail, and its status.
 fn assert_check(
     rt: &impl Abort,
     alloc: Global,
     words: &[&str],
-    opens: &[u64],
-    reads: &[u64],
-    status: u8,
-    output: &str,
+    fails: (&[u64], &[u64], &[u64]),
+    wanted: (u8, &str),
 ) -> Result<(), Fail> {
     let words = words_of(alloc, words)?;
-    let mut files = files_of(alloc, opens, reads)?;
-    let mut sink = MemSink::new(alloc, 7, numbers(alloc, &[])?)?;
-    let answered = run_check(alloc, words.as_slice(), &mut files, &mut sink);
-    assert_eq!(rt; answered, status);
-    assert_eq!(rt; sink.bytes(), output.as_bytes());
-    Ok(())
+    let printed = assert_files(rt, alloc, words.as_slice(), fails, wanted);
+    drop(words);
+    printed
 }
 
+// What is printed where a write fails is a front of the output.
 #[test]
-fn checks_print_clashes_or_one_refusal(rt: HostRuntime) -> Result<(), Fail> {
+fn checks_print_clashes(rt: HostRuntime) -> Result<(), Fail> {
     let alloc = rt.alloc();
     let good = ["--rules", "r.json", "m=b.ifc"];
-    assert_check(&rt, alloc, &good, &[], &[], 0, CLASHES)?;
-    assert_check(&rt, alloc, &good, &[1], &[], 4, "")?;
-    assert_check(&rt, alloc, &good, &[], &[2], 4, "")?;
-    let off = ["--rules=r.json", "m=a.ifc", "n=none.ifc"];
-    assert_check(&rt, alloc, &off, &[], &[], 3, "m: U9 OffGrid 4\n")?;
-    let bad = ["--rules", "b.ifc", "m=b.ifc"];
-    assert_check(&rt, alloc, &bad, &[], &[], 3, "rules: H9 BadJson\n")?;
-    let usage = "usage: bim_server replay|check|generate|serve\n";
-    assert_check(&rt, alloc, &[], &[], &[], 2, usage)?;
-    assert_check(
-        &rt,
-        alloc,
-        &["--rules", "r.json", "m=b.ifc", "m=a.ifc"],
-        &[],
-        &[],
-        2,
-        usage,
-    )
+    assert_check(&rt, alloc, &good, (&[], &[], &[]), (0, CLASHES))?;
+    assert_check(&rt, alloc, &good, (&[1], &[], &[]), (4, ""))?;
+    assert_check(&rt, alloc, &good, (&[], &[2], &[]), (4, ""))?;
+    let front = "m 000000000000";
+    assert_check(&rt, alloc, &good, (&[], &[], &[3]), (5, front))
 }
 
-// What is printed where the write of that number fails is a front of the output.
 #[test]
-fn a_failed_write_ends_a_check(rt: HostRuntime) -> Result<(), Fail> {
+fn checks_print_one_refusal(rt: HostRuntime) -> Result<(), Fail> {
     let alloc = rt.alloc();
-    let words = words_of(alloc, &["--rules", "r.json", "m=b.ifc"])?;
-    let mut files = files_of(alloc, &[], &[])?;
-    let mut sink = MemSink::new(alloc, 7, numbers(alloc, &[3])?)?;
-    assert_eq!(rt;
-        run_check(alloc, words.as_slice(), &mut files, &mut sink),
-        5
-    );
-    assert_eq!(rt; sink.bytes(), b"m 000000000000".as_slice());
-    Ok(())
+    let off = ["--rules=r.json", "m=a.ifc", "n=none.ifc"];
+    let wanted = (3, "m: U9 OffGrid 4\n");
+    assert_check(&rt, alloc, &off, (&[], &[], &[]), wanted)?;
+    let bad = ["--rules", "b.ifc", "m=b.ifc"];
+    let wanted = (3, "rules: H9 BadJson\n");
+    assert_check(&rt, alloc, &bad, (&[], &[], &[]), wanted)?;
+    let usage = (2, "usage: bim_server replay|check|generate|serve\n");
+    assert_check(&rt, alloc, &[], (&[], &[], &[]), usage)?;
+    let twice = ["--rules", "r.json", "m=b.ifc", "m=a.ifc"];
+    assert_check(&rt, alloc, &twice, (&[], &[], &[]), usage)
+}
+
+fn assert_generated(
+    rt: &impl Abort,
+    alloc: Global,
+    words: &[Text],
+    end: &str,
+) -> Result<usize, Fail> {
+    let mut sink = sink_of(alloc, 1000, &[])?;
+    let answered = run_generate(alloc, words, &mut sink);
+    assert_eq!(rt; answered, 0);
+    assert!(rt; sink.bytes().ends_with(end.as_bytes()));
+    let length = sink.bytes().len();
+    drop(sink);
+    Ok(length)
+}
+
+// What is generated for the words ends so. How long it is.
+fn generated(rt: &impl Abort, alloc: Global, words: &[&str], end: &str) -> Result<usize, Fail> {
+    let words = words_of(alloc, words)?;
+    let length = assert_generated(rt, alloc, words.as_slice(), end);
+    drop(words);
+    length
 }
 
 #[test]
 fn models_are_generated(rt: HostRuntime) -> Result<(), Fail> {
     let alloc = rt.alloc();
-    let words = words_of(alloc, &["--count", "1"])?;
-    let mut sink = MemSink::new(alloc, 100, numbers(alloc, &[])?)?;
-    assert_eq!(rt; run_generate(alloc, words.as_slice(), &mut sink), 0);
-    assert_eq!(rt;
-        sink.bytes(),
-        b"elements 1\ntriangles 12\nclashes 0\n".as_slice()
-    );
-    let words = words_of(alloc, &["--count=1", "--file"])?;
-    let mut sink = MemSink::new(alloc, 1000, numbers(alloc, &[])?)?;
-    assert_eq!(rt; run_generate(alloc, words.as_slice(), &mut sink), 0);
-    assert!(rt; sink.bytes().ends_with(b"ENDSEC;\nEND-ISO-10303-21;\n"));
+    let counts = "elements 1\ntriangles 12\nclashes 0\n";
+    let length = generated(&rt, alloc, &["--count", "1"], counts)?;
+    assert_eq!(rt; length, counts.len());
+    let end = "ENDSEC;\nEND-ISO-10303-21;\n";
+    let length = generated(&rt, alloc, &["--count=1", "--file"], end)?;
+    assert!(rt; length > end.len());
     Ok(())
 }
