@@ -79,7 +79,9 @@ fn says(
     ensures { OnOk result (IsBefore (turn + 1) book.new.journal) }
 {
     let body = ask(book, turn, request)?;
-    let line = line_of(alloc, &body)?;
+    let line = line_of(alloc, &body);
+    drop(body);
+    let line = line?;
     assert_eq!(rt; line.as_str(), wanted);
     Ok(())
 }
@@ -87,11 +89,12 @@ fn says(
 fn to_put(alloc: Global, topic: u128, user: &str) -> Result<BookRequest, AllocError>
     ensures { IfOk result IsFree }
 {
+    let author = author(alloc, user)?;
     Ok(BookRequest::PutTopic {
         project: project(),
         topic,
         body: titled(alloc, "Duct")?,
-        author: author(alloc, user)?,
+        author,
         weight: 16,
     })
 }
@@ -103,11 +106,12 @@ fn to_comment(
 ) -> Result<BookRequest, AllocError>
     ensures { IfOk result IsFree }
 {
+    let author = author(alloc, "anna")?;
     Ok(BookRequest::PostComment {
         project: project(),
         topic,
         body: said(alloc, "Move it", viewpoint)?,
-        author: author(alloc, "anna")?,
+        author,
         weight: 21,
     })
 }
@@ -115,12 +119,13 @@ fn to_comment(
 fn to_put_comment(alloc: Global, comment: u128, viewpoint: u128) -> Result<BookRequest, AllocError>
     ensures { IfOk result IsFree }
 {
+    let author = author(alloc, "eva")?;
     Ok(BookRequest::PutComment {
         project: project(),
         topic: pipe(),
         comment,
         body: said(alloc, "Moved", Some(viewpoint))?,
-        author: author(alloc, "eva")?,
+        author,
         weight: 40,
     })
 }
@@ -186,124 +191,133 @@ fn talked(rt: &impl Abort, alloc: Global, book: &mut Book) -> Result<(), Fail>
     says(rt, alloc, book, 3, comment, "comment 3 1 Move it anna")
 }
 
-#[test]
-fn bodies_are_replaced(rt: HostRuntime) -> Result<(), Fail> {
-    let alloc = rt.alloc();
-    let mut book = Book::new(alloc, 1, Limits::stated())?;
-    talked(&rt, alloc, &mut book)?;
+fn replaced(rt: &impl Abort, alloc: Global, book: &mut Book) -> Result<(), Fail>
+    requires { IsBefore 1 book.old.journal }
+{
+    talked(rt, alloc, book)?;
     let put = to_put_comment(alloc, id_of(1, 3), id_of(1, 2))?;
-    says(&rt, alloc, &mut book, 4, put, "comment 3 1 Moved anna eva")?;
+    says(rt, alloc, book, 4, put, "comment 3 1 Moved anna eva")?;
     let put = to_put(alloc, pipe(), "eva")?;
-    says(&rt, alloc, &mut book, 5, put, "topic 1 Duct anna eva 0")?;
+    says(rt, alloc, book, 5, put, "topic 1 Duct anna eva 0")?;
     let read = read_comment(id_of(1, 3));
-    says(&rt, alloc, &mut book, 6, read, "comment 3 1 Moved anna eva")?;
+    says(rt, alloc, book, 6, read, "comment 3 1 Moved anna eva")?;
     let read = read_view(pipe(), id_of(1, 2));
-    says(&rt, alloc, &mut book, 7, read, "view 2 true")?;
+    says(rt, alloc, book, 7, read, "view 2 true")?;
     assert_eq!(rt; book.journal().len(), 5);
     Ok(())
 }
 
 #[test]
-fn a_topic_goes_with_what_was_said(rt: HostRuntime) -> Result<(), Fail> {
-    let alloc = rt.alloc();
-    let mut book = Book::new(alloc, 1, Limits::stated())?;
-    talked(&rt, alloc, &mut book)?;
-    says(
-        &rt,
-        alloc,
-        &mut book,
-        4,
-        list_comments(pipe()),
-        "1 comments",
-    )?;
-    says(&rt, alloc, &mut book, 5, list_views(pipe()), "1 views")?;
+fn bodies_are_replaced(rt: HostRuntime) -> Result<(), Fail> {
+    let mut book = Book::new(rt.alloc(), 1, Limits::stated())?;
+    let done = replaced(&rt, rt.alloc(), &mut book);
+    drop(book);
+    done
+}
+
+fn gone_with_all(rt: &impl Abort, alloc: Global, book: &mut Book) -> Result<(), Fail>
+    requires { IsBefore 1 book.old.journal }
+{
+    talked(rt, alloc, book)?;
+    says(rt, alloc, book, 4, list_comments(pipe()), "1 comments")?;
+    says(rt, alloc, book, 5, list_views(pipe()), "1 views")?;
     let gone = BookRequest::DeleteTopic {
         project: project(),
         topic: pipe(),
     };
-    says(&rt, alloc, &mut book, 6, gone, "gone")?;
-    refuse(&rt, &mut book, 7, list_comments(pipe()), BookFault::NoTopic)?;
+    says(rt, alloc, book, 6, gone, "gone")?;
+    refuse(rt, book, 7, list_comments(pipe()), BookFault::NoTopic)?;
     let post = to_post(alloc, project(), "Beam")?;
-    says(&rt, alloc, &mut book, 8, post, "topic 4 Beam anna")
+    says(rt, alloc, book, 8, post, "topic 4 Beam anna")
 }
 
 #[test]
-fn a_comment_outlives_its_viewpoint(rt: HostRuntime) -> Result<(), Fail> {
-    let alloc = rt.alloc();
-    let mut book = Book::new(alloc, 1, Limits::stated())?;
-    talked(&rt, alloc, &mut book)?;
+fn a_topic_goes_with_what_was_said(rt: HostRuntime) -> Result<(), Fail> {
+    let mut book = Book::new(rt.alloc(), 1, Limits::stated())?;
+    let done = gone_with_all(&rt, rt.alloc(), &mut book);
+    drop(book);
+    done
+}
+
+fn outlived(rt: &impl Abort, alloc: Global, book: &mut Book) -> Result<(), Fail>
+    requires { IsBefore 1 book.old.journal }
+{
+    talked(rt, alloc, book)?;
     let gone = BookRequest::DeleteView {
         project: project(),
         topic: pipe(),
         view: id_of(1, 2),
     };
-    says(&rt, alloc, &mut book, 4, gone, "gone")?;
+    says(rt, alloc, book, 4, gone, "gone")?;
     let read = read_comment(id_of(1, 3));
-    says(&rt, alloc, &mut book, 5, read, "comment 3 1 Move it anna")?;
+    says(rt, alloc, book, 5, read, "comment 3 1 Move it anna")?;
     let gone = BookRequest::DeleteComment {
         project: project(),
         topic: pipe(),
         comment: id_of(1, 3),
     };
-    says(&rt, alloc, &mut book, 6, gone, "gone")?;
-    refuse(
-        &rt,
-        &mut book,
-        7,
-        read_comment(id_of(1, 3)),
-        BookFault::NoComment,
-    )
+    says(rt, alloc, book, 6, gone, "gone")?;
+    refuse(rt, book, 7, read_comment(id_of(1, 3)), BookFault::NoComment)
 }
 
 #[test]
-fn what_is_not_there_is_refused(rt: HostRuntime) -> Result<(), Fail> {
-    let alloc = rt.alloc();
-    let mut book = Book::new(alloc, 1, Limits::stated())?;
-    talked(&rt, alloc, &mut book)?;
+fn a_comment_outlives_its_viewpoint(rt: HostRuntime) -> Result<(), Fail> {
+    let mut book = Book::new(rt.alloc(), 1, Limits::stated())?;
+    let done = outlived(&rt, rt.alloc(), &mut book);
+    drop(book);
+    done
+}
+
+fn not_there(rt: &impl Abort, alloc: Global, book: &mut Book) -> Result<(), Fail>
+    requires { IsBefore 1 book.old.journal }
+{
+    talked(rt, alloc, book)?;
     let other = to_post(alloc, project(), "Beam")?;
-    says(&rt, alloc, &mut book, 4, other, "topic 4 Beam anna")?;
+    says(rt, alloc, book, 4, other, "topic 4 Beam anna")?;
     let none = BookFault::NoViewpoint;
     let strange = to_comment(alloc, id_of(1, 4), Some(id_of(1, 2)))?;
-    refuse(&rt, &mut book, 5, strange, none)?;
-    refuse(&rt, &mut book, 6, read_view(id_of(1, 4), id_of(1, 2)), none)?;
+    refuse(rt, book, 5, strange, none)?;
+    refuse(rt, book, 6, read_view(id_of(1, 4), id_of(1, 2)), none)?;
     let put = to_put_comment(alloc, id_of(1, 2), id_of(1, 2))?;
-    refuse(&rt, &mut book, 7, put, BookFault::NoComment)?;
+    refuse(rt, book, 7, put, BookFault::NoComment)?;
     let put = to_put(alloc, id_of(1, 2), "eva")?;
-    refuse(&rt, &mut book, 8, put, BookFault::NoTopic)?;
+    refuse(rt, book, 8, put, BookFault::NoTopic)?;
     assert_eq!(rt; book.journal().len(), 4);
     Ok(())
 }
 
 #[test]
+fn what_is_not_there_is_refused(rt: HostRuntime) -> Result<(), Fail> {
+    let mut book = Book::new(rt.alloc(), 1, Limits::stated())?;
+    let done = not_there(&rt, rt.alloc(), &mut book);
+    drop(book);
+    done
+}
+
+fn too_many(rt: &impl Abort, alloc: Global, book: &mut Book) -> Result<(), Fail>
+    requires { IsBefore 1 book.old.journal }
+{
+    says(rt, alloc, book, 1, BookRequest::ListProjects, "2 projects")?;
+    let post = to_post(alloc, project(), "Pipe")?;
+    says(rt, alloc, book, 2, post, "topic 1 Pipe anna")?;
+    let (count, limit) = (2, 1);
+    let full = BookFault::TopicsFull { count, limit };
+    refuse(rt, book, 3, to_post(alloc, id_of(2, 0), "Pipe")?, full)?;
+    let (count, limit) = (1, 0);
+    let full = BookFault::CommentsFull { count, limit };
+    refuse(rt, book, 4, to_comment(alloc, pipe(), None)?, full)?;
+    let full = BookFault::ViewpointsFull { count, limit };
+    refuse(rt, book, 5, to_view(alloc, pipe()), full)
+}
+
+#[test]
 fn too_many_are_refused(rt: HostRuntime) -> Result<(), Fail> {
-    let alloc = rt.alloc();
     let mut limits = Limits::stated();
     limits.topics = 1;
     limits.comments = 0;
     limits.viewpoints = 0;
-    let mut book = Book::new(alloc, 2, limits)?;
-    says(
-        &rt,
-        alloc,
-        &mut book,
-        1,
-        BookRequest::ListProjects,
-        "2 projects",
-    )?;
-    let post = to_post(alloc, project(), "Pipe")?;
-    says(&rt, alloc, &mut book, 2, post, "topic 1 Pipe anna")?;
-    let (count, limit) = (2, 1);
-    let full = BookFault::TopicsFull { count, limit };
-    refuse(
-        &rt,
-        &mut book,
-        3,
-        to_post(alloc, id_of(2, 0), "Pipe")?,
-        full,
-    )?;
-    let (count, limit) = (1, 0);
-    let full = BookFault::CommentsFull { count, limit };
-    refuse(&rt, &mut book, 4, to_comment(alloc, pipe(), None)?, full)?;
-    let full = BookFault::ViewpointsFull { count, limit };
-    refuse(&rt, &mut book, 5, to_view(alloc, pipe()), full)
+    let mut book = Book::new(rt.alloc(), 2, limits)?;
+    let done = too_many(&rt, rt.alloc(), &mut book);
+    drop(book);
+    done
 }

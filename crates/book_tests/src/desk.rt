@@ -35,6 +35,16 @@ fn stamp(turn: u64) -> Stamp
     }
 }
 
+/// Asks at a turn, and the answer is of no concern.
+pub fn begin(book: &mut Book, turn: u64, request: BookRequest) -> Result<(), AllocError>
+    requires before { IsBefore turn book.old.journal }
+    requires free { IsFree request }
+    ensures { OnOk result (IsBefore (turn + 1) book.new.journal) }
+{
+    drop(ask(book, turn, request)?);
+    Ok(())
+}
+
 /// Asks for a change at a turn, and a version is made.
 pub fn change(
     rt: &impl Abort,
@@ -48,7 +58,9 @@ pub fn change(
     ensures { OnOk result (IsBefore (turn + 1) book.new.journal) }
 {
     let body = ask(book, turn, request)?;
-    is_changed(rt, &body, wanted)
+    let changed = is_changed(rt, &body, wanted);
+    drop(body);
+    changed
 }
 
 /// Asks at a turn, and it is refused for this.
@@ -64,7 +76,9 @@ pub fn refuse(
     ensures { OnOk result (IsBefore (turn + 1) book.new.journal) }
 {
     let body = ask(book, turn, request)?;
-    is_refused(rt, &body, wanted)
+    let refused = is_refused(rt, &body, wanted);
+    drop(body);
+    refused
 }
 
 /// Reads the clashes of a version at a turn: it has this number, and these clashes.
@@ -80,7 +94,9 @@ pub fn read(
     ensures { OnOk result (IsBefore (turn + 1) book.new.journal) }
 {
     let body = ask(book, turn, to_read(wanted))?;
-    are_clashes(rt, &body, version, pairs)
+    let read = are_clashes(rt, &body, version, pairs);
+    drop(body);
+    read
 }
 
 /// Has a bucket given out: one of this version and cell.
@@ -125,6 +141,27 @@ pub fn bring<L: Ledger>(
     Ok(ask(book, turn, BookRequest::Finish { set })?)
 }
 
+/// Checks a bucket that was given out, and its clashes are taken. So many are left.
+pub fn finish<L: Ledger>(
+    rt: &impl Abort,
+    alloc: Global,
+    book: &mut Book,
+    turn: u64,
+    work: BucketWork,
+    steps: &mut Steps<L>,
+    left: u64,
+) -> Result<(), Fail>
+    requires before { IsBefore turn book.old.journal }
+    requires given { IsGiven book.old.settings book.old.journal work }
+    ensures before { OnOk result (IsBefore (turn + 1) book.new.journal) }
+    ensures stays { OnOk result (GivenStays book.old book.new) }
+{
+    let body = bring(alloc, book, turn, work, steps)?;
+    let finished = is_finished(rt, &body, left);
+    drop(body);
+    finished
+}
+
 /// Checks a bucket in two turns: the first gives it out, in the second its clashes are brought. So many are left.
 pub fn work<L: Ledger>(
     rt: &impl Abort,
@@ -141,12 +178,11 @@ pub fn work<L: Ledger>(
     ensures { OnOk result (IsBefore (turn + 2) book.new.journal) }
 {
     let work = take(rt, book, turn, 0, version, cell)?;
-    let body = bring(alloc, book, turn + 1, work, steps)?;
-    is_finished(rt, &body, left)
+    finish(rt, alloc, book, turn + 1, work, steps, left)
 }
 
-/// A bucket's clashes were taken, and so many are left.
-pub fn is_finished(rt: &impl Abort, body: &ReplyBody, wanted: u64) -> Result<(), Fail> {
+// A bucket's clashes were taken, and so many are left.
+fn is_finished(rt: &impl Abort, body: &ReplyBody, wanted: u64) -> Result<(), Fail> {
     match body {
         ReplyBody::Finished { left } => assert_eq!(rt; *left, wanted),
         _ => return Err(Fail::from("not finished")),

@@ -1,7 +1,9 @@
 //! A book of two projects: what is made and listed, and what is refused.
-ghost use Rattle.std.specs.Prelude.{◌≡◌, ◌+◌, OnOk};
+ghost use Rattle.std.specs.Prelude.{◌≡◌, ◌+◌, OnOk, IfOk};
 ghost use Rattle.book_history.specs.History.{IsBefore};
+ghost use Rattle.federation_book.specs.AnyTime.{IsFree};
 
+use crate::desk::change;
 use crate::samples::to_post;
 use bcf_topics::Topic;
 use bim_model::{Model, NamedModel, Shared, Text, id_of};
@@ -32,40 +34,89 @@ fn post(
     ensures { OnOk result (IsBefore (turn + 1) book.new.journal) }
 {
     let request = to_post(alloc, project, title)?;
-    Ok(book.act(stamp(turn), request)?.body)
+    let reply = book.act(stamp(turn), request)?;
+    Ok(reply.body)
 }
 
 fn list(book: &mut Book, turn: u64, project: u128) -> Result<ReplyBody, AllocError>
     requires { IsBefore turn book.old.journal }
     ensures { OnOk result (IsBefore (turn + 1) book.new.journal) }
 {
-    Ok(
-        book.act(stamp(turn), BookRequest::ListTopics { project })?
-            .body,
-    )
+    let reply = book.act(stamp(turn), BookRequest::ListTopics { project })?;
+    Ok(reply.body)
+}
+
+// Makes a topic, and it has this serial number.
+fn posts(
+    rt: &impl Abort,
+    alloc: Global,
+    book: &mut Book,
+    turn: u64,
+    project: u128,
+    title: &str,
+) -> Result<(), AllocError>
+    requires { IsBefore turn book.old.journal }
+    ensures { OnOk result (IsBefore (turn + 1) book.new.journal) }
+{
+    let body = post(alloc, book, turn, project, title)?;
+    is_topic(rt, &body, 1, title);
+    drop(body);
+    Ok(())
+}
+
+fn lists(
+    rt: &impl Abort,
+    book: &mut Book,
+    turn: u64,
+    project: u128,
+    titles: &[&str],
+) -> Result<(), AllocError>
+    requires { IsBefore turn book.old.journal }
+    ensures { OnOk result (IsBefore (turn + 1) book.new.journal) }
+{
+    let body = list(book, turn, project)?;
+    is_list(rt, &body, titles);
+    drop(body);
+    Ok(())
+}
+
+fn posts_each(rt: &impl Abort, alloc: Global, book: &mut Book) -> Result<(), AllocError>
+    requires { IsBefore 1 book.old.journal }
+{
+    posts(rt, alloc, book, 1, id_of(1, 0), "Pipe")?;
+    posts(rt, alloc, book, 2, id_of(2, 0), "Beam")?;
+    lists(rt, book, 3, id_of(2, 0), &["Beam"])?;
+    is_journal(rt, book.journal());
+    Ok(())
 }
 
 #[test]
 fn each_project_has_its_topics(rt: HostRuntime) -> Result<(), Fail> {
-    let alloc = rt.alloc();
-    let mut book = Book::new(alloc, 2, Limits::stated())?;
-    let pipe = post(alloc, &mut book, 1, id_of(1, 0), "Pipe")?;
-    is_topic(&rt, &pipe, 1, "Pipe");
-    let beam = post(alloc, &mut book, 2, id_of(2, 0), "Beam")?;
-    is_topic(&rt, &beam, 1, "Beam");
-    is_list(&rt, &list(&mut book, 3, id_of(2, 0))?, &["Beam"]);
-    is_journal(&rt, book.journal());
+    let mut book = Book::new(rt.alloc(), 2, Limits::stated())?;
+    let posted = posts_each(&rt, rt.alloc(), &mut book);
+    drop(book);
+    Ok(posted?)
+}
+
+fn misses(rt: &impl Abort, alloc: Global, book: &mut Book) -> Result<(), AllocError>
+    requires { IsBefore 1 book.old.journal }
+{
+    let body = list(book, 1, id_of(3, 0))?;
+    is_refused(rt, &body);
+    drop(body);
+    let body = post(alloc, book, 2, id_of(1, 1), "Pipe")?;
+    is_refused(rt, &body);
+    drop(body);
+    assert!(rt; book.journal().is_empty());
     Ok(())
 }
 
 #[test]
 fn missing_projects_are_refused(rt: HostRuntime) -> Result<(), Fail> {
-    let alloc = rt.alloc();
-    let mut book = Book::new(alloc, 2, Limits::stated())?;
-    is_refused(&rt, &list(&mut book, 1, id_of(3, 0))?);
-    is_refused(&rt, &post(alloc, &mut book, 2, id_of(1, 1), "Pipe")?);
-    assert!(rt; book.journal().is_empty());
-    Ok(())
+    let mut book = Book::new(rt.alloc(), 2, Limits::stated())?;
+    let missed = misses(&rt, rt.alloc(), &mut book);
+    drop(book);
+    Ok(missed?)
 }
 
 pub fn is_refused(rt: &impl Abort, body: &ReplyBody) {
@@ -140,8 +191,15 @@ fn try_version(
     ensures { OnOk result (IsBefore (turn + 1) book.new.journal) }
 {
     let version = Wanted::Newest;
-    let reply = book.act(stamp(turn), BookRequest::ReadVersion { project, version })?;
-    match &reply.body {
+    let request = BookRequest::ReadVersion { project, version };
+    let reply = book.act(stamp(turn), request)?;
+    is_version(rt, &reply.body, wanted, names);
+    drop(reply);
+    Ok(())
+}
+
+fn is_version(rt: &impl Abort, body: &ReplyBody, wanted: u64, names: &[&str]) {
+    match body {
         ReplyBody::Version {
             version,
             newest,
@@ -153,7 +211,6 @@ fn try_version(
         }
         _ => assert!(rt; false),
     }
-    Ok(())
 }
 
 fn are_named(rt: &impl Abort, models: &[NamedModel], names: &[&str]) {
@@ -163,47 +220,52 @@ fn are_named(rt: &impl Abort, models: &[NamedModel], names: &[&str]) {
     }
 }
 
-// Uploads a model without elements.
-fn upload(
+// A model without elements is put in its place.
+fn to_upload(alloc: Global, project: u128, name: &str) -> Result<BookRequest, AllocError>
+    ensures { IfOk result IsFree }
+{
+    let model = Shared::new(alloc, Model::of(alloc, Vec::new(alloc))?)?;
+    Ok(BookRequest::Upload {
+        project,
+        name: Text::of(alloc, name)?,
+        model,
+    })
+}
+
+// Uploads a model, and this version is made.
+fn uploads(
+    rt: &impl Abort,
     alloc: Global,
     book: &mut Book,
     turn: u64,
-    project: u128,
-    name: &str,
-) -> Result<ReplyBody, AllocError>
+    at: (u128, &str),
+    version: u64,
+) -> Result<(), Fail>
     requires { IsBefore turn book.old.journal }
     ensures { OnOk result (IsBefore (turn + 1) book.new.journal) }
 {
-    let request = BookRequest::Upload {
-        project,
-        name: Text::of(alloc, name)?,
-        model: Shared::new(alloc, Model::of(alloc, Vec::new(alloc))?)?,
-    };
-    Ok(book.act(stamp(turn), request)?.body)
+    let (project, name) = at;
+    let request = to_upload(alloc, project, name)?;
+    change(rt, book, turn, request, (version, 0, 0, 0))
 }
 
-fn is_changed(rt: &impl Abort, body: &ReplyBody, wanted: u64) {
-    match body {
-        ReplyBody::Changed {
-            version,
-            elements,
-            triangles,
-            left,
-        } => assert_eq!(rt; (*version, *elements, *triangles, *left), (wanted, 0, 0, 0)),
-        _ => assert!(rt; false),
-    }
+fn uploads_each(rt: &impl Abort, alloc: Global, book: &mut Book) -> Result<(), Fail>
+    requires { IsBefore 1 book.old.journal }
+{
+    let first = id_of(1, 0);
+    let second = id_of(2, 0);
+    uploads(rt, alloc, book, 1, (first, "m"), 1)?;
+    uploads(rt, alloc, book, 2, (second, "b"), 1)?;
+    uploads(rt, alloc, book, 3, (first, "a"), 2)?;
+    try_version(rt, book, 4, first, 2, &["a", "m"])?;
+    assert_eq!(rt; book.journal().len(), 3);
+    Ok(())
 }
 
 #[test]
 fn each_upload_makes_a_version(rt: HostRuntime) -> Result<(), Fail> {
-    let alloc = rt.alloc();
-    let mut book = Book::new(alloc, 2, Limits::stated())?;
-    let first = id_of(1, 0);
-    let second = id_of(2, 0);
-    is_changed(&rt, &upload(alloc, &mut book, 1, first, "m")?, 1);
-    is_changed(&rt, &upload(alloc, &mut book, 2, second, "b")?, 1);
-    is_changed(&rt, &upload(alloc, &mut book, 3, first, "a")?, 2);
-    try_version(&rt, &mut book, 4, first, 2, &["a", "m"])?;
-    assert_eq!(rt; book.journal().len(), 3);
-    Ok(())
+    let mut book = Book::new(rt.alloc(), 2, Limits::stated())?;
+    let uploaded = uploads_each(&rt, rt.alloc(), &mut book);
+    drop(book);
+    uploaded
 }

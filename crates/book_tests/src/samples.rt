@@ -196,10 +196,11 @@ pub fn titled(alloc: Global, title: &str) -> Result<TopicBody, AllocError> {
 pub fn to_post(alloc: Global, project: u128, title: &str) -> Result<BookRequest, AllocError>
     ensures { IfOk result IsFree }
 {
+    let author = author(alloc, "anna")?;
     Ok(BookRequest::PostTopic {
         project,
         body: titled(alloc, title)?,
-        author: author(alloc, "anna")?,
+        author,
         weight: 17,
     })
 }

@@ -55,6 +55,7 @@ fn posts<R: Wait + Abort>(
         Some(serial) => is_topic(rt, &body, serial, "Pipe"),
         None => is_refused(rt, &body),
     }
+    drop(body);
 }
 
 // Lists the topics of the first project, by the pass, in the turn `at`.
@@ -76,6 +77,7 @@ fn lists<R: Wait + Abort>(
     };
     assert_eq!(rt; taken, at);
     is_list(rt, &body, titles);
+    drop(body);
 }
 
 #[test]

@@ -1,11 +1,11 @@
 //! Versions and their clashes, turn by turn.
-ghost use Rattle.std.specs.Prelude.{◌≡◌, ◌<◌, IfOk, OnOk};
+ghost use Rattle.std.specs.Prelude.{◌≡◌, ◌+◌, ◌<◌, IfOk, OnOk};
 ghost use Rattle.book_history.specs.History.{IsBefore};
 ghost use Rattle.book_history.specs.Legal.{IsGiven};
 ghost use Rattle.book_history.specs.Settings.{IsWithinStated};
 ghost use Rattle.federation_book.specs.AnyTime.{IsFree};
 
-use crate::desk::{ask, bring, change, is_finished, is_refused, read, refuse, take, work};
+use crate::desk::{ask, begin, bring, change, finish, is_refused, read, refuse, take, work};
 use crate::project_tests::is_topic;
 use crate::samples::{
     author, four_pipes, one_pipe, thousand_beams, to_post, to_read, to_remove, to_set_rules,
@@ -56,6 +56,16 @@ fn two_buckets<L: Ledger>(
     read(rt, book, 8, Wanted::Number(2), 2, &[PAIR])
 }
 
+// No bucket is to be checked.
+fn has_no_work(rt: &impl Abort, book: &mut Book, turn: u64) -> Result<(), Fail>
+    requires { IsBefore turn book.old.journal }
+{
+    let body = ask(book, turn, BookRequest::TakeWork { seat: 3 })?;
+    let refused = is_refused(rt, &body, BookFault::NoWork);
+    drop(body);
+    refused
+}
+
 // One of the pipes is moved, and then the model goes.
 fn moved<L: Ledger>(
     rt: &impl Abort,
@@ -63,16 +73,16 @@ fn moved<L: Ledger>(
     book: &mut Book,
     steps: &mut Steps<L>,
 ) -> Result<(), Fail>
-    requires { IsBefore 9 book.old.journal }
+    requires { IsBefore 1 book.old.journal }
 {
+    two_buckets(rt, alloc, book, steps)?;
     let model = to_upload(alloc, "m", four_pipes(alloc, 1640)?)?;
     change(rt, book, 9, model, (3, 4, 4, 1))?;
     work(rt, alloc, book, 10, steps, 3, FAR, 0)?;
     read(rt, book, 12, Wanted::Number(3), 3, &[PAIR])?;
     change(rt, book, 13, to_remove(alloc, "m")?, (4, 0, 0, 0))?;
     refuse(rt, book, 14, to_remove(alloc, "m")?, BookFault::NoModel)?;
-    let body = ask(book, 15, BookRequest::TakeWork { seat: 3 })?;
-    is_refused(rt, &body, BookFault::NoWork)?;
+    has_no_work(rt, book, 15)?;
     assert_eq!(rt; book.journal().len(), 7);
     Ok(())
 }
@@ -84,8 +94,9 @@ fn carried<L: Ledger>(
     book: &mut Book,
     steps: &mut Steps<L>,
 ) -> Result<(), Fail>
-    requires { IsBefore 9 book.old.journal }
+    requires { IsBefore 1 book.old.journal }
 {
+    two_buckets(rt, alloc, book, steps)?;
     let model = to_upload(alloc, "a", one_pipe(alloc)?)?;
     change(rt, book, 9, model, (3, 1, 1, 1))?;
     work(rt, alloc, book, 10, steps, 3, NEAR, 0)?;
@@ -112,31 +123,68 @@ fn to_note(alloc: Global, place: u64) -> Result<BookRequest, AllocError>
     })
 }
 
+// Asks for a topic of a clash, and one is made.
+fn notes(rt: &impl Abort, alloc: Global, book: &mut Book, turn: u64) -> Result<(), AllocError>
+    requires { IsBefore turn book.old.journal }
+    ensures { OnOk result (IsBefore (turn + 1) book.new.journal) }
+{
+    let request = to_note(alloc, 0)?;
+    let body = ask(book, turn, request)?;
+    let title = "Clash of 0000000000000000000011 and 0000000000000000000012";
+    is_topic(rt, &body, 1, title);
+    drop(body);
+    Ok(())
+}
+
+fn is_one_view(rt: &impl Abort, body: &ReplyBody) {
+    match body {
+        ReplyBody::ViewList(list) => assert_eq!(rt; list.len(), 1),
+        _ => assert!(rt; false),
+    }
+}
+
+// The topic has one viewpoint.
+fn has_view(rt: &impl Abort, book: &mut Book, turn: u64) -> Result<(), AllocError>
+    requires { IsBefore turn book.old.journal }
+{
+    let views = BookRequest::ListViews {
+        project: id_of(1, 0),
+        topic: id_of(1, 1),
+    };
+    let body = ask(book, turn, views)?;
+    is_one_view(rt, &body);
+    drop(body);
+    Ok(())
+}
+
 // A topic is made of the clash, and none of another one.
-fn noted<L: Ledger>(rt: &impl Abort, alloc: Global, blank: Blank) -> Result<(), Fail>
+fn noted<L: Ledger>(
+    rt: &impl Abort,
+    alloc: Global,
+    book: &mut Book,
+    steps: &mut Steps<L>,
+) -> Result<(), Fail>
+    requires { IsBefore 1 book.old.journal }
+{
+    two_buckets(rt, alloc, book, steps)?;
+    notes(rt, alloc, book, 9)?;
+    let (place, total) = (1, 1);
+    let none = BookFault::NoClash { place, total };
+    refuse(rt, book, 10, to_note(alloc, 1)?, none)?;
+    has_view(rt, book, 11)?;
+    Ok(())
+}
+
+fn topics_of_clashes<L: Ledger>(rt: &impl Abort, alloc: Global, blank: Blank) -> Result<(), Fail>
     requires name { blank.name ≡ L.name }
     requires parts { blank.parts ≡ L.parts }
     requires some { 0 < blank.parts }
 {
     let mut steps = Steps::<L>::new(blank);
     let mut book = Book::new(alloc, 1, Limits::stated())?;
-    two_buckets(rt, alloc, &mut book, &mut steps)?;
-    let body = ask(&mut book, 9, to_note(alloc, 0)?)?;
-    let title = "Clash of 0000000000000000000011 and 0000000000000000000012";
-    is_topic(rt, &body, 1, title);
-    let (place, total) = (1, 1);
-    let none = BookFault::NoClash { place, total };
-    refuse(rt, &mut book, 10, to_note(alloc, 1)?, none)?;
-    let views = BookRequest::ListViews {
-        project: id_of(1, 0),
-        topic: id_of(1, 1),
-    };
-    let body = ask(&mut book, 11, views)?;
-    match &body {
-        ReplyBody::ViewList(list) => assert_eq!(rt; list.len(), 1),
-        _ => assert!(rt; false),
-    }
-    Ok(())
+    let noted = noted(rt, alloc, &mut book, &mut steps);
+    drop(book);
+    noted
 }
 
 // What changed is checked, and what didn't isn't.
@@ -147,8 +195,9 @@ fn what_changed<L: Ledger>(rt: &impl Abort, alloc: Global, blank: Blank) -> Resu
 {
     let mut steps = Steps::<L>::new(blank);
     let mut book = Book::new(alloc, 1, Limits::stated())?;
-    two_buckets(rt, alloc, &mut book, &mut steps)?;
-    moved(rt, alloc, &mut book, &mut steps)
+    let moved = moved(rt, alloc, &mut book, &mut steps);
+    drop(book);
+    moved
 }
 
 #[test]
@@ -158,7 +207,7 @@ fn what_changed_is_checked(rt: HostRuntime) -> Result<(), Fail> {
 
 #[test]
 fn topics_of_clashes_are_made(rt: HostRuntime) -> Result<(), Fail> {
-    noted::<Brand>(&rt, rt.alloc(), Blank::new(1))
+    topics_of_clashes::<Brand>(&rt, rt.alloc(), Blank::new(1))
 }
 
 // What stays is carried.
@@ -169,8 +218,9 @@ fn what_stays<L: Ledger>(rt: &impl Abort, alloc: Global, blank: Blank) -> Result
 {
     let mut steps = Steps::<L>::new(blank);
     let mut book = Book::new(alloc, 1, Limits::stated())?;
-    two_buckets(rt, alloc, &mut book, &mut steps)?;
-    carried(rt, alloc, &mut book, &mut steps)
+    let carried = carried(rt, alloc, &mut book, &mut steps);
+    drop(book);
+    carried
 }
 
 #[test]
@@ -178,22 +228,38 @@ fn what_stays_is_carried(rt: HostRuntime) -> Result<(), Fail> {
     what_stays::<Brand>(&rt, rt.alloc(), Blank::new(1))
 }
 
-// Each bucket is checked, and once.
-fn each_bucket<L: Ledger>(rt: &impl Abort, alloc: Global, blank: Blank) -> Result<(), Fail>
+fn each_once<L: Ledger>(rt: &impl Abort, alloc: Global, blank: Blank) -> Result<(), Fail>
     requires name { blank.name ≡ L.name }
     requires parts { blank.parts ≡ L.parts }
     requires some { 0 < blank.parts }
 {
     let mut steps = Steps::<L>::new(blank);
     let mut book = Book::new(alloc, 1, Limits::stated())?;
-    across(rt, alloc, &mut book, &mut steps)?;
+    let done = across(rt, alloc, &mut book, &mut steps);
+    drop(book);
+    done
+}
+
+fn each_late<L: Ledger>(rt: &impl Abort, alloc: Global, blank: Blank) -> Result<(), Fail>
+    requires name { blank.name ≡ L.name }
+    requires parts { blank.parts ≡ L.parts }
+    requires some { 0 < blank.parts }
+{
+    let mut steps = Steps::<L>::new(blank);
     let mut book = Book::new(alloc, 1, Limits::stated())?;
-    late(rt, alloc, &mut book, &mut steps)
+    let done = late(rt, alloc, &mut book, &mut steps);
+    drop(book);
+    done
 }
 
 #[test]
 fn each_bucket_is_checked(rt: HostRuntime) -> Result<(), Fail> {
-    each_bucket::<Brand>(&rt, rt.alloc(), Blank::new(1))
+    each_once::<Brand>(&rt, rt.alloc(), Blank::new(1))
+}
+
+#[test]
+fn a_bucket_is_brought_once(rt: HostRuntime) -> Result<(), Fail> {
+    each_late::<Brand>(&rt, rt.alloc(), Blank::new(1))
 }
 
 // Rules are set seventeen times.
@@ -207,18 +273,26 @@ fn many_versions(rt: &impl Abort, alloc: Global, book: &mut Book) -> Result<(), 
     change(rt, book, 17, to_set_rules(alloc, 50)?, (17, 0, 0, 0))
 }
 
-#[test]
-fn sixteen_versions_are_kept(rt: HostRuntime) -> Result<(), Fail> {
-    let mut book = Book::new(rt.alloc(), 1, Limits::stated())?;
-    many_versions(&rt, rt.alloc(), &mut book)?;
+fn sixteen(rt: &impl Abort, alloc: Global, book: &mut Book) -> Result<(), Fail>
+    requires { IsBefore 1 book.old.journal }
+{
+    many_versions(rt, alloc, book)?;
     let dropped = BookFault::VersionDropped {
         version: 1,
         newest: 17,
     };
-    refuse(&rt, &mut book, 18, to_read(Wanted::Number(1)), dropped)?;
-    read(&rt, &mut book, 19, Wanted::Number(2), 2, &[])?;
+    refuse(rt, book, 18, to_read(Wanted::Number(1)), dropped)?;
+    read(rt, book, 19, Wanted::Number(2), 2, &[])?;
     let none = BookFault::NoVersion { newest: 17 };
-    refuse(&rt, &mut book, 20, to_read(Wanted::Number(18)), none)
+    refuse(rt, book, 20, to_read(Wanted::Number(18)), none)
+}
+
+#[test]
+fn sixteen_versions_are_kept(rt: HostRuntime) -> Result<(), Fail> {
+    let mut book = Book::new(rt.alloc(), 1, Limits::stated())?;
+    let kept = sixteen(&rt, rt.alloc(), &mut book);
+    drop(book);
+    kept
 }
 
 // Two pipes across the corner of four cells are one pair.
@@ -253,40 +327,105 @@ fn late<L: Ledger>(
     change(rt, book, 1, model, (1, 4, 4, 2))?;
     let far = take(rt, book, 2, 1, 1, FAR)?;
     let near = take(rt, book, 3, 2, 1, NEAR)?;
-    let body = bring(alloc, book, 4, far, steps)?;
-    is_finished(rt, &body, 1)?;
+    finish(rt, alloc, book, 4, far, steps, 1)?;
     let again = take(rt, book, 5, 1, 1, NEAR)?;
-    let body = bring(alloc, book, 6, again, steps)?;
-    is_finished(rt, &body, 0)?;
+    finish(rt, alloc, book, 6, again, steps, 0)?;
     let body = bring(alloc, book, 7, near, steps)?;
-    is_refused(rt, &body, BookFault::AlreadyDone)
+    let refused = is_refused(rt, &body, BookFault::AlreadyDone);
+    drop(body);
+    refused
 }
 
-// The second change is refused for this.
-fn second(
+// Two changes of a book, of which the second is too much.
+#[derive(Clone, Copy)]
+enum Twice {
+    /// One pipe, and again.
+    Pipe,
+    /// Rules, and again.
+    Rules,
+    /// Rules, and a topic.
+    Topic,
+    /// Rules, and four pipes in two buckets.
+    Pipes,
+}
+
+fn one(alloc: Global) -> Result<BookRequest, Fail>
+    ensures { IfOk result IsFree }
+{
+    let model = one_pipe(alloc)?;
+    Ok(to_upload(alloc, "m", model)?)
+}
+
+fn four(alloc: Global) -> Result<BookRequest, Fail>
+    ensures { IfOk result IsFree }
+{
+    let model = four_pipes(alloc, 1700)?;
+    Ok(to_upload(alloc, "m", model)?)
+}
+
+fn rules(alloc: Global) -> Result<BookRequest, Fail>
+    ensures { IfOk result IsFree }
+{
+    Ok(to_set_rules(alloc, 50)?)
+}
+
+fn topic(alloc: Global) -> Result<BookRequest, Fail>
+    ensures { IfOk result IsFree }
+{
+    Ok(to_post(alloc, id_of(1, 0), "Pipe")?)
+}
+
+fn first(alloc: Global, twice: Twice) -> Result<BookRequest, Fail>
+    ensures { IfOk result IsFree }
+{
+    match twice {
+        Twice::Pipe => one(alloc),
+        Twice::Rules => rules(alloc),
+        Twice::Topic => rules(alloc),
+        Twice::Pipes => rules(alloc),
+    }
+}
+
+fn second(alloc: Global, twice: Twice) -> Result<BookRequest, Fail>
+    ensures { IfOk result IsFree }
+{
+    match twice {
+        Twice::Pipe => one(alloc),
+        Twice::Rules => rules(alloc),
+        Twice::Topic => topic(alloc),
+        Twice::Pipes => four(alloc),
+    }
+}
+
+fn asks_twice(
     rt: &impl Abort,
     alloc: Global,
-    limits: Limits,
-    first: BookRequest,
-    request: BookRequest,
+    book: &mut Book,
+    twice: Twice,
     fault: BookFault,
 ) -> Result<(), Fail>
-    requires limits { IsWithinStated limits }
-    requires first { IsFree first }
-    requires second { IsFree request }
+    requires { IsBefore 1 book.old.journal }
 {
-    let mut book = Book::new(alloc, 1, limits)?;
-    let _first = ask(&mut book, 1, first)?;
-    refuse(rt, &mut book, 2, request, fault)?;
+    begin(book, 1, first(alloc, twice)?)?;
+    refuse(rt, book, 2, second(alloc, twice)?, fault)?;
     assert_eq!(rt; book.journal().len(), 1);
     Ok(())
 }
 
-// One pipe is put in its place by name.
-fn one(alloc: Global, name: &str) -> Result<BookRequest, Fail>
-    ensures { IfOk result IsFree }
+// The second change is refused for this.
+fn refuses(
+    rt: &impl Abort,
+    alloc: Global,
+    limits: Limits,
+    twice: Twice,
+    fault: BookFault,
+) -> Result<(), Fail>
+    requires { IsWithinStated limits }
 {
-    Ok(to_upload(alloc, name, one_pipe(alloc)?)?)
+    let mut book = Book::new(alloc, 1, limits)?;
+    let refused = asks_twice(rt, alloc, &mut book, twice, fault);
+    drop(book);
+    refused
 }
 
 // Two models of one triangle and of 84 bytes of texts, and rules and a topic.
@@ -298,7 +437,7 @@ fn too_much_is_stored(rt: &impl Abort, alloc: Global) -> Result<(), Fail> {
         count: 2,
         limit: 1,
     };
-    second(rt, alloc, limits, one(alloc, "m")?, one(alloc, "m")?, fault)?;
+    refuses(rt, alloc, limits, Twice::Pipe, fault)?;
     let mut limits = Limits::stated();
     limits.text = 167;
     let fault = BookFault::StoreFull {
@@ -306,7 +445,7 @@ fn too_much_is_stored(rt: &impl Abort, alloc: Global) -> Result<(), Fail> {
         count: 168,
         limit: 167,
     };
-    second(rt, alloc, limits, one(alloc, "m")?, one(alloc, "m")?, fault)?;
+    refuses(rt, alloc, limits, Twice::Pipe, fault)?;
     let mut limits = Limits::stated();
     limits.text = 61;
     let fault = BookFault::StoreFull {
@@ -314,15 +453,7 @@ fn too_much_is_stored(rt: &impl Abort, alloc: Global) -> Result<(), Fail> {
         count: 62,
         limit: 61,
     };
-    let rules = to_set_rules(alloc, 50)?;
-    second(
-        rt,
-        alloc,
-        limits,
-        rules,
-        to_post(alloc, id_of(1, 0), "Pipe")?,
-        fault,
-    )
+    refuses(rt, alloc, limits, Twice::Topic, fault)
 }
 
 // Two entries, and one with two buckets that are to be checked.
@@ -330,13 +461,11 @@ fn too_many_entries(rt: &impl Abort, alloc: Global) -> Result<(), Fail> {
     let mut limits = Limits::stated();
     limits.journal = 1;
     let fault = BookFault::JournalFull { count: 2, limit: 1 };
-    let rules = to_set_rules(alloc, 50)?;
-    second(rt, alloc, limits, rules, to_set_rules(alloc, 50)?, fault)?;
+    refuses(rt, alloc, limits, Twice::Rules, fault)?;
     let mut limits = Limits::stated();
     limits.journal = 3;
     let fault = BookFault::JournalFull { count: 4, limit: 3 };
-    let pipes = to_upload(alloc, "m", four_pipes(alloc, 1700)?)?;
-    second(rt, alloc, limits, to_set_rules(alloc, 50)?, pipes, fault)
+    refuses(rt, alloc, limits, Twice::Pipes, fault)
 }
 
 // Four elements, and their four memberships.
@@ -344,13 +473,11 @@ fn too_large_a_version(rt: &impl Abort, alloc: Global) -> Result<(), Fail> {
     let mut limits = Limits::stated();
     limits.elements = 1;
     let fault = BookFault::ElementsFull { count: 4, limit: 1 };
-    let pipes = to_upload(alloc, "m", four_pipes(alloc, 1700)?)?;
-    second(rt, alloc, limits, to_set_rules(alloc, 50)?, pipes, fault)?;
+    refuses(rt, alloc, limits, Twice::Pipes, fault)?;
     let mut limits = Limits::stated();
     limits.memberships = 3;
     let fault = BookFault::TooSpread { count: 4, limit: 3 };
-    let pipes = to_upload(alloc, "m", four_pipes(alloc, 1700)?)?;
-    second(rt, alloc, limits, to_set_rules(alloc, 50)?, pipes, fault)
+    refuses(rt, alloc, limits, Twice::Pipes, fault)
 }
 
 #[test]
@@ -372,12 +499,41 @@ fn gives_often(rt: &impl Abort, book: &mut Book) -> Result<BucketWork, Fail>
         z: -1,
     };
     for turn in 3..10_002 {
-        let _work = take(rt, book, turn, 0, 2, cell)?;
+        drop(take(rt, book, turn, 0, 2, cell)?);
     }
     take(rt, book, 10_002, 0, 2, cell)
 }
 
+// How many pairs of a bucket clash.
+fn pairs<L: Ledger>(
+    alloc: Global,
+    work: BucketWork,
+    steps: &mut Steps<L>,
+) -> Result<usize, AllocError> {
+    let set = check(alloc, work, &mut Room::new(alloc), steps)?;
+    let count = set.pairs().len();
+    drop(set);
+    Ok(count)
+}
+
 // A thousand beams, whose pairs are tested once at last.
+fn thousand<L: Ledger>(
+    rt: &impl Abort,
+    alloc: Global,
+    book: &mut Book,
+    steps: &mut Steps<L>,
+) -> Result<(), Fail>
+    requires { IsBefore 1 book.old.journal }
+{
+    change(rt, book, 1, to_set_rules(alloc, 0)?, (1, 0, 0, 0))?;
+    let model = to_upload(alloc, "m", thousand_beams(alloc)?)?;
+    change(rt, book, 2, model, (2, 1000, 1000, 8))?;
+    let work = gives_often(rt, book)?;
+    assert_eq!(rt; work.grid.get().members(work.cell).len(), 1000);
+    assert_eq!(rt; pairs(alloc, work, steps)?, 0);
+    Ok(())
+}
+
 fn without_testing<L: Ledger>(rt: &impl Abort, alloc: Global, blank: Blank) -> Result<(), Fail>
     requires name { blank.name ≡ L.name }
     requires parts { blank.parts ≡ L.parts }
@@ -385,14 +541,9 @@ fn without_testing<L: Ledger>(rt: &impl Abort, alloc: Global, blank: Blank) -> R
 {
     let mut steps = Steps::<L>::new(blank);
     let mut book = Book::new(alloc, 1, Limits::stated())?;
-    change(rt, &mut book, 1, to_set_rules(alloc, 0)?, (1, 0, 0, 0))?;
-    let model = to_upload(alloc, "m", thousand_beams(alloc)?)?;
-    change(rt, &mut book, 2, model, (2, 1000, 1000, 8))?;
-    let work = gives_often(rt, &mut book)?;
-    assert_eq!(rt; work.grid.get().members(work.cell).len(), 1000);
-    let set = check(alloc, work, &mut Room::new(alloc), &mut steps)?;
-    assert_eq!(rt; set.pairs().len(), 0);
-    Ok(())
+    let done = thousand(rt, alloc, &mut book, &mut steps);
+    drop(book);
+    done
 }
 
 #[test]
