@@ -19,7 +19,7 @@ returns-in_default-clause-worked g c =
         turn = r.turn;
         reply = r.reply;
         asked = c.in_ok-receipt.ensures.answered;
-        refused = finds_none c.args.turn.now.settings c.args.seat r.turn r.reply c.args.pass.now c.call.new.pass c.in_ok-receipt.ensures.same c.in_ok-receipt.ensures.answered
+        refused = finds_none c.args.turn.now.settings c.args.seat r.turn r.reply c.args.pass.now c.call.new.pass c.in_ok-receipt.ensures.answered
             (λ order is. c.in_default.not-Work order is);
       },
       refl,
@@ -33,7 +33,7 @@ pub call-requires-2-clause-legal : goal.call-requires-2-clause-legal
 call-requires-2-clause-legal g c =
     let r = c.in_ok-receipt.receipt in
     let found : IsFoundFor c.in-Work.order c.in-Ok.set = subst (λ o. IsFoundFor o c.in-Ok.set) c.in-Work.order-is c.in-Ok.ensures.set in
-    may_bring c.args.turn.now.settings c.args.seat r.turn r.reply c.in-Work.order c.in-Ok.set c.args.pass.now c.call.new.pass c.in_ok-receipt.ensures.same c.in_ok-receipt.ensures.answered
+    may_bring c.args.turn.now.settings c.args.seat r.turn r.reply c.in-Work.order c.in-Ok.set c.args.pass.now c.call.new.pass c.in_ok-receipt.ensures.answered
     c.in-Work.is found c.in-Ok.ensures.bucket
 
 pub returns-in_err-receipt-2-clause-teaches : goal.returns-in_err-receipt-2-clause-teaches
@@ -46,7 +46,7 @@ returns-in_err-receipt-2-clause-teaches g c =
 pub told_by-requires : goal.told_by-requires
 told_by-requires g c =
     let r = c.in_ok-receipt-2.receipt in
-    is_told c.args.turn.now.settings r.turn r.reply c.in-Ok.set c.call.new.pass c.call-2.new.pass c.in_ok-receipt-2.ensures.same c.in_ok-receipt-2.ensures.answered
+    is_told c.args.turn.now.settings r.turn r.reply c.in-Ok.set c.call.new.pass c.call-2.new.pass c.in_ok-receipt-2.ensures.answered
 
 pub returns-clause-teaches : goal.returns-clause-teaches
 returns-clause-teaches g c =
