@@ -50,9 +50,9 @@ fn doors_of(alloc: Global, listener: TcpListener, n: u32) -> Result<Vec<TcpDoor>
         let Ok(own) = listener.try_clone() else {
             return Err(HostFault::Failed);
         };
-        if doors.push(TcpDoor::new(own, number)).is_err() {
+        let Ok(()) = doors.push(TcpDoor::new(own, number)) else {
             return Err(HostFault::Memory);
-        }
+        };
     }
     Ok(doors)
 }

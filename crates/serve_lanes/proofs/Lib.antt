@@ -3,5 +3,5 @@ pub mod Chains
 pub mod Links
 pub mod Joins
 pub mod Histories
-pub mod Lanes
+pub mod Joining
 pub mod Making

@@ -1,4 +1,4 @@
-use Rattle.serve_lanes.proofs.Lanes.{ends_lane, lane_over}
+use Rattle.serve_lanes.proofs.Joining.{ends_lane, lane_over}
 use Rattle.serve_lanes.proofs.lanes.run_lane.Goals as goal
 
 pub returns-clause-over : goal.returns-clause-over

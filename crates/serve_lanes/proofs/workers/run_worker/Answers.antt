@@ -1,4 +1,4 @@
-use Rattle.serve_lanes.proofs.Lanes.{worker_over}
+use Rattle.serve_lanes.proofs.Joining.{worker_over}
 use Rattle.serve_lanes.proofs.workers.run_worker.Goals as goal
 
 pub returns-clause-over : goal.returns-clause-over
