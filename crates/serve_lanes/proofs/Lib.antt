@@ -1,7 +1,5 @@
-pub mod Entries
 pub mod Chains
 pub mod Links
-pub mod Joins
 pub mod Histories
 pub mod Joining
 pub mod Making

@@ -1,0 +1,61 @@
+-- Workers that are made of new passes, and that end.
+use Rattle.std.proofs.Common.{◌≡◌, ℕ, suc, ◌+◌, List, [], ◌∷◌, ◌++◌, length, true, refl, sym, ◌∙◌, ap, subst, arith}
+use mathlib.Core.Logic.{dite}
+use native.Mathlib.Decide.{dec_le}
+use Rattle.book_turn.specs.Numbers.{has}
+use Rattle.book_turn.specs.Entries.{calls_by}
+use Rattle.book_turn.specs.Passes.{TurnState, BelongsTo, new_pass, new_passes}
+use Rattle.book_turn.proofs.Counting.{new_passes_length}
+use Rattle.book_turn.proofs.Ends.{new_passes_next}
+use Rattle.book_history.specs.declared.limits.Settings.{Settings}
+use Rattle.book_history.specs.declared.changes.Entry.{Entry}
+use Rattle.book_passes.specs.Lessons.{BookPass, caller_of}
+use Rattle.check_workers.specs.Working.{AreDone, Teaches}
+use Rattle.check_workers.specs.Joins.{IsNewWorker, WorkerOver, HasEach, pass_of}
+use Rattle.check_workers.proofs.Entries.{has_first, has_second, has_one}
+
+-- ---- new passes
+
+-- lists that agree but for their last elements, and these
+last_same : {X : Type 0} (xs ys : List X) (a b : X) → length xs ≡ length ys → xs ++ a ∷ [] ≡ ys ++ b ∷ [] → (xs ≡ ys) × (a ≡ b)
+last_same [] [] a b long is = (refl, let e : a ≡ b = cc in e)
+last_same [] (y ∷ ys) a b long is = absurd (omega arith)
+last_same (x ∷ xs) [] a b long is = absurd (omega arith)
+last_same (x ∷ xs) (y ∷ ys) a b long is =
+    let rest : xs ++ a ∷ [] ≡ ys ++ b ∷ [] = cc in
+    let here : x ≡ y = cc in
+    let again = last_same xs ys a b (let n : length xs ≡ length ys = omega arith in n) rest in
+    (ap (λ z. z ∷ xs) here ∙ ap (λ zs. y ∷ zs) again.0, again.1)
+
+-- the last of new passes
+pub passes_last : (t : TurnState Settings) (ps : List BookPass) (p : BookPass) → ps ++ p ∷ [] ≡ new_passes t 0 (length ps + 1) → (ps ≡ new_passes t 0 (length ps)) × (p ≡ new_pass t (length ps))
+passes_last t ps p is =
+    let n : length ps + 1 ≡ suc (length ps) = omega arith in
+    let next : new_passes {E = Entry} t 0 (length ps + 1) ≡ new_passes t 0 (length ps) ++ new_pass t (length ps) ∷ [] =
+    ap (λ (x : ℕ). new_passes {E = Entry} t 0 x) n ∙ sym (new_passes_next {E = Entry} t (length ps)) in
+    last_same ps (new_passes t 0 (length ps)) p (new_pass t (length ps)) (sym (new_passes_length Entry t 0 (length ps))) (is ∙ next)
+
+-- a new pass may be a worker's
+pub new_worker : (t : TurnState Settings) (k : ℕ) (p : BookPass) → p ≡ new_pass t k → IsNewWorker t p
+new_worker t k p is = subst (λ (v : BookPass). IsNewWorker t v) (sym is) (record {
+  own = record { own = record { id = refl; settings = refl }; alone = refl };
+  unseen = refl;
+  untaken = refl;
+})
+
+-- one more number, below those that are there
+pub each_more : (k end : ℕ) (ps : List ℕ) → HasEach (k + 1) end ps → HasEach k end (ps ++ k ∷ [])
+each_more k end ps each x low high = dite (dec_le (k + 1) x)
+    (λ later. has_first x ps (k ∷ []) (each x later high))
+    (λ not. let same : x ≡ k = omega arith in subst (λ (y : ℕ). has y (ps ++ k ∷ []) ≡ true) (sym same) (has_second k ps (k ∷ []) (has_one k)))
+
+-- ---- a worker that has ended
+
+pub worker_over : (turn : TurnState Settings) (v w : BookPass) → IsNewWorker turn v → BelongsTo turn w → Teaches (caller_of v) (caller_of w) → WorkerOver turn w
+worker_over turn v w new belongs t =
+    let keeps = t.learns.keeps in
+    let seen : w.seen ≡ t.news = t.learns.seen ∙ ap (λ (h : List Entry). h ++ t.news) new.unseen in
+    record {
+      own = record { own = belongs; alone = keeps.numbers ∙ new.own.alone ∙ ap (λ (k : ℕ). k ∷ []) (sym keeps.number) };
+      done = subst (λ (ps : List ℕ). AreDone (calls_by pass_of ps w.seen)) (sym keeps.numbers) (subst (λ (h : List Entry). AreDone (calls_by pass_of v.numbers h)) (sym seen) t.done);
+    }
