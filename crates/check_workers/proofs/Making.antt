@@ -1,20 +1,25 @@
 -- Workers that are made of new passes, and that end.
-use Rattle.std.proofs.Common.{◌≡◌, ℕ, suc, ◌+◌, List, [], ◌∷◌, ◌++◌, length, true, refl, sym, ◌∙◌, ap, subst, arith}
+use Rattle.std.proofs.Common.{◌≡◌, ℕ, zero, suc, ◌+◌, List, [], ◌∷◌, ◌++◌, length, map, true, refl, sym, ◌∙◌, ap, subst, arith}
 use mathlib.Core.Logic.{dite}
 use native.Mathlib.Decide.{dec_le}
+use Rattle.std.proofs.lemmas.List.{map-append}
 use Rattle.book_turn.specs.Numbers.{has}
 use Rattle.book_turn.specs.Entries.{calls_by}
 use Rattle.book_turn.specs.Passes.{TurnState, BelongsTo, new_pass, new_passes}
-use Rattle.book_turn.proofs.Counting.{new_passes_length}
 use Rattle.book_turn.proofs.Ends.{new_passes_next}
 use Rattle.book_history.specs.declared.limits.Settings.{Settings}
 use Rattle.book_history.specs.declared.changes.Entry.{Entry}
 use Rattle.book_passes.specs.Lessons.{BookPass, caller_of}
+use Rattle.check_workers.specs.declared.workers.Worker.{Worker}
 use Rattle.check_workers.specs.Working.{AreDone, Teaches}
 use Rattle.check_workers.specs.Joins.{IsNewWorker, WorkerOver, HasEach, pass_of}
 use Rattle.check_workers.proofs.Entries.{has_first, has_second, has_one}
 
 -- ---- new passes
+
+pub new_passes_length : (t : TurnState Settings) (a n : ℕ) → length (new_passes {E = Entry} t a n) ≡ n
+new_passes_length t a zero = refl
+new_passes_length t a (suc n) = ap suc (new_passes_length t (suc a) n)
 
 -- lists that agree but for their last elements, and these
 last_same : {X : Type 0} (xs ys : List X) (a b : X) → length xs ≡ length ys → xs ++ a ∷ [] ≡ ys ++ b ∷ [] → (xs ≡ ys) × (a ≡ b)
@@ -33,7 +38,7 @@ passes_last t ps p is =
     let n : length ps + 1 ≡ suc (length ps) = omega arith in
     let next : new_passes {E = Entry} t 0 (length ps + 1) ≡ new_passes t 0 (length ps) ++ new_pass t (length ps) ∷ [] =
     ap (λ (x : ℕ). new_passes {E = Entry} t 0 x) n ∙ sym (new_passes_next {E = Entry} t (length ps)) in
-    last_same ps (new_passes t 0 (length ps)) p (new_pass t (length ps)) (sym (new_passes_length Entry t 0 (length ps))) (is ∙ next)
+    last_same ps (new_passes t 0 (length ps)) p (new_pass t (length ps)) (sym (new_passes_length t 0 (length ps))) (is ∙ next)
 
 -- a new pass may be a worker's
 pub new_worker : (t : TurnState Settings) (k : ℕ) (p : BookPass) → p ≡ new_pass t k → IsNewWorker t p
@@ -48,6 +53,14 @@ pub each_more : (k end : ℕ) (ps : List ℕ) → HasEach (k + 1) end ps → Has
 each_more k end ps each x low high = dite (dec_le (k + 1) x)
     (λ later. has_first x ps (k ∷ []) (each x later high))
     (λ not. let same : x ≡ k = omega arith in subst (λ (y : ℕ). has y (ps ++ k ∷ []) ≡ true) (sym same) (has_second k ps (k ∷ []) (has_one k)))
+
+-- the workers with one more, whose number is below theirs
+pub workers_more : (end k : ℕ) (ws all : List Worker) (w : Worker) → all ≡ ws ++ w ∷ [] → w.pass.number ≡ k → HasEach (k + 1) end (map (λ (x : Worker). x.pass.number) ws)
+    → HasEach k end (map (λ (x : Worker). x.pass.number) all)
+workers_more end k ws all w is here each =
+    let number : Worker → ℕ = λ x. x.pass.number in
+    let both : map number all ≡ map number ws ++ k ∷ [] = ap (λ (xs : List Worker). map number xs) is ∙ map-append number ws (w ∷ []) ∙ ap (λ (n : ℕ). map number ws ++ n ∷ []) here in
+    subst (λ (ns : List ℕ). HasEach k end ns) (sym both) (each_more k end (map number ws) each)
 
 -- ---- a worker that has ended
 
