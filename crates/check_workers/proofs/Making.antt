@@ -1,5 +1,5 @@
 -- Workers that are made of new passes, and that end.
-use Rattle.std.proofs.Common.{◌≡◌, ℕ, zero, suc, ◌+◌, List, [], ◌∷◌, ◌++◌, length, map, true, refl, sym, ◌∙◌, ap, subst, arith}
+use Rattle.std.proofs.Common.{◌≡◌, ℕ, zero, suc, ◌+◌, ◌<◌, List, [], ◌∷◌, ◌++◌, length, map, slice_index_or, true, refl, sym, ◌∙◌, ap, subst, arith}
 use mathlib.Core.Logic.{dite}
 use native.Mathlib.Decide.{dec_le}
 use Rattle.std.proofs.lemmas.List.{map-append}
@@ -61,6 +61,22 @@ workers_more end k ws all w is here each =
     let number : Worker → ℕ = λ x. x.pass.number in
     let both : map number all ≡ map number ws ++ k ∷ [] = ap (λ (xs : List Worker). map number xs) is ∙ map-append number ws (w ∷ []) ∙ ap (λ (n : ℕ). map number ws ++ n ∷ []) here in
     subst (λ (ns : List ℕ). HasEach k end ns) (sym both) (each_more k end (map number ws) each)
+
+-- lists of one length whose elements have the same number at each place
+pub map_same : {X : Type 0} (f : X → ℕ) (xs ys : List X) → length ys ≡ length xs → ((k : ℕ) (d : X) → k < length xs → f (slice_index_or ys k d) ≡ f (slice_index_or xs k d)) → map f ys ≡ map f xs
+map_same f [] [] long each = refl
+map_same f [] (y ∷ ys) long each = absurd (omega arith)
+map_same f (x ∷ xs) [] long each = absurd (omega arith)
+map_same f (x ∷ xs) (y ∷ ys) long each =
+    let here : f y ≡ f x = each 0 x (omega arith) in
+    let rest = map_same f xs ys (let n : length ys ≡ length xs = omega arith in n) (λ k d lt. each (suc k) d (omega arith)) in
+    ap (λ (n : ℕ). n ∷ map f ys) here ∙ ap (λ (ns : List ℕ). f x ∷ ns) rest
+
+-- a call of a worker's thread leaves the number of its pass
+pub same_number : (before after argument left : Worker) → argument ≡ before → left ≡ after → left.pass.number ≡ argument.pass.number → after.pass.number ≡ before.pass.number
+same_number before after argument left is gives same =
+    let number : Worker → ℕ = λ w. w.pass.number in
+    sym (ap number gives) ∙ same ∙ ap number is
 
 -- ---- a worker that has ended
 
