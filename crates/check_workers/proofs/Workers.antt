@@ -16,6 +16,7 @@ use Rattle.book_history.specs.declared.faults.BookFault.TheVariants.{NoWork}
 use Rattle.book_history.specs.declared.requests.BookRequest.{BookRequest}
 use Rattle.book_history.specs.declared.requests.BookRequest.TheVariants.{TakeWork, Finish}
 use Rattle.book_history.specs.declared.replies.BookReply.{BookReply}
+use Rattle.book_history.specs.declared.replies.ReplyBody.{ReplyBody}
 use Rattle.book_history.specs.declared.replies.ReplyBody.TheVariants.{Work, Refused}
 use Rattle.book_history.specs.Orders.{OrderValue}
 use Rattle.book_history.specs.History.{left_all}
@@ -23,7 +24,9 @@ use Rattle.book_history.specs.Requests.{Outcome, Refusal, Answer, Accepted, outc
 use Rattle.book_history.specs.Legal.{IsLegal}
 use Rattle.book_passes.specs.Lessons.{BookPass, CallerSeen, IsAnswered, TakesTurn, caller_of, own_of, stamp_of, stamp_in}
 use Rattle.book_passes.proofs.Learning.{takes_call, takes_idly, learns_turn, learns_trans, learns_none}
-use Rattle.check_workers.specs.Working.{IsDone, AreDone, AreMadeBy, Teaches, IsFoundFor, IsFinishTold}
+use Rattle.check_workers.specs.Working.{IsDone, AreDone, AreMadeBy, Teaches, IsFoundFor, IsFinishTold, tells, WorksOne}
+use Rattle.check_workers.specs.declared.work.Worked.{Worked}
+use Rattle.check_workers.specs.declared.work.Worked.TheVariants.{Done, Already, Dropped, Nothing}
 use Rattle.check_workers.proofs.Finishing.{finish_adds, finish_told}
 use Rattle.check_workers.proofs.Orders.{taken, take_adds_none, set_legal}
 
@@ -119,14 +122,13 @@ brought_teaches settings set turn reply v w keeps a =
     (added_made settings (v.seen ++ t.others) (stamp_in turn (caller_of v)) (Finish set))
 
 -- where a call for work is refused, no bucket of a live version is undone in what the pass has then seen
-pub none_left : (settings : Settings) (seat turn : ℕ) (reply : BookReply) (v w : BookPass) → KeepsNumbers v w → IsAnswered settings (TakeWork seat) turn reply v w
-    → reply.body ≡ Refused NoWork → left_all settings.projects w.seen ≡ 0
-none_left settings seat turn reply v w keeps a refused =
-    let t = takes_call settings (TakeWork seat) turn reply v w keeps a in
-    let h : List Entry = v.seen ++ t.others in
+pub none_left : (settings : Settings) (seat turn : ℕ) (reply : BookReply) (v w : BookPass) → IsAnswered settings (TakeWork seat) turn reply v w → reply.body ≡ Refused NoWork
+    → left_all settings.projects w.seen ≡ 0
+none_left settings seat turn reply v w a refused =
+    let h : List Entry = v.seen ++ a.news in
     let none = take_adds_none settings h (stamp_in turn (caller_of v)) seat in
-    let seen : w.seen ≡ h = t.takes.seen ∙ ap (λ l. h ++ l) none ∙ append-nil h in
-    let is : body_of h (outcome_of settings h (TakeWork seat)) ≡ Refused NoWork = sym (ap (λ (r : BookReply). r.body) t.replied) ∙ refused in
+    let seen : w.seen ≡ h = a.seen ∙ ap (λ l. h ++ l) none ∙ append-nil h in
+    let is : body_of h (outcome_of settings h (TakeWork seat)) ≡ Refused NoWork = sym (ap (λ (r : BookReply). r.body) a.replied) ∙ refused in
     ap (λ es. left_all settings.projects es) seen ∙ of_taken h is (taken settings h seat)
   where
     of_taken : (h : List Entry) → body_of h (outcome_of settings h (TakeWork seat)) ≡ Refused NoWork
@@ -136,15 +138,26 @@ none_left settings seat turn reply v w keeps a refused =
     of_taken h is (inl none) = none.1
     of_taken h is (inr some) = absurd (let f : Work some.0 ≡ Refused NoWork = sym some.1 ∙ is in cc)
 
+-- what is told of a set is not that no bucket was to be checked
+not_told : (reply : ReplyBody) (worked : Worked) → tells reply worked → worked ≡ Nothing → ⊥
+not_told reply worked (inl done) is = let f : Done done.0 ≡ Nothing = sym done.2 ∙ is in absurd cc
+not_told reply worked (inr (inl already)) is = let f : Already ≡ Nothing = sym already.1 ∙ is in absurd cc
+not_told reply worked (inr (inr dropped)) is = let f : Dropped dropped.1 ≡ Nothing = sym dropped.3 ∙ is in absurd cc
+
+-- where a worker's turn found no bucket, none is undone in what its pass has then seen
+pub nothing_left : (settings : Settings) (seat : ℕ) (v w : BookPass) (worked : Worked) → WorksOne settings seat v w worked → worked ≡ Nothing
+    → left_all settings.projects w.seen ≡ 0
+nothing_left settings seat v w worked (inl finds) is = none_left settings seat finds.0.turn finds.0.reply v w finds.0.asked finds.0.refused
+nothing_left settings seat v w worked (inr brings) is = absurd (not_told brings.answer.body worked brings.told is)
+
 -- ---- the replies
 
 -- a call for work that gives none is refused
-pub finds_none : (settings : Settings) (seat turn : ℕ) (reply : BookReply) (v w : BookPass) → KeepsNumbers v w → IsAnswered settings (TakeWork seat) turn reply v w
+pub finds_none : (settings : Settings) (seat turn : ℕ) (reply : BookReply) (v w : BookPass) → IsAnswered settings (TakeWork seat) turn reply v w
     → ((order : OrderValue) → reply.body ≡ Work order → ⊥) → reply.body ≡ Refused NoWork
-finds_none settings seat turn reply v w keeps a no_work =
-    let t = takes_call settings (TakeWork seat) turn reply v w keeps a in
-    let h : List Entry = v.seen ++ t.others in
-    let is : reply.body ≡ body_of h (outcome_of settings h (TakeWork seat)) = ap (λ (r : BookReply). r.body) t.replied in
+finds_none settings seat turn reply v w a no_work =
+    let h : List Entry = v.seen ++ a.news in
+    let is : reply.body ≡ body_of h (outcome_of settings h (TakeWork seat)) = ap (λ (r : BookReply). r.body) a.replied in
     of_taken h is (taken settings h seat)
   where
     of_taken : (h : List Entry) → reply.body ≡ body_of h (outcome_of settings h (TakeWork seat))
@@ -155,19 +168,15 @@ finds_none settings seat turn reply v w keeps a no_work =
     of_taken h is (inr some) = absurd (no_work some.0 (is ∙ some.1))
 
 -- the set of an order that was given may be brought at what the pass has seen then
-pub may_bring : (settings : Settings) (seat turn : ℕ) (reply : BookReply) (order : OrderValue) (set : SetValue) (v w : BookPass) → KeepsNumbers v w
-    → IsAnswered settings (TakeWork seat) turn reply v w → reply.body ≡ Work order → IsFoundFor order set → IsBucket set.work.grid.boxes set.work.cell
-    → IsLegal settings w.seen (Finish set)
-may_bring settings seat turn reply order set v w keeps a given found bucket =
-    let t = takes_call settings (TakeWork seat) turn reply v w keeps a in
-    let h : List Entry = v.seen ++ t.others in
-    let is : body_of h (outcome_of settings h (TakeWork seat)) ≡ Work order = sym (ap (λ (r : BookReply). r.body) t.replied) ∙ given in
-    subst (λ (es : List Entry). IsLegal settings es (Finish set)) (sym t.takes.seen)
+pub may_bring : (settings : Settings) (seat turn : ℕ) (reply : BookReply) (order : OrderValue) (set : SetValue) (v w : BookPass) → IsAnswered settings (TakeWork seat) turn reply v w
+    → reply.body ≡ Work order → IsFoundFor order set → IsBucket set.work.grid.boxes set.work.cell → IsLegal settings w.seen (Finish set)
+may_bring settings seat turn reply order set v w a given found bucket =
+    let h : List Entry = v.seen ++ a.news in
+    let is : body_of h (outcome_of settings h (TakeWork seat)) ≡ Work order = sym (ap (λ (r : BookReply). r.body) a.replied) ∙ given in
+    subst (λ (es : List Entry). IsLegal settings es (Finish set)) (sym a.seen)
     (set_legal settings h (added_by settings h (stamp_in turn (caller_of v)) (TakeWork seat)) seat order set is found bucket)
 
 -- what is answered to a set
-pub is_told : (settings : Settings) (turn : ℕ) (reply : BookReply) (set : SetValue) (v w : BookPass) → KeepsNumbers v w → IsAnswered settings (Finish set) turn reply v w
-    → IsFinishTold reply.body
-is_told settings turn reply set v w keeps a =
-    let t = takes_call settings (Finish set) turn reply v w keeps a in
-    subst IsFinishTold (sym (ap (λ (r : BookReply). r.body) t.replied)) (finish_told settings (v.seen ++ t.others) set)
+pub is_told : (settings : Settings) (turn : ℕ) (reply : BookReply) (set : SetValue) (v w : BookPass) → IsAnswered settings (Finish set) turn reply v w → IsFinishTold reply.body
+is_told settings turn reply set v w a =
+    subst IsFinishTold (sym (ap (λ (r : BookReply). r.body) a.replied)) (finish_told settings (v.seen ++ a.news) set)
