@@ -20,8 +20,8 @@ or_left true is = refl
 or_left false is = is
 
 pub either : {P : Type 0} (a b c : Bool) → c ≡ (a || b) → (a ≡ true → P) → (b ≡ true → P) → c ≡ true → P
-either true b c same first then is = first refl
-either false b c same first then is = then (sym same ∙ is)
+either true b c same first second is = first refl
+either false b c same first second is = second (sym same ∙ is)
 
 pub or_assoc : (a b c : Bool) → (a || (b || c)) ≡ ((a || b) || c)
 or_assoc true b c = refl

@@ -1,4 +1,5 @@
 pub mod Entries
+pub mod Rows
 pub mod Chains
 pub mod Links
 pub mod Joins
