@@ -1,8 +1,6 @@
 //! A caller of a book that no one else calls.
-ghost use Rattle.std.specs.Prelude.{◌≡◌};
 ghost use Rattle.bim_session.specs.Replay.{stated_settings};
-ghost use Rattle.bim_server.specs.Alone.{seen_alone, GoesAlone};
-ghost use Rattle.bim_server.proofs.Alone.{stays_alone, goes_on_alone, learns_alone};
+ghost use Rattle.bim_server.specs.Alone.{seen_alone, IsSettled, GoesAlone};
 
 use crate::one_thread::OneThread;
 use book_history::BookRequest;
@@ -28,7 +26,7 @@ impl Caller for Alone {
 
     ghost buckets = { λ c. c.buckets };
 
-    ghost fits = { λ c own. own.settings ≡ stated_settings c.projects };
+    ghost fits = { λ c own. IsSettled (stated_settings c.projects) own };
 
     ghost seen = { seen_alone };
 
@@ -48,10 +46,4 @@ impl Caller for Alone {
     fn work(&self, own: &mut OneThread) -> Result<(), AllocError> {
         own.work(self.alloc, self.buckets)
     }
-
-    ghost stays = { stays_alone };
-
-    ghost goes_on = { goes_on_alone };
-
-    ghost learns = { learns_alone };
 }

@@ -1,8 +1,9 @@
 -- What a session keeps of the book's replies: the turn that it printed last, and the clashes that it was answered.
-use Rattle.std.specs.Prelude.{◌≡◌, ℕ, ◌/◌, ◌^◌, ◌==◌, ◌&&◌, nat_lt, cond, Option, Some, None, if◌then◌else◌}
-use Rattle.bim_model.specs.Identifiers.{identifier}
+use Rattle.std.specs.Prelude.{◌≡◌, ℕ, ◌==◌, ◌&&◌, cond, Option, Some, None}
 use Rattle.bim_model.specs.Snapshots.{Version}
 use Rattle.clash_publish.specs.Shelves.{set_of, is_live}
+use Rattle.book_history.specs.declared.limits.TheConstants.{MOST_PROJECTS}
+use Rattle.book_history.specs.Refusals.{project_of}
 use Rattle.book_history.specs.declared.requests.Wanted.TheVariants.{Number}
 use Rattle.book_history.specs.declared.requests.BookRequest.{BookRequest}
 use Rattle.book_history.specs.declared.requests.BookRequest.TheVariants as request
@@ -11,9 +12,9 @@ use Rattle.book_history.specs.declared.replies.ReplyBody.TheVariants as reply
 use Rattle.book_history.specs.declared.replies.BookReply.{BookReply}
 use Rattle.bim_session.specs.declared.notes.Notes.{Notes}
 
--- the number of the project that has the identifier, whether the book has it or not
+-- the number of the project that has the identifier, among as many as a book may have
 abbrev pub named_project : ℕ → Option ℕ
-named_project id = let n = id / 2 ^ 96 in if (id == identifier n 0) && nat_lt 0 n then Some n else None
+named_project id = project_of MOST_PROJECTS id
 
 -- the number of the project whose clashes a call asks for
 abbrev pub project_read : BookRequest → Option ℕ

@@ -1,6 +1,5 @@
 -- One connection as a machine: what each of its calls does.
 use Rattle.std.specs.Prelude.{◌≡◌, ◌≢◌, ◌⊎◌, ℕ, ◌+◌, ◌==◌, ◌++◌, List, [], ◌∷◌, ◌||◌, Bool, true, false, not, IsTrue, if◌then◌else◌, Option, Some, None, IsSome, Result, Ok, Err}
-use Rattle.std.specs.declared.alloc.AllocError.{AllocError}
 use Rattle.bim_io.specs.Seen.{ClockSeen, ClockGives}
 use Rattle.http_frame.specs.declared.types.HttpRequest.{HttpRequest}
 use Rattle.http_frame.specs.declared.types.FrameFault.{FrameFault}
@@ -213,15 +212,15 @@ waiting_on call waiting = record {
 
 -- what a talk wants for a call, of whose response this is needed: the answer, where the call asks for clashes that are
 -- kept; else it is to be made
-abbrev pub Asks : Waiting → BookRequest → TalkState → Want → TalkState → Type 0
-Asks waiting call old More new = ⊥
-Asks waiting call old (Call other) new =
+abbrev pub AsksFor : Waiting → BookRequest → TalkState → Want → TalkState → Type 0
+AsksFor waiting call old More new = ⊥
+AsksFor waiting call old (Call other) new =
     (other ≡ call) × ¬ (AsksKept old.notes call) × (new ≡ with_call (waiting_on call waiting) old)
-Asks waiting call old (Write bytes) new =
+AsksFor waiting call old (Write bytes) new =
     ((kept : BookReply) × IsKeptReply old.notes call kept
     × IsResponse (answer.Book kept) waiting.kind (Some old.notes.turn) waiting.close bytes)
     × (new ≡ with_answer waiting.close old)
-Asks waiting call old (Leave e) new = ⊥
+AsksFor waiting call old (Leave e) new = ⊥
 
 -- what a talk wants for a request that it took
 abbrev pub WantsFor : ℕ → HttpRequest → TalkState → Want → TalkState → Type 0

@@ -4,7 +4,7 @@ ghost use Rattle.clash_publish.specs.Shelves.{set_of};
 ghost use Rattle.bim_session.specs.Notes.{named_project, project_read, set_told, put_set, AsksKept, IsKeptReply, Noted};
 
 use bim_model::id_of;
-use book_history::{BookReply, BookRequest, ReplyBody, Wanted};
+use book_history::{BookReply, BookRequest, MOST_PROJECTS, ReplyBody, Wanted};
 use clash_publish::{Horizon, Shelf};
 use std::alloc::{AllocError, Global};
 
@@ -17,12 +17,12 @@ pub struct Notes {
     pub shelf: Shelf,
 }
 
-// The number of the project that has the identifier, whether the book has it or not.
+// The number of the project that has the identifier, among as many as a book may have.
 fn named_project(id: u128) -> Option<u32>
     ensures { result ≡ named_project id }
 {
     let number = (id >> 96) as u32;
-    if id == id_of(number, 0) && number > 0 {
+    if id == id_of(number, 0) && number > 0 && number <= MOST_PROJECTS {
         Some(number)
     } else {
         None
@@ -77,18 +77,21 @@ impl Notes {
         match call {
             BookRequest::ReadClashes {
                 project,
-                version: Wanted::Number(version),
+                version,
                 first,
                 count,
             } => {
+                let Wanted::Number(version) = *version else {
+                    return Ok(None);
+                };
                 let Some(number) = named_project(*project) else {
                     return Ok(None);
                 };
-                let Some(set) = self.shelf.get(number, *version) else {
+                let Some(set) = self.shelf.get(number, version) else {
                     return Ok(None);
                 };
                 let body = ReplyBody::Clashes {
-                    version: *version,
+                    version,
                     set: set.share()?,
                     first: *first,
                     count: *count,

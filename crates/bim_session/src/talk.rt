@@ -5,7 +5,7 @@ ghost use Rattle.http_frame.specs.Framers.{Stands};
 ghost use Rattle.bim_session.specs.Session.{most_requests, closes_after, continue_bytes, IsFaultResponse};
 ghost use Rattle.bcf_http.specs.Answers.{IsResponse};
 ghost use Rattle.bim_session.specs.Notes.{project_read, Noted};
-ghost use Rattle.bim_session.specs.Talking.{fresh, Feeds, Stays, with_answer, with_call, with_fault, with_framer, with_memory, with_notes, with_spent, with_end, Asks, waiting_on, IsNoted, KeepsNone, WantsFor, Writes, Wants, StopsNext, LacksNext, Replies, LacksFor, AtRest, IsReady, IsOwnEnd, IsOwnLeaving, IsOwnWant, leaving_after, asks_change, is_refusal, changes_nothing, IsCallable};
+ghost use Rattle.bim_session.specs.Talking.{fresh, Feeds, Stays, with_answer, with_call, with_fault, with_framer, with_memory, with_notes, with_spent, with_end, AsksFor, waiting_on, IsNoted, KeepsNone, WantsFor, Writes, Wants, StopsNext, LacksNext, Replies, LacksFor, AtRest, IsReady, IsOwnEnd, IsOwnLeaving, IsOwnWant, leaving_after, asks_change, is_refusal, changes_nothing, IsCallable};
 
 use crate::calls::call_of;
 use crate::end::SessionEnd;
@@ -385,7 +385,7 @@ impl Talk {
     // What is wanted for a call: its answer, where it asks for clashes that are kept; else it is to be made.
     fn ask(&mut self, waiting: Waiting, call: BookRequest) -> Result<Want, AllocError>
         requires open_ { self.old.leaving ≡ None }
-        ensures want { IfOk result (λ want. Asks waiting call self.old want self.new) }
+        ensures want { IfOk result (λ want. AsksFor waiting call self.old want self.new) }
         ensures err { OnErr result (self.new ≡ self.old) }
         ensures ready { IfOk result (λ want. IsReady want self.new) }
         ensures own { IfOk result IsOwnWant }

@@ -93,7 +93,7 @@ extends_trans u v w p q = record {
   number = q.number ∙ p.number;
   named = λ k is. q.named k (p.named k is);
   front = p.front ∙ ap (λ (h : List Entry). seen_at u.last h) q.front ∙ seen_twice u.last v.last w.seen p.rises;
-  rises = (let first = p.rises in let then = q.rises in omega (arith, first, then));
+  rises = (let first = p.rises in let second = q.rises in omega (arith, first, second));
   stay = λ k is other. q.stay k (p.named k is) (λ same. other (same ∙ p.number)) ∙ p.stay k is other;
   up_to = q.up_to;
 }

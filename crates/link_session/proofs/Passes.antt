@@ -1,18 +1,19 @@
--- The laws of a caller by a pass.
-use Rattle.std.proofs.Common.{◌≡◌, ℕ, List, [], ◌++◌, refl, sym, ap, ◌∙◌, subst}
-use Rattle.book_turn.specs.Passes.{PassState, TurnState, IsSingle}
+-- How a caller by a pass goes on.
+use Rattle.std.proofs.Common.{◌≡◌, ◌⊎◌, ℕ, [], ◌∷◌, Some, Ok, inl, refl, sym, subst}
+use Rattle.std.specs.declared.alloc.AllocError.{AllocError}
 use Rattle.book_history.specs.declared.limits.Settings.{Settings}
-use Rattle.book_history.specs.Runs.{Step}
-use Rattle.book_passes.specs.Lessons.{BookPass, CallerSeen, Learns, caller_of}
-use Rattle.book_passes.proofs.Learning.{learns_none, learns_trans}
-use Rattle.link_session.specs.Callers.{GoesByPass, LearnsBy}
+use Rattle.book_passes.specs.Lessons.{CallerSeen}
+use Rattle.link_session.specs.Callers.{CallerLaws, GoesByPass, WorksBehind, start_of}
 use Rattle.link_session.proofs.Turns.{known_none, known_trans}
+use Rattle.link_session.proofs.Working.{none_works}
 
-pub stays_by_pass : (turn : TurnState Settings) (pass : BookPass) → IsSingle turn pass → GoesByPass (caller_of pass) [] (caller_of pass)
-stays_by_pass turn pass own = known_none (caller_of pass) own.alone
+-- it works no buckets
+pub laws_by_pass : CallerLaws (Some 0) GoesByPass
+laws_by_pass = record {
+  goes_on = λ u v w first second a b. known_trans u v w first second a b;
+  learns = λ v w steps g. (g.news, g.learns);
+  in_step = λ v w steps g. inl refl;
+}
 
-pub goes_on_by_pass : (u v w : CallerSeen) (first second : List Step) → GoesByPass u first v → GoesByPass v second w → GoesByPass u (first ++ second) w
-goes_on_by_pass u v w first second a b = known_trans u v w first second a b
-
-pub learns_by_pass : (v w : CallerSeen) (steps : List Step) → GoesByPass v steps w → LearnsBy v w
-learns_by_pass v w steps g = (g.news, g.learns)
+pub works_by_pass : (settings : Settings) (v : CallerSeen) → v.numbers ≡ v.number ∷ [] → WorksBehind settings (Some 0) GoesByPass v (Ok tt) v
+works_by_pass settings v alone = ([], known_none v alone, none_works (start_of settings (Some 0) v v) refl)

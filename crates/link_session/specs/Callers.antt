@@ -11,7 +11,7 @@ use Rattle.book_history.specs.History.{of_turn}
 use Rattle.book_history.specs.Runs.{Step}
 use Rattle.book_passes.specs.Lessons.{CallerSeen, TakesTurn, Learns, own_of, stamp_in}
 use Rattle.book_passes.specs.Laws.{TakesCall}
-use Rattle.bim_session.specs.Works.{Standing, Works, WorksShort}
+use Rattle.bim_session.specs.Works.{Standing, Works, WorksShort, last_turn}
 use Rattle.bim_session.specs.Talking.{BookReceipt}
 
 -- ---- calls
@@ -35,6 +35,15 @@ steps_of request v (Err fault) = []
 -- it came to see some entries behind those that it had seen
 abbrev pub LearnsBy : CallerSeen → CallerSeen → Type 0
 LearnsBy v w = (news : List Entry) × Learns v w news
+
+-- How a caller goes on that works at most so many buckets behind answers: by steps one after another; what it has seen is a
+-- front of what it sees later; and where it works buckets, its last turn is that of its last step.
+pub record CallerLaws (buckets : Option ℕ) (goes : CallerSeen → List Step → CallerSeen → Type 0) : Type 0 where
+  pub goes_on : (u v w : CallerSeen) (first second : List Step) → goes u first v → goes v second w
+      → goes u (first ++ second) w
+  pub learns : (v w : CallerSeen) (steps : List Step) → goes v steps w → LearnsBy v w
+  pub in_step : (v w : CallerSeen) (steps : List Step) → goes v steps w
+      → (buckets ≡ Some 0) ⊎ (w.last ≡ last_turn v.last steps)
 
 -- ---- work behind an answer
 

@@ -3,7 +3,6 @@ ghost use Rattle.std.specs.Prelude.{Some};
 ghost use Rattle.book_turn.specs.Passes.{IsSingle};
 ghost use Rattle.book_passes.specs.Lessons.{caller_of};
 ghost use Rattle.link_session.specs.Callers.{GoesByPass};
-ghost use Rattle.link_session.proofs.Passes.{stays_by_pass, goes_on_by_pass, learns_by_pass};
 
 use crate::caller::Caller;
 use bim_net::Gate;
@@ -49,10 +48,4 @@ impl<'a, R: Wait, G: Gate> Caller for ByTurn<'a, R, G> {
         let _own = own;
         Ok(())
     }
-
-    ghost stays = { stays_by_pass };
-
-    ghost goes_on = { goes_on_by_pass };
-
-    ghost learns = { learns_by_pass };
 }

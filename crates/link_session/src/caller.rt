@@ -1,10 +1,10 @@
 //! Who calls the book for a session.
-ghost use Rattle.std.specs.Prelude.{◌≡◌, ℕ, List, [], ◌++◌, Option};
+ghost use Rattle.std.specs.Prelude.{◌≡◌, ℕ, List, Option};
 ghost use Rattle.book_history.specs.declared.limits.Settings.{Settings};
 ghost use Rattle.book_history.specs.Runs.{Step};
 ghost use Rattle.bcf_http.specs.Calls.{BringsNone};
 ghost use Rattle.book_passes.specs.Lessons.{CallerSeen};
-ghost use Rattle.link_session.specs.Callers.{Calls, steps_of, WorksBehind, LearnsBy};
+ghost use Rattle.link_session.specs.Callers.{Calls, steps_of, WorksBehind};
 
 use book_history::BookRequest;
 use book_turn::fault::CallFault;
@@ -54,14 +54,4 @@ pub trait Caller {
         ensures works { WorksBehind (settings self.now) (buckets self.now) (goes self.now)
             (seen own.old) result
             (seen own.new) };
-
-    /// By no steps it stays where it is.
-    ghost stays: { (c : Self) (own : Self.Own) → fits c own → goes c (seen own) [] (seen own) };
-
-    /// It goes on where it stopped.
-    ghost goes_on: { (c : Self) (u v w : CallerSeen) (first second : List Step)
-        → goes c u first v → goes c v second w → goes c u (first ++ second) w };
-
-    /// What it has seen is a front of what it sees later.
-    ghost learns: { (c : Self) (v w : CallerSeen) (steps : List Step) → goes c v steps w → LearnsBy v w };
 }

@@ -1,7 +1,8 @@
 //! One session over a source and a sink.
-ghost use Rattle.std.specs.Prelude.{◌≡◌, false, None, IsSome};
+ghost use Rattle.std.specs.Prelude.{◌≡◌, [], false, None, IsSome};
 ghost use Rattle.bim_io.specs.Seen.{outside};
 ghost use Rattle.bcf_http.specs.Calls.{BringsNone};
+ghost use Rattle.link_session.specs.Callers.{CallerLaws};
 ghost use Rattle.link_session.specs.Serving.{Serves};
 ghost use Rattle.link_session.specs.Loop.{Reading, Writing, Called, StepsOn, WorksOn, StepsAndWorks};
 
@@ -158,6 +159,8 @@ pub fn run_session<B: Caller, S: Source, K: Sink, C: Clock>(
     clock: &mut C,
 ) -> SessionEnd
     requires fits { B.fits caller.now own.old }
+    requires laws { CallerLaws (B.buckets caller.now) (B.goes caller.now) }
+    requires stays { B.goes caller.now (B.seen own.old) [] (B.seen own.old) }
     ensures fits { B.fits caller.now own.new }
     ensures serves { Serves (B.settings caller.now) (B.buckets caller.now) (B.goes caller.now)
         (B.seen own.old)

@@ -35,15 +35,15 @@ or_both false x y = refl
 
 -- what is noted of two lists of connections, one after the other
 noted_both : (a b c : Bool) (xs ys : List EndedLink) → b ≡ (a || some_memory xs) → c ≡ (b || some_memory ys) → c ≡ (a || some_memory (xs ++ ys))
-noted_both a b c xs ys first then =
-    then ∙ ap (λ b. b || some_memory ys) first ∙ or_both a (some_memory xs) (some_memory ys)
+noted_both a b c xs ys first second =
+    second ∙ ap (λ b. b || some_memory ys) first ∙ or_both a (some_memory xs) (some_memory ys)
     ∙ ap (λ n. a || n) (sym (list_any-append (λ (x : EndedLink). is_memory x.end.kind) xs ys))
 
 -- .. and of ends for want of a turn
 turns_both : (n o : Lack) (xs ys : List EndedLink) → (some_turns xs ≡ true → IsSome n.spent) → (some_turns ys ≡ true → IsSome o.spent) → (IsSome n.spent → IsSome o.spent)
     → some_turns (xs ++ ys) ≡ true → IsSome o.spent
-turns_both n o xs ys first then kept is =
-    either (some_turns xs) (some_turns ys) (some_turns (xs ++ ys)) (list_any-append (λ (x : EndedLink). is_spent x.end.kind) xs ys) (λ a. kept (first a)) then is
+turns_both n o xs ys first second kept is =
+    either (some_turns xs) (some_turns ys) (some_turns (xs ++ ys)) (list_any-append (λ (x : EndedLink). is_spent x.end.kind) xs ys) (λ a. kept (first a)) second is
 
 module _ (serves : List Entry → ℕ → EndedLink → List Entry → Type 0) where
   pub chain_append : (before : List Entry) (last : ℕ) (xs ys : List EndedLink) (mid : List Entry) (between : ℕ) (history : List Entry) (top : ℕ)
@@ -76,10 +76,10 @@ module _ (serves : List Entry → ℕ → EndedLink → List Entry → Type 0) w
     chain = chain_append before last p.links q.links mid between history top p.chain q.chain;
     up_to = λ are. q.up_to (p.up_to are);
     number = q.number ∙ p.number;
-    gave = (let first = p.gave in let then = q.gave in let both = length-append p.links q.links in omega (arith, first, then, both));
+    gave = (let first = p.gave in let second = q.gave in let both = length-append p.links q.links in omega (arith, first, second, both));
     balanced = λ even. q.balanced (p.balanced even);
     tells = λ even some. q.tells (p.balanced even) (p.tells even some);
-    faults = (let first = p.faults in let then = q.faults in omega (arith, first, then));
+    faults = (let first = p.faults in let second = q.faults in omega (arith, first, second));
     memory = noted_both m.memory n.memory o.memory p.links q.links p.memory q.memory;
     turns = turns_both n o p.links q.links p.turns q.turns q.kept;
     kept = λ some. q.kept (p.kept some);

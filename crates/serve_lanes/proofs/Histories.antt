@@ -65,7 +65,7 @@ door_joined s links turn v other w door end lack j lane apart =
 -- ---- in the end
 
 some_told : (tells : Bool) → tells ≡ true → IsSome (told {X = EndedLink} tells [])
-some_told true is = tt
+some_told true is = refl
 some_told false is = cc
 
 even_told : (tells : Bool) (gave : ℕ) → gave ≡ 0 → IfSome (told {X = EndedLink} tells []) (λ es. length es ≡ gave)

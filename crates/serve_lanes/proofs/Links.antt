@@ -59,12 +59,12 @@ link_grew one settings number before last x history s =
     let l = s.serves.learns.1 in
     let rises : s.v.last ≤ s.w.last = l.rises in
     let first : s.v.last ≡ last = s.last_is in
-    let then : s.w.last ≡ x.end.last = s.turn_is in
+    let second : s.w.last ≡ x.end.last = s.turn_is in
     record {
       news = news;
       grown = sym s.history_is ∙ l.seen ∙ ap (λ h. h ++ news) s.before_is;
       later = subst (λ (n : ℕ). AllAfter turn_of n news) s.last_is l.later;
-      rises = (let le : last ≤ x.end.last = omega (arith, rises, first, then) in le);
+      rises = (let le : last ≤ x.end.last = omega (arith, rises, first, second) in le);
       up_to = λ are.
           let at : AllBefore turn_of (s.v.last + 1) s.v.seen =
           subst (λ (n : ℕ). AllBefore turn_of (n + 1) s.v.seen) (sym s.last_is) (subst (λ (h : List Entry). AllBefore turn_of (last + 1) h) (sym s.before_is) are) in
