@@ -1,6 +1,7 @@
 # make build             proves the crates that the program stands on, and leaves it at crates/bim_server/out/bim_server
 # make replay            replays the stored run of cases/topics/stored_run over the built program, and prints what it writes
-# make check             the test command: the map of crates, the whole gate, then the end-to-end cases over the built program
+# make check             the test command: the map of crates, the whole gate, then the end-to-end cases over the built program,
+#                        and clients over sockets
 # make crate NAME=..     proves one crate, over what earlier checks kept of those below it, and runs its tests
 # make cases [GROUP=..]  the end-to-end cases alone, over the program as it was built last: all, or those of the groups
 #                        (upload/u07), or with one of the words in their path; cases/README.md names the groups
@@ -21,6 +22,7 @@ check:
 	rt ci
 	@test -x $(SERVER) || $(MAKE) --no-print-directory build
 	python3 cases/run.py $(SERVER)
+	python3 bench/serve.py $(SERVER) pipelined interleaved clashes curl cut end_by_links end_by_signal
 
 crate:
 	@test -d "crates/$(NAME)/src" || { echo "make crate NAME=.. wants one of: $$(ls crates | xargs)"; exit 2; }

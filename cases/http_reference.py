@@ -273,6 +273,7 @@ def rules_in(tree):
 class Book:
     def __init__(self, projects, moment):
         self.projects, self.moment, self.turn = projects, moment, 0
+        self.printed, self.shelf = 0, set()  # the turn printed last, and the versions whose clashes were answered
         self.boards = {n: Board(n, moment) for n in range(1, projects + 1)}
         self.versions = {n: [Version([], [])] for n in range(1, projects + 1)}
 
@@ -284,6 +285,7 @@ class Book:
 
     def booked(self, status, tree):
         self.turn += 1
+        self.printed = self.turn
         return status, tree, self.turn, []
 
     def changed(self, status, number, names, rules, uploaded):
@@ -720,7 +722,11 @@ def answer(book, request):
         return book.booked(201, topic)
     pairs, first = version.clashes(), int(given.get(b"first", b"0"))
     page = pairs[first:first + int(given.get(b"count", b"1000"))]
-    return book.booked(200, {"clashes": page, "first": first, "total": len(pairs), "version": asked})
+    tree = {"clashes": page, "first": first, "total": len(pairs), "version": asked}
+    if (number, asked) in book.shelf and found.group(2) != "newest":
+        return 200, tree, book.printed, []
+    book.shelf.add((number, asked))
+    return book.booked(200, tree)
 
 
 def response(status, tree, turn, close, head, methods):

@@ -20,7 +20,7 @@ use Rattle.book_history.proofs.Given.{given_out}
 use Rattle.book_history.proofs.Legality.{given_later}
 use Rattle.bcf_http.specs.Calls.{BringsNone}
 use Rattle.bim_session.specs.Works.{IsFoundFor}
-use Rattle.bim_server.specs.Loop.{ServerState, Calls, with_turn, stamp_of, left_of}
+use Rattle.bim_server.specs.Turns.{ServerState, Calls, with_turn, stamp_of, left_of}
 use Rattle.bim_server.specs.Working.{GivesOut}
 
 -- a call that brings no set may be made at every history

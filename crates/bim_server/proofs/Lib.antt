@@ -1,13 +1,6 @@
-pub mod SoFar
-pub mod Growing
-pub mod Events
-pub mod Ending
 pub mod Worked
-pub mod Owed
-pub mod Stepping
-pub mod Behind
-pub mod Running
+pub mod Giving
+pub mod Alone
+pub mod Replaying
 pub mod Grammar
 pub mod Statuses
-pub mod Calling
-pub mod Giving

@@ -1,5 +1,5 @@
 -- The work on buckets of a one-thread book, as steps of its run.
-use Rattle.std.proofs.Common.{◌≡◌, ℕ, zero, suc, ◌+◌, ◌*◌, ◌<◌, ◌≤◌, List, [], ◌∷◌, ◌++◌, length, sym, ◌∙◌, ap, subst, refl, append_assoc, append-nil, length-append, arith}
+use Rattle.std.proofs.Common.{◌≡◌, ◌⊎◌, inl, inr, ℕ, zero, suc, ◌+◌, ◌*◌, ◌<◌, ◌≤◌, List, [], ◌∷◌, ◌++◌, length, sym, ◌∙◌, ap, subst, refl, append_assoc, append-nil, length-append, arith}
 use Rattle.std.proofs.lemmas.List.Elements.{All-nil, All-cons, All-append, All-weaker}
 use Rattle.book_history.specs.declared.changes.Entry.{Entry}
 use Rattle.book_history.specs.declared.requests.BookRequest.{BookRequest}
@@ -9,11 +9,22 @@ use Rattle.book_history.specs.History.{at_turn, left_all, IsBefore}
 use Rattle.book_history.specs.Requests.{reply_of, added_by}
 use Rattle.book_history.specs.Runs.{Step, IsRun, IsOneThread}
 use Rattle.book_history.proofs.Histories.{AreOf, AreAbove, added_of, above_of, at_turn-new, at_turn-grown, Runs_push, follows_one, one_push}
-use Rattle.bim_session.specs.Works.{Standing, Gives, WorksOne, WorksOn, left_behind}
-use Rattle.bim_session.proofs.Sessions.{gives_grown, on_grown}
-use Rattle.bim_server.specs.Loop.{ServerState, with_turn, stamp_of, left_of}
-use Rattle.bim_server.specs.Working.{GivesOut, WorksBucket, WorksTimes}
-use Rattle.bim_server.proofs.Events.{step_of, taken_next}
+use Rattle.bim_session.specs.Works.{Standing, IsTaken, Gives, WorksOne, WorksOn, left_behind, last_turn}
+use Rattle.bim_session.proofs.Sessions.{gives_grown, on_grown, last_turn-append, entry_new}
+use Rattle.bim_server.specs.Turns.{ServerState, with_turn, stamp_of, left_of}
+use Rattle.bim_server.specs.Working.{GivesOut, WorksBucket, WorksTimes, WorksPart}
+
+-- the step of a call at the next turn
+abbrev pub step_of : ServerState → BookRequest → Step
+step_of server call = record { stamp = stamp_of (server.turns + 1); request = call }
+
+-- the next turn is taken, where the history has what the call adds there
+taken_next : (s : Standing) (server : ServerState) (call : BookRequest) → IsBefore (server.turns + 1) server.history
+    → IsTaken (record s { settings = server.settings; history = (with_turn call server).history; top = server.turns + 1 }) (step_of server call)
+taken_next s server call earlier = record {
+  within = (let same : server.turns + 1 ≤ server.turns + 1 = omega arith in same);
+  entry = entry_new server.settings server.history (step_of server call) earlier;
+}
 
 -- ---- entries of later turns
 
@@ -50,6 +61,7 @@ pub record Extends (old new : ServerState) (steps : List Step) : Type 0 where
   pub history : new.history ≡ old.history ++ more
   pub above : AreAbove old.turns more
   pub turns : new.turns ≡ old.turns + length steps
+  pub last : new.turns ≡ last_turn old.turns steps
   pub earlier : IsBefore (old.turns + 1) old.history → IsBefore (new.turns + 1) new.history
   pub run : (before : List Step) → IsRun old.settings before old.history → IsOneThread before → length before ≡ old.turns
       → IsRun new.settings (before ++ steps) new.history
@@ -62,6 +74,7 @@ extends_none s = record {
   history = sym (append-nil s.history);
   above = tt;
   turns = (let e : s.turns ≡ s.turns + 0 = omega arith in e);
+  last = refl;
   earlier = λ before. before;
   run = λ before run one count. subst (λ (ss : List Step). IsRun s.settings ss s.history) (sym (append-nil before)) run;
   one = λ before one. subst (λ (ss : List Step). IsOneThread ss) (sym (append-nil before)) one;
@@ -78,6 +91,7 @@ extends_one s call =
       history = refl;
       above = above_of (s.turns + 1) s.turns added (omega arith) own;
       turns = refl;
+      last = refl;
       earlier = λ before. before_more (s.turns + 1) s.history added before own;
       run = λ before run one count.
           Runs_push s.settings [] [] before s.history (step_of s call) run (follows_one before (step_of s call) s.turns one count refl);
@@ -96,6 +110,7 @@ extends_on a b c xs ys p q =
       history = q.history ∙ ap (λ h. h ++ q.more) p.history ∙ append_assoc a.history p.more q.more;
       above = above_append a.turns p.more q.more p.above (above_lower a.turns b.turns q.more le q.above);
       turns = (let e : c.turns ≡ a.turns + length (xs ++ ys) = omega (arith, turns, later, both) in e);
+      last = q.last ∙ ap (λ n. last_turn n ys) p.last ∙ sym (last_turn-append a.turns xs ys);
       earlier = λ before. q.earlier (p.earlier before);
       run = λ before run one count.
           subst (λ (ss : List Step). IsRun c.settings ss c.history) (append_assoc before xs ys)
@@ -237,3 +252,28 @@ left_next s mid before =
     ap (λ h. left_all mid.settings.projects h)
     (at_turn-new (mid.turns + 1) mid.history (added_by mid.settings mid.history (stamp_of (mid.turns + 1)) (TakeWork 0)) before
     (added_of mid.settings mid.history (stamp_of (mid.turns + 1)) (TakeWork 0)))
+
+-- ---- work that stopped
+
+-- the steps of work that stopped
+pub part_steps : (mid later : ServerState) → WorksPart mid later → List Step
+part_steps mid later (inl same) = []
+part_steps mid later (inr given) = step_of mid (TakeWork 0) ∷ []
+
+pub part_extends : (mid later : ServerState) (part : WorksPart mid later) → Extends mid later (part_steps mid later part)
+unfolding part_steps
+part_extends mid later (inl same) = extends_to mid mid later [] (extends_none mid) same
+part_extends mid later (inr given) = extends_to mid (with_turn (TakeWork 0) mid) later (step_of mid (TakeWork 0) ∷ []) (extends_one mid (TakeWork 0)) given.2
+
+pub part_given : (s : Standing) (mid later : ServerState) (part : WorksPart mid later) → 0 < left_of mid → IsBefore (mid.turns + 1) mid.history
+    → (part_steps mid later part ≡ []) ⊎ ((step : Step) × (part_steps mid later part ≡ step ∷ []) × Gives (at_server s later) mid.turns step)
+unfolding part_steps
+part_given s mid later (inl same) some before = inl refl
+part_given s mid later (inr given) some before =
+    inr (step_of mid (TakeWork 0), refl, subst (λ (z : ServerState). Gives (at_server s z) mid.turns (step_of mid (TakeWork 0))) (sym given.2) (gives_here s mid given.0 some given.1 before))
+
+-- how many buckets were left where the work stopped
+pub left_before : (s : Standing) (mid later : ServerState) → WorksPart mid later → IsBefore (mid.turns + 1) mid.history → left_behind (at_server s later) mid.turns ≡ left_of mid
+left_before s mid later (inl same) before = subst (λ (z : ServerState). left_behind (at_server s z) mid.turns ≡ left_of mid) (sym same) (left_here s mid before)
+left_before s mid later (inr given) before =
+    subst (λ (z : ServerState). left_behind (at_server s z) mid.turns ≡ left_of mid) (sym given.2) (left_next s mid before)

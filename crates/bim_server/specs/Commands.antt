@@ -1,5 +1,5 @@
 -- What the commands do and answer.
-use Rattle.std.specs.Prelude.{◌≡◌, ◌⊎◌, ℕ, List, [], ◌∷◌, if◌then◌else◌, Option, Some, None, codes}
+use Rattle.std.specs.Prelude.{◌≡◌, ◌≢◌, ◌⊎◌, ℕ, List, [], ◌∷◌, if◌then◌else◌, Option, Some, None, codes}
 use Rattle.std.specs.Str.{bytes_eq}
 use Rattle.bim_io.specs.Seen.{ClockSeen, Outside, outside}
 use Rattle.bim_session.specs.declared.end.SessionEnd.{SessionEnd}
@@ -12,7 +12,11 @@ use Rattle.batch_commands.specs.CheckWords.{check_words}
 use Rattle.batch_commands.specs.GenerateWords.{generate_words}
 use Rattle.batch_commands.specs.Commands.{Checks, Generates}
 use Rattle.batch_commands.specs.Writes.{PrintsUsage, WantsMemory}
+use Rattle.bim_net.specs.Hosts.{HostSeen}
+use Rattle.bim_server.specs.declared.serve.Ended.{Ended}
 use Rattle.bim_server.specs.Words.{replay_words}
+use Rattle.bim_server.specs.ServeWords.{serve_words}
+use Rattle.bim_server.specs.Serving.{ServesBy, without_book}
 
 -- nothing was read, and the clock was not asked
 abbrev pub ReadsNothing : Outside → Outside → Type 0
@@ -53,20 +57,20 @@ LacksWords before after status = WantsMemory before.sink after.sink status × Re
 abbrev pub Does : Option ReplayWords → Outside → Outside → ℕ → Type 0
 Does said before after status = DoesBy said before after status ⊎ LacksWords before after status
 
--- a command that is built, with the words behind its name
+-- a command other than `serve`, with the words behind its name
 pub data Command : Type 0 where
   Replay : List (List ℕ) → Command
   Check : List (List ℕ) → Command
   Generate : List (List ℕ) → Command
 
--- the command of a name, where it is one that is built
+-- the command of a name, where it is one of these
 abbrev pub command_named : List ℕ → List (List ℕ) → Option Command
 command_named name words =
     if bytes_eq name (codes "replay") then Some (Replay words)
     else (if bytes_eq name (codes "check") then Some (Check words)
     else (if bytes_eq name (codes "generate") then Some (Generate words) else None))
 
--- the command that words ask for
+-- the command other than `serve` that words ask for
 abbrev pub command_of : List (List ℕ) → Option Command
 command_of [] = None
 command_of (name ∷ words) = command_named name words
@@ -83,3 +87,29 @@ Runs (Some (Check words)) before after files files' status =
 Runs (Some (Generate words)) before after files files' status =
     Generates (generate_words words) before.sink after.sink status × ReadsNothing before after
     × (files' ≡ files)
+
+-- what words ask for: to serve by the words behind that name, or another command
+pub data Asked : Type 0 where
+  Serve : List (List ℕ) → Asked
+  Other : Option Command → Asked
+
+-- what the words of the command line ask for
+abbrev pub asked_by : List (List ℕ) → Asked
+asked_by [] = Other None
+asked_by (name ∷ words) =
+    if bytes_eq name (codes "serve") then Serve words else Other (command_named name words)
+
+-- what `serve` writes: the usage line where its words are outside its grammar, else nothing
+abbrev pub SaysUsage : Outside → Outside → ℕ → Type 0
+SaysUsage before after status =
+    ((status ≡ 2) × PrintsUsage before.sink after.sink status)
+    ⊎ ((status ≢ 2) × (after.sink ≡ before.sink))
+
+-- what the program does, and how it ends: `serve` leaves the source, the clock and the files alone, and the others the
+-- host; they have no book
+abbrev pub Ends : Asked → Outside → Outside → FilesSeen → FilesSeen → HostSeen → HostSeen → Ended → Type 0
+Ends (Serve words) before after files files' host host' ended =
+    ServesBy (serve_words words) host host' ended × SaysUsage before after ended.status
+    × ReadsNothing before after × (files' ≡ files)
+Ends (Other command) before after files files' host host' ended =
+    Runs command before after files files' ended.status × (ended ≡ without_book ended.status) × (host' ≡ host)

@@ -1,4 +1,7 @@
-pub mod Loop
+pub mod Turns
+pub mod Alone
 pub mod Working
 pub mod Words
 pub mod Commands
+pub mod ServeWords
+pub mod Serving

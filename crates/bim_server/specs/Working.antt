@@ -5,13 +5,8 @@ use Rattle.book_history.specs.declared.requests.BookRequest.TheVariants.{TakeWor
 use Rattle.book_history.specs.declared.replies.ReplyBody.TheVariants.{Work}
 use Rattle.book_history.specs.Orders.{OrderValue}
 use Rattle.book_history.specs.Requests.{reply_of}
-use Rattle.bim_io.specs.Seen.{Outside}
-use Rattle.bim_session.specs.declared.end.SessionEnd.TheVariants.{Memory}
 use Rattle.bim_session.specs.Works.{IsFoundFor, IsEnough, IsMore}
-use Rattle.bim_session.specs.Talking.{TalkState}
-use Rattle.bim_server.specs.declared.session.Progress.{Progress}
-use Rattle.bim_server.specs.declared.session.Progress.TheVariants.{Again, End}
-use Rattle.bim_server.specs.Loop.{ServerState, StepsOn, with_turn, stamp_of, left_of}
+use Rattle.bim_server.specs.Turns.{ServerState, with_turn, stamp_of, left_of}
 
 -- the next turn gives this bucket out
 abbrev pub GivesOut : ServerState → OrderValue → Type 0
@@ -66,24 +61,3 @@ pub record WorksSome (buckets : Option ℕ) (old new : ServerState) : Type 0 whe
   pub room : IsMore buckets count
   pub some : 0 < left_of mid
   pub part : WorksPart mid new
-
--- the work behind the last answer of a talk was done, or memory was wanting in it, which ends the session
-abbrev pub WorksBehind : Option ℕ → TalkState → ServerState → Progress → ServerState → Type 0
-WorksBehind buckets talk server Again server' = WorksAll buckets server server'
-WorksBehind buckets talk server (End e) server' = (e ≡ Memory talk.served) × WorksSome buckets server server'
-
--- behind a step there is work exactly where it answered a request
-abbrev pub WorksAfter : Option ℕ → ℕ → TalkState → ServerState → Progress → Progress → ServerState → Type 0
-WorksAfter buckets served talk server (End e) progress server' = (progress ≡ End e) × (server' ≡ server)
-WorksAfter buckets served talk server Again progress server' =
-    ((talk.served ≤ served) × (progress ≡ Again) × (server' ≡ server))
-    ⊎ ((served < talk.served) × WorksBehind buckets talk server progress server')
-
--- a step of a session, and the work behind it
-pub record StepsAndWorks (buckets : Option ℕ) (before after : Outside) (talk : TalkState)
-    (server : ServerState)
-    (progress : Progress) (talk' : TalkState) (server' : ServerState) : Type 0 where
-  pub stepped : Progress
-  pub mid : ServerState
-  pub step : StepsOn before after talk server stepped talk' mid
-  pub work : WorksAfter buckets talk.served talk' mid stepped progress server'

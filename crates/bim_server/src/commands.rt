@@ -1,18 +1,24 @@
 //! The commands.
-ghost use Rattle.std.specs.Prelude.{◌≡◌, ◌<◌, ◌⊎◌};
+ghost use Rattle.std.specs.Prelude.{◌≡◌, ◌≢◌, ◌<◌, ◌⊎◌};
 ghost use Rattle.bim_io.specs.Causes.{Rose, ComesOfFault};
 ghost use Rattle.bim_io.specs.Seen.{outside};
 ghost use Rattle.bim_server.specs.Words.{replay_words, IsReplay};
-ghost use Rattle.bim_server.specs.Commands.{Does, ReplaysBy, Runs, command_of};
+ghost use Rattle.batch_commands.specs.Writes.{PrintsUsage};
+ghost use Rattle.bim_server.specs.Serving.{without_book};
+ghost use Rattle.bim_server.specs.Commands.{Does, ReplaysBy, Runs, command_of, Ends, asked_by};
 
-use crate::session::{run_session, status_of};
+use crate::serve::{Ended, run_serve};
+use crate::session::{replay_session, status_of};
 use crate::words::{ReplayWords, Time, replay_words};
 use batch_commands::{print_usage, run_check, run_generate};
 use bim_files::Files;
 use bim_io::{Clock, MemClock, Sink, Source};
 use bim_model::Text;
+use bim_net::{Door, Gate, Host};
 use command_words::is_word;
 use std::alloc::Global;
+use std::sync::Wait;
+use std::thread::Threads;
 
 /// The exit status for want of memory.
 const NO_MEMORY: u8 = 6;
@@ -34,11 +40,11 @@ fn replay<S: Source, K: Sink, C: Clock>(
 {
     match said.time {
         Time::OfClock => {
-            status_of(run_session(alloc, said.projects, said.buckets, source, sink, clock))
+            status_of(replay_session(alloc, said.projects, said.buckets, source, sink, clock))
         }
         Time::At(moment) => {
             let mut one_moment = MemClock::new(moment);
-            let end = run_session(
+            let end = replay_session(
                 alloc,
                 said.projects,
                 said.buckets,
@@ -76,9 +82,9 @@ pub fn run_replay<S: Source, K: Sink, C: Clock>(
     }
 }
 
-/// Does what the command of the first word does, and answers its status. A command that is not built is outside the
-/// grammar, so it prints the usage line and answers 2.
-pub fn run<S: Source, K: Sink, F: Files, C: Clock>(
+// Does what the command of the first word does, one other than `serve`, and answers its status. Another word is outside
+// the grammar, so it prints the usage line and answers 2.
+fn run_other<S: Source, K: Sink, F: Files, C: Clock>(
     alloc: Global,
     words: &[Text],
     source: &mut S,
@@ -107,6 +113,69 @@ pub fn run<S: Source, K: Sink, F: Files, C: Clock>(
                 run_generate(alloc, rest, sink)
             } else {
                 print_usage(sink)
+            }
+        }
+    }
+}
+
+// Where the words were outside the grammar, the usage line is printed.
+fn say_usage<K: Sink>(ended: Ended, sink: &mut K) -> Ended
+    requires { ended.status ≡ 2 → ended ≡ without_book 2 }
+    ensures same { result ≡ ended }
+    ensures usage { ended.status ≡ 2 → PrintsUsage (K.seen sink.old) (K.seen sink.new) 2 }
+    ensures other { ended.status ≢ 2 → K.seen sink.new ≡ K.seen sink.old }
+{
+    if ended.status == 2 {
+        Ended::of(print_usage(sink))
+    } else {
+        ended
+    }
+}
+
+/// Does what the command of the first word does, and answers how it ended. Another word is outside the grammar, so it prints
+/// the usage line and answers 2; so are words behind `serve` that it doesn't take.
+pub fn run<
+    R: Threads + Wait + Sync,
+    S: Source,
+    K: Sink,
+    F: Files,
+    T: Clock,
+    D: Door + Send + Drop,
+    C: Clock + Send + Drop,
+    G: Gate + Sync + Drop,
+    H: Host<D = D, C = C, G = G>,
+>(
+    rt: &R,
+    alloc: Global,
+    words: &[Text],
+    source: &mut S,
+    sink: &mut K,
+    files: &mut F,
+    clock: &mut T,
+    host: &mut H,
+) -> Ended
+where
+    D::S: Send,
+    D::K: Send,
+    ensures ends { Ends (asked_by words.now)
+        (outside (S.seen source.old) (K.seen sink.old) (T.seen clock.old))
+        (outside (S.seen source.new) (K.seen sink.new) (T.seen clock.new))
+        (F.seen files.old) (F.seen files.new) (H.seen host.old) (H.seen host.new) result }
+    ensures read { result.status ≡ 4 → Rose (S.seen source.old).faults (S.seen source.new).faults
+        ⊎ (Rose (F.seen files.old).faults (F.seen files.new).faults
+        ⊎ Rose (H.seen host.old).faults (H.seen host.new).faults) }
+    ensures source { (S.seen source.old).faults < (S.seen source.new).faults → result.status ≡ 4 }
+    ensures files { (F.seen files.old).faults < (F.seen files.new).faults → result.status ≡ 4 }
+    ensures write { result.status ≡ 5 → Rose (K.seen sink.old).faults (K.seen sink.new).faults }
+{
+    match words {
+        [] => Ended::of(print_usage(sink)),
+        [name, rest @ ..] => {
+            if is_word(name.as_str(), "serve") {
+                let ended = run_serve::<R, D, C, G, H>(rt, alloc, rest, host);
+                say_usage(ended, sink)
+            } else {
+                Ended::of(run_other(alloc, words, source, sink, files, clock))
             }
         }
     }

@@ -1,8 +1,13 @@
 //! The coordination server for building models.
 #![tactic(auto)]
 
+mod alone;
 mod commands;
 mod one_thread;
+mod serve;
+#[cfg(test)]
+mod serve_tests;
+mod serve_words;
 mod session;
 #[cfg(test)]
 mod tests;
@@ -11,6 +16,7 @@ mod words;
 use bim_files::StdFiles;
 use bim_io::{StdSink, StdSource, SystemClock};
 use bim_model::Text;
+use bim_sockets::NetHost;
 use commands::run;
 use std::alloc::AllocError;
 use std::env;
@@ -45,13 +51,16 @@ fn main(rt: HostRuntime) -> ExitCode {
     let mut files = StdFiles::new(rt);
     let mut clock = SystemClock::new(rt);
     let alloc = rt.alloc();
-    let status = run(
+    let mut host = NetHost::new(alloc, rt);
+    let ended = run(
+        &rt,
         alloc,
         words.as_slice(),
         &mut source,
         &mut sink,
         &mut files,
         &mut clock,
+        &mut host,
     );
-    ExitCode::from(status)
+    ExitCode::from(ended.status)
 }

@@ -5,7 +5,7 @@ ghost use Rattle.book_history.specs.History.{IsBefore, left_all};
 ghost use Rattle.book_history.specs.Legal.{IsLegal};
 ghost use Rattle.bim_session.specs.Works.{IsFoundFor};
 ghost use Rattle.bim_session.specs.Replay.{stated_settings};
-ghost use Rattle.bim_server.specs.Loop.{Calls, left_of};
+ghost use Rattle.bim_server.specs.Turns.{Calls, left_of};
 ghost use Rattle.bim_server.specs.Working.{WorksBucket, WorksPart, WorksUpTo, WorksLess, WorksAll, WorksSome};
 
 use bim_model::{Shared, Steps};
@@ -29,7 +29,7 @@ pub struct OneThread {
 impl Model for OneThread {
     ghost use Rattle.std.specs.Prelude.{◌+◌};
     ghost use Rattle.book_history.specs.History.{IsBefore};
-    ghost use Rattle.bim_server.specs.Loop.{ServerState};
+    ghost use Rattle.bim_server.specs.Turns.{ServerState};
 
     ghost Value = { ServerState };
 
@@ -69,6 +69,13 @@ impl OneThread {
             turns: 0,
             room: Room::new(alloc),
         })
+    }
+
+    /// How many turns were taken.
+    pub fn turns(&self) -> u64
+        ensures { result ≡ self.now.turns }
+    {
+        self.turns
     }
 
     /// How many buckets of live versions are to be checked.

@@ -5,9 +5,12 @@ use crate::commands::{run, run_replay};
 use bim_files::MemFiles;
 use bim_io::{ListClock, MemClock, MemSink, MemSource, SureSink, SureSource};
 use bim_model::{Bytes, Items, Moment, Text};
+use bim_net::MemHost;
 use std::alloc::Global;
 use std::process::Abort;
+use std::sync::Wait;
 use std::test::Fail;
+use std::thread::Threads;
 
 const MADE_AND_LISTED: &[u8] =
     b"POST /bcf/3.0/projects/00000001-0000-8000-8000-000000000000/topics HTTP/1.1\r\nHost: h\r\nContent-Length: 16\r\n\r\n{\"title\":\"Pipe\"}GET /bcf/3.0/projects/00000001-0000-8000-8000-000000000000/topics HTTP/1.1\r\nHost: h\r\n\r\n";
@@ -96,11 +99,33 @@ fn a_session_goes_on_and_closes(rt: HostRuntime) -> Result<(), Fail> {
 }
 
 // A rule, two pipes ten millimetres apart at an edge of four cells, and the clashes of that version.
-const FOUND: &[u8] =
+pub(crate) const FOUND: &[u8] =
     b"PUT /coord/1/projects/00000001-0000-8000-8000-000000000000/rules HTTP/1.1\r\nHost: h\r\nContent-Length: 43\r\n\r\n{\"rules\":[{\"a\":\"*\",\"b\":\"*\",\"distance\":50}]}PUT /coord/1/projects/00000001-0000-8000-8000-000000000000/models/m HTTP/1.1\r\nHost: h\r\nContent-Length: 969\r\n\r\nISO-10303-21;\nHEADER;\nFILE_DESCRIPTION((''),'2;1');\nFILE_NAME('a.ifc','2024-05-01T12:00:00',(''),(''),'','','');\nFILE_SCHEMA(('IFC4'));\nENDSEC;\nDATA;\n#1=IFCPROJECT('0000000000000000000001',$,'P',$,$,$,$,(),#2);\n#2=IFCUNITASSIGNMENT((#3));\n#3=IFCSIUNIT(*,.LENGTHUNIT.,.MILLI.,.METRE.);\n#10=IFCCARTESIANPOINTLIST3D(((3950.,3950.,1500.),(4050.,3950.,1500.),(3950.,4050.,1500.)));\n#11=IFCTRIANGULATEDFACESET(#10,$,$,((1,2,3)),$);\n#12=IFCSHAPEREPRESENTATION($,'Body','Tessellation',(#11));\n#13=IFCPRODUCTDEFINITIONSHAPE($,$,(#12));\n#14=IFCPIPESEGMENT('0000000000000000000011',$,'0000000000000000000011',$,$,$,#13,$,$);\n#20=IFCCARTESIANPOINTLIST3D(((3950.,3950.,1510.),(4050.,3950.,1510.),(3950.,4050.,1510.)));\n#21=IFCTRIANGULATEDFACESET(#20,$,$,((1,2,3)),$);\n#22=IFCSHAPEREPRESENTATION($,'Body','Tessellation',(#21));\n#23=IFCPRODUCTDEFINITIONSHAPE($,$,(#22));\n#24=IFCPIPESEGMENT('0000000000000000000012',$,'0000000000000000000012',$,$,$,#23,$,$);\nENDSEC;\nEND-ISO-10303-21;\nGET /coord/1/projects/00000001-0000-8000-8000-000000000000/versions/2/clashes HTTP/1.1\r\nHost: h\r\n\r\n";
 
 const FOUND_ANSWERS: &[u8] =
     b"HTTP/1.1 200 OK\r\nContent-Type: application/json\r\nX-Book-Turn: 1\r\nContent-Length: 49\r\n\r\n{\"elements\":0,\"left\":0,\"triangles\":0,\"version\":1}HTTP/1.1 201 Created\r\nContent-Type: application/json\r\nX-Book-Turn: 2\r\nContent-Length: 49\r\n\r\n{\"elements\":2,\"left\":4,\"triangles\":2,\"version\":2}HTTP/1.1 200 OK\r\nContent-Type: application/json\r\nX-Book-Turn: 11\r\nContent-Length: 170\r\n\r\n{\"clashes\":[{\"a\":{\"guid\":\"0000000000000000000011\",\"model\":\"m\"},\"b\":{\"guid\":\"0000000000000000000012\",\"model\":\"m\"},\"distance\":50,\"rule\":0}],\"first\":0,\"total\":1,\"version\":2}";
+
+const FOUND_AGAIN: &[u8] =
+    b"GET /coord/1/projects/00000001-0000-8000-8000-000000000000/versions/2/clashes?first=1 HTTP/1.1\r\nHost: h\r\n\r\nGET /bcf/3.0/projects/00000001-0000-8000-8000-000000000000/topics HTTP/1.1\r\nHost: h\r\n\r\n";
+
+const FOUND_AGAIN_ANSWERS: &[u8] =
+    b"HTTP/1.1 200 OK\r\nContent-Type: application/json\r\nX-Book-Turn: 11\r\nContent-Length: 46\r\n\r\n{\"clashes\":[],\"first\":1,\"total\":1,\"version\":2}HTTP/1.1 200 OK\r\nContent-Type: application/json\r\nX-Book-Turn: 12\r\nContent-Length: 2\r\n\r\n[]";
+
+fn joined(alloc: Global, first: &[u8], second: &[u8]) -> Result<Vec<u8>, Fail> {
+    let mut bytes = Vec::new(alloc);
+    bytes.extend_from_slice(first)?;
+    bytes.extend_from_slice(second)?;
+    Ok(bytes)
+}
+
+// Clashes that were answered are answered again, also another part of them, without a turn; the next request takes one.
+#[test]
+fn clashes_are_answered_again_without_a_turn(rt: HostRuntime) -> Result<(), Fail> {
+    let alloc = rt.alloc();
+    let input = joined(alloc, FOUND, FOUND_AGAIN)?;
+    let output = joined(alloc, FOUND_ANSWERS, FOUND_AGAIN_ANSWERS)?;
+    assert_replays(&rt, alloc, 9, input.as_slice(), output.as_slice())
+}
 
 // All four buckets are checked, by eight turns, before the next request is read.
 #[test]
@@ -170,7 +195,7 @@ fn each_fault_of_the_outside_has_its_status(rt: HostRuntime) -> Result<(), Fail>
     assert_each_fails(&rt, alloc, 1_000_000, 2, 2)
 }
 
-fn words_of(alloc: Global, words: &[&str]) -> Result<Vec<Text>, Fail> {
+pub(crate) fn words_of(alloc: Global, words: &[&str]) -> Result<Vec<Text>, Fail> {
     let mut made = Vec::new(alloc);
     for word in words {
         made.push(Text::of(alloc, word)?)?;
@@ -179,8 +204,8 @@ fn words_of(alloc: Global, words: &[&str]) -> Result<Vec<Text>, Fail> {
 }
 
 // The status of the words over an empty input, and whether the usage line is printed.
-fn assert_words(
-    rt: &impl Abort,
+fn assert_words<R: Threads + Wait + Sync + Abort>(
+    rt: &R,
     alloc: Global,
     words: &[&str],
     status: u8,
@@ -191,15 +216,18 @@ fn assert_words(
     let mut sink = SureSink::new(alloc, 100)?;
     let mut clock = MemClock::new(0);
     let mut files = MemFiles::new(alloc, Vec::new(alloc), 100, Items::new(alloc))?;
-    let answered = run(
+    let mut host = MemHost::new(alloc, Vec::new(alloc), 0, Items::new(alloc));
+    let ended = run(
+        rt,
         alloc,
         words.as_slice(),
         &mut source,
         &mut sink,
         &mut files,
         &mut clock,
+        &mut host,
     );
-    assert_eq!(rt; answered, status);
+    assert_eq!(rt; ended.status, status);
     assert_eq!(rt; sink.bytes(), output);
     Ok(())
 }
@@ -227,6 +255,7 @@ fn words_outside_the_grammar_print_the_usage(rt: HostRuntime) -> Result<(), Fail
         0,
         b"elements 1\ntriangles 12\nclashes 0\n",
     )?;
-    assert_words(&rt, alloc, &["serve"], 2, usage)?;
+    assert_words(&rt, alloc, &["serve"], 0, b"")?;
+    assert_words(&rt, alloc, &["serve", "--lanes", "33"], 2, usage)?;
     assert_words(&rt, alloc, &[], 2, usage)
 }

@@ -55,7 +55,7 @@ fn time_said(text: Option<&str>) -> Option<Time>
     }
 }
 
-fn projects_said(text: Option<&str>) -> Option<u32>
+pub(crate) fn projects_said(text: Option<&str>) -> Option<u32>
     ensures said { result ≡ projects_said (option_map (λ s. s.now) text.entry) }
     ensures count { IfSome result IsCount }
 {

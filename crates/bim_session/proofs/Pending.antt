@@ -41,7 +41,7 @@ use Rattle.book_history.proofs.Live.{gone, live_length, live_at}
 use Rattle.book_history.proofs.States.{within, nothing_yet}
 use Rattle.book_history.proofs.Histories.{AreAbove, above_of, added_of}
 use Rattle.bim_session.specs.declared.end.SessionEnd.{SessionEnd}
-use Rattle.bim_session.specs.Works.{Standing, Gives, WorksOn, Works, WorksShort, IsEnough, left_behind, last_turn}
+use Rattle.bim_session.specs.Works.{Standing, Printed, Gives, WorksOn, Works, WorksShort, IsEnough, left_behind, last_turn}
 use Rattle.bim_session.specs.Session.{Asking, asking, TakesTurn, TakesIdly, TakesUnanswered, Answers, AnswersEvent, WorksBehind, Answered, Stop, Ends, IsNext, past}
 use Rattle.bim_session.specs.Replay.{beginning, IsPending, reply_at, NoneIsPending}
 use Rattle.bim_session.proofs.Sessions.{last_turn-append, on_last}
@@ -433,17 +433,18 @@ calm_turn a steps t are clear =
     subst (λ (ss : List Step). AreCalm a.standing.settings a.standing.history ss) (sym t.one)
     (calm_call a.standing.settings (at_turn t.step.stamp.turn a.standing.history) t.step.request none, tt)
 
-calm_answers : (a : Asking) (bytes : List ℕ) (steps : List Step) (printed : ℕ) → Answers a bytes steps printed → AreNumbered a.standing.last steps
+calm_answers : (a : Asking) (bytes : List ℕ) (steps : List Step) (printed : Printed) → Answers a bytes steps printed → AreNumbered a.standing.last steps
     → left_behind a.standing a.standing.last ≡ 0 → AreCalm a.standing.settings a.standing.history steps
 calm_answers a bytes steps printed (inl plain) are clear = calm_none a.standing.settings a.standing.history steps plain.none
-calm_answers a bytes steps printed (inr (inl booked)) are clear = calm_turn a steps booked.taken are clear
-calm_answers a bytes steps printed (inr (inr lacks)) are clear = of_kind lacks.idle
+calm_answers a bytes steps printed (inr (inl shelved)) are clear = calm_none a.standing.settings a.standing.history steps shelved.none
+calm_answers a bytes steps printed (inr (inr (inl booked))) are clear = calm_turn a steps booked.taken are clear
+calm_answers a bytes steps printed (inr (inr (inr lacks))) are clear = of_kind lacks.idle
   where
     of_kind : (steps ≡ []) ⊎ TakesIdly a steps → AreCalm a.standing.settings a.standing.history steps
     of_kind (inl none) = calm_none a.standing.settings a.standing.history steps none
     of_kind (inr idly) = calm_turn a steps idly.taken are clear
 
-calm_event : (s : Standing) (event : Event) (moments bytes : List ℕ) (steps : List Step) (printed : ℕ) → AnswersEvent s event moments bytes steps printed → AreNumbered s.last steps
+calm_event : (s : Standing) (event : Event) (moments bytes : List ℕ) (steps : List Step) (printed : Printed) → AnswersEvent s event moments bytes steps printed → AreNumbered s.last steps
     → left_behind s s.last ≡ 0 → AreCalm s.settings s.history steps
 calm_event s frame.continue moments bytes steps printed answers are clear = calm_none s.settings s.history steps answers.2
 calm_event s (frame.request r) moments bytes steps printed answers are clear = calm_answers (asking s answers.0 r) bytes steps printed answers.2 are clear
@@ -496,7 +497,7 @@ clear_works s steps all works =
     none_left (Some most) e enough = cc
 
 -- the answer to a request takes the next turn at most, and where nothing was left before it the work behind it leaves nothing
-clear_event : (s : Standing) (event : Event) (own work : List Step) (printed : ℕ) (moments bytes : List ℕ) → s.buckets ≡ None → left_behind s s.last ≡ 0
+clear_event : (s : Standing) (event : Event) (own work : List Step) (printed : Printed) (moments bytes : List ℕ) → s.buckets ≡ None → left_behind s s.last ≡ 0
     → AnswersEvent s event moments bytes own printed → WorksBehind (past s event own printed) event work → IsClear (past s event own printed) work
 clear_event s frame.continue own work printed moments bytes all clear answers works = record {
   calm = calm_none s.settings s.history work works;
@@ -504,7 +505,7 @@ clear_event s frame.continue own work printed moments bytes all clear answers wo
 }
 clear_event s (frame.request r) own work printed moments bytes all clear answers works = clear_works (past s (frame.request r) own printed) work all works
 
-answered_clear : (s : Standing) (events : List Event) (moments out : List ℕ) (steps : List Step) (printed : ℕ) → Answered s events moments out steps printed → s.buckets ≡ None
+answered_clear : (s : Standing) (events : List Event) (moments out : List ℕ) (steps : List Step) (printed : Printed) → Answered s events moments out steps printed → s.buckets ≡ None
     → AreNumbered s.last steps → left_behind s s.last ≡ 0 → IsClear s steps
 answered_clear s [] moments out steps printed answered all are clear = record {
   calm = calm_none s.settings s.history steps answered.2;
@@ -545,7 +546,8 @@ ends_calm stop e (inr (inr (inr (inr (inl x))))) all are clear = of_next x.2.2
     of_next (inr (fault, answers)) = calm_none stop.standing.settings stop.standing.history stop.steps answers.3
 ends_calm stop e (inr (inr (inr (inr (inr (inl x)))))) all are clear = calm_none stop.standing.settings stop.standing.history stop.steps x.3.3
 ends_calm stop e (inr (inr (inr (inr (inr (inr (inl x))))))) all are clear = calm_none stop.standing.settings stop.standing.history stop.steps x.2.2
-ends_calm stop e (inr (inr (inr (inr (inr (inr (inr (inl x)))))))) all are clear = of_memory x.3
+ends_calm stop e (inr (inr (inr (inr (inr (inr (inr (inl x)))))))) all are clear = calm_none stop.standing.settings stop.standing.history stop.steps x.3
+ends_calm stop e (inr (inr (inr (inr (inr (inr (inr (inr (inl x))))))))) all are clear = of_memory x.3
   where
     of_memory : ((stop.moments ≡ []) × (stop.steps ≡ [])) ⊎ TakesUnanswered stop → AreCalm stop.standing.settings stop.standing.history stop.steps
     of_memory (inl none) = calm_none stop.standing.settings stop.standing.history stop.steps none.1
@@ -554,7 +556,7 @@ ends_calm stop e (inr (inr (inr (inr (inr (inr (inr (inl x)))))))) all are clear
         of_kind : (stop.steps ≡ []) ⊎ TakesTurn (asking stop.standing taken.moment taken.request) stop.steps → AreCalm stop.standing.settings stop.standing.history stop.steps
         of_kind (inl none) = calm_none stop.standing.settings stop.standing.history stop.steps none
         of_kind (inr turn) = calm_turn (asking stop.standing taken.moment taken.request) stop.steps turn are clear
-ends_calm stop e (inr (inr (inr (inr (inr (inr (inr (inr x)))))))) all are clear =
+ends_calm stop e (inr (inr (inr (inr (inr (inr (inr (inr (inr x))))))))) all are clear =
     let numbered = numbered_split stop.standing.last x.own x.work (subst (λ (ss : List Step). AreNumbered stop.standing.last ss) x.steps_are are) in
     subst (λ (ss : List Step). AreCalm stop.standing.settings stop.standing.history ss) (sym x.steps_are)
     (calm_append stop.standing.settings stop.standing.history x.own x.work

@@ -6,16 +6,35 @@ use Rattle.http_frame.specs.Events.{Event}
 use Rattle.http_frame.specs.Events as frame
 use Rattle.book_history.specs.declared.limits.Settings.{Settings}
 use Rattle.book_history.specs.declared.changes.Entry.{Entry}
-use Rattle.book_history.specs.History.{at_turn, of_turn, left_all, IsBefore}
+use Rattle.book_turn.specs.declared.object.Stamp.{Stamp}
+use Rattle.book_history.specs.declared.requests.BookRequest.TheVariants.{ReadClashes}
+use Rattle.book_history.specs.declared.requests.Wanted.TheVariants.{Number}
+use Rattle.book_history.specs.History.{at_turn, of_turn, newest_of, left_all, IsBefore}
 use Rattle.book_history.specs.Requests.{reply_of, added_by}
 use Rattle.book_history.specs.Runs.{Step, Runs}
 use Rattle.book_history.proofs.Histories.{AreAbove, AreOf, added_of, at_turn-grown, of_turn-grown, at_turn-new, of_turn-new}
 use Rattle.bcf_http.specs.declared.answers.Answer.TheVariants as answer
-use Rattle.bim_session.specs.Works.{Standing, IsTaken, Gives, WorksOne, WorksOn, Works, IsEnough, left_behind, last_turn}
-use Rattle.bim_session.specs.Session.{Asking, asking, TakesTurn, IsResponseTo, IsBooked, TakesIdly, Answers, AnswersEvent, WorksBehind, AnswersFirst, Answered, counted, requests, closes, is_closed, past, behind}
+use Rattle.bim_session.specs.Works.{Standing, Printed, IsTaken, Gives, WorksOne, WorksOn, Works, IsEnough, left_behind, last_turn}
+use Rattle.bim_session.specs.Session.{Asking, asking, TakesTurn, IsResponseTo, IsKept, IsShelved, IsBooked, TakesIdly, up_to_printed, printed_after, Answers, AnswersEvent, WorksBehind, AnswersFirst, Answered, counted, requests, closes, is_closed, past, behind}
 use Rattle.bim_session.proofs.Reading.{or_false}
 
 -- ---- later entries
+
+none_up_to : (t top : ℕ) (es : List Entry) → t ≤ top + 1 → AreAbove top es → filter (λ (e : Entry). nat_lt e.stamp.turn t) es ≡ []
+none_up_to t top [] le above = refl
+none_up_to t top (e ∷ es) le above =
+    let rest = none_up_to t top es le above.1 in
+    let late : top < e.stamp.turn = above.0 in
+    grind (arith, nat_tests, rest, late, le)
+
+-- what comes later changes nothing of the entries up to an earlier turn
+pub up_to_grown : (turn top : ℕ) (h more : List Entry) → turn ≤ top → AreAbove top more → at_turn (turn + 1) (h ++ more) ≡ at_turn (turn + 1) h
+unfolding at_turn
+up_to_grown turn top h more le above =
+    let le' : turn + 1 ≤ top + 1 = omega (arith, le) in
+    filter-append (λ (e : Entry). nat_lt e.stamp.turn (turn + 1)) h more
+    ∙ ap (λ es. filter (λ (e : Entry). nat_lt e.stamp.turn (turn + 1)) h ++ es) (none_up_to (turn + 1) top more le' above)
+    ∙ append-nil (filter (λ (e : Entry). nat_lt e.stamp.turn (turn + 1)) h)
 
 -- the same standing, where the history went on by these entries and turns up to a later one were taken
 abbrev pub grown : List Entry → ℕ → Standing → Standing
@@ -44,15 +63,66 @@ turn_grown a more top steps t le above = record {
   taken = taken_grown a.standing more top t.step t.taken le above;
 }
 
-booked_grown : (a : Asking) (more : List Entry) (top : ℕ) (bytes : List ℕ) (steps : List Step) (printed : ℕ) → IsBooked a bytes steps printed → a.standing.top ≤ top
-    → AreAbove a.standing.top more → IsBooked (grown_asking more top a) bytes steps printed
+-- .. nor of what was printed before them
+printed_grown : (s : Standing) (more : List Entry) (top : ℕ) → s.printed.turn ≤ s.top → AreAbove s.top more
+    → up_to_printed (grown more top s) ≡ up_to_printed s
+printed_grown s more top le above = up_to_grown s.printed.turn s.top s.history more le above
+
+-- a request asks for clashes that are kept whatever comes later
+kept_grown : (a : Asking) (more : List Entry) (top : ℕ) → a.standing.printed.turn ≤ a.standing.top → AreAbove a.standing.top more → IsKept a
+    → IsKept (grown_asking more top a)
+kept_grown a more top le above k = record {
+  id = k.id;
+  project = k.project;
+  version = k.version;
+  first = k.first;
+  count = k.count;
+  means = k.means;
+  named = k.named;
+  answered = k.answered;
+  live = subst (λ (es : List Entry). newest_of k.project es < k.version + 16) (sym (printed_grown a.standing more top le above)) k.live;
+}
+
+pub kept_before : (a : Asking) (more : List Entry) (top : ℕ) → a.standing.printed.turn ≤ a.standing.top → AreAbove a.standing.top more
+    → IsKept (grown_asking more top a) → IsKept a
+kept_before a more top le above k = record {
+  id = k.id;
+  project = k.project;
+  version = k.version;
+  first = k.first;
+  count = k.count;
+  means = k.means;
+  named = k.named;
+  answered = k.answered;
+  live = subst (λ (es : List Entry). newest_of k.project es < k.version + 16) (printed_grown a.standing more top le above) k.live;
+}
+
+shelved_grown : (a : Asking) (more : List Entry) (top : ℕ) (bytes : List ℕ) (steps : List Step) (printed : Printed) → IsShelved a bytes steps printed
+    → a.standing.printed.turn ≤ a.standing.top → AreAbove a.standing.top more → IsShelved (grown_asking more top a) bytes steps printed
+unfolding kept_grown
+shelved_grown a more top bytes steps printed s le above = record {
+  kept = kept_grown a more top le above s.kept;
+  response = λ (stamp : Stamp).
+      subst (λ (es : List Entry). IsResponseTo a
+      (answer.Book (reply_of a.standing.settings es stamp (ReadClashes s.kept.id (Number s.kept.version) s.kept.first s.kept.count)))
+      (Some a.standing.printed.turn) bytes)
+      (sym (printed_grown a.standing more top le above)) (s.response stamp);
+  none = s.none;
+  printed_is = s.printed_is;
+}
+
+booked_grown : (a : Asking) (more : List Entry) (top : ℕ) (bytes : List ℕ) (steps : List Step) (printed : Printed) → IsBooked a bytes steps printed → a.standing.printed.turn ≤ a.standing.top
+    → a.standing.top ≤ top → AreAbove a.standing.top more → IsBooked (grown_asking more top a) bytes steps printed
 unfolding turn_grown
-booked_grown a more top bytes steps printed b le above = record {
-  taken = turn_grown a more top steps b.taken le above;
+booked_grown a more top bytes steps printed b le up above = record {
+  unkept = λ kept. b.unkept (kept_before a more top le above kept);
+  taken = turn_grown a more top steps b.taken up above;
   response = subst (λ (es : List Entry). IsResponseTo a (answer.Book (reply_of a.standing.settings es b.taken.step.stamp b.taken.step.request)) (Some b.taken.step.stamp.turn) bytes)
       (sym (at_turn-grown b.taken.step.stamp.turn a.standing.top a.standing.history more b.taken.taken.within above)) b.response;
   above = b.above;
-  printed_is = b.printed_is;
+  printed_is = b.printed_is
+      ∙ ap (λ (es : List Entry). printed_after b.taken.step (reply_of a.standing.settings es b.taken.step.stamp b.taken.step.request) a.standing.printed)
+      (sym (at_turn-grown b.taken.step.stamp.turn a.standing.top a.standing.history more b.taken.taken.within above));
 }
 
 idly_grown : (a : Asking) (more : List Entry) (top : ℕ) (steps : List Step) → TakesIdly a steps → a.standing.top ≤ top → AreAbove a.standing.top more
@@ -63,41 +133,40 @@ idly_grown a more top steps t le above = record {
   idle = of_turn-grown t.taken.step.stamp.turn a.standing.top a.standing.history more t.taken.taken.within above ∙ t.idle;
 }
 
-answers_grown : (a : Asking) (more : List Entry) (top : ℕ) (bytes : List ℕ) (steps : List Step) (printed : ℕ) → Answers a bytes steps printed → a.standing.top ≤ top
-    → AreAbove a.standing.top more → Answers (grown_asking more top a) bytes steps printed
-answers_grown a more top bytes steps printed (inl plain) le above =
+answers_grown : (a : Asking) (more : List Entry) (top : ℕ) (bytes : List ℕ) (steps : List Step) (printed : Printed) → Answers a bytes steps printed
+    → a.standing.printed.turn ≤ a.standing.top → a.standing.top ≤ top → AreAbove a.standing.top more → Answers (grown_asking more top a) bytes steps printed
+answers_grown a more top bytes steps printed (inl plain) le up above =
     inl (record { refusal = plain.refusal; refused = plain.refused; response = plain.response; none = plain.none; printed_is = plain.printed_is })
-answers_grown a more top bytes steps printed (inr (inl booked)) le above = inr (inl (booked_grown a more top bytes steps printed booked le above))
-answers_grown a more top bytes steps printed (inr (inr lacks)) le above =
-    inr (inr (record { response = lacks.response; idle = idle_grown lacks.idle; printed_is = lacks.printed_is }))
+answers_grown a more top bytes steps printed (inr (inl shelved)) le up above = inr (inl (shelved_grown a more top bytes steps printed shelved le above))
+answers_grown a more top bytes steps printed (inr (inr (inl booked))) le up above = inr (inr (inl (booked_grown a more top bytes steps printed booked le up above)))
+answers_grown a more top bytes steps printed (inr (inr (inr lacks))) le up above =
+    inr (inr (inr (record { response = lacks.response; idle = idle_grown lacks.idle; printed_is = lacks.printed_is })))
   where
     idle_grown : (steps ≡ []) ⊎ TakesIdly a steps → (steps ≡ []) ⊎ TakesIdly (grown_asking more top a) steps
     idle_grown (inl none) = inl none
-    idle_grown (inr idly) = inr (idly_grown a more top steps idly le above)
+    idle_grown (inr idly) = inr (idly_grown a more top steps idly up above)
 
-pub event_grown : (s : Standing) (more : List Entry) (top : ℕ) (event : Event) (moments bytes : List ℕ) (steps : List Step) (printed : ℕ)
-    → AnswersEvent s event moments bytes steps printed → s.top ≤ top → AreAbove s.top more → AnswersEvent (grown more top s) event moments bytes steps printed
-event_grown s more top frame.continue moments bytes steps printed answers le above = answers
-event_grown s more top (frame.request r) moments bytes steps printed answers le above =
-    (answers.0, answers.1, answers_grown (asking s answers.0 r) more top bytes steps printed answers.2 le above)
+pub event_grown : (s : Standing) (more : List Entry) (top : ℕ) (event : Event) (moments bytes : List ℕ) (steps : List Step) (printed : Printed)
+    → AnswersEvent s event moments bytes steps printed → s.printed.turn ≤ s.top → s.top ≤ top → AreAbove s.top more
+    → AnswersEvent (grown more top s) event moments bytes steps printed
+event_grown s more top frame.continue moments bytes steps printed answers le up above = answers
+event_grown s more top (frame.request r) moments bytes steps printed answers le up above =
+    (answers.0, answers.1, answers_grown (asking s answers.0 r) more top bytes steps printed answers.2 le up above)
+
+-- the turn that is printed last isn't above the top
+answers_printed : (a : Asking) (bytes : List ℕ) (steps : List Step) (printed : Printed) → Answers a bytes steps printed → a.standing.printed.turn ≤ a.standing.top
+    → printed.turn ≤ a.standing.top
+answers_printed a bytes steps printed (inl plain) le = rw plain.printed_is le
+answers_printed a bytes steps printed (inr (inl shelved)) le = rw shelved.printed_is le
+answers_printed a bytes steps printed (inr (inr (inl booked))) le = rw booked.printed_is booked.taken.taken.within
+answers_printed a bytes steps printed (inr (inr (inr lacks))) le = rw lacks.printed_is le
+
+pub event_printed : (s : Standing) (event : Event) (moments bytes : List ℕ) (steps : List Step) (printed : Printed) → AnswersEvent s event moments bytes steps printed
+    → s.printed.turn ≤ s.top → printed.turn ≤ s.top
+event_printed s frame.continue moments bytes steps printed answers le = rw answers.3 le
+event_printed s (frame.request r) moments bytes steps printed answers le = answers_printed (asking s answers.0 r) bytes steps printed answers.2 le
 
 -- ---- later entries and the work on buckets
-
-none_up_to : (t top : ℕ) (es : List Entry) → t ≤ top + 1 → AreAbove top es → filter (λ (e : Entry). nat_lt e.stamp.turn t) es ≡ []
-none_up_to t top [] le above = refl
-none_up_to t top (e ∷ es) le above =
-    let rest = none_up_to t top es le above.1 in
-    let late : top < e.stamp.turn = above.0 in
-    grind (arith, nat_tests, rest, late, le)
-
--- what comes later changes nothing of the entries up to an earlier turn
-up_to_grown : (turn top : ℕ) (h more : List Entry) → turn ≤ top → AreAbove top more → at_turn (turn + 1) (h ++ more) ≡ at_turn (turn + 1) h
-unfolding at_turn
-up_to_grown turn top h more le above =
-    let le' : turn + 1 ≤ top + 1 = omega (arith, le) in
-    filter-append (λ (e : Entry). nat_lt e.stamp.turn (turn + 1)) h more
-    ∙ ap (λ es. filter (λ (e : Entry). nat_lt e.stamp.turn (turn + 1)) h ++ es) (none_up_to (turn + 1) top more le' above)
-    ∙ append-nil (filter (λ (e : Entry). nat_lt e.stamp.turn (turn + 1)) h)
 
 left_grown : (s : Standing) (more : List Entry) (top turn : ℕ) → turn ≤ s.top → AreAbove s.top more → left_behind (grown more top s) turn ≡ left_behind s turn
 left_grown s more top turn le above = ap (λ es. left_all s.settings.projects es) (up_to_grown turn s.top s.history more le above)
@@ -177,17 +246,18 @@ on_last s last (suc count) steps works =
 turn_last : (a : Asking) (steps : List Step) → TakesTurn a steps → last_turn a.standing.last steps ≤ a.standing.top
 turn_last a steps t = rw t.one t.taken.within
 
-answers_last : (a : Asking) (bytes : List ℕ) (steps : List Step) (printed : ℕ) → Answers a bytes steps printed → a.standing.last ≤ a.standing.top
+answers_last : (a : Asking) (bytes : List ℕ) (steps : List Step) (printed : Printed) → Answers a bytes steps printed → a.standing.last ≤ a.standing.top
     → last_turn a.standing.last steps ≤ a.standing.top
 answers_last a bytes steps printed (inl plain) le = rw plain.none le
-answers_last a bytes steps printed (inr (inl booked)) le = turn_last a steps booked.taken
-answers_last a bytes steps printed (inr (inr lacks)) le = idle_last lacks.idle
+answers_last a bytes steps printed (inr (inl shelved)) le = rw shelved.none le
+answers_last a bytes steps printed (inr (inr (inl booked))) le = turn_last a steps booked.taken
+answers_last a bytes steps printed (inr (inr (inr lacks))) le = idle_last lacks.idle
   where
     idle_last : (steps ≡ []) ⊎ TakesIdly a steps → last_turn a.standing.last steps ≤ a.standing.top
     idle_last (inl none) = rw none le
     idle_last (inr idly) = turn_last a steps idly.taken
 
-pub event_last : (s : Standing) (event : Event) (moments bytes : List ℕ) (steps : List Step) (printed : ℕ) → AnswersEvent s event moments bytes steps printed → s.last ≤ s.top
+pub event_last : (s : Standing) (event : Event) (moments bytes : List ℕ) (steps : List Step) (printed : Printed) → AnswersEvent s event moments bytes steps printed → s.last ≤ s.top
     → last_turn s.last steps ≤ s.top
 event_last s frame.continue moments bytes steps printed answers le = rw answers.2 le
 event_last s (frame.request r) moments bytes steps printed answers le = answers_last (asking s answers.0 r) bytes steps printed answers.2 le
@@ -208,8 +278,9 @@ first_last s event events moments out steps first le =
     rw (last_turn-append s.last first.own first.work) work
 
 first_grown : (s : Standing) (more : List Entry) (top : ℕ) (event : Event) (events : List Event) (moments out : List ℕ) (steps : List Step)
-    → AnswersFirst s event events moments out steps → s.last ≤ s.top → s.top ≤ top → AreAbove s.top more → AnswersFirst (grown more top s) event events moments out steps
-first_grown s more top event events moments out steps first last le above = record {
+    → AnswersFirst s event events moments out steps → s.last ≤ s.top → s.printed.turn ≤ s.top → s.top ≤ top → AreAbove s.top more
+    → AnswersFirst (grown more top s) event events moments out steps
+first_grown s more top event events moments out steps first last le up above = record {
   asked = first.asked;
   after = first.after;
   bytes = first.bytes;
@@ -221,24 +292,26 @@ first_grown s more top event events moments out steps first last le above = reco
   moments_are = first.moments_are;
   out_is = first.out_is;
   steps_are = first.steps_are;
-  answers = event_grown s more top event first.asked first.bytes first.own first.printed first.answers le above;
+  answers = event_grown s more top event first.asked first.bytes first.own first.printed first.answers le up above;
   works = behind_grown (past s event first.own first.printed) more top event first.work
-      (event_last s event first.asked first.bytes first.own first.printed first.answers last) first.works le above;
+      (event_last s event first.asked first.bytes first.own first.printed first.answers last) first.works up above;
   closing = first.closing;
 }
 
-pub Answered_grown : (s : Standing) (more : List Entry) (top : ℕ) (events : List Event) (moments out : List ℕ) (steps : List Step) (printed : ℕ)
-    → Answered s events moments out steps printed → s.last ≤ s.top → s.top ≤ top → AreAbove s.top more → Answered (grown more top s) events moments out steps printed
+pub Answered_grown : (s : Standing) (more : List Entry) (top : ℕ) (events : List Event) (moments out : List ℕ) (steps : List Step) (printed : Printed)
+    → Answered s events moments out steps printed → s.last ≤ s.top → s.printed.turn ≤ s.top → s.top ≤ top → AreAbove s.top more
+    → Answered (grown more top s) events moments out steps printed
 unfolding first_grown
-Answered_grown s more top [] moments out steps printed answered last le above = answered
-Answered_grown s more top (event ∷ events) moments out steps printed answered last le above = (
-  first_grown s more top event events moments out steps answered.0 last le above,
-  Answered_grown (past s event (answered.0.own ++ answered.0.work) answered.0.printed) more top events answered.0.after answered.0.later answered.0.others printed answered.1
-      (first_last s event events moments out steps answered.0 last) le above,
-)
+Answered_grown s more top [] moments out steps printed answered last le up above = answered
+Answered_grown s more top (event ∷ events) moments out steps printed answered last le up above =
+    let first = answered.0 in (
+      first_grown s more top event events moments out steps answered.0 last le up above,
+      Answered_grown (past s event (first.own ++ first.work) first.printed) more top events first.after first.later first.others printed answered.1
+          (first_last s event events moments out steps first last) (event_printed s event first.asked first.bytes first.own first.printed first.answers le) up above,
+    )
 
 -- the answered events took no turn above the top
-pub answered_last : (s : Standing) (events : List Event) (moments out : List ℕ) (steps : List Step) (printed : ℕ) → Answered s events moments out steps printed → s.last ≤ s.top
+pub answered_last : (s : Standing) (events : List Event) (moments out : List ℕ) (steps : List Step) (printed : Printed) → Answered s events moments out steps printed → s.last ≤ s.top
     → last_turn s.last steps ≤ s.top
 answered_last s [] moments out steps printed answered le = rw answered.2 le
 answered_last s (event ∷ events) moments out steps printed answered le =
@@ -249,15 +322,15 @@ answered_last s (event ∷ events) moments out steps printed answered le =
 
 -- ---- one more event
 
-same_standing : (s : Standing) (l k p q n m : ℕ) → l ≡ k → p ≡ q → n ≡ m
+same_standing : (s : Standing) (l k : ℕ) (p q : Printed) (n m : ℕ) → l ≡ k → p ≡ q → n ≡ m
     → (let a : Standing = record s { last = l; printed = p; served = n } in a) ≡ record s { last = k; printed = q; served = m }
 same_standing s l k p q n m e c d = λ i. record s { last = e i; printed = c i; served = d i }
 
-behind_none : (s : Standing) (steps : List Step) (printed : ℕ) → steps ≡ [] → printed ≡ s.printed → behind s [] steps printed ≡ s
+behind_none : (s : Standing) (steps : List Step) (printed : Printed) → steps ≡ [] → printed ≡ s.printed → behind s [] steps printed ≡ s
 behind_none s steps printed none same =
     same_standing s (last_turn s.last steps) s.last printed s.printed (s.served + 0) s.served (ap (λ ss. last_turn s.last ss) none) same (omega arith)
 
-behind_past : (s : Standing) (event : Event) (events : List Event) (steps own others : List Step) (first printed : ℕ) → steps ≡ own ++ others
+behind_past : (s : Standing) (event : Event) (events : List Event) (steps own others : List Step) (first printed : Printed) → steps ≡ own ++ others
     → behind s (event ∷ events) steps printed ≡ behind (past s event own first) events others printed
 behind_past s event events steps own others first printed are =
     same_standing s (last_turn s.last steps) (last_turn (last_turn s.last own) others) printed printed (s.served + (counted event + requests events))
@@ -265,8 +338,8 @@ behind_past s event events steps own others first printed are =
     (sym (add_assoc s.served (counted event) (requests events)))
 
 -- one more event is answered after the others, behind which the connection was not closed, and the work behind it is done
-pub Answered_push : (s : Standing) (events : List Event) (moments out : List ℕ) (steps : List Step) (printed : ℕ)
-    (event : Event) (asked bytes : List ℕ) (own work : List Step) (last : ℕ)
+pub Answered_push : (s : Standing) (events : List Event) (moments out : List ℕ) (steps : List Step) (printed : Printed)
+    (event : Event) (asked bytes : List ℕ) (own work : List Step) (last : Printed)
     → Answered s events moments out steps printed → is_closed s.served events ≡ false → AnswersEvent (behind s events steps printed) event asked bytes own last
     → WorksBehind (past (behind s events steps printed) event own last) event work
     → Answered s (events ++ event ∷ []) (moments ++ asked) (out ++ bytes) (steps ++ (own ++ work)) last

@@ -10,15 +10,20 @@ use Rattle.http_frame.specs.Framers.{Stands, Answered}
 use Rattle.bim_io.specs.Seen.{ClockSeen, ClockGives}
 use Rattle.bim_io.proofs.Calls.{clock_none}
 use Rattle.bcf_http.specs.declared.calls.ReplyKind.{ReplyKind}
+use Rattle.book_history.specs.declared.requests.BookRequest.{BookRequest}
+use Rattle.book_history.specs.declared.replies.BookReply.{BookReply}
 use Rattle.bcf_http.specs.declared.answers.Answer.{Answer}
+use Rattle.bcf_http.specs.declared.answers.Answer.TheVariants as answer
 use Rattle.bcf_http.specs.Calls.{kind_of}
 use Rattle.bcf_http.specs.Answers.{IsResponse}
 use Rattle.bim_session.specs.declared.end.SessionEnd.{SessionEnd}
 use Rattle.bim_session.specs.declared.want.Waiting.{Waiting}
 use Rattle.bim_session.specs.declared.want.Want.{Want}
 use Rattle.bim_session.specs.declared.want.Want.TheVariants.{More, Write, Call, Leave}
+use Rattle.bim_session.specs.declared.notes.Notes.{Notes}
+use Rattle.bim_session.specs.Notes.{project_read, IsKeptReply}
 use Rattle.bim_session.specs.Session.{closes_after, continue_bytes, IsFaultResponse}
-use Rattle.bim_session.specs.Talking.{TalkState, IsOwnLeaving, IsOwnWant, GrowsBy, Feeds, is_end, Wants, StopsNext, TakesRequest, Writes, WantsFor, AtRest, waiting_for, with_answer, with_call, with_fault, with_framer, asks_change, IsUnasked, AnswersAlone}
+use Rattle.bim_session.specs.Talking.{TalkState, IsOwnEnd, IsOwnLeaving, IsOwnWant, GrowsBy, Feeds, is_end, Wants, StopsNext, TakesRequest, Writes, WantsFor, AtRest, AsksFor, waiting_for, with_answer, with_call, with_fault, with_framer, asks_change, IsUnasked, AnswersAlone}
 
 pub none_of : (o : Option SessionEnd) → ((e : SessionEnd) → o ≡ Some e → ⊥) → o ≡ None
 none_of None not_some = refl
@@ -30,6 +35,16 @@ leave_is a b e = cc
 -- a talk that leaves does so by an end of its own
 pub own_leaving : (leaving : Option SessionEnd) (e : SessionEnd) → IsOwnLeaving leaving → leaving ≡ Some e → IsOwnWant (Leave e)
 own_leaving leaving e own is = λ n. (λ w. (own n).0 (is ∙ ap Some (leave_is e _ w)), λ w. (own n).1 (is ∙ ap Some (leave_is e _ w)))
+
+some_is : (a b : SessionEnd) → Some a ≡ Some b → a ≡ b
+some_is a b e = cc
+
+pub some_none : (a : SessionEnd) → Some a ≡ None → ⊥
+some_none a e = cc
+
+-- .. to which it comes by such an end
+pub own_some : (e : SessionEnd) → IsOwnEnd e → IsOwnLeaving (Some e)
+own_some e own = λ n. (λ is. (own n).0 (some_is e _ is), λ is. (own n).1 (some_is e _ is))
 
 -- ---- what a framer stands for
 
@@ -124,7 +139,7 @@ requested : (old new : TalkState) (f : Framer) (m : ℕ) (r : HttpRequest) (want
     → WantsFor m r (with_framer f old) want new → Wants a b old want new
 requested old new f m r More a b here steps gives wants = absurd wants
 requested old new f m r (Call call) a b here steps gives wants = λ rest told stands.
-    let same : new.framer ≡ f = ap (λ (s : TalkState). s.framer) wants.1 in (
+    let same : new.framer ≡ f = ap (λ (s : TalkState). s.framer) wants.2 in (
       m ∷ [],
       gives,
       (
@@ -132,7 +147,9 @@ requested old new f m r (Call call) a b here steps gives wants = λ rest told st
         (
           took m r f new.framer rest told (steps rest told stands) same,
           wants.0,
-          wants.1 ∙ ap (λ (g : Framer). with_call (waiting_for r (old.served + 1) (asks_change call)) (with_framer g old)) (sym same),
+          wants.1,
+          wants.2
+              ∙ ap (λ (g : Framer). with_call (waiting_for r (old.served + 1) (asks_change call) (project_read call)) (with_framer g old)) (sym same),
         ),
       ),
     )
@@ -168,7 +185,7 @@ alone_of m r refusal waiting bytes (inr is) response = inr (subst (λ (a : Answe
 refuses : (m : ℕ) (r : HttpRequest) (refusal : Answer) (old new : TalkState) (want : Want) → IsUnasked m r refusal
     → Writes (IsResponse refusal (kind_of r) None (closes_after r (old.served + 1))) want → new ≡ with_answer (closes_after r (old.served + 1)) old → WantsFor m r old want new
 refuses m r refusal old new More unasked writes is = absurd writes
-refuses m r refusal old new (Write bytes) unasked writes is = (alone_of m r refusal (waiting_for r (old.served + 1) false) bytes unasked writes, is)
+refuses m r refusal old new (Write bytes) unasked writes is = (inl (alone_of m r refusal (waiting_for r (old.served + 1) false None) bytes unasked writes), is)
 refuses m r refusal old new (Call call) unasked writes is = absurd writes
 refuses m r refusal old new (Leave e) unasked writes is = absurd writes
 
@@ -188,6 +205,24 @@ wants_refusal m r refusal old new kind close result kind_is close_is unasked wri
     refuses_on m r refusal old new result unasked
     (subst (λ (k : ReplyKind). IfOk result (Writes (IsResponse refusal k None (closes_after r (old.served + 1))))) kind_is closing)
     (subst (λ (b : Bool). OnOk result (new ≡ with_answer b old)) close_is is)
+
+-- ---- a request that asks for what is kept
+
+kept_write : (waiting : Waiting) (call : BookRequest) (old new : TalkState) (kept : BookReply) (want : Want) → IsKeptReply old.notes call kept
+    → Writes (IsResponse (answer.Book kept) waiting.kind (Some old.notes.turn) waiting.close) want → new ≡ with_answer waiting.close old → AsksFor waiting call old want new
+kept_write waiting call old new kept More is writes state = absurd writes
+kept_write waiting call old new kept (Write bytes) is writes state = ((kept, is, writes), state)
+kept_write waiting call old new kept (Call other) is writes state = absurd writes
+kept_write waiting call old new kept (Leave e) is writes state = absurd writes
+
+-- its answer
+pub asks_kept : (waiting : Waiting) (call : BookRequest) (old new : TalkState) (notes : Notes) (kept : BookReply) (result : Result Want AllocError) → notes ≡ old.notes
+    → IsKeptReply notes call kept → IfOk result (Writes (IsResponse (answer.Book kept) waiting.kind (Some notes.turn) waiting.close))
+    → OnOk result (new ≡ with_answer waiting.close old) → IfOk result (λ want. AsksFor waiting call old want new)
+asks_kept waiting call old new notes kept (Ok want) same is writes state =
+    kept_write waiting call old new kept want (subst (λ (n : Notes). IsKeptReply n call kept) same is)
+    (subst (λ (n : Notes). Writes (IsResponse (answer.Book kept) waiting.kind (Some n.turn) waiting.close) want) same writes) state
+asks_kept waiting call old new notes kept (Err e) same is writes state = tt
 
 -- ---- want of memory
 

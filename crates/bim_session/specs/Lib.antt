@@ -1,3 +1,4 @@
+pub mod Notes
 pub mod Works
 pub mod Session
 pub mod Replay

@@ -14,7 +14,7 @@ use Rattle.book_history.specs.Requests.{reply_of}
 use Rattle.book_history.specs.Runs.{Step, IsRun, IsOneThread}
 use Rattle.bim_session.specs.declared.talk.TheConstants.{MOST_READ}
 use Rattle.bim_session.specs.declared.end.SessionEnd.{SessionEnd}
-use Rattle.bim_session.specs.declared.end.SessionEnd.TheVariants.{Closed, Asked, Cut, ReadFault, WriteFault, Frame, Spent, Memory}
+use Rattle.bim_session.specs.declared.end.SessionEnd.TheVariants.{Closed, Asked, Cut, ReadFault, WriteFault, Frame, Spent, SpentTurns, Memory}
 use Rattle.bim_session.specs.Works.{Standing}
 use Rattle.bim_session.specs.Session.{Session, Reads}
 
@@ -38,7 +38,7 @@ beginning settings buckets history top = record {
   history = history;
   buckets = buckets;
   last = 0;
-  printed = 0;
+  printed = record { turn = 0; sets = [] };
   top = top;
   served = 0;
 }
@@ -109,6 +109,7 @@ status_of (ReadFault n) = 4
 status_of (WriteFault n) = 5
 status_of (Frame n fault) = 7
 status_of (Spent n) = 7
+status_of (SpentTurns n) = 7
 status_of (Memory n) = 6
 
 -- ---- whole clashes

@@ -1,5 +1,5 @@
 -- A session: what is written for the bytes that one connection gives, at the turns of one history (RFC 9112).
-use Rattle.std.specs.Prelude.{◌≡◌, ◌≢◌, ◌⊎◌, ℕ, ◌+◌, ◌<◌, ◌==◌, ◌||◌, ◌++◌, List, [], ◌∷◌, Bool, true, false, Option, Some, None, Result, Ok, Err, IsTrue, codes}
+use Rattle.std.specs.Prelude.{◌≡◌, ◌≢◌, ◌⊎◌, ℕ, ◌+◌, ◌<◌, ◌==◌, ◌||◌, ◌++◌, List, [], ◌∷◌, Bool, true, false, Option, Some, None, Result, Ok, Err, IsTrue, Contains, codes}
 use Rattle.bim_model.specs.declared.element.Element.{Element}
 use Rattle.bim_model.specs.declared.upload.UploadFault.{UploadFault}
 use Rattle.model_build.specs.Profile.{Profile}
@@ -7,11 +7,17 @@ use Rattle.http_frame.specs.declared.types.HttpRequest.{HttpRequest}
 use Rattle.http_frame.specs.declared.types.FrameFault.{FrameFault}
 use Rattle.http_frame.specs.Events.{Begins, Asks, Event, IsRest, IsTold, Spells}
 use Rattle.http_frame.specs.Events as frame
+use Rattle.book_history.specs.declared.changes.Entry.{Entry}
 use Rattle.book_history.specs.declared.requests.BookRequest.{BookRequest}
-use Rattle.book_history.specs.declared.requests.BookRequest.TheVariants.{Upload}
-use Rattle.book_history.specs.History.{at_turn, of_turn}
+use Rattle.book_history.specs.declared.requests.BookRequest.TheVariants.{Upload, ReadClashes}
+use Rattle.book_history.specs.declared.requests.Wanted.TheVariants.{Number}
+use Rattle.book_history.specs.declared.replies.BookReply.{BookReply}
+use Rattle.book_history.specs.History.{at_turn, of_turn, newest_of}
 use Rattle.book_history.specs.Requests.{reply_of}
 use Rattle.book_history.specs.Runs.{Step}
+use Rattle.book_turn.specs.declared.object.Stamp.{Stamp}
+use Rattle.bim_model.specs.Snapshots.{Version}
+use Rattle.clash_publish.specs.declared.horizon.TheConstants.{LIVE_VERSIONS}
 use Rattle.bcf_http.specs.declared.calls.RequestFault.{RequestFault}
 use Rattle.bcf_http.specs.declared.calls.HttpCall.{HttpCall}
 use Rattle.bcf_http.specs.declared.calls.HttpCall.TheVariants.{Ask, Build}
@@ -20,9 +26,10 @@ use Rattle.bcf_http.specs.declared.answers.Answer.TheVariants as answer
 use Rattle.bcf_http.specs.Calls.{asked_by, kind_of, no_kind}
 use Rattle.bcf_http.specs.Answers.{IsResponse}
 use Rattle.bim_session.specs.declared.talk.TheConstants.{MOST_REQUESTS}
-use Rattle.bim_session.specs.Works.{Standing, IsTaken, Works, WorksShort, last_turn}
+use Rattle.bim_session.specs.Notes.{named_project, project_read, set_told}
+use Rattle.bim_session.specs.Works.{Standing, Printed, IsTaken, Works, WorksShort, last_turn}
 use Rattle.bim_session.specs.declared.end.SessionEnd.{SessionEnd}
-use Rattle.bim_session.specs.declared.end.SessionEnd.TheVariants.{Closed, Asked, Cut, ReadFault, WriteFault, Frame, Spent, Memory}
+use Rattle.bim_session.specs.declared.end.SessionEnd.TheVariants.{Closed, Asked, Cut, ReadFault, WriteFault, Frame, Spent, SpentTurns, Memory}
 
 -- ---- what the bytes spell
 
@@ -115,22 +122,67 @@ pub record TakesTurn (a : Asking) (steps : List Step) : Type 0 where
   pub taken : IsTaken a.standing step
 
 -- the request alone decides the answer, which prints no turn
-pub record IsPlain (a : Asking) (bytes : List ℕ) (steps : List Step) (printed : ℕ) : Type 0 where
+pub record IsPlain (a : Asking) (bytes : List ℕ) (steps : List Step) (printed : Printed) : Type 0 where
   pub refusal : Answer
   pub refused : IsRefusedBy a.moment a.request refusal
   pub response : IsResponseTo a refusal None bytes
   pub none : steps ≡ []
   pub printed_is : printed ≡ a.standing.printed
 
--- the answer is the book's at the entries below the turn that it prints, which is above those printed before
-pub record IsBooked (a : Asking) (bytes : List ℕ) (steps : List Step) (printed : ℕ) : Type 0 where
+-- the entries with turns up to the one that was printed last
+abbrev pub up_to_printed : Standing → List Entry
+up_to_printed s = at_turn (s.printed.turn + 1) s.history
+
+-- The request asks for the clashes of a version, by its number, that the session was answered before and that is still one
+-- of the last sixteen of its project at the turn that was printed last.
+pub record IsKept (a : Asking) : Type 0 where
+  pub id : ℕ
+  pub project : ℕ
+  pub version : ℕ
+  pub first : ℕ
+  pub count : ℕ
+  pub means : Means a.moment a.request (ReadClashes id (Number version) first count)
+  pub named : named_project id ≡ Some project
+  pub answered : Contains a.standing.printed.sets (project, version)
+  pub live : newest_of project (up_to_printed a.standing) < version + LIVE_VERSIONS
+
+-- Such a request takes no turn. Its answer prints the turn that was printed last, and is the book's at the entries up to
+-- that one, whatever the stamp.
+pub record IsShelved (a : Asking) (bytes : List ℕ) (steps : List Step) (printed : Printed) : Type 0 where
+  pub kept : IsKept a
+  pub response : (stamp : Stamp) → IsResponseTo a
+      (answer.Book (reply_of a.standing.settings (up_to_printed a.standing) stamp
+      (ReadClashes kept.id (Number kept.version) kept.first kept.count)))
+      (Some a.standing.printed.turn) bytes
+  pub none : steps ≡ []
+  pub printed_is : printed ≡ a.standing.printed
+
+-- the version whose clashes are told, of this project, is among those that were answered
+abbrev pub with_set : Option ℕ → Option (ℕ × Version) → List (ℕ × ℕ) → List (ℕ × ℕ)
+with_set None told sets = sets
+with_set (Some project) None sets = sets
+with_set (Some project) (Some told) sets = (project, told.0) ∷ sets
+
+-- what a session has printed behind a reply to a step
+abbrev pub printed_after : Step → BookReply → Printed → Printed
+printed_after step reply before = record {
+  turn = step.stamp.turn;
+  sets = with_set (project_read step.request) (set_told reply.body) before.sets;
+}
+
+-- the book's reply to a step of what is asked for
+abbrev pub reply_to : Standing → Step → BookReply
+reply_to s step = reply_of s.settings (at_turn step.stamp.turn s.history) step.stamp step.request
+
+-- Any other request is answered at a turn: the answer is the book's at the entries below the turn that it prints, which is
+-- above those printed before.
+pub record IsBooked (a : Asking) (bytes : List ℕ) (steps : List Step) (printed : Printed) : Type 0 where
+  pub unkept : ¬ (IsKept a)
   pub taken : TakesTurn a steps
-  pub response : IsResponseTo a
-      (answer.Book (reply_of a.standing.settings (at_turn taken.step.stamp.turn a.standing.history)
-      taken.step.stamp taken.step.request))
+  pub response : IsResponseTo a (answer.Book (reply_to a.standing taken.step))
       (Some taken.step.stamp.turn) bytes
-  pub above : a.standing.printed < taken.step.stamp.turn
-  pub printed_is : printed ≡ taken.step.stamp.turn
+  pub above : a.standing.printed.turn < taken.step.stamp.turn
+  pub printed_is : printed ≡ printed_after taken.step (reply_to a.standing taken.step) a.standing.printed
 
 -- the step that the request took changes nothing
 pub record TakesIdly (a : Asking) (steps : List Step) : Type 0 where
@@ -138,15 +190,16 @@ pub record TakesIdly (a : Asking) (steps : List Step) : Type 0 where
   pub idle : of_turn taken.step.stamp.turn a.standing.history ≡ []
 
 -- memory is wanting for the answer: nothing is changed, and no turn is printed
-pub record LacksMemory (a : Asking) (bytes : List ℕ) (steps : List Step) (printed : ℕ) : Type 0 where
+pub record LacksMemory (a : Asking) (bytes : List ℕ) (steps : List Step) (printed : Printed) : Type 0 where
   pub response : IsResponseTo a answer.Memory None bytes
   pub idle : (steps ≡ []) ⊎ TakesIdly a steps
   pub printed_is : printed ≡ a.standing.printed
 
--- the answer to a request, which is of one of three kinds, with the steps that it took, and the last turn printed then
-abbrev pub Answers : Asking → List ℕ → List Step → ℕ → Type 0
+-- the answer to a request, which is of one of four kinds, with the steps that it took, and what is printed then
+abbrev pub Answers : Asking → List ℕ → List Step → Printed → Type 0
 Answers a bytes steps printed =
-    IsPlain a bytes steps printed ⊎ (IsBooked a bytes steps printed ⊎ LacksMemory a bytes steps printed)
+    IsPlain a bytes steps printed ⊎ (IsShelved a bytes steps printed
+    ⊎ (IsBooked a bytes steps printed ⊎ LacksMemory a bytes steps printed))
 
 -- ---- the answers to events
 
@@ -154,8 +207,8 @@ Answers a bytes steps printed =
 abbrev pub continue_bytes : List ℕ
 continue_bytes = codes "HTTP/1.1 100 Continue\r\n\r\n"
 
--- the answer to an event, with the moments that were asked for, the steps that it took, and the last turn printed then
-abbrev pub AnswersEvent : Standing → Event → List ℕ → List ℕ → List Step → ℕ → Type 0
+-- the answer to an event, with the moments that were asked for, the steps that it took, and what is printed then
+abbrev pub AnswersEvent : Standing → Event → List ℕ → List ℕ → List Step → Printed → Type 0
 AnswersEvent s frame.continue moments bytes steps printed =
     (moments ≡ []) × (bytes ≡ continue_bytes) × (steps ≡ []) × (printed ≡ s.printed)
 AnswersEvent s (frame.request r) moments bytes steps printed =
@@ -166,13 +219,13 @@ abbrev pub WorksBehind : Standing → Event → List Step → Type 0
 WorksBehind s frame.continue steps = steps ≡ []
 WorksBehind s (frame.request r) steps = Works s steps
 
--- where a session stands after events and these steps, the last turn printed then being this one
-abbrev pub behind : Standing → List Event → List Step → ℕ → Standing
+-- where a session stands after events and these steps, this being what was printed then
+abbrev pub behind : Standing → List Event → List Step → Printed → Standing
 behind s events steps printed =
     record s { last = last_turn s.last steps; printed = printed; served = s.served + requests events }
 
 -- the same after one event
-abbrev pub past : Standing → Event → List Step → ℕ → Standing
+abbrev pub past : Standing → Event → List Step → Printed → Standing
 past s event steps printed =
     record s { last = last_turn s.last steps; printed = printed; served = s.served + counted event }
 
@@ -187,7 +240,7 @@ pub record AnswersFirst (s : Standing) (event : Event) (events : List Event) (mo
   pub own : List Step
   pub work : List Step
   pub others : List Step
-  pub printed : ℕ
+  pub printed : Printed
   pub moments_are : moments ≡ asked ++ after
   pub out_is : out ≡ bytes ++ later
   pub steps_are : steps ≡ own ++ (work ++ others)
@@ -195,8 +248,8 @@ pub record AnswersFirst (s : Standing) (event : Event) (events : List Event) (mo
   pub works : WorksBehind (past s event own printed) event work
   pub closing : closes s.served event ≡ true → events ≡ []
 
--- The events are answered in their order, each once; what is written is the answers. The last turn printed is told.
-abbrev pub Answered : Standing → List Event → List ℕ → List ℕ → List Step → ℕ → Type 0
+-- The events are answered in their order, each once; what is written is the answers. What is printed then is told.
+abbrev pub Answered : Standing → List Event → List ℕ → List ℕ → List Step → Printed → Type 0
 Answered s [] moments out steps printed =
     (moments ≡ []) × (out ≡ []) × (steps ≡ []) × (printed ≡ s.printed)
 Answered s (event ∷ events) moments out steps printed =
@@ -239,7 +292,7 @@ AnswersFault s fault bytes =
 abbrev pub IsNext : Stop → List ℕ → Type 0
 IsNext s bytes =
     ((event : Event) × (later : List ℕ) × (mark : Bool) × Reads s.rest s.told (event ∷ []) later mark
-    × ((printed : ℕ) × AnswersEvent s.standing event s.moments bytes s.steps printed))
+    × ((printed : Printed) × AnswersEvent s.standing event s.moments bytes s.steps printed))
     ⊎ ((fault : FrameFault) × AnswersFault s fault bytes)
 
 -- the next request was taken at its moment, and perhaps a step for it, although no answer to it was written
@@ -251,6 +304,18 @@ pub record TakesUnanswered (s : Stop) : Type 0 where
   pub told : IsTold s.told s.rest
   pub next : Begins s.rest request later
   pub taken : (s.steps ≡ []) ⊎ TakesTurn (asking s.standing moment request) s.steps
+
+-- the next request was taken at its moment, and means a call of the book at a turn, which was not made
+pub record NeedsTurn (s : Stop) : Type 0 where
+  pub moment : ℕ
+  pub request : HttpRequest
+  pub later : List ℕ
+  pub call : BookRequest
+  pub one : s.moments ≡ moment ∷ []
+  pub told : IsTold s.told s.rest
+  pub next : Begins s.rest request later
+  pub means : Means moment request call
+  pub unkept : ¬ (IsKept (asking s.standing moment request))
 
 -- all was answered, and the input ended between requests
 abbrev pub EndsClosed : Stop → SessionEnd → Type 0
@@ -273,6 +338,11 @@ EndsAsked s end =
 abbrev pub EndsSpent : Stop → SessionEnd → Type 0
 EndsSpent s end =
     (end ≡ Spent s.standing.served) × (s.closed ≡ true) × IsBare s × (s.standing.served ≡ most_requests)
+
+-- no turn was left for the next request, fewer being answered than a session may have
+abbrev pub EndsTurns : Stop → SessionEnd → Type 0
+EndsTurns s end =
+    (end ≡ SpentTurns s.standing.served) × (s.closed ≡ false) × (s.bytes ≡ []) × (s.steps ≡ []) × NeedsTurn s
 
 -- all was answered, and then the fault in which the bytes end
 abbrev pub EndsFrame : Stop → SessionEnd → Type 0
@@ -303,7 +373,7 @@ pub record EndsWorking (s : Stop) (end : SessionEnd) : Type 0 where
   pub later : List ℕ
   pub own : List Step
   pub work : List Step
-  pub printed : ℕ
+  pub printed : Printed
   pub end_is : end ≡ Memory (s.standing.served + 1)
   pub open_ : s.closed ≡ false
   pub reads : Reads s.rest s.told (frame.request request ∷ []) later false
@@ -315,7 +385,8 @@ pub record EndsWorking (s : Stop) (end : SessionEnd) : Type 0 where
 abbrev pub Ends : Stop → SessionEnd → Type 0
 Ends s end =
     EndsClosed s end ⊎ (EndsAsked s end ⊎ (EndsCut s end ⊎ (EndsReading s end
-    ⊎ (EndsWriting s end ⊎ (EndsFrame s end ⊎ (EndsSpent s end ⊎ (EndsMemory s end ⊎ EndsWorking s end)))))))
+    ⊎ (EndsWriting s end ⊎ (EndsFrame s end ⊎ (EndsSpent s end ⊎ (EndsTurns s end ⊎ (EndsMemory s end
+    ⊎ EndsWorking s end))))))))
 
 -- A session from a standing that took this input, asked for these moments and wrote this output, by these
 -- steps. Each request that it took has one of the moments, in their order, and there is no other. `ended`
@@ -331,7 +402,7 @@ pub record Session (start : Standing) (ended : Bool) (input moments output : Lis
   pub tail : List ℕ
   pub done : List Step
   pub more : List Step
-  pub printed : ℕ
+  pub printed : Printed
   pub moments_are : moments ≡ asked ++ late
   pub output_is : output ≡ out ++ tail
   pub steps_are : steps ≡ done ++ more

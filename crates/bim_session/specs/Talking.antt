@@ -1,6 +1,5 @@
 -- One connection as a machine: what each of its calls does.
 use Rattle.std.specs.Prelude.{◌≡◌, ◌≢◌, ◌⊎◌, ℕ, ◌+◌, ◌==◌, ◌++◌, List, [], ◌∷◌, ◌||◌, Bool, true, false, not, IsTrue, if◌then◌else◌, Option, Some, None, IsSome, Result, Ok, Err}
-use Rattle.std.specs.declared.alloc.AllocError.{AllocError}
 use Rattle.bim_io.specs.Seen.{ClockSeen, ClockGives}
 use Rattle.http_frame.specs.declared.types.HttpRequest.{HttpRequest}
 use Rattle.http_frame.specs.declared.types.FrameFault.{FrameFault}
@@ -9,6 +8,9 @@ use Rattle.http_frame.specs.Events.{Begins, Asks, IsRest, IsBlank, IsTold, Spell
 use Rattle.http_frame.specs.Events as frame
 use Rattle.http_frame.specs.Framers.{Stands}
 use Rattle.book_turn.specs.declared.turn.Receipt.{Receipt}
+use Rattle.book_turn.specs.declared.fault.CallFault.{CallFault}
+use Rattle.book_turn.specs.declared.fault.CallFault.TheVariants as call_fault
+use Rattle.clash_publish.specs.Shelves.{set_of}
 use Rattle.federation_book.specs.declared.book.Book.{Book}
 use Rattle.bucket_check.specs.Sets.{SetValue}
 use Rattle.book_history.specs.declared.limits.Settings.{Settings}
@@ -22,25 +24,40 @@ use Rattle.bcf_http.specs.declared.answers.Answer.{Answer}
 use Rattle.bcf_http.specs.declared.answers.Answer.TheVariants as answer
 use Rattle.bcf_http.specs.Calls.{kind_of}
 use Rattle.bcf_http.specs.Answers.{IsResponse}
+use Rattle.bim_session.specs.declared.notes.Notes.{Notes}
 use Rattle.bim_session.specs.declared.end.SessionEnd.{SessionEnd}
 use Rattle.bim_session.specs.declared.end.SessionEnd.TheVariants as end
 use Rattle.bim_session.specs.declared.want.Waiting.{Waiting}
 use Rattle.bim_session.specs.declared.want.Want.{Want}
 use Rattle.bim_session.specs.declared.want.Want.TheVariants.{More, Write, Call, Leave}
+use Rattle.bim_session.specs.Notes.{project_read, AsksKept, IsKeptReply, Noted}
 use Rattle.bim_session.specs.Session.{most_requests, closes_after, continue_bytes, IsFaultResponse, Means, IsRefusedBy}
 
 -- what contracts see of a talk: its framer, whether the end was fed, how many requests were answered, what
--- the response to the call that waits needs of its request, and how the talk ends once all is written
+-- the response to the call that waits needs of its request, what is kept of the book's replies, and how the talk
+-- ends once all is written
 pub record TalkState : Type 0 where
   pub framer : Framer
   pub ended : Bool
   pub served : ℕ
   pub waits : Option Waiting
+  pub notes : Notes
   pub leaving : Option SessionEnd
 
--- a talk that has been fed nothing, over a framer
-abbrev pub fresh : Framer → TalkState
-fresh framer = record { framer = framer; ended = false; served = 0; waits = None; leaving = None }
+-- a talk that has been fed nothing, over a framer, with these notes
+abbrev pub fresh : Framer → Notes → TalkState
+fresh framer notes = record {
+  framer = framer;
+  ended = false;
+  served = 0;
+  waits = None;
+  notes = notes;
+  leaving = None;
+}
+
+-- nothing is kept yet, and this is the last turn before
+abbrev pub KeepsNone : ℕ → Notes → Type 0
+KeepsNone turn notes = (notes.turn ≡ turn) × ((p v : ℕ) → set_of notes.shelf p v ≡ None)
 
 -- the same talk over another framer
 abbrev pub with_framer : Framer → TalkState → TalkState
@@ -101,10 +118,15 @@ asks_change (request.DeleteView project topic view) = true
 asks_change (request.TakeWork seat) = false
 asks_change (request.Finish set) = true
 
--- what the response to the request of this number needs of it, whose call asks for a change or not
-abbrev pub waiting_for : HttpRequest → ℕ → Bool → Waiting
-waiting_for request number changes =
-    record { kind = kind_of request; close = closes_after request number; changes = changes }
+-- what the response to the request of this number needs of it, whose call asks for a change or not, and for the
+-- clashes of the project of this number or of none
+abbrev pub waiting_for : HttpRequest → ℕ → Bool → Option ℕ → Waiting
+waiting_for request number changes reads = record {
+  kind = kind_of request;
+  close = closes_after request number;
+  changes = changes;
+  reads = reads;
+}
 
 -- how a session ends behind the answer to the request of this number, if it does
 abbrev pub leaving_after : ℕ → Bool → Option SessionEnd
@@ -125,9 +147,21 @@ with_call waiting s = record s { waits = Some waiting }
 abbrev pub with_fault : FrameFault → TalkState → TalkState
 with_fault fault s = record s { leaving = Some (end.Frame s.served fault) }
 
+-- other notes are kept
+abbrev pub with_notes : Notes → TalkState → TalkState
+with_notes notes s = record s { notes = notes }
+
+-- the talk ends so, and no call waits
+abbrev pub with_end : SessionEnd → TalkState → TalkState
+with_end e s = record s { waits = None; leaving = Some e }
+
+-- no turn is left for the call that waits, which ends the talk
+abbrev pub with_spent : TalkState → TalkState
+with_spent s = with_end (end.SpentTurns s.served) s
+
 -- memory was wanting, which ends the talk
 abbrev pub with_memory : TalkState → TalkState
-with_memory s = record s { waits = None; leaving = Some (end.Memory s.served) }
+with_memory s = with_end (end.Memory s.served) s
 
 -- ---- what a talk wants
 
@@ -142,6 +176,20 @@ abbrev pub AnswersAlone : ℕ → HttpRequest → Waiting → List ℕ → Type 
 AnswersAlone moment request waiting bytes =
     Refuses moment request waiting bytes ⊎ IsResponse answer.Memory waiting.kind None waiting.close bytes
 
+-- the answer to a request that asks for clashes which are kept, with the turn that was printed last
+pub record AnswersKept (moment : ℕ) (request : HttpRequest) (notes : Notes) (waiting : Waiting)
+    (bytes : List ℕ) : Type 0 where
+  pub call : BookRequest
+  pub kept : BookReply
+  pub means : Means moment request call
+  pub is_kept : IsKeptReply notes call kept
+  pub response : IsResponse (answer.Book kept) waiting.kind (Some notes.turn) waiting.close bytes
+
+-- the answer to a request that takes no turn
+abbrev pub AnswersAtOnce : ℕ → HttpRequest → Notes → Waiting → List ℕ → Type 0
+AnswersAtOnce moment request notes waiting bytes =
+    AnswersAlone moment request waiting bytes ⊎ AnswersKept moment request notes waiting bytes
+
 -- why a request becomes no call of the book
 abbrev pub IsUnasked : ℕ → HttpRequest → Answer → Type 0
 IsUnasked moment request refusal = IsRefusedBy moment request refusal ⊎ (refusal ≡ answer.Memory)
@@ -153,14 +201,35 @@ Writes P (Write bytes) = P bytes
 Writes P (Call call) = ⊥
 Writes P (Leave e) = ⊥
 
+-- what the response needs to a call that is to be made
+abbrev pub waiting_on : BookRequest → Waiting → Waiting
+waiting_on call waiting = record {
+  kind = waiting.kind;
+  close = waiting.close;
+  changes = asks_change call;
+  reads = project_read call;
+}
+
+-- what a talk wants for a call, of whose response this is needed: the answer, where the call asks for clashes that are
+-- kept; else it is to be made
+abbrev pub AsksFor : Waiting → BookRequest → TalkState → Want → TalkState → Type 0
+AsksFor waiting call old More new = ⊥
+AsksFor waiting call old (Call other) new =
+    (other ≡ call) × ¬ (AsksKept old.notes call) × (new ≡ with_call (waiting_on call waiting) old)
+AsksFor waiting call old (Write bytes) new =
+    ((kept : BookReply) × IsKeptReply old.notes call kept
+    × IsResponse (answer.Book kept) waiting.kind (Some old.notes.turn) waiting.close bytes)
+    × (new ≡ with_answer waiting.close old)
+AsksFor waiting call old (Leave e) new = ⊥
+
 -- what a talk wants for a request that it took
 abbrev pub WantsFor : ℕ → HttpRequest → TalkState → Want → TalkState → Type 0
 WantsFor moment request old More new = ⊥
 WantsFor moment request old (Call call) new =
-    Means moment request call × (new
-    ≡ with_call (waiting_for request (old.served + 1) (asks_change call)) old)
+    Means moment request call × ¬ (AsksKept old.notes call)
+    × (new ≡ with_call (waiting_for request (old.served + 1) (asks_change call) (project_read call)) old)
 WantsFor moment request old (Write bytes) new =
-    AnswersAlone moment request (waiting_for request (old.served + 1) false) bytes
+    AnswersAtOnce moment request old.notes (waiting_for request (old.served + 1) false None) bytes
     × (new ≡ with_answer (closes_after request (old.served + 1)) old)
 WantsFor moment request old (Leave e) new = ⊥
 
@@ -202,7 +271,8 @@ Continues rest told moments old bytes new =
 abbrev pub AnswersOne : List ℕ → Bool → List ℕ → TalkState → List ℕ → TalkState → Type 0
 AnswersOne rest told moments old bytes new =
     (one : TakesRequest rest told moments new.framer)
-    × AnswersAlone one.moment one.request (waiting_for one.request (old.served + 1) false) bytes
+    × AnswersAtOnce one.moment one.request old.notes
+    (waiting_for one.request (old.served + 1) false None) bytes
     × (new ≡ with_answer (closes_after one.request (old.served + 1)) (with_framer new.framer old))
 
 -- the fault is answered in which the bytes end, and ends the talk
@@ -224,7 +294,8 @@ Talks rest told moments old (Write bytes) new =
 Talks rest told moments old (Call call) new =
     (old.leaving ≡ None)
     × ((one : TakesRequest rest told moments new.framer) × Means one.moment one.request call
-    × (new ≡ with_call (waiting_for one.request (old.served + 1) (asks_change call))
+    × ¬ (AsksKept old.notes call)
+    × (new ≡ with_call (waiting_for one.request (old.served + 1) (asks_change call) (project_read call))
     (with_framer new.framer old)))
 Talks rest told moments old (Leave e) new =
     (moments ≡ [])
@@ -281,21 +352,38 @@ changes_nothing changes body = not changes || is_refusal body
 abbrev pub BookReceipt : Type 0
 BookReceipt = Receipt Book BookRequest BookReply Entry Settings
 
--- the response to a call that the book answered with this receipt, or for which memory was wanting
-abbrev pub AnswersCall : Result BookReceipt AllocError → Waiting → List ℕ → Type 0
-AnswersCall (Ok receipt) waiting bytes =
-    IsResponse (answer.Book receipt.reply) waiting.kind (Some receipt.turn) waiting.close bytes
+-- an answer of the book is noted, which is printed with this turn
+abbrev pub IsNoted : ℕ → Option ℕ → Answer → Notes → Notes → Type 0
+IsNoted turn reads (answer.Book told) old new = Noted turn reads told old new
+IsNoted turn reads other old new = new ≡ old
+
+-- The response to a call that the book answered with this receipt, which is noted; or for which memory was wanting, and
+-- then the notes stay.
+abbrev pub AnswersCall : Result BookReceipt CallFault → Waiting → Notes → List ℕ → Notes → Type 0
+AnswersCall (Ok receipt) waiting notes bytes later =
+    (IsResponse (answer.Book receipt.reply) waiting.kind (Some receipt.turn) waiting.close bytes
+    × Noted receipt.turn waiting.reads receipt.reply notes later)
     ⊎ (IsTrue (changes_nothing waiting.changes receipt.reply.body)
-    × IsResponse answer.Memory waiting.kind None waiting.close bytes)
-AnswersCall (Err e) waiting bytes = IsResponse answer.Memory waiting.kind None waiting.close bytes
+    × IsResponse answer.Memory waiting.kind None waiting.close bytes × (later ≡ notes))
+AnswersCall (Err call_fault.Memory) waiting notes bytes later =
+    IsResponse answer.Memory waiting.kind None waiting.close bytes × (later ≡ notes)
+AnswersCall (Err (call_fault.PassSpent pass)) waiting notes bytes later = ⊥
+
+-- how a talk ends that answers no call: memory was wanting, or the pass has made all its turns
+abbrev pub LeavesCall : Result BookReceipt CallFault → TalkState → SessionEnd → TalkState → Type 0
+LeavesCall (Ok receipt) old e new = (e ≡ end.Memory old.served) × (new ≡ with_memory old)
+LeavesCall (Err call_fault.Memory) old e new = (e ≡ end.Memory old.served) × (new ≡ with_memory old)
+LeavesCall (Err (call_fault.PassSpent pass)) old e new =
+    (e ≡ end.SpentTurns old.served) × (new ≡ with_spent old)
 
 -- what a talk wants after the answer to its call
-abbrev pub Replies : Result BookReceipt AllocError → Waiting → TalkState → Want → TalkState → Type 0
+abbrev pub Replies : Result BookReceipt CallFault → Waiting → TalkState → Want → TalkState → Type 0
 Replies receipt waiting old More new = ⊥
 Replies receipt waiting old (Call call) new = ⊥
 Replies receipt waiting old (Write bytes) new =
-    AnswersCall receipt waiting bytes × (new ≡ with_answer waiting.close old)
-Replies receipt waiting old (Leave e) new = (e ≡ end.Memory old.served) × (new ≡ with_memory old)
+    AnswersCall receipt waiting old.notes bytes new.notes
+    × (new ≡ with_notes new.notes (with_answer waiting.close old))
+Replies receipt waiting old (Leave e) new = LeavesCall receipt old e new
 
 -- what a talk wants where memory was wanting for its call
 abbrev pub LacksFor : Waiting → TalkState → Want → TalkState → Type 0

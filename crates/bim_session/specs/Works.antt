@@ -10,15 +10,21 @@ use Rattle.book_history.specs.History.{at_turn, of_turn, left_all}
 use Rattle.book_history.specs.Requests.{reply_of, added_by}
 use Rattle.book_history.specs.Runs.{Step}
 
+-- what a session has printed of the book: the last turn, and the versions, each with its project, whose clashes it was
+-- answered
+pub record Printed : Type 0 where
+  pub turn : ℕ
+  pub sets : List (ℕ × ℕ)
+
 -- where a session stands between two answers: the book's settings and history, how many buckets are worked behind each
--- answered request, or all, the last turn that was taken and the last that was printed, the greatest that may be taken,
--- and how many requests were answered
+-- answered request, or all, the last turn that was taken, what was printed, the greatest turn that may be taken, and how
+-- many requests were answered
 pub record Standing : Type 0 where
   pub settings : Settings
   pub history : List Entry
   pub buckets : Option ℕ
   pub last : ℕ
-  pub printed : ℕ
+  pub printed : Printed
   pub top : ℕ
   pub served : ℕ
 

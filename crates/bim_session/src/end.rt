@@ -18,6 +18,8 @@ pub enum SessionEnd {
     Frame { served: u64, fault: FrameFault },
     /// As many requests as a session may have were answered.
     Spent { served: u64 },
+    /// The next request means a call of the book, for which the pass has no turn left. Nothing is written for it.
+    SpentTurns { served: u64 },
     /// Memory was wanting.
     Memory { served: u64 },
 }

@@ -4,15 +4,18 @@ ghost use Rattle.bim_model.specs.Moments.{IsMoment};
 ghost use Rattle.http_frame.specs.Framers.{Stands};
 ghost use Rattle.bim_session.specs.Session.{most_requests, closes_after, continue_bytes, IsFaultResponse};
 ghost use Rattle.bcf_http.specs.Answers.{IsResponse};
-ghost use Rattle.bim_session.specs.Talking.{fresh, Feeds, Stays, with_answer, with_fault, with_framer, with_memory, WantsFor, Writes, Wants, StopsNext, LacksNext, Replies, LacksFor, AtRest, IsReady, IsOwnLeaving, IsOwnWant, leaving_after, asks_change, is_refusal, changes_nothing, IsCallable};
+ghost use Rattle.bim_session.specs.Notes.{project_read, Noted};
+ghost use Rattle.bim_session.specs.Talking.{fresh, Feeds, Stays, with_answer, with_call, with_fault, with_framer, with_memory, with_notes, with_spent, with_end, AsksFor, waiting_on, IsNoted, KeepsNone, WantsFor, Writes, Wants, StopsNext, LacksNext, Replies, LacksFor, AtRest, IsReady, IsOwnEnd, IsOwnLeaving, IsOwnWant, leaving_after, asks_change, is_refusal, changes_nothing, IsCallable};
 
 use crate::calls::call_of;
 use crate::end::SessionEnd;
+use crate::notes::{Notes, project_read};
 use crate::want::{Waiting, Want};
 use bcf_http::{Answer, ReplyKind, Routes, kind_of, to_response};
 use bim_io::Clock;
 use bim_model::Bytes;
-use book_history::{BookRequest, ReplyBody};
+use book_history::{BookReply, BookRequest, ReplyBody};
+use book_turn::fault::CallFault;
 use book_turn::turn::Receipt;
 use federation_book::Book;
 use http_frame::{FrameError, FrameFault, FrameStep, Framer, HttpRequest};
@@ -37,6 +40,7 @@ pub struct Talk {
     ended: bool,
     served: u64,
     waits: Option<Waiting>,
+    notes: Notes,
     leaving: Option<SessionEnd>,
 }
 
@@ -56,6 +60,7 @@ impl Model for Talk {
       ended = t.ended;
       served = t.served;
       waits = t.waits;
+      notes = t.notes;
       leaving = t.leaving;
     } };
 
@@ -146,10 +151,22 @@ fn response_of(
     bytes
 }
 
+// Notes an answer of the book, which is printed with this turn. An `Err` leaves the notes as they were.
+fn note(notes: &mut Notes, turn: u64, reads: Option<u32>, answer: &Answer) -> Result<(), AllocError>
+    ensures ok { OnOk result (IsNoted turn reads answer.now notes.old notes.new) }
+    ensures err { OnErr result (notes.new ≡ notes.old) }
+{
+    match answer {
+        Answer::Book(reply) => notes.take(turn, reads, reply),
+        _ => Ok(()),
+    }
+}
+
 impl Talk {
-    /// A talk that has been fed nothing.
-    pub fn new(alloc: Global) -> Result<Talk, AllocError>
-        ensures fresh { IfOk result (λ talk. talk ≡ fresh talk.framer) }
+    /// A talk that has been fed nothing. This is the last turn that was taken before.
+    pub fn new(alloc: Global, turn: u64) -> Result<Talk, AllocError>
+        ensures fresh { IfOk result (λ talk. talk ≡ fresh talk.framer talk.notes) }
+        ensures none { IfOk result (λ talk. KeepsNone turn talk.notes) }
         ensures stands { IfOk result (λ talk. Stands talk.framer [] false) }
     {
         let framer = Framer::new(alloc)?;
@@ -161,6 +178,7 @@ impl Talk {
             ended: false,
             served: 0,
             waits: None,
+            notes: Notes::new(alloc, turn),
             leaving: None,
         })
     }
@@ -249,9 +267,17 @@ impl Talk {
         ensures end { result ≡ SessionEnd.Memory self.old.served }
         ensures state { self.new ≡ with_memory self.old }
     {
-        let end = SessionEnd::Memory {
+        self.leave(SessionEnd::Memory {
             served: self.served,
-        };
+        })
+    }
+
+    // Ends the talk so.
+    fn leave(&mut self, end: SessionEnd) -> SessionEnd
+        requires own { IsOwnEnd end }
+        ensures end { result ≡ end }
+        ensures state { self.new ≡ with_end end self.old }
+    {
         self.waits = None;
         self.leaving = Some(end);
         end
@@ -344,30 +370,60 @@ impl Talk {
     {
         let kind = kind_of(&self.routes, &request);
         let close = closes_after(&request, self.served + 1);
+        let waiting = Waiting {
+            kind,
+            close,
+            changes: false,
+            reads: None,
+        };
         match call_of(self.alloc, &self.routes, request, moment) {
-            Ok(call) => {
-                let changes = asks_change(&call);
-                self.waits = Some(Waiting {
-                    kind,
-                    close,
-                    changes,
-                });
-                Ok(Want::Call(call))
+            Ok(call) => self.ask(waiting, call),
+            Err(answer) => self.respond(answer, waiting, None),
+        }
+    }
+
+    // What is wanted for a call: its answer, where it asks for clashes that are kept; else it is to be made.
+    fn ask(&mut self, waiting: Waiting, call: BookRequest) -> Result<Want, AllocError>
+        requires open_ { self.old.leaving ≡ None }
+        ensures want { IfOk result (λ want. AsksFor waiting call self.old want self.new) }
+        ensures err { OnErr result (self.new ≡ self.old) }
+        ensures ready { IfOk result (λ want. IsReady want self.new) }
+        ensures own { IfOk result IsOwnWant }
+        ensures callable { IfOk result (λ want. IsCallable (Want.Call call) → IsCallable want) }
+    {
+        match self.notes.reply_to(&call) {
+            Ok(Some(reply)) => {
+                drop(call);
+                let turn = self.notes.turn;
+                self.respond(Answer::Book(reply), waiting, Some(turn))
             }
-            Err(answer) => {
-                let waiting = Waiting {
-                    kind,
-                    close,
-                    changes: false,
-                };
-                self.respond(answer, waiting, None)
+            Ok(None) => Ok(self.wait(waiting, call)),
+            Err(error) => {
+                drop(call);
+                Err(error)
             }
         }
     }
 
-    /// Takes the book's answer to the call that waits, or want of memory for it, and says what is to be done
-    /// next: the response is written, or the talk ends for want of memory. An `Err` does not come.
-    pub fn answer(&mut self, receipt: Result<Receipt<Book>, AllocError>) -> Result<Want, AllocError>
+    // The call is to be made, and waits.
+    fn wait(&mut self, waiting: Waiting, call: BookRequest) -> Want
+        ensures want { result ≡ Want.Call call }
+        ensures state { self.new ≡ with_call (waiting_on call waiting) self.old }
+    {
+        let changes = asks_change(&call);
+        let reads = project_read(&call);
+        self.waits = Some(Waiting {
+            kind: waiting.kind,
+            close: waiting.close,
+            changes,
+            reads,
+        });
+        Want::Call(call)
+    }
+
+    /// Takes the book's answer to the call that waits, or why there is none, and says what is to be done next: the
+    /// response is written; or the talk ends, for want of memory or since no turn is left. An `Err` does not come.
+    pub fn answer(&mut self, receipt: Result<Receipt<Book>, CallFault>) -> Result<Want, AllocError>
         requires waits { IsSome self.old.waits }
         requires open_ { self.old.leaving ≡ None }
         ensures want { IfOk result (λ want.
@@ -379,8 +435,19 @@ impl Talk {
         };
         match receipt {
             Ok(receipt) => self.answer_receipt(waiting, receipt),
-            Err(_) => self.answer_memory(waiting),
+            Err(CallFault::Memory) => self.answer_memory(waiting),
+            Err(CallFault::PassSpent(_)) => Ok(Want::Leave(self.spend())),
         }
+    }
+
+    // No turn is left.
+    fn spend(&mut self) -> SessionEnd
+        ensures end { result ≡ SessionEnd.SpentTurns self.old.served }
+        ensures state { self.new ≡ with_spent self.old }
+    {
+        self.leave(SessionEnd::SpentTurns {
+            served: self.served,
+        })
     }
 
     // The response to a call for which memory was wanting.
@@ -407,7 +474,7 @@ impl Talk {
     {
         let Receipt { turn, reply } = receipt;
         let changes_nothing = changes_nothing(waiting.changes, &reply.body);
-        match self.respond(Answer::Book(reply), waiting, Some(turn)) {
+        match self.respond_noted(waiting, turn, reply) {
             Ok(want) => Ok(want),
             Err(_) => {
                 if changes_nothing {
@@ -416,5 +483,47 @@ impl Talk {
                 Ok(Want::Leave(self.give_up()))
             }
         }
+    }
+
+    // The response of the book's reply, which is noted.
+    fn respond_noted(
+        &mut self,
+        waiting: Waiting,
+        turn: u64,
+        reply: BookReply,
+    ) -> Result<Want, AllocError>
+        requires { self.old.leaving ≡ None }
+        ensures want { IfOk result (Writes
+            (IsResponse (Answer.Book reply) waiting.kind (Some turn) waiting.close)) }
+        ensures noted { OnOk result (Noted turn waiting.reads reply self.old.notes self.new.notes) }
+        ensures ok { OnOk result (self.new ≡ with_notes self.new.notes (with_answer waiting.close self.old)) }
+        ensures err { OnErr result (self.new ≡ self.old) }
+    {
+        let served = self.served + 1;
+        let answer = Answer::Book(reply);
+        let printed = self.print_noted(waiting, turn, &answer);
+        drop(answer);
+        let bytes = printed?;
+        self.served = served;
+        self.waits = None;
+        self.leaving = leaving_after(served, waiting.close);
+        Ok(Want::Write(bytes))
+    }
+
+    // The bytes of that response.
+    fn print_noted(
+        &mut self,
+        waiting: Waiting,
+        turn: u64,
+        answer: &Answer,
+    ) -> Result<Bytes, AllocError>
+        ensures bytes { IfOk result (IsResponse answer.now waiting.kind (Some turn) waiting.close) }
+        ensures noted { OnOk result (IsNoted turn waiting.reads answer.now self.old.notes self.new.notes) }
+        ensures ok { OnOk result (self.new ≡ with_notes self.new.notes self.old) }
+        ensures err { OnErr result (self.new ≡ self.old) }
+    {
+        let bytes = to_response(self.alloc, answer, waiting.kind, Some(turn), waiting.close)?;
+        note(&mut self.notes, turn, waiting.reads, answer)?;
+        Ok(bytes)
     }
 }

@@ -25,4 +25,6 @@ pub struct Waiting {
     pub close: bool,
     /// The call asks for a change.
     pub changes: bool,
+    /// The number of the project whose clashes the call asks for.
+    pub reads: Option<u32>,
 }

@@ -1,5 +1,5 @@
 use Rattle.std.proofs.Common.{◌≡◌, ◌+◌, arith}
-use Rattle.bim_server.specs.Loop.{ServerState}
+use Rattle.bim_server.specs.Turns.{ServerState}
 use Rattle.bim_server.proofs.Giving.{calls_ok}
 use Rattle.bim_server.proofs.one_thread.OneThread.call.Goals as goal
 

@@ -3,7 +3,7 @@ use Rattle.book_history.specs.declared.replies.BookReply.{BookReply}
 use Rattle.book_history.specs.declared.requests.BookRequest.TheVariants.{TakeWork, Finish}
 use Rattle.book_history.specs.Legal.{IsLegal}
 use Rattle.bim_session.specs.Works.{IsFoundFor}
-use Rattle.bim_server.specs.Loop.{ServerState, with_turn}
+use Rattle.bim_server.specs.Turns.{ServerState, with_turn}
 use Rattle.bim_server.specs.Working.{GivesOut}
 use Rattle.bim_server.proofs.Giving.{gives_some, set_legal}
 use Rattle.bim_server.proofs.one_thread.OneThread.work_one.Goals as goal

@@ -9,6 +9,7 @@ returns-in_default-clause-ok c =
       ended = c.self.inside.ended;
       served = c.self.inside.served;
       waits = c.self.inside.waits;
+      notes = c.self.inside.notes;
       leaving = c.self.inside.leaving;
     } in
     let going = rw (← c.self.view_is) at c.requires in

@@ -13,6 +13,7 @@ returns-in-Some-clause-want g c =
       ended = c.self.inside.ended;
       served = c.self.inside.served;
       waits = c.self.inside.waits;
+      notes = c.self.inside.notes;
       leaving = c.self.inside.leaving;
     } in
     rw (← c.self.view_is) (wants_leave own c.in-Some.end _ c.in-Some.is)

@@ -1,0 +1,15 @@
+pub mod Known
+pub mod Turns
+pub mod Staying
+pub mod Kept
+pub mod SoFar
+pub mod Growing
+pub mod Working
+pub mod Passes
+pub mod Events
+pub mod Ending
+pub mod Owed
+pub mod Stepping
+pub mod Behind
+pub mod Running
+pub mod Calling

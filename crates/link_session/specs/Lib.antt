@@ -1,0 +1,4 @@
+pub mod Callers
+pub mod Serving
+pub mod Loop
+pub mod Writes

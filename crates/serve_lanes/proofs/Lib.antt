@@ -1,0 +1,6 @@
+pub mod Rows
+pub mod Chains
+pub mod Links
+pub mod Histories
+pub mod Joining
+pub mod Making

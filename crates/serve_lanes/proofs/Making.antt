@@ -1,0 +1,38 @@
+-- Lanes that are made of new passes.
+use Rattle.std.proofs.Common.{◌≡◌, ℕ, suc, ◌+◌, List, ◌∷◌, length, sym, ◌∙◌, ap, subst, arith}
+use Rattle.bim_io.specs.Seen.{ClockSeen}
+use Rattle.bim_net.specs.Seen.{DoorSeen, IsNew}
+use Rattle.book_turn.specs.Passes.{TurnState, new_pass, new_passes}
+use Rattle.book_history.specs.declared.limits.Settings.{Settings}
+use Rattle.book_history.specs.declared.changes.Entry.{Entry}
+use Rattle.book_passes.specs.Lessons.{BookPass}
+use Rattle.check_workers.proofs.Making.{new_worker}
+use Rattle.check_workers.specs.declared.workers.Lack.{Lack}
+use Rattle.serve_lanes.specs.Histories.{Service, IsReady}
+use Rattle.check_workers.specs.Joins.{nothing_lacked}
+
+-- the first of new passes
+pub passes_first : (t : TurnState Settings) (k : ℕ) (p : BookPass) (rest : List BookPass) → p ∷ rest ≡ new_passes t k (length (p ∷ rest)) → (p ≡ new_pass t k) × (rest ≡ new_passes t (k + 1) (length rest))
+passes_first t k p rest is =
+    let next : new_passes {E = Entry} t k (length (p ∷ rest)) ≡ new_pass t k ∷ new_passes t (k + 1) (length rest) =
+    (let n : length (p ∷ rest) ≡ suc (length rest) = omega arith in let m : suc k ≡ k + 1 = omega arith in
+    ap (λ (x : ℕ). new_passes {E = Entry} t k x) n ∙ ap (λ (x : ℕ). new_pass {E = Entry} t k ∷ new_passes t x (length rest)) m) in
+    let both : p ∷ rest ≡ new_pass t k ∷ new_passes t (k + 1) (length rest) = is ∙ next in
+    (let a : p ≡ new_pass t k = cc in a, let b : rest ≡ new_passes t (k + 1) (length rest) = cc in b)
+
+-- a new pass may be a lane's with a door of its number
+pub ready_lane : (s : Service) (t : TurnState Settings) (k : ℕ) (p : BookPass) (door : DoorSeen) (clock : ClockSeen) (lack : Lack) → t.settings ≡ s.settings → p ≡ new_pass t k
+    → IsNew s.tells k door → clock.one ≡ s.one → lack ≡ nothing_lacked → IsReady s t p door clock lack
+ready_lane s t k p door clock lack settings is new one none =
+    let w = new_worker t k p is in
+    let mine : k ≡ door.number = sym new.number_is in
+    record {
+      own = w.own;
+      settings = settings;
+      number = ap (λ (v : BookPass). v.number) is ∙ mine;
+      unseen = w.unseen;
+      untaken = w.untaken;
+      new = subst (λ (n : ℕ). IsNew s.tells n door) mine new;
+      one = one;
+      unnoted = none;
+    }
