@@ -1,4 +1,5 @@
 //! Checks over files in memory, and generated models.
+ghost use Rattle.std.specs.Prelude.{◌≤◌};
 
 use batch_commands::{run_check, run_generate};
 use bim_files::{MemFile, MemFiles};
@@ -50,7 +51,10 @@ fn files_of(alloc: Global, opens: &[u64], reads: &[u64]) -> Result<MemFiles, Fai
     Ok(MemFiles::new(alloc, files, 1000, numbers(alloc, opens)?)?)
 }
 
-fn sink_of(alloc: Global, most: u64, fails: &[u64]) -> Result<MemSink, Fail> {
+// A sink that takes so many bytes at a time at most.
+fn sink_of(alloc: Global, most: u64, fails: &[u64]) -> Result<MemSink, Fail>
+    requires { 1 ≤ most }
+{
     let fails = numbers(alloc, fails)?;
     Ok(MemSink::new(alloc, most, fails)?)
 }
