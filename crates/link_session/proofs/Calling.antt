@@ -1,7 +1,7 @@
 -- The book was called, and its response written.
-use Rattle.std.proofs.Common.{◌≡◌, ℕ, List, [], ◌∷◌, Option, Some, None, IsSome, IfSome, IfOk, IfErr, Result, Ok, Err, inl, inr, refl, sym, ◌∙◌, ap}
+use Rattle.std.proofs.Common.{◌≡◌, ℕ, List, Option, Some, None, IsSome, IfSome, IfOk, IfErr, Result, Ok, Err, inl, inr, refl, ap}
 use Rattle.bim_io.specs.Seen.{SinkSeen}
-use Rattle.book_turn.specs.Passes.{TurnState, BelongsTo, IsSingle, KeepsNumbers}
+use Rattle.book_turn.specs.Passes.{KeepsNumbers}
 use Rattle.book_turn.specs.declared.fault.CallFault.{CallFault}
 use Rattle.book_turn.specs.declared.fault.CallFault.TheVariants.{Memory, PassSpent}
 use Rattle.book_turn.specs.Faults.{Failed}
@@ -70,9 +70,3 @@ pub calls_by_pass : (settings : Settings) (call : BookRequest) (v w : BookPass) 
 calls_by_pass settings call v w (Ok receipt) keeps answered failed = takes_call settings call receipt.turn receipt.reply v w keeps answered
 calls_by_pass settings call v w (Err Memory) keeps answered failed = inr (takes_idly v w keeps failed)
 calls_by_pass settings call v w (Err (PassSpent spent)) keeps answered failed = (failed.0, ap caller_of failed.2)
-
-pub single_still : (t : TurnState Settings) (v w : BookPass) → IsSingle t v → BelongsTo t w → KeepsNumbers v w → IsSingle t w
-single_still t v w single own keeps = record {
-  own = own;
-  alone = keeps.numbers ∙ single.alone ∙ ap (λ n. n ∷ []) (sym keeps.number);
-}

@@ -11,7 +11,7 @@ use Rattle.book_history.specs.History.{of_turn, IsBefore}
 use Rattle.book_history.specs.Requests.{Outcome, Refusal, Answer, Accepted, entry_by, outcome_of, added_by}
 use Rattle.book_history.specs.Runs.{Step}
 use Rattle.book_history.proofs.Histories.{AreOf, AreAbove, added_of, before_all, of_turn-grown, of_turn-new}
-use Rattle.book_passes.specs.Lessons.{CallerSeen, TakesTurn, Learns, own_of, stamp_in, turn_of}
+use Rattle.book_passes.specs.Lessons.{CallerSeen, TakesTurn, own_of, stamp_in, turn_of}
 use Rattle.book_passes.proofs.Learning.{learns_none, learns_turn, learns_trans}
 use Rattle.book_turn.specs.declared.fault.CallFault.{CallFault}
 use Rattle.book_turn.specs.declared.fault.CallFault.TheVariants.{Memory, PassSpent}
@@ -106,10 +106,6 @@ pub known_skip : (v w w' : CallerSeen) (steps : List Step) → GoesByPass v step
 known_skip v w w' steps k (inl same) = subst (λ (x : CallerSeen). GoesByPass v steps x) (sym same) k
 known_skip v w w' steps k (inr (turn, others, takes)) =
     subst (λ (ss : List Step). GoesByPass v ss w') (append-nil steps) (known_turn v w w' steps [] turn others [] k takes refl refl tt tt)
-
-pub skip_rises : (w w' : CallerSeen) → Skips w w' → w.last ≤ w'.last
-skip_rises w w' (inl same) = (let e : w'.last ≡ w.last = ap (λ (x : CallerSeen). x.last) same in omega (arith, e))
-skip_rises w w' (inr (turn, others, takes)) = (let above : w.last < turn = takes.above in let last : w'.last ≡ turn = takes.last in omega (arith, above, last))
 
 -- the step of a call in a turn
 abbrev pub step_in : ℕ → CallerSeen → BookRequest → Step

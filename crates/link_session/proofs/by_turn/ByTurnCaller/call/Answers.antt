@@ -1,5 +1,4 @@
 use Rattle.book_passes.specs.Lessons.{caller_of}
-use Rattle.link_session.specs.Callers.{Calls}
 use Rattle.link_session.proofs.Calling.{calls_by_pass}
 use Rattle.link_session.proofs.Turns.{goes_call}
 use Rattle.link_session.proofs.by_turn.ByTurnCaller.call.Goals as goal
