@@ -58,11 +58,6 @@ left_call settings goes call x talk talk' server server' receipt e waits calls w
 
 -- ---- a call by a pass
 
--- a call that brings no set may be made at every history
-pub legal_of : (settings : Settings) (h : List Entry) (call : BookRequest) → BringsNone call → IsLegal settings h call
-legal_of settings h (Finish set) none = absurd (none set refl)
-legal_of settings h other none = tt
-
 -- what is known of it
 pub calls_by_pass : (settings : Settings) (call : BookRequest) (v w : BookPass) (result : Result BookReceipt CallFault) → KeepsNumbers v w
     → IfOk result (λ r. IsAnswered settings call r.turn r.reply v w) → IfErr result (λ e. Failed stamp_of v w e)

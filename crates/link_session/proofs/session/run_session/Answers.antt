@@ -44,4 +44,4 @@ returns-clause-serves g c =
     c.in-None.is (g.met.S.Source.at_end c.steps.source) c.served.ensures
 
 pub step_and_work-requires-clause-idle : goal.step_and_work-requires-clause-idle
-step_and_work-requires-clause-idle g c = (c.steps.invariant.so_far c.requires.laws).idle
+step_and_work-requires-clause-idle g c = let so = c.steps.invariant.so_far c.requires.laws in so.idle

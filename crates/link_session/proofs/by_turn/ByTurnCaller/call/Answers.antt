@@ -9,5 +9,5 @@ returns-clause-calls g c =
 
 pub returns-clause-goes : goal.returns-clause-goes
 returns-clause-goes g c =
-    goes_call c.args.self.now.turn.now.settings c.args.request (caller_of c.args.own.now) c.call.result (caller_of c.call.new.pass) c.requires.fits.alone
-    (calls_by_pass c.args.self.now.turn.now.settings c.args.request c.args.own.now c.call.new.pass c.call.result c.call.ensures.same c.call.ensures.answered c.call.ensures.failed)
+    let calls = calls_by_pass c.args.self.now.turn.now.settings c.args.request c.args.own.now c.call.new.pass c.call.result c.call.ensures.same c.call.ensures.answered c.call.ensures.failed in
+    goes_call c.args.self.now.turn.now.settings c.args.request (caller_of c.args.own.now) c.call.result (caller_of c.call.new.pass) c.requires.fits.alone calls

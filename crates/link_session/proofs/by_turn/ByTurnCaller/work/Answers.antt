@@ -1,5 +1,5 @@
-use Rattle.book_passes.specs.Lessons.{caller_of}
 use Rattle.link_session.proofs.Passes.{works_by_pass}
+use Rattle.book_passes.specs.Lessons.{caller_of}
 use Rattle.link_session.proofs.by_turn.ByTurnCaller.work.Goals as goal
 
 pub returns-clause-works : goal.returns-clause-works
