@@ -1,7 +1,7 @@
 -- The book was called, and its response written.
-use Rattle.std.proofs.Common.{◌≡◌, ℕ, List, Option, Some, None, IsSome, IfSome, IfOk, IfErr, Result, Ok, Err, inl, inr, refl, ap}
+use Rattle.std.proofs.Common.{◌≡◌, ℕ, List, [], ◌∷◌, Option, Some, None, IsSome, IfSome, IfOk, IfErr, Result, Ok, Err, inl, inr, refl, sym, ◌∙◌, ap}
 use Rattle.bim_io.specs.Seen.{SinkSeen}
-use Rattle.book_turn.specs.Passes.{KeepsNumbers}
+use Rattle.book_turn.specs.Passes.{TurnState, BelongsTo, IsSingle, KeepsNumbers}
 use Rattle.book_turn.specs.declared.fault.CallFault.{CallFault}
 use Rattle.book_turn.specs.declared.fault.CallFault.TheVariants.{Memory, PassSpent}
 use Rattle.book_turn.specs.Faults.{Failed}
