@@ -1,6 +1,6 @@
-use Rattle.std.proofs.Common.{◌≡◌, ◌+◌, ◌++◌, ◌∷◌, [], List, ℕ, length, vec_len, vec_capacity, map, All, sym, ◌∙◌, ap, subst, arith}
+use Rattle.std.proofs.Common.{◌≡◌, ◌+◌, ◌++◌, ◌∷◌, [], List, ℕ, length, vec_len, map, All, sym, ◌∙◌, ap, subst, arith}
 use Rattle.std.proofs.lemmas.List.Elements.{All-nil, All-push}
-use Rattle.book_turn.specs.Passes.{new_pass, new_passes}
+use Rattle.book_turn.specs.Passes.{new_passes}
 use Rattle.book_history.specs.declared.changes.Entry.{Entry}
 use Rattle.book_passes.specs.Lessons.{BookPass}
 use Rattle.check_workers.specs.declared.workers.Worker.{Worker}
