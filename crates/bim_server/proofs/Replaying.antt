@@ -11,8 +11,8 @@ use Rattle.link_session.specs.Serving.{Serves}
 use Rattle.link_session.proofs.SoFar.{service_of}
 use Rattle.link_session.proofs.Ending.{nothing_done}
 use Rattle.bim_server.specs.Turns.{ServerState}
-use Rattle.bim_server.specs.Alone.{seen_alone, IsSettled, GoesAlone}
-use Rattle.bim_server.proofs.Alone.{laws_alone, stays_alone}
+use Rattle.bim_server.specs.OneActor.{seen_alone, IsSettled, GoesAlone}
+use Rattle.bim_server.proofs.OneActor.{laws_alone, stays_alone}
 
 -- a book without a history
 abbrev pub new_server : Settings → ServerState

@@ -19,7 +19,7 @@ use Rattle.bim_session.proofs.Sessions.{last_turn-append}
 use Rattle.link_session.specs.Callers.{CallerLaws, LearnsBy, WorksBehind, start_of}
 use Rattle.bim_server.specs.Turns.{ServerState, Calls, with_turn, stamp_of, left_of}
 use Rattle.bim_server.specs.Working.{WorksAll, WorksSome, WorksTimes}
-use Rattle.bim_server.specs.Alone.{seen_alone, IsSettled, GoesAlone}
+use Rattle.bim_server.specs.OneActor.{seen_alone, IsSettled, GoesAlone}
 use Rattle.bim_server.proofs.Worked.{Extends, step_of, extends_none, extends_one, extends_on, times_steps, times_extends, times_turns, at_server, on_here, on_extended, left_here, part_steps, part_extends, part_given, left_before}
 
 -- ---- entries
