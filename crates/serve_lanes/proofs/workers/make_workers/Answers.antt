@@ -2,18 +2,17 @@ use Rattle.std.proofs.Common.{◌≡◌, ◌+◌, ◌++◌, ◌∷◌, [], ℕ, 
 use Rattle.std.proofs.lemmas.List.{map-append}
 use Rattle.std.proofs.lemmas.List.Elements.{All-nil, All-push}
 use Rattle.book_turn.specs.Passes.{new_passes}
-use Rattle.book_turn.proofs.Counting.{new_passes_length}
 use Rattle.book_history.specs.declared.changes.Entry.{Entry}
 use Rattle.book_passes.specs.Lessons.{BookPass}
 use Rattle.serve_lanes.specs.declared.workers.Worker.{Worker}
 use Rattle.serve_lanes.specs.Histories.{IsNewWorker, HasEach}
 use Rattle.serve_lanes.proofs.Joining.{each_more}
-use Rattle.serve_lanes.proofs.Making.{passes_last, new_worker}
+use Rattle.serve_lanes.proofs.Making.{new_passes_length, passes_last, new_worker}
 use Rattle.serve_lanes.proofs.workers.make_workers.Goals as goal
 
 pub loop-seat-init : goal.loop-seat-init
 loop-seat-init c =
-    let long : length c.args.passes.now.items ≡ c.args.first + c.args.count = ap (λ (l : List BookPass). length l) c.requires ∙ new_passes_length Entry c.args.turn.now 0 (c.args.first + c.args.count) in
+    let long : length c.args.passes.now.items ≡ c.args.first + c.args.count = ap (λ (l : List BookPass). length l) c.requires ∙ new_passes_length c.args.turn.now 0 (c.args.first + c.args.count) in
     let same : vec_len c.args.passes.now ≡ c.args.first + c.args.count = omega (arith, long, c.args.passes.now.ok) in
     let none = c.in_ok-workers.ensures.items in
     record {

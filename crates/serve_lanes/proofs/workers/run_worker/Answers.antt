@@ -3,4 +3,4 @@ use Rattle.serve_lanes.proofs.workers.run_worker.Goals as goal
 
 pub returns-clause-over : goal.returns-clause-over
 returns-clause-over g c =
-    worker_over c.args.turn.now c.args.worker.now.pass c.work_out-worker.new.pass c.requires c.work_out-worker.ensures.own c.work_out-worker.ensures.teaches
+    worker_over c.args.turn.now c.args.worker.now.pass c.work_out-worker.new.pass c.requires.new c.work_out-worker.ensures.own c.work_out-worker.ensures.teaches
