@@ -58,11 +58,6 @@ left_call settings goes call x talk talk' server server' receipt e waits calls w
 
 -- ---- a call by a pass
 
--- a call that brings no set may be made at every history
-pub legal_of : (settings : Settings) (h : List Entry) (call : BookRequest) → BringsNone call → IsLegal settings h call
-legal_of settings h (Finish set) none = absurd (none set refl)
-legal_of settings h other none = tt
-
 -- what is known of it
 pub calls_by_pass : (settings : Settings) (call : BookRequest) (v w : BookPass) (result : Result BookReceipt CallFault) → KeepsNumbers v w
     → IfOk result (λ r. IsAnswered settings call r.turn r.reply v w) → IfErr result (λ e. Failed stamp_of v w e)
@@ -70,9 +65,3 @@ pub calls_by_pass : (settings : Settings) (call : BookRequest) (v w : BookPass) 
 calls_by_pass settings call v w (Ok receipt) keeps answered failed = takes_call settings call receipt.turn receipt.reply v w keeps answered
 calls_by_pass settings call v w (Err Memory) keeps answered failed = inr (takes_idly v w keeps failed)
 calls_by_pass settings call v w (Err (PassSpent spent)) keeps answered failed = (failed.0, ap caller_of failed.2)
-
-pub single_still : (t : TurnState Settings) (v w : BookPass) → IsSingle t v → BelongsTo t w → KeepsNumbers v w → IsSingle t w
-single_still t v w single own keeps = record {
-  own = own;
-  alone = keeps.numbers ∙ single.alone ∙ ap (λ n. n ∷ []) (sym keeps.number);
-}

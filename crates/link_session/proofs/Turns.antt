@@ -107,10 +107,6 @@ known_skip v w w' steps k (inl same) = subst (λ (x : CallerSeen). GoesByPass v 
 known_skip v w w' steps k (inr (turn, others, takes)) =
     subst (λ (ss : List Step). GoesByPass v ss w') (append-nil steps) (known_turn v w w' steps [] turn others [] k takes refl refl tt tt)
 
-pub skip_rises : (w w' : CallerSeen) → Skips w w' → w.last ≤ w'.last
-skip_rises w w' (inl same) = (let e : w'.last ≡ w.last = ap (λ (x : CallerSeen). x.last) same in omega (arith, e))
-skip_rises w w' (inr (turn, others, takes)) = (let above : w.last < turn = takes.above in let last : w'.last ≡ turn = takes.last in omega (arith, above, last))
-
 -- the step of a call in a turn
 abbrev pub step_in : ℕ → CallerSeen → BookRequest → Step
 step_in turn w call = record { stamp = stamp_in turn w; request = call }

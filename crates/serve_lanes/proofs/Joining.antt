@@ -5,26 +5,27 @@ use native.Mathlib.Decide.{dec_le}
 use Rattle.std.proofs.lemmas.List.{map-append, length-map}
 use Rattle.std.proofs.lemmas.List.Folds.{list_any-append}
 use Rattle.std.proofs.lemmas.Bool.{eqb-true, lt-ltb}
-use Rattle.std.proofs.lemmas.List.Elements.{All-nil, All-cons, All-head, All-tail, All-push, All-weaker}
+use Rattle.std.proofs.lemmas.List.Elements.{All-nil, All-cons, All-push, All-weaker}
 use Rattle.bim_io.specs.Seen.{ClockSeen}
 use Rattle.bim_io.specs.Causes.{Rose}
 use Rattle.bim_net.specs.Seen.{EndedLink, DoorSeen, IsNew, told}
 use Rattle.bim_net.specs.Doors.{GrowsBy}
-use Rattle.bim_net.specs.Hosts.{AreNew, some_failed}
+use Rattle.bim_net.specs.Hosts.{some_failed}
 use Rattle.book_turn.specs.Numbers.{has, numbers_from}
 use Rattle.book_turn.specs.Entries.{AllBefore, calls_by}
 use Rattle.book_turn.specs.Passes.{TurnState, BelongsTo, IsSingle, Joined}
 use Rattle.book_history.specs.declared.limits.Settings.{Settings}
 use Rattle.book_history.specs.declared.changes.Entry.{Entry}
 use Rattle.book_passes.specs.Lessons.{BookPass, caller_of, own_of, turn_of, stamp_of}
-use Rattle.check_workers.specs.Working.{IsDone, AreDone, Teaches}
-use Rattle.serve_lanes.specs.declared.workers.Lack.{Lack}
+use Rattle.check_workers.specs.Working.{IsDone}
+use Rattle.check_workers.specs.declared.workers.Lack.{Lack}
 use Rattle.serve_lanes.specs.declared.lane.LaneEnd.{LaneEnd}
 use Rattle.serve_lanes.specs.declared.lane.LaneEnd.TheVariants.{Closed, Full, Failed}
 use Rattle.serve_lanes.specs.Lanes.{ServedLink, LaneServed, some_memory, some_turns}
-use Rattle.serve_lanes.specs.Histories.{Service, IsReady, LaneDone, LaneOver, LanesJoined, DoorDone, EndsLane, IsOver, IsNewWorker, WorkerOver, ExtendsByWork, HasEach, AreOfLanes, AreAmong, nothing_lacked, is_failed, told_memory, told_turns, lacked_memory, some_lacked, some_spent, pass_of}
-use Rattle.serve_lanes.proofs.Entries.{either, or_first, or_second, or_left, has_first, has_second, has_one, has_append, one_of, calls_both, calls_among, calls_whole}
-use Rattle.serve_lanes.proofs.Joins.{joined_up_to, joined_extends}
+use Rattle.serve_lanes.specs.Histories.{Service, IsReady, LaneDone, LaneOver, LanesJoined, DoorDone, EndsLane, IsOver, AreAmong, is_failed, told_memory, told_turns, lacked_memory, some_lacked, some_spent}
+use Rattle.check_workers.specs.Joins.{IsNewWorker, ExtendsByWork, HasEach, AreOfLanes, pass_of}
+use Rattle.check_workers.proofs.Entries.{either, or_first, or_second, or_left, has_first, has_second, has_one, calls_both, calls_among, calls_whole}
+use Rattle.check_workers.proofs.Joins.{joined_up_to, joined_extends}
 use Rattle.serve_lanes.proofs.Histories.{doors_grown, door_joined}
 
 -- ---- one lane
@@ -163,17 +164,6 @@ joined_more s links turn v other w doors door failed failed' end lack own lack' 
       up_to = joined_up_to v other w j;
     }
 
--- ---- workers
-
-pub worker_over : (turn : TurnState Settings) (v w : BookPass) → IsNewWorker turn v → BelongsTo turn w → Teaches (caller_of v) (caller_of w) → WorkerOver turn w
-worker_over turn v w new belongs t =
-    let keeps = t.learns.keeps in
-    let seen : w.seen ≡ t.news = t.learns.seen ∙ ap (λ (h : List Entry). h ++ t.news) new.unseen in
-    record {
-      own = record { own = belongs; alone = keeps.numbers ∙ new.own.alone ∙ ap (λ (k : ℕ). k ∷ []) (sym keeps.number) };
-      done = subst (λ (ps : List ℕ). AreDone (calls_by pass_of ps w.seen)) (sym keeps.numbers) (subst (λ (h : List Entry). AreDone (calls_by pass_of v.numbers h)) (sym seen) t.done);
-    }
-
 -- ---- numbers
 
 has_from : (x a n : ℕ) → has x (numbers_from a n) ≡ true → (a ≤ x) × (x < a + n)
@@ -216,12 +206,6 @@ numbers_apart f (x ∷ xs) a (suc n) top is le =
     let here : f x ≡ a = cc in
     let rest : map f xs ≡ numbers_from (suc a) n = cc in
     All-cons (λ y. f y ≢ top) x xs (λ same. let t : f x ≡ top = same in absurd (omega arith)) (numbers_apart f xs (suc a) n top rest (omega arith))
-
--- one more number, below those that are there
-pub each_more : (k end : ℕ) (ps : List ℕ) → HasEach (k + 1) end ps → HasEach k end (ps ++ k ∷ [])
-each_more k end ps each x low high = dite (dec_le (k + 1) x)
-    (λ later. has_first x ps (k ∷ []) (each x later high))
-    (λ not. let same : x ≡ k = omega arith in subst (λ (y : ℕ). has y (ps ++ k ∷ []) ≡ true) (sym same) (has_second k ps (k ∷ []) (has_one k)))
 
 -- ---- whose entries a history has
 

@@ -1,8 +1,6 @@
-pub mod Entries
 pub mod Rows
 pub mod Chains
 pub mod Links
-pub mod Joins
 pub mod Histories
 pub mod Joining
 pub mod Making

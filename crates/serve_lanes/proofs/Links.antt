@@ -9,13 +9,13 @@ use Rattle.book_history.specs.declared.limits.Settings.{Settings}
 use Rattle.book_history.specs.declared.changes.Entry.{Entry}
 use Rattle.book_passes.specs.Lessons.{CallerSeen, turn_of}
 use Rattle.bim_session.specs.declared.end.SessionEnd.{SessionEnd}
-use Rattle.bim_session.specs.declared.end.SessionEnd.TheVariants as ends
-use Rattle.bim_net.specs.declared.ends.EndKind.TheVariants as kinds
 use Rattle.link_session.specs.Callers.{GoesByPass}
 use Rattle.link_session.specs.Serving.{Serves}
-use Rattle.serve_lanes.specs.declared.workers.Lack.{Lack}
+use Rattle.check_workers.specs.declared.workers.Lack.{Lack}
 use Rattle.serve_lanes.specs.Lanes.{ServedLink, LaneServed, NotesEnd, IsBalanced, kind_of, end_turn, is_memory, is_spent}
 use Rattle.serve_lanes.proofs.Chains.{Grew, grows_by_none}
+use Rattle.bim_session.specs.declared.end.SessionEnd.TheVariants as ends
+use Rattle.bim_net.specs.declared.ends.EndKind.TheVariants as kinds
 
 -- the session over a connection that was given back
 pub served_link : (settings : Settings) (v w : CallerSeen) (first after : LinkSeen) (clock clock' : ClockSeen) (end : SessionEnd) (x : LinkEnd) → IsFresh first

@@ -1,12 +1,13 @@
 //! Lanes over doors in memory.
 ghost use Rattle.std.specs.Prelude.{◌≤◌};
 
-use crate::{Lack, LaneEnd, run_lanes, serve_lane};
+use crate::{LaneEnd, run_lanes, serve_lane};
 use bim_io::MemClock;
 use bim_model::{Bytes, Items};
 use bim_net::{EndKind, FreeGate, MemDoor, mem_link};
 use book_history::Limits;
 use book_turn::turn::Turn;
+use check_workers::Lack;
 use federation_book::Book;
 use std::alloc::Global;
 use std::process::Abort;

@@ -1,5 +1,5 @@
 use Rattle.book_passes.specs.Lessons.{caller_of}
-use Rattle.check_workers.proofs.Workers.{teaches_none, teaches_trans, nothing_left}
+use Rattle.check_workers.proofs.Turns.{teaches_none, teaches_trans, nothing_left}
 use Rattle.check_workers.proofs.work.work_loop.Goals as goal
 
 pub loop-init : goal.loop-init

@@ -1,7 +1,7 @@
 use Rattle.std.proofs.Common.{inl, inr, refl, subst}
 use Rattle.book_passes.specs.Lessons.{caller_of}
 use Rattle.check_workers.specs.Working.{IsFoundFor}
-use Rattle.check_workers.proofs.Workers.{asked_teaches, brought_teaches, failed_teaches, teaches_trans, finds_none, is_told, may_bring}
+use Rattle.check_workers.proofs.Turns.{asked_teaches, brought_teaches, failed_teaches, teaches_trans, finds_none, is_told, may_bring}
 use Rattle.check_workers.proofs.work.work_one.Goals as goal
 
 pub returns-in_err-receipt-clause-teaches : goal.returns-in_err-receipt-clause-teaches

@@ -42,3 +42,6 @@ returns-clause-serves g c =
     stops (service_of (g.B.Caller.settings c.args.caller.now) (g.B.Caller.buckets c.args.caller.now) (g.B.Caller.goes c.args.caller.now) c.requires.laws) (g.B.Caller.seen c.args.own.now) _ _
     c.steps.talk (g.B.Caller.seen c.steps.own) c.leaving.result c.served.result (c.steps.invariant.so_far c.requires.laws) c.leaving.ensures.value
     c.in-None.is (g.met.S.Source.at_end c.steps.source) c.served.ensures
+
+pub step_and_work-requires-clause-idle : goal.step_and_work-requires-clause-idle
+step_and_work-requires-clause-idle g c = let so = c.steps.invariant.so_far c.requires.laws in so.idle

@@ -1,6 +1,6 @@
 -- What a pass knows when others were joined into it, or when it has worked.
-use Rattle.std.proofs.Common.{◌≡◌, ◌≢◌, ◌⊎◌, ℕ, ◌+◌, ◌<◌, ◌≤◌, max, List, [], ◌∷◌, ◌++◌, true, All, inl, inr, refl, sym, ◌∙◌, ap, subst, append-nil, arith}
-use Rattle.std.proofs.lemmas.List.Elements.{All-nil, All-cons, All-append, All-weaker}
+use Rattle.std.proofs.Common.{◌≡◌, ◌⊎◌, ℕ, ◌+◌, ◌<◌, ◌≤◌, max, List, [], ◌∷◌, ◌++◌, true, All, inl, refl, sym, ◌∙◌, ap, subst, append-nil, arith}
+use Rattle.std.proofs.lemmas.List.Elements.{All-nil, All-cons, All-append}
 use Rattle.book_turn.specs.Numbers.{has}
 use Rattle.book_turn.specs.Entries.{AllBefore, calls_by}
 use Rattle.book_turn.specs.Passes.{Joined}
@@ -8,10 +8,9 @@ use Rattle.book_turn.proofs.Prefixes.{picked, calls_by-append}
 use Rattle.book_history.specs.declared.changes.Entry.{Entry}
 use Rattle.book_passes.specs.Lessons.{BookPass, caller_of, own_of, turn_of, stamp_of}
 use Rattle.check_workers.specs.Working.{IsDone, AreDone, AreMadeBy, Teaches}
-use Rattle.serve_lanes.specs.Lanes.{seen_at}
-use Rattle.serve_lanes.specs.Histories.{Extends, ExtendsByWork, AreOfLanes, pass_of, of_pass}
-use Rattle.serve_lanes.proofs.Chains.{front_of, seen_twice}
-use Rattle.serve_lanes.proofs.Entries.{has_first, calls_within, calls_both, calls_none, up_to_before}
+use Rattle.check_workers.specs.Joins.{Extends, ExtendsByWork, AreOfLanes, seen_at, pass_of, of_pass}
+use Rattle.check_workers.proofs.Fronts.{front_of, seen_twice}
+use Rattle.check_workers.proofs.Entries.{has_first, calls_within, calls_both, calls_none, up_to_before}
 
 -- what a pass into which another was joined has seen is up to its last turn
 pub joined_up_to : (v other w : BookPass) → Joined stamp_of v other w → AllBefore turn_of (w.last + 1) w.seen

@@ -1,5 +1,5 @@
-use Rattle.serve_lanes.proofs.Joining.{worker_over}
-use Rattle.serve_lanes.proofs.workers.run_worker.Goals as goal
+use Rattle.check_workers.proofs.Making.{worker_over}
+use Rattle.check_workers.proofs.workers.run_worker.Goals as goal
 
 pub returns-clause-over : goal.returns-clause-over
 returns-clause-over g c =

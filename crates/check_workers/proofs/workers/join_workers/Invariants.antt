@@ -2,8 +2,8 @@ use Rattle.std.proofs.Common.{◌≡◌, ◌++◌, ◌||◌, map, All}
 use Rattle.std.specs.List.{list_any}
 use Rattle.std.specs.VecDeque.{deque_len}
 use Rattle.book_turn.specs.Passes.{BelongsTo}
-use Rattle.serve_lanes.specs.Histories.{WorkerOver, ExtendsByWork}
-use Rattle.serve_lanes.proofs.workers.join_workers.Given as goal
+use Rattle.check_workers.specs.Joins.{WorkerOver, ExtendsByWork}
+use Rattle.check_workers.proofs.workers.join_workers.Given as goal
 
 abbrev pub invariant-loop-worker : goal.invariant-loop-worker
 invariant-loop-worker l = record {

@@ -2,18 +2,18 @@
 ghost use Rattle.std.specs.Prelude.{◌≡◌, ◌⊎◌, ◌+◌, ◌||◌, ◌++◌, All, IfOk, OnOk, true, IsSome, vec_len, map};
 ghost use Rattle.std.specs.List.{list_any};
 ghost use Rattle.book_turn.specs.Entries.{AllBefore};
-ghost use Rattle.book_turn.specs.Passes.{BelongsTo, IsSingle, new_passes};
+ghost use Rattle.book_turn.specs.Passes.{BelongsTo, new_passes};
 ghost use Rattle.book_history.specs.History.{left_all};
 ghost use Rattle.book_passes.specs.Lessons.{caller_of, turn_of};
 ghost use Rattle.check_workers.specs.Working.{Teaches};
-ghost use Rattle.serve_lanes.specs.Histories.{IsNewWorker, WorkerOver, HasEach, ExtendsByWork, nothing_lacked};
+ghost use Rattle.check_workers.specs.Joins.{IsNewWorker, WorkerOver, HasEach, ExtendsByWork, nothing_lacked};
 
+use crate::work::work_loop;
 use bim_net::Gate;
 use book_turn::fault::{CallFault, SpentPass};
 use book_turn::pass::Pass;
 use book_turn::turn::Turn;
 use bucket_check::Room;
-use check_workers::work_loop;
 use federation_book::Book;
 use std::alloc::{AllocError, Global};
 use std::collections::VecDeque;

@@ -1,7 +1,7 @@
 use Rattle.std.proofs.Common.{◌≡◌, ◌+◌, ◌≤◌, vec_len, vec_capacity, map, All}
 use Rattle.book_turn.specs.Passes.{new_passes}
-use Rattle.serve_lanes.specs.Histories.{IsNewWorker, HasEach}
-use Rattle.serve_lanes.proofs.workers.make_workers.Given as goal
+use Rattle.check_workers.specs.Joins.{IsNewWorker, HasEach}
+use Rattle.check_workers.proofs.workers.make_workers.Given as goal
 
 abbrev pub invariant-loop-seat : goal.invariant-loop-seat
 invariant-loop-seat l = record {

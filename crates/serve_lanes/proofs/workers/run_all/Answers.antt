@@ -1,9 +1,0 @@
-use Rattle.std.proofs.Common.{sym, ap, ◌∙◌}
-use Rattle.serve_lanes.specs.declared.workers.Worker.{Worker}
-use Rattle.serve_lanes.proofs.Rows.{numbers_stay}
-use Rattle.serve_lanes.proofs.workers.run_all.Goals as goal
-
-pub returns-clause-numbers : goal.returns-clause-numbers
-returns-clause-numbers g c = numbers_stay (λ (w : Worker). w.pass.number) c.args.workers.now c.for_each_mut.new.s c.for_each_mut.auto.s (λ i d h.
-    let a = (c.for_each_mut.ensures i d h).1 in
-    ap (λ (w : Worker). w.pass.number) (sym a.left) ∙ a.call.1 ∙ ap (λ (w : Worker). w.pass.number) a.argument_is)
