@@ -1,8 +1,8 @@
 -- Lanes that end, and whose passes are joined one after another.
-use Rattle.std.proofs.Common.{◌≡◌, ◌≢◌, ◌≤◌, ◌<◌, ◌⊎◌, ℕ, zero, suc, ◌+◌, List, [], ◌∷◌, ◌++◌, map, length, Bool, true, false, ◌||◌, nat_lt, eqb, Option, None, Some, IsSome, All, inl, inr, refl, sym, ◌∙◌, ap, subst, arith}
+use Rattle.std.proofs.Common.{◌≡◌, ◌≢◌, ◌≤◌, ◌<◌, ◌⊎◌, ℕ, zero, suc, ◌+◌, List, [], ◌∷◌, ◌++◌, map, length, length-append, Bool, true, false, ◌||◌, nat_lt, eqb, Option, None, Some, IsSome, All, inl, inr, refl, sym, ◌∙◌, ap, subst, arith}
 use mathlib.Core.Logic.{dite}
 use native.Mathlib.Decide.{dec_le}
-use Rattle.std.proofs.lemmas.List.{map-append}
+use Rattle.std.proofs.lemmas.List.{map-append, length-map}
 use Rattle.std.proofs.lemmas.List.Folds.{list_any-append}
 use Rattle.std.proofs.lemmas.Bool.{eqb-true, lt-ltb}
 use Rattle.std.proofs.lemmas.List.Elements.{All-nil, All-cons, All-push, All-weaker}
@@ -180,6 +180,23 @@ numbers_length a (suc n) = ap suc (numbers_length (suc a) n)
 pub numbers_next : (a n : ℕ) → numbers_from a n ++ (a + n) ∷ [] ≡ numbers_from a (suc n)
 numbers_next a zero = (let e : a + 0 ≡ a = omega arith in ap (λ (k : ℕ). k ∷ []) e)
 numbers_next a (suc n) = (let e : a + suc n ≡ suc a + n = omega arith in ap (λ (k : ℕ). a ∷ (numbers_from (suc a) n ++ k ∷ [])) e ∙ ap (λ (l : List ℕ). a ∷ l) (numbers_next (suc a) n))
+
+-- how many have numbers
+pub numbered_length : {X : Type 0} (f : X → ℕ) (xs : List X) (n : ℕ) → map f xs ≡ numbers_from 0 n → length xs ≡ n
+numbered_length f xs n is = sym (length-map xs f) ∙ ap (λ (l : List ℕ). length l) is ∙ numbers_length 0 n
+
+pub numbered_alike : {X : Type 0} (f : X → ℕ) (xs ys : List X) → map f ys ≡ map f xs → length ys ≡ length xs
+numbered_alike f xs ys is = sym (length-map ys f) ∙ ap (λ (l : List ℕ). length l) is ∙ length-map xs f
+
+-- how many passes were joined
+pub all_joined : (v0 v1 v2 : BookPass) (ps seats : List ℕ) (lanes workers : ℕ) → v0.numbers ≡ v0.number ∷ ps → ps ≡ numbers_from 0 lanes → v1.numbers ≡ v0.numbers ++ seats → length seats ≡ workers
+    → v2.numbers ≡ v1.numbers → length v2.numbers ≡ (lanes + workers) + 1
+all_joined v0 v1 v2 ps seats lanes workers first are more many same =
+    let own : length v0.numbers ≡ length ps + 1 = ap (λ (l : List ℕ). length l) first in
+    let some : length ps ≡ lanes = ap (λ (l : List ℕ). length l) are ∙ numbers_length 0 lanes in
+    let both : length v1.numbers ≡ length v0.numbers + length seats = ap (λ (l : List ℕ). length l) more ∙ length-append v0.numbers seats in
+    let last : length v2.numbers ≡ length v1.numbers = ap (λ (l : List ℕ). length l) same in
+    omega arith
 
 -- numbers below a top one
 pub numbers_apart : {X : Type 0} (f : X → ℕ) (xs : List X) (a n top : ℕ) → map f xs ≡ numbers_from a n → a + n ≤ top → All (λ x. f x ≢ top) xs

@@ -16,7 +16,7 @@ use Rattle.check_workers.specs.declared.workers.Lack.{Lack}
 use Rattle.serve_lanes.specs.declared.lane.LaneEnd.{LaneEnd}
 use Rattle.serve_lanes.specs.declared.lane.LaneEnd.TheVariants.{Closed, Full, Failed}
 use Rattle.serve_lanes.specs.Lanes.{ServedLink, LaneServed, ChainIn, IsBalanced, end_turn, some_memory, some_turns}
-use Rattle.check_workers.specs.Joins.{seen_at}
+use Rattle.check_workers.specs.Joins.{nothing_lacked, seen_at, pass_of}
 
 -- what holds of all lanes of a server: whether its doors tell what was given back, the one moment of its clocks, where
 -- there is one, and the settings of its book

@@ -5,7 +5,7 @@ use Rattle.bim_io.specs.Seen.{ClockSeen, outside}
 use Rattle.bim_net.specs.declared.ends.EndKind.{EndKind}
 use Rattle.bim_net.specs.Seen.{LinkSeen, EndedLink, DoorSeen, IsFresh}
 use Rattle.bim_net.specs.Doors.{GrowsBy}
-use Rattle.book_turn.specs.Entries.{AllBefore, up_to}
+use Rattle.book_turn.specs.Entries.{AllBefore}
 use Rattle.book_history.specs.declared.limits.Settings.{Settings}
 use Rattle.book_history.specs.declared.changes.Entry.{Entry}
 use Rattle.book_passes.specs.Lessons.{CallerSeen, turn_of}
@@ -13,6 +13,7 @@ use Rattle.bim_session.specs.declared.end.SessionEnd.{SessionEnd}
 use Rattle.link_session.specs.Callers.{GoesByPass}
 use Rattle.link_session.specs.Serving.{Serves}
 use Rattle.check_workers.specs.declared.workers.Lack.{Lack}
+use Rattle.check_workers.specs.Joins.{seen_at}
 use Rattle.bim_net.specs.declared.ends.EndKind.TheVariants as kind
 use Rattle.bim_session.specs.declared.end.SessionEnd.TheVariants as end
 

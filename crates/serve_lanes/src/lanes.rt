@@ -76,7 +76,7 @@ fn run_lane<K: Serving, R: Wait, D: Door + Drop, C: Clock + Drop, G: Gate>(
 
 // Runs all lanes, each in a thread of its own.
 fn run_all<
-    K: Serving,
+    K: Serving + Sync,
     R: Threads + Wait + Sync,
     D: Door + Send + Drop,
     C: Clock + Send + Drop,
@@ -108,7 +108,7 @@ where
 
 // The same for lanes in a vector.
 fn run_vec<
-    K: Serving,
+    K: Serving + Sync,
     R: Threads + Wait + Sync,
     D: Door + Send + Drop,
     C: Clock + Send + Drop,
@@ -288,7 +288,7 @@ fn open_turn(
 
 // Runs the lanes and the workers side by side.
 fn run_both<
-    K: Serving,
+    K: Serving + Sync,
     R: Threads + Wait + Sync,
     D: Door + Send + Drop,
     C: Clock + Send + Drop,
