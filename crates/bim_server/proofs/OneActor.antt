@@ -1,5 +1,5 @@
 -- A caller alone goes on as a session's caller does.
-use Rattle.std.proofs.Common.{◌≡◌, ◌⊎◌, ℕ, zero, suc, ◌+◌, ◌*◌, ◌<◌, ◌≤◌, List, [], ◌∷◌, ◌++◌, length, Option, Some, Result, Ok, Err, OnOk, OnErr, inl, inr, refl, sym, ◌∙◌, ap, subst, arith, append-nil, append_assoc, length-append}
+use Rattle.std.proofs.Common.{◌≡◌, ◌⊎◌, ℕ, suc, ◌+◌, ◌*◌, ◌<◌, ◌≤◌, List, [], ◌∷◌, ◌++◌, length, Option, Result, Ok, Err, OnOk, OnErr, inr, refl, sym, ◌∙◌, ap, subst, arith, append-nil, append_assoc, length-append}
 use Rattle.std.proofs.lemmas.List.Elements.{All-append}
 use Rattle.std.specs.declared.alloc.AllocError.{AllocError}
 use Rattle.book_turn.specs.Entries.{AllBefore, AllAfter}
@@ -8,17 +8,17 @@ use Rattle.book_history.specs.declared.changes.Entry.{Entry}
 use Rattle.book_history.specs.declared.requests.BookRequest.{BookRequest}
 use Rattle.book_history.specs.History.{IsBefore}
 use Rattle.book_history.specs.Requests.{reply_of, added_by}
-use Rattle.book_history.specs.Runs.{Step, IsRun, IsOneThread}
+use Rattle.book_history.specs.Runs.{Step, IsRun}
 use Rattle.book_history.proofs.Histories.{AreAbove, one_none}
-use Rattle.book_passes.specs.Lessons.{CallerSeen, TakesTurn, Learns, stamp_in, turn_of}
+use Rattle.book_passes.specs.Lessons.{CallerSeen, TakesTurn, stamp_in, turn_of}
 use Rattle.book_passes.specs.Laws.{TakesCall}
 use Rattle.book_passes.proofs.Learning.{added_all, learns_trans}
-use Rattle.bim_session.specs.Works.{Standing, Works, WorksShort, WorksOn, Gives, IsEnough, left_behind, last_turn}
+use Rattle.bim_session.specs.Works.{Standing, Works, WorksShort, Gives, IsEnough, left_behind, last_turn}
 use Rattle.bim_session.specs.Talking.{BookReceipt}
 use Rattle.bim_session.proofs.Sessions.{last_turn-append}
-use Rattle.link_session.specs.Callers.{CallerLaws, LearnsBy, WorksBehind, start_of}
+use Rattle.link_session.specs.Callers.{CallerLaws, WorksBehind, start_of}
 use Rattle.bim_server.specs.Turns.{ServerState, Calls, with_turn, stamp_of, left_of}
-use Rattle.bim_server.specs.Working.{WorksAll, WorksSome, WorksTimes}
+use Rattle.bim_server.specs.Working.{WorksAll, WorksSome}
 use Rattle.bim_server.specs.OneActor.{seen_alone, IsSettled, GoesAlone}
 use Rattle.bim_server.proofs.Worked.{Extends, step_of, extends_none, extends_one, extends_on, times_steps, times_extends, times_turns, at_server, on_here, on_extended, left_here, part_steps, part_extends, part_given, left_before}
 

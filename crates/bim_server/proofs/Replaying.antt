@@ -1,5 +1,5 @@
 -- A session by a caller alone over a new book is a run with one actor.
-use Rattle.std.proofs.Common.{◌≡◌, ℕ, ◌+◌, List, [], length, Option, refl, sym, subst, arith}
+use Rattle.std.proofs.Common.{◌≡◌, ℕ, ◌+◌, [], length, Option, refl, sym, subst, arith}
 use Rattle.bim_io.specs.Seen.{Outside, EndsEmpty}
 use Rattle.book_history.specs.declared.limits.Settings.{Settings}
 use Rattle.book_history.proofs.Histories.{one_none, none_before}

@@ -1,5 +1,5 @@
 -- A caller of a book that no one else calls.
-use Rattle.std.specs.Prelude.{◌≡◌, ℕ, ◌+◌, List, [], ◌∷◌, ◌++◌, length}
+use Rattle.std.specs.Prelude.{◌≡◌, ◌+◌, List, [], ◌∷◌, ◌++◌, length}
 use Rattle.book_history.specs.declared.limits.Settings.{Settings}
 use Rattle.book_history.specs.History.{IsBefore}
 use Rattle.book_history.specs.Runs.{Step, IsRun, IsOneThread}
