@@ -192,11 +192,19 @@ numbered_alike f xs ys is = sym (length-map ys f) ∙ ap (λ (l : List ℕ). len
 pub all_joined : (v0 v1 v2 : BookPass) (ps seats : List ℕ) (lanes workers : ℕ) → v0.numbers ≡ v0.number ∷ ps → ps ≡ numbers_from 0 lanes → v1.numbers ≡ v0.numbers ++ seats → length seats ≡ workers
     → v2.numbers ≡ v1.numbers → length v2.numbers ≡ (lanes + workers) + 1
 all_joined v0 v1 v2 ps seats lanes workers first are more many same =
-    let own : length v0.numbers ≡ length ps + 1 = ap (λ (l : List ℕ). length l) first in
+    let own : length v0.numbers ≡ length (v0.number ∷ ps) = ap (λ (l : List ℕ). length l) first in
     let some : length ps ≡ lanes = ap (λ (l : List ℕ). length l) are ∙ numbers_length 0 lanes in
     let both : length v1.numbers ≡ length v0.numbers + length seats = ap (λ (l : List ℕ). length l) more ∙ length-append v0.numbers seats in
     let last : length v2.numbers ≡ length v1.numbers = ap (λ (l : List ℕ). length l) same in
     omega arith
+
+-- one more, which has the next number
+pub numbers_more : {X : Type 0} (f : X → ℕ) (xs all : List X) (x : X) (n m : ℕ) → all ≡ xs ++ x ∷ [] → m ≡ n + 1 → f x ≡ n → map f xs ≡ numbers_from 0 n → map f all ≡ numbers_from 0 m
+numbers_more {X = X} f xs all x n m is more here before =
+    let next : suc n ≡ m = omega arith in
+    let from_zero : n ≡ 0 + n = omega arith in
+    ap (λ (l : List X). map f l) is ∙ map-append f xs (x ∷ []) ∙ ap (λ (l : List ℕ). l ++ f x ∷ []) before
+    ∙ ap (λ (y : ℕ). numbers_from 0 n ++ y ∷ []) (here ∙ from_zero) ∙ numbers_next 0 n ∙ ap (λ (y : ℕ). numbers_from 0 y) next
 
 -- numbers below a top one
 pub numbers_apart : {X : Type 0} (f : X → ℕ) (xs : List X) (a n top : ℕ) → map f xs ≡ numbers_from a n → a + n ≤ top → All (λ x. f x ≢ top) xs

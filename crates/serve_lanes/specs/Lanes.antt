@@ -104,7 +104,6 @@ pub record LaneServed (serves : List Entry → ℕ → EndedLink → List Entry 
   pub gave : new.gave ≡ old.gave + length links
   pub balanced : IsBalanced old → IsBalanced new
   pub tells : IsBalanced old → IsSome old.ended → IsSome new.ended
-  pub faults : old.faults ≤ new.faults
   pub memory : noted'.memory ≡ (noted.memory || some_memory links)
   pub turns : some_turns links ≡ true → IsSome noted'.spent
   pub kept : IsSome noted.spent → IsSome noted'.spent

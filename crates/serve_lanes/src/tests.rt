@@ -1,23 +1,31 @@
 //! Lanes over doors in memory.
-ghost use Rattle.std.specs.Prelude.{◌≤◌};
+ghost use Rattle.std.specs.Prelude.{◌≡◌, true, Some, IfOk, All, vec_len};
+ghost use Rattle.book_turn.specs.Passes.{IsSingle};
+ghost use Rattle.bim_net.specs.Seen.{IsNew};
+ghost use Rattle.bim_net.specs.Stores.{door_of};
 
 use crate::{LaneEnd, run_lanes, serve_lane};
 use bim_io::MemClock;
-use bim_model::{Bytes, Items};
-use bim_net::{EndKind, FreeGate, MemDoor, mem_link};
+use bim_model::{Bytes, Items, Text};
+use bim_net::{EndKind, FreeGate, Host, MemDoor, MemHost, mem_link};
 use book_history::Limits;
+use book_turn::pass::Pass;
 use book_turn::turn::Turn;
 use check_workers::Lack;
 use federation_book::Book;
-use std::alloc::Global;
+use std::alloc::{AllocError, Global};
 use std::process::Abort;
 use std::test::Fail;
+
+const MOMENT: u64 = 1_714_564_800;
 
 const MAKE: &[u8] =
     b"POST /bcf/3.0/projects/00000001-0000-8000-8000-000000000000/topics HTTP/1.1\r\nHost: h\r\nContent-Length: 16\r\n\r\n{\"title\":\"Pipe\"}";
 
 // A door whose connections send these bytes, and whose accept of this number fails (0: none).
-fn door(alloc: Global, inputs: &[&[u8]], fails: u64) -> Result<MemDoor, Fail> {
+fn door(alloc: Global, inputs: &[&[u8]], fails: u64) -> Result<MemDoor, Fail>
+    ensures { IfOk result (λ d. IsNew true 0 (door_of d.store d.faults)) }
+{
     let mut links = Vec::new(alloc);
     for input in inputs {
         let contents = Bytes::of(alloc, input)?;
@@ -26,6 +34,38 @@ fn door(alloc: Global, inputs: &[&[u8]], fails: u64) -> Result<MemDoor, Fail> {
     let mut list = Items::new(alloc);
     list.push(fails)?;
     Ok(MemDoor::new(alloc, links, list)?)
+}
+
+// Doors of two connections each, whose accepts of these numbers fail.
+fn doors(alloc: Global, fails: &[u64]) -> Result<Vec<MemDoor>, Fail>
+    ensures { IfOk result (λ ds. All (λ d. IsNew true 0 (door_of d.store d.faults)) ds.items) }
+{
+    let mut doors = Vec::new(alloc);
+    for number in fails {
+        doors.push(door(alloc, &[MAKE, MAKE], *number)?)?;
+    }
+    Ok(doors)
+}
+
+fn clocks(alloc: Global, count: u32) -> Result<Vec<MemClock>, AllocError>
+    ensures count { IfOk result (λ cs. vec_len cs ≡ count) }
+    ensures one { IfOk result (λ cs. All (λ c. Some c ≡ Some 1714564800) cs.items) }
+{
+    let mut clocks = Vec::new(alloc);
+    for _number in 0..count {
+        clocks.push(MemClock::new(MOMENT))?;
+    }
+    Ok(clocks)
+}
+
+fn opened(alloc: Global) -> Result<(Turn<Book>, Pass<Book>), Fail>
+    ensures single { IfOk result (λ r. IsSingle r.0 r.1) }
+    ensures one { IfOk result (λ r. r.0.passes ≡ 1) }
+{
+    let book = Book::new(alloc, 1, Limits::stated())?;
+    let (turn, mut passes) = Turn::new(alloc, book, 1)?;
+    let pass = passes.pop().ok_or("a pass")?;
+    Ok((turn, pass))
 }
 
 // The kinds of ends and the turns that stand at the connections that were given back.
@@ -40,10 +80,8 @@ fn assert_ended(rt: &impl Abort, door: &MemDoor, wanted: &[(EndKind, u64)]) {
 #[test]
 fn a_lane_ends_as_its_door_does(rt: HostRuntime) -> Result<(), Fail> {
     let alloc = rt.alloc();
-    let book = Book::new(alloc, 1, Limits::stated())?;
-    let (turn, mut passes) = Turn::new(alloc, book, 1)?;
-    let mut pass = passes.pop().ok_or("a pass")?;
-    let mut clock = MemClock::new(1_714_564_800);
+    let (turn, mut pass) = opened(alloc)?;
+    let mut clock = MemClock::new(MOMENT);
     let gate = FreeGate::new(1);
     let mut lack = Lack::none();
     let inputs = [MAKE, b"".as_slice(), MAKE, b"GET".as_slice()];
@@ -88,14 +126,13 @@ fn a_lane_ends_as_its_door_does(rt: HostRuntime) -> Result<(), Fail> {
 fn lanes_share_one_history(rt: HostRuntime) -> Result<(), Fail> {
     let alloc = rt.alloc();
     let book = Book::new(alloc, 1, Limits::stated())?;
-    let mut doors = Vec::new(alloc);
-    let mut clocks = Vec::new(alloc);
-    for fails in [0, 2, 0] {
-        doors.push(door(alloc, &[MAKE, MAKE], fails)?)?;
-        clocks.push(MemClock::new(1_714_564_800))?;
-    }
+    let mut host = MemHost::new(alloc, doors(alloc, &[0, 2, 0])?, MOMENT, Items::new(alloc));
+    let addr = Text::of(alloc, "127.0.0.1:8080")?;
+    let Ok(doors) = host.open_doors(alloc, &addr, 3) else {
+        panic!(rt; "no doors")
+    };
     let gate = FreeGate::new(3);
-    let served = run_lanes(&rt, alloc, book, doors, clocks, 1, &gate, 0)?;
+    let served = run_lanes(&rt, alloc, book, doors, clocks(alloc, 3)?, 1, &gate, 0)?;
     assert!(rt; served.failed && !served.memory && served.spent.is_none());
     assert_eq!(rt;
         (served.book.journal().len(), served.book.left_all()),

@@ -1,5 +1,5 @@
-use Rattle.std.proofs.Common.{◌≡◌, ◌≢◌, ◌+◌, ◌++◌, ◌∷◌, [], ℕ, List, length, All, map, false, refl, sym, ap, ◌∙◌, subst, arith, append-nil}
-use Rattle.std.proofs.lemmas.List.{map-append}
+use Rattle.std.proofs.Common.{◌≡◌, ◌≢◌, ◌+◌, ◌++◌, ◌∷◌, [], ℕ, List, length, All, map, false, refl, sym, ap, ◌∙◌, subst, arith, length-append}
+use Rattle.std.proofs.lemmas.List.{map-append, length-map}
 use Rattle.std.proofs.lemmas.List.Elements.{All-head, All-tail}
 use Rattle.bim_net.specs.Seen.{DoorSeen}
 use Rattle.serve_lanes.specs.Histories.{LaneOver, LanesJoined}
@@ -30,12 +30,35 @@ loop-lane-preserved g c =
     let rest = c.pop_front.new.self.items in
     let items = c.in-Some.ensures.items in
     let j = c.join_lane.ensures in
+    let old = c.loop-lane.joined.doors in
+    let new = c.join_lane.new.joined.doors in
     record {
       number = j.number ∙ i.number;
       joined = j.joined;
-      room = (let a = ap (λ xs. length xs) items in let b = ap (λ (xs : List DoorSeen). length xs) j.doors in search rules);
+      room = (
+          let a : length c.loop-lane.lanes.items ≡ length (x ∷ rest) = ap length items in
+          let b : length (map g.D.Door.seen new.items) ≡ length (map g.D.Door.seen old.items ++ g.D.Door.seen x.door ∷ []) = ap (λ (ds : List DoorSeen). length ds) j.doors in
+          let both = length-append (map g.D.Door.seen old.items) (g.D.Door.seen x.door ∷ []) in
+          let after : length (map g.D.Door.seen new.items) ≡ length new.items = length-map new.items g.D.Door.seen in
+          let before : length (map g.D.Door.seen old.items) ≡ length old.items = length-map old.items g.D.Door.seen in
+          let room = i.room in
+          let same = j.room in
+          omega (arith, a, b, both, after, before, room, same, new.ok.0, old.ok.0)
+      );
       over = All-tail (λ y. LaneOver g.K.Serving.service c.args.links c.args.turn.now y.pass (g.D.Door.seen y.door) y.end y.lack) x rest (subst (All (λ y. LaneOver g.K.Serving.service c.args.links c.args.turn.now y.pass (g.D.Door.seen y.door) y.end y.lack)) items i.over);
       other = All-tail (λ y. (g.D.Door.seen y.door).number ≢ c.args.own.number) x rest (subst (All (λ y. (g.D.Door.seen y.door).number ≢ c.args.own.number)) items i.other);
       numbers = numbers_moved (λ y. (g.D.Door.seen y.door).number) (map (λ (d : DoorSeen). d.number) (map g.D.Door.seen c.loop-lane.joined.doors.items)) _ _ x rest c.loop-lane.lanes.items
           (ap (λ (ds : List DoorSeen). map (λ (d : DoorSeen). d.number) ds) j.doors ∙ map-append (λ (d : DoorSeen). d.number) (map g.D.Door.seen c.loop-lane.joined.doors.items) (g.D.Door.seen x.door ∷ [])) items i.numbers;
     }
+
+pub join_lane-requires-clause-over : goal.join_lane-requires-clause-over
+join_lane-requires-clause-over g c =
+    All-head (λ y. LaneOver g.K.Serving.service c.args.links c.args.turn.now y.pass (g.D.Door.seen y.door) y.end y.lack) c.in-Some.lane c.pop_front.new.self.items
+    (subst (All (λ y. LaneOver g.K.Serving.service c.args.links c.args.turn.now y.pass (g.D.Door.seen y.door) y.end y.lack)) c.in-Some.ensures.items c.loop-lane.invariant.over)
+
+pub join_lane-requires-clause-other : goal.join_lane-requires-clause-other
+join_lane-requires-clause-other g c =
+    let own = c.args.own.number in
+    let apart : (g.D.Door.seen c.in-Some.lane.door).number ≢ own = All-head (λ y. (g.D.Door.seen y.door).number ≢ own) c.in-Some.lane c.pop_front.new.self.items
+        (subst (All (λ y. (g.D.Door.seen y.door).number ≢ own)) c.in-Some.ensures.items c.loop-lane.invariant.other) in
+    λ same. apart (same ∙ c.loop-lane.invariant.number)
