@@ -4,7 +4,7 @@ use Rattle.std.proofs.lemmas.List.Folds.{list_any-append}
 use Rattle.check_workers.proofs.Fronts.{front_of, seen_twice}
 use Rattle.bim_net.specs.Seen.{EndedLink, DoorSeen}
 use Rattle.bim_net.specs.Doors.{GrowsBy}
-use Rattle.book_turn.specs.Entries.{AllBefore, AllAfter, up_to}
+use Rattle.book_turn.specs.Entries.{AllBefore, AllAfter}
 use Rattle.book_history.specs.declared.changes.Entry.{Entry}
 use Rattle.book_passes.specs.Lessons.{turn_of}
 use Rattle.check_workers.specs.declared.workers.Lack.{Lack}

@@ -1,5 +1,5 @@
 -- What is left when all passes were joined into one and that has worked.
-use Rattle.std.proofs.Common.{◌≡◌, ◌⊎◌, ℕ, ◌+◌, List, ◌++◌, Bool, ◌||◌, true, map, length, All, IsSome, sym, ◌∙◌, ap, subst, arith}
+use Rattle.std.proofs.Common.{◌≡◌, ℕ, ◌+◌, List, ◌++◌, Bool, ◌||◌, true, map, length, All, sym, ◌∙◌, subst}
 use Rattle.bim_net.specs.Seen.{DoorSeen}
 use Rattle.book_turn.specs.Numbers.{numbers_from}
 use Rattle.book_turn.specs.Entries.{AllBefore}
@@ -12,7 +12,7 @@ use Rattle.check_workers.specs.Working.{Teaches}
 use Rattle.check_workers.specs.Joins.{ExtendsByWork, HasEach, AreOfLanes, pass_of}
 use Rattle.check_workers.proofs.Joins.{taught_work}
 use Rattle.check_workers.proofs.Entries.{or_first}
-use Rattle.serve_lanes.specs.Histories.{Service, LanesJoined, DoorServed, some_lacked, some_spent}
+use Rattle.serve_lanes.specs.Histories.{Service, LanesJoined, DoorServed}
 use Rattle.serve_lanes.proofs.Histories.{doors_grown, doors_in}
 use Rattle.serve_lanes.proofs.Joining.{of_lanes, all_joined}
 

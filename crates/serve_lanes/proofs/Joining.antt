@@ -110,10 +110,10 @@ among_more : (v other w : BookPass) (ps : List ℕ) (k : ℕ) (qs : List ℕ) �
 among_more v other w ps k qs j alone before names =
     let Among : Entry → Type 0 = λ e. has e.stamp.pass (ps ++ k ∷ []) ≡ true in
     let mine : All Among (calls_by pass_of v.numbers w.seen) = subst (All Among) (sym j.own_first)
-        (All-weaker (λ (e : Entry). has e.stamp.pass ps ≡ true) Among (λ e is. has_first e.stamp.pass ps (k ∷ []) is) (calls_by pass_of v.numbers v.seen) before) in
+    (All-weaker (λ (e : Entry). has e.stamp.pass ps ≡ true) Among (λ e is. has_first e.stamp.pass ps (k ∷ []) is) (calls_by pass_of v.numbers v.seen) before) in
     let others : All Among (calls_by pass_of other.numbers w.seen) =
-        All-weaker (λ (e : Entry). has e.stamp.pass other.numbers ≡ true) Among
-        (λ e is. has_second e.stamp.pass ps (k ∷ []) (subst (λ (ns : List ℕ). has e.stamp.pass ns ≡ true) alone is)) (calls_by pass_of other.numbers w.seen) (calls_among pass_of other.numbers w.seen) in
+    All-weaker (λ (e : Entry). has e.stamp.pass other.numbers ≡ true) Among
+    (λ e is. has_second e.stamp.pass ps (k ∷ []) (subst (λ (ns : List ℕ). has e.stamp.pass ns ≡ true) alone is)) (calls_by pass_of other.numbers w.seen) (calls_among pass_of other.numbers w.seen) in
     subst (λ (ns : List ℕ). AreAmong ns (own_of (caller_of w) w.seen)) (sym names)
     (subst (λ (ns : List ℕ). All Among (calls_by pass_of ns w.seen)) (sym j.numbers) (calls_both pass_of Among v.numbers other.numbers w.seen mine others))
 
@@ -239,6 +239,6 @@ of_lanes lanes v0 v1 v2 ps seats among are own numbers p q each before =
     in_lanes : (x : ℕ) → x < v0.number + 1 → has x v2.numbers ≡ false → has v0.number v2.numbers ≡ true → ((y : ℕ) → has y seats ≡ true → has y v2.numbers ≡ true) → x < lanes
     in_lanes x lt none here seated = dite (dec_le lanes x)
         (λ le. dite (dec_le v0.number x)
-            (λ high. let same : v0.number ≡ x = omega arith in absurd (let is = subst (λ (y : ℕ). has y v2.numbers ≡ true) same here in cc))
-            (λ low. absurd (let is = seated x (each x le (omega arith)) in cc)))
+        (λ high. let same : v0.number ≡ x = omega arith in absurd (let is = subst (λ (y : ℕ). has y v2.numbers ≡ true) same here in cc))
+        (λ low. absurd (let is = seated x (each x le (omega arith)) in cc)))
         (λ not. omega arith)

@@ -1,4 +1,4 @@
-use Rattle.std.proofs.Common.{◌≡◌, ◌≢◌, ◌+◌, ◌++◌, ◌∷◌, [], ℕ, List, length, All, map, false, refl, sym, ap, ◌∙◌, subst, arith, length-append}
+use Rattle.std.proofs.Common.{◌≡◌, ◌≢◌, ◌++◌, ◌∷◌, [], List, length, All, map, false, refl, sym, ap, ◌∙◌, subst, arith, length-append}
 use Rattle.std.proofs.lemmas.List.{map-append, length-map}
 use Rattle.std.proofs.lemmas.List.Elements.{All-head, All-tail}
 use Rattle.bim_net.specs.Seen.{DoorSeen}
@@ -44,7 +44,7 @@ loop-lane-preserved g c =
           let room = i.room in
           let same = j.room in
           omega (arith, a, b, both, after, before, room, same, new.ok.0, old.ok.0)
-      );
+          );
       over = All-tail (λ y. LaneOver g.K.Serving.service c.args.links c.args.turn.now y.pass (g.D.Door.seen y.door) y.end y.lack) x rest (subst (All (λ y. LaneOver g.K.Serving.service c.args.links c.args.turn.now y.pass (g.D.Door.seen y.door) y.end y.lack)) items i.over);
       other = All-tail (λ y. (g.D.Door.seen y.door).number ≢ c.args.own.number) x rest (subst (All (λ y. (g.D.Door.seen y.door).number ≢ c.args.own.number)) items i.other);
       numbers = numbers_moved (λ y. (g.D.Door.seen y.door).number) (map (λ (d : DoorSeen). d.number) (map g.D.Door.seen c.loop-lane.joined.doors.items)) _ _ x rest c.loop-lane.lanes.items
@@ -60,5 +60,5 @@ pub join_lane-requires-clause-other : goal.join_lane-requires-clause-other
 join_lane-requires-clause-other g c =
     let own = c.args.own.number in
     let apart : (g.D.Door.seen c.in-Some.lane.door).number ≢ own = All-head (λ y. (g.D.Door.seen y.door).number ≢ own) c.in-Some.lane c.pop_front.new.self.items
-        (subst (All (λ y. (g.D.Door.seen y.door).number ≢ own)) c.in-Some.ensures.items c.loop-lane.invariant.other) in
+    (subst (All (λ y. (g.D.Door.seen y.door).number ≢ own)) c.in-Some.ensures.items c.loop-lane.invariant.other) in
     λ same. apart (same ∙ c.loop-lane.invariant.number)

@@ -1,4 +1,4 @@
-use Rattle.std.proofs.Common.{◌≡◌, ◌+◌, ◌++◌, ◌∷◌, [], ap, rules}
+use Rattle.std.proofs.Common.{◌≡◌, ◌+◌, ap, rules}
 use Rattle.book_turn.specs.Passes.{new_passes}
 use Rattle.book_passes.specs.Lessons.{BookPass}
 use Rattle.check_workers.proofs.Making.{new_worker}

@@ -1,5 +1,8 @@
 use Rattle.std.proofs.Common.{◌≡◌, Some, All, vec_len}
 use Rattle.serve_lanes.proofs.tests.clocks.Given as goal
 
-abbrev pub invariant-loop : goal.invariant-loop
-invariant-loop l = (vec_len l.clocks ≡ l.index) × All (λ c. Some c ≡ Some 1714564800) l.clocks.items
+abbrev pub invariant-loop-number : goal.invariant-loop-number
+invariant-loop-number l = record {
+  count : vec_len l.clocks ≡ l._number;
+  one : All (λ c. Some c ≡ Some 1714564800) l.clocks.items;
+}
