@@ -1,5 +1,5 @@
 use Rattle.std.proofs.Common.{◌≡◌, Some, All, vec_len}
-use Rattle.serve_lanes.proofs.tests.clocks.Given as goal
+use Rattle.lane_tests.proofs.lanes_tests.clocks.Given as goal
 
 abbrev pub invariant-loop-number : goal.invariant-loop-number
 invariant-loop-number l = record {

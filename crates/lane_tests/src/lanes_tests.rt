@@ -5,7 +5,6 @@ ghost use Rattle.bim_net.specs.Hosts.{AreNew};
 ghost use Rattle.bim_net.specs.Seen.{IsNew};
 ghost use Rattle.bim_net.specs.Stores.{door_of};
 
-use crate::{LaneEnd, Served, run_lanes, serve_lane};
 use bim_io::MemClock;
 use bim_model::{Bytes, Items, Text};
 use bim_net::{EndKind, FreeGate, Host, MemDoor, MemHost, mem_link};
@@ -14,6 +13,7 @@ use book_turn::pass::Pass;
 use book_turn::turn::Turn;
 use check_workers::Lack;
 use federation_book::Book;
+use serve_lanes::{LaneEnd, Served, run_lanes, serve_lane};
 use std::alloc::{AllocError, Global};
 use std::process::Abort;
 use std::sync::Wait;
