@@ -1,6 +1,6 @@
 pub mod Worked
 pub mod Giving
-pub mod Alone
+pub mod OneActor
 pub mod Replaying
 pub mod Grammar
 pub mod Statuses

@@ -1,5 +1,5 @@
 -- A session by a caller alone over a new book is a run with one actor.
-use Rattle.std.proofs.Common.{◌≡◌, ℕ, ◌+◌, List, [], length, Option, refl, sym, subst, arith}
+use Rattle.std.proofs.Common.{◌≡◌, ℕ, ◌+◌, [], length, Option, refl, sym, subst, arith}
 use Rattle.bim_io.specs.Seen.{Outside, EndsEmpty}
 use Rattle.book_history.specs.declared.limits.Settings.{Settings}
 use Rattle.book_history.proofs.Histories.{one_none, none_before}
@@ -11,8 +11,8 @@ use Rattle.link_session.specs.Serving.{Serves}
 use Rattle.link_session.proofs.SoFar.{service_of}
 use Rattle.link_session.proofs.Ending.{nothing_done}
 use Rattle.bim_server.specs.Turns.{ServerState}
-use Rattle.bim_server.specs.Alone.{seen_alone, IsSettled, GoesAlone}
-use Rattle.bim_server.proofs.Alone.{laws_alone, stays_alone}
+use Rattle.bim_server.specs.OneActor.{seen_alone, IsSettled, GoesAlone}
+use Rattle.bim_server.proofs.OneActor.{laws_alone, stays_alone}
 
 -- a book without a history
 abbrev pub new_server : Settings → ServerState

@@ -1,7 +1,7 @@
 -- What the commands do and answer.
 use Rattle.std.specs.Prelude.{◌≡◌, ◌≢◌, ◌⊎◌, ℕ, List, [], ◌∷◌, if◌then◌else◌, Option, Some, None, codes}
 use Rattle.std.specs.Str.{bytes_eq}
-use Rattle.bim_io.specs.Seen.{ClockSeen, Outside, outside}
+use Rattle.bim_io.specs.Seen.{ClockSeen, SinkSeen, Outside, outside}
 use Rattle.bim_session.specs.declared.end.SessionEnd.{SessionEnd}
 use Rattle.bim_session.specs.Replay.{Replays, stated_settings, status_of}
 use Rattle.bim_server.specs.declared.words.ReplayWords.{ReplayWords}
@@ -100,16 +100,14 @@ asked_by (name ∷ words) =
     if bytes_eq name (codes "serve") then Serve words else Other (command_named name words)
 
 -- what `serve` writes: the usage line where its words are outside its grammar, else nothing
-abbrev pub SaysUsage : Outside → Outside → ℕ → Type 0
-SaysUsage before after status =
-    ((status ≡ 2) × PrintsUsage before.sink after.sink status)
-    ⊎ ((status ≢ 2) × (after.sink ≡ before.sink))
+abbrev pub SaysUsage : SinkSeen → SinkSeen → ℕ → Type 0
+SaysUsage old new status = ((status ≡ 2) × PrintsUsage old new status) ⊎ ((status ≢ 2) × (new ≡ old))
 
 -- what the program does, and how it ends: `serve` leaves the source, the clock and the files alone, and the others the
 -- host; they have no book
 abbrev pub Ends : Asked → Outside → Outside → FilesSeen → FilesSeen → HostSeen → HostSeen → Ended → Type 0
 Ends (Serve words) before after files files' host host' ended =
-    ServesBy (serve_words words) host host' ended × SaysUsage before after ended.status
+    ServesBy (serve_words words) host host' ended × SaysUsage before.sink after.sink ended.status
     × ReadsNothing before after × (files' ≡ files)
 Ends (Other command) before after files files' host host' ended =
     Runs command before after files files' ended.status × (ended ≡ without_book ended.status) × (host' ≡ host)

@@ -1,5 +1,5 @@
 pub mod Turns
-pub mod Alone
+pub mod OneActor
 pub mod Working
 pub mod Words
 pub mod Commands

@@ -69,6 +69,7 @@ pub record ServesAll (counts : ServeCounts) (host host' : HostSeen) (book : Book
   pub turns : some_spent host'.closed ≡ true → (status ≡ 6) ⊎ (status ≡ 7)
   pub failed : some_failed host'.closed ≡ true → (status ≡ 4) ⊎ ((status ≡ 6) ⊎ (status ≡ 7))
   pub sound : status ≡ 4 → some_failed host'.closed ≡ true
+  pub known : (status ≡ 0) ⊎ ((status ≡ 4) ⊎ ((status ≡ 6) ⊎ (status ≡ 7)))
   pub buckets : (left_all book.settings.projects book.journal ≡ 0) ⊎ ((status ≡ 6) ⊎ (status ≡ 7))
 
 -- memory was wanting before the first connection was accepted

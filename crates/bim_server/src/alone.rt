@@ -1,6 +1,6 @@
 //! A caller of a book that no one else calls.
 ghost use Rattle.bim_session.specs.Replay.{stated_settings};
-ghost use Rattle.bim_server.specs.Alone.{seen_alone, IsSettled, GoesAlone};
+ghost use Rattle.bim_server.specs.OneActor.{seen_alone, IsSettled, GoesAlone};
 
 use crate::one_thread::OneThread;
 use book_history::BookRequest;

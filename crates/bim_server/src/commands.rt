@@ -1,11 +1,10 @@
 //! The commands.
-ghost use Rattle.std.specs.Prelude.{◌≡◌, ◌≢◌, ◌<◌, ◌⊎◌};
+ghost use Rattle.std.specs.Prelude.{◌≡◌, ◌<◌, ◌⊎◌};
 ghost use Rattle.bim_io.specs.Causes.{Rose, ComesOfFault};
 ghost use Rattle.bim_io.specs.Seen.{outside};
 ghost use Rattle.bim_server.specs.Words.{replay_words, IsReplay};
-ghost use Rattle.batch_commands.specs.Writes.{PrintsUsage};
 ghost use Rattle.bim_server.specs.Serving.{without_book};
-ghost use Rattle.bim_server.specs.Commands.{Does, ReplaysBy, Runs, command_of, Ends, asked_by};
+ghost use Rattle.bim_server.specs.Commands.{Does, ReplaysBy, Runs, command_of, Ends, SaysUsage, asked_by};
 
 use crate::serve::{Ended, run_serve};
 use crate::session::{replay_session, status_of};
@@ -122,8 +121,7 @@ fn run_other<S: Source, K: Sink, F: Files, C: Clock>(
 fn say_usage<K: Sink>(ended: Ended, sink: &mut K) -> Ended
     requires { ended.status ≡ 2 → ended ≡ without_book 2 }
     ensures same { result ≡ ended }
-    ensures usage { ended.status ≡ 2 → PrintsUsage (K.seen sink.old) (K.seen sink.new) 2 }
-    ensures other { ended.status ≢ 2 → K.seen sink.new ≡ K.seen sink.old }
+    ensures usage { SaysUsage (K.seen sink.old) (K.seen sink.new) ended.status }
 {
     if ended.status == 2 {
         Ended::of(print_usage(sink))

@@ -3,6 +3,7 @@ ghost use Rattle.std.specs.Prelude.{◌≡◌, ◌↔◌, [], IsSome, IfOk, All,
 ghost use Rattle.bim_io.specs.Causes.{Rose};
 ghost use Rattle.bim_net.specs.Hosts.{AreNew};
 ghost use Rattle.bim_session.specs.Replay.{stated_settings};
+ghost use Rattle.serve_lanes.specs.Histories.{TellsOne};
 ghost use Rattle.bim_server.specs.ServeWords.{serve_words, IsServe};
 ghost use Rattle.bim_server.specs.Serving.{Serves, ServesDoors, ServesBy, EndsAs, without_book};
 
@@ -74,11 +75,11 @@ fn clocks_of<C: Clock + Drop, H: Host<C = C>>(
     count: u32,
 ) -> Result<Vec<C>, AllocError>
     ensures count { IfOk result (λ clocks. vec_len clocks ≡ count) }
-    ensures one { IfOk result (λ clocks. All (λ c. (C.seen c).one ≡ (H.seen host.old).moment) clocks.items) }
+    ensures one { IfOk result (λ clocks. All (λ c. TellsOne (H.seen host.old).moment (C.seen c).one) clocks.items) }
     ensures host { H.seen host.new ≡ H.seen host.old }
 {
     let mut clocks = Vec::new(alloc);
-    for _ in 0..count {
+    for _lane in 0..count {
         clocks.push(host.clock())?;
     }
     Ok(clocks)
@@ -110,8 +111,9 @@ where
     requires count { vec_len doors ≡ counts.lanes }
     requires new { AreNew (H.seen host.old).tells 0 (map D.seen doors.items) }
     requires clocks { vec_len clocks ≡ vec_len doors }
-    requires one { All (λ c. (C.seen c).one ≡ (H.seen host.old).moment) clocks.items }
-    ensures { ServesDoors counts (H.seen host.old) (H.seen host.new) result }
+    requires one { All (λ c. TellsOne (H.seen host.old).moment (C.seen c).one) clocks.items }
+    ensures served { ServesDoors counts (H.seen host.old) (H.seen host.new) result }
+    ensures spent { (result.status ≡ 7) ↔ IsSome result.spent }
 {
     match run_lanes::<R, D, C, G>(
         rt,
@@ -150,7 +152,8 @@ where
     D::S: Send,
     D::K: Send,
     requires { IsServe said.now.counts }
-    ensures { Serves said.now (H.seen host.old) (H.seen host.new) result }
+    ensures served { Serves said.now (H.seen host.old) (H.seen host.new) result }
+    ensures spent { (result.status ≡ 7) ↔ IsSome result.spent }
 {
     let counts = said.counts;
     let Ok(book) = Book::new(alloc, counts.projects, Limits::stated()) else {

@@ -2,8 +2,8 @@
 ghost use Rattle.std.specs.Prelude.{◌≡◌, ◌≤◌, option_map, IfOk, IfSome};
 ghost use Rattle.clap.specs.Words.{app_of, found_of, rows_of};
 ghost use Rattle.bim_server.specs.Words.{IsCount};
-ghost use Rattle.bim_server.specs.ServeWords.{serve_command, number_or, addr_said, counts_said, serve_said};
-ghost use Rattle.bim_server.specs.ServeWords.{serve_words, IsServe};
+ghost use Rattle.bim_server.specs.ServeWords.{serve_command, number_or, addr_said, all_counted, counts_said};
+ghost use Rattle.bim_server.specs.ServeWords.{serve_said, serve_words, IsServe};
 
 use crate::words::projects_said;
 use bim_model::Text;
@@ -77,20 +77,39 @@ fn addr_said(alloc: Global, text: Option<&str>) -> Result<Text, AllocError>
     }
 }
 
+fn all_counted(
+    lanes: Option<u64>,
+    workers: Option<u64>,
+    links: Option<u64>,
+    projects: Option<u32>,
+) -> Option<ServeCounts>
+    requires some_lanes { IfSome lanes (λ n. 1 ≤ n) }
+    requires few_lanes { IfSome lanes (λ n. n ≤ MOST_LANES) }
+    requires few_workers { IfSome workers (λ n. n ≤ MOST_WORKERS) }
+    requires count { IfSome projects IsCount }
+    ensures said { result ≡ all_counted lanes workers links projects }
+    ensures serve { IfSome result IsServe }
+{
+    match (lanes, workers, links, projects) {
+        (Some(lanes), Some(workers), Some(links), Some(projects)) => Some(ServeCounts {
+            lanes: lanes as u32,
+            workers: workers as u32,
+            links,
+            projects,
+        }),
+        _ => None,
+    }
+}
+
 fn counts_said(matches: &ArgMatches<'_>) -> Option<ServeCounts>
     ensures said { result ≡ counts_said (rows_of (found_of matches.now)) }
     ensures serve { IfSome result IsServe }
 {
-    let lanes = number_or(1, MOST_LANES as u64, 2, matches.get_str("lanes"))?;
-    let workers = number_or(1, MOST_WORKERS as u64, 1, matches.get_str("workers"))?;
-    let links = number_or(0, MOST_LINKS, 0, matches.get_str("links"))?;
-    let projects = projects_said(matches.get_str("projects"))?;
-    Some(ServeCounts {
-        lanes: lanes as u32,
-        workers: workers as u32,
-        links,
-        projects,
-    })
+    let lanes = number_or(1, MOST_LANES as u64, 2, matches.get_str("lanes"));
+    let workers = number_or(1, MOST_WORKERS as u64, 1, matches.get_str("workers"));
+    let links = number_or(0, MOST_LINKS, 0, matches.get_str("links"));
+    let projects = projects_said(matches.get_str("projects"));
+    all_counted(lanes, workers, links, projects)
 }
 
 fn serve_said(alloc: Global, matches: &ArgMatches<'_>) -> Result<Option<ServeWords>, AllocError>

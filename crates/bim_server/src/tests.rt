@@ -7,6 +7,7 @@ use bim_io::{ListClock, MemClock, MemSink, MemSource, SureSink, SureSource};
 use bim_model::{Bytes, Items, Moment, Text};
 use bim_net::MemHost;
 use std::alloc::Global;
+use std::mem::drop;
 use std::process::Abort;
 use std::sync::Wait;
 use std::test::Fail;
@@ -227,7 +228,9 @@ fn assert_words<R: Threads + Wait + Sync + Abort>(
         &mut clock,
         &mut host,
     );
-    assert_eq!(rt; ended.status, status);
+    let told = ended.status;
+    drop(ended);
+    assert_eq!(rt; told, status);
     assert_eq!(rt; sink.bytes(), output);
     Ok(())
 }

@@ -1,3 +1,7 @@
 pub mod Finishing
 pub mod Orders
-pub mod Workers
+pub mod Turns
+pub mod Entries
+pub mod Fronts
+pub mod Joins
+pub mod Making

@@ -28,20 +28,21 @@ use Rattle.ifc_units.proofs.UnitFacts.{one_unit, one_unit_fault}
 use Rattle.ifc_units.proofs.InstanceFacts.{one_instance_fault}
 use Rattle.spatial_tree.proofs.OneStorey.{one_storey, one_tree_fault}
 use Rattle.ifc_instances.specs.declared.entity.Entity.TheVariants.{FaceWithVoids}
-use Rattle.model_build.specs.Stages.{Stage, Then, first_or, first_fault, LeastFault}
-use Rattle.model_build.specs.Finding.{IsUsed}
-use Rattle.model_build.specs.Texts.{GuidFault, name_at}
+use Rattle.model_build.specs.Faults.{Stage, first_fault, LeastFault}
+use Rattle.model_build.specs.Stages.{LoopFault, ItemStage, IsUsed, LengthStage, StuckStage, ReachFault, ReachStage, InUnit, stages, FileFault}
+use Rattle.model_build.specs.Guids.{GuidFault}
+use Rattle.ifc_elements.specs.Texts.{name_at}
 use Rattle.model_build.specs.Named.{IsNamed}
 use Rattle.model_build.specs.Least.{IsBadSet, IsOblique}
 use Rattle.model_build.specs.Unsupported.{IsUnsupported}
 use Rattle.model_build.specs.Faces.{IsStuckFace}
-use Rattle.model_build.specs.PointTables.{LengthFault, told_of}
-use Rattle.model_build.specs.Storeys.{IsStoreyName}
-use Rattle.model_build.specs.Surfaces.{IsSurface}
-use Rattle.model_build.specs.Elements.{IsElement, IsModelOf}
-use Rattle.model_build.specs.Profile.{LoopFault, ReachFault, InUnit, stages_in, stages, FileFault, Profile}
-use Rattle.model_build.proofs.OneSurface.{one_surface}
-use Rattle.model_build.proofs.Staged.{same_lists}
+use Rattle.model_build.specs.LengthFaults.{LengthFault, told_of}
+use Rattle.ifc_elements.specs.Storeys.{IsStoreyName}
+use Rattle.ifc_elements.specs.Surfaces.{IsSurface}
+use Rattle.ifc_elements.specs.Elements.{IsElement}
+use Rattle.model_build.specs.Profile.{IsModelOf, Profile}
+use Rattle.ifc_elements.proofs.OneSurface.{one_surface}
+use Rattle.model_build.proofs.OneList.{same_lists}
 
 -- A stage has one fault at most.
 
@@ -52,20 +53,13 @@ abbrev AllOne : List Stage → Type 0
 AllOne [] = Unit {0}
 AllOne (S ∷ rest) = One S × AllOne rest
 
-then_one : (S R : Stage) → One S → One R → One (Then S R)
-then_one S R s r f g (inl h) (inl k) = s f g h k
-then_one S R s r f g (inl h) (inr k) = absurd (k.0 f h)
-then_one S R s r f g (inr h) (inl k) = absurd (h.0 g k)
-then_one S R s r f g (inr h) (inr k) = r f g h.1 k.1
-
-or_one : (S : Stage) (rest : List Stage) → One S → AllOne rest → One (first_or S rest)
-or_one S [] s all = s
-or_one S (T ∷ rest) s all = then_one S (first_or T rest) s (or_one T rest all.0 all.1)
-
 -- stages in their order have one first fault at most
 first_one : (stages : List Stage) → AllOne stages → One (first_fault stages)
 first_one [] all f g h k = absurd h
-first_one (S ∷ rest) all f g h k = or_one S rest all.0 all.1 f g h k
+first_one (S ∷ rest) all f g (inl h) (inl k) = all.0 f g h k
+first_one (S ∷ rest) all f g (inl h) (inr k) = absurd (k.0 f h)
+first_one (S ∷ rest) all f g (inr h) (inl k) = absurd (h.0 g k)
+first_one (S ∷ rest) all f g (inr h) (inr k) = first_one rest all.1 f g h.1 k.1
 
 -- a stage has one least fault at most
 pub least_one : (Of : ℕ → Type 0) (FaultOf : ℕ → UploadFault → Type 0) → ((id : ℕ) (f g : UploadFault) → FaultOf id f → FaultOf id g → f ≡ g) → One (LeastFault Of FaultOf)
@@ -86,27 +80,20 @@ length_one world scale mode id f g h k =
 unit_one : (world : List Instance) (S : Scale → Stage) → ((scale : Scale) → One (S scale)) → One (InUnit world S)
 unit_one world S one f g h k = one k.0 f g (subst (λ (s : Scale). S s f) (one_unit world h.0 k.0 h.1 k.1) h.2) k.2
 
-scaled_one : (world : List Instance) (scale : Scale) (mode : Mode) → AllOne (stages_in world scale mode)
-scaled_one world scale mode =
-    let reach : AllOne (drop 11 (stages_in world scale mode)) = (least_one (IsModelElement world) (ReachFault world scale mode) (λ id f g h k. h.0 ∙ sym k.0), tt) in
-    let triangles : AllOne (drop 10 (stages_in world scale mode)) = ((λ f g h k. h.0 ∙ sym k.0), reach) in
-    let stuck : AllOne (drop 9 (stages_in world scale mode)) = (least_one (IsStuckFace world scale mode) (λ id fault. fault ≡ faults.FaceStuck id) (λ id f g h k. h ∙ sym k), triangles) in
-    let corners : AllOne (drop 8 (stages_in world scale mode)) = ((λ f g h k. h.0 ∙ sym k.0), stuck) in
-    let lengths : AllOne (drop 7 (stages_in world scale mode)) = (least_one (Used world) (LengthFault world scale mode) (length_one world scale mode), corners) in
-    let indexes : AllOne (drop 6 (stages_in world scale mode)) = (least_one (Used world) (λ id fault. (fault ≡ faults.BadIndex id) × IsBadSet world id) (λ id f g h k. h.0 ∙ sym k.0), lengths) in
-    let voids : AllOne (drop 5 (stages_in world scale mode)) = (least_one (IsUsed FaceWithVoids world) (λ id fault. fault ≡ faults.VoidedFace id) (λ id f g h k. h ∙ sym k), indexes) in
-    let items : AllOne (drop 4 (stages_in world scale mode)) = (least_one (IsUnsupported world scale mode) (λ id fault. fault ≡ faults.UnsupportedItem id) (λ id f g h k. h ∙ sym k), voids) in
-    let axes : AllOne (drop 3 (stages_in world scale mode)) = (least_one (Used world) (λ id fault. (fault ≡ faults.Oblique id) × IsOblique world id) (λ id f g h k. h.0 ∙ sym k.0), items) in
-    let loops : AllOne (drop 2 (stages_in world scale mode)) = (least_one (IsNamed world (IsModelElement world)) (LoopFault world) (λ id f g h k. h.0 ∙ sym k.0), axes) in
-    let guids : AllOne (drop 1 (stages_in world scale mode)) = (least_one (IsModelElement world) (GuidFault world (IsModelElement world)) (λ id f g h k. h.0 ∙ sym k.0), loops) in
-    (one_tree_fault world, guids)
-
-scaled_first : (world : List Instance) (mode : Mode) (scale : Scale) → One (first_fault (stages_in world scale mode))
-scaled_first world mode scale = first_one (stages_in world scale mode) (scaled_one world scale mode)
-
 pub one_file_fault : (world : List Instance) (mode : Mode) (f g : UploadFault) → FileFault world mode f → FileFault world mode g → f ≡ g
 one_file_fault world mode =
-    first_one (stages world mode) (one_survey_fault world, (one_unit_fault world, (unit_one world (λ scale. first_fault (stages_in world scale mode)) (scaled_first world mode), tt)))
+    let reach : AllOne (drop 13 (stages world mode)) = (unit_one world (ReachStage world mode) (λ scale. least_one (IsModelElement world) (ReachFault world mode scale) (λ id f g h k. h.0 ∙ sym k.0)), tt) in
+    let triangles : AllOne (drop 12 (stages world mode)) = ((λ f g h k. h.0 ∙ sym k.0), reach) in
+    let stuck : AllOne (drop 11 (stages world mode)) = (unit_one world (StuckStage world mode) (λ scale. least_one (IsStuckFace world scale mode) (λ id fault. fault ≡ faults.FaceStuck id) (λ id f g h k. h ∙ sym k)), triangles) in
+    let corners : AllOne (drop 10 (stages world mode)) = ((λ f g h k. h.0 ∙ sym k.0), stuck) in
+    let lengths : AllOne (drop 9 (stages world mode)) = (unit_one world (LengthStage world mode) (λ scale. least_one (Used world) (LengthFault world scale mode) (length_one world scale mode)), corners) in
+    let indexes : AllOne (drop 8 (stages world mode)) = (least_one (Used world) (λ id fault. (fault ≡ faults.BadIndex id) × IsBadSet world id) (λ id f g h k. h.0 ∙ sym k.0), lengths) in
+    let voids : AllOne (drop 7 (stages world mode)) = (least_one (IsUsed FaceWithVoids world) (λ id fault. fault ≡ faults.VoidedFace id) (λ id f g h k. h ∙ sym k), indexes) in
+    let items : AllOne (drop 6 (stages world mode)) = (unit_one world (ItemStage world mode) (λ scale. least_one (IsUnsupported world scale mode) (λ id fault. fault ≡ faults.UnsupportedItem id) (λ id f g h k. h ∙ sym k)), voids) in
+    let axes : AllOne (drop 5 (stages world mode)) = (least_one (Used world) (λ id fault. (fault ≡ faults.Oblique id) × IsOblique world id) (λ id f g h k. h.0 ∙ sym k.0), items) in
+    let loops : AllOne (drop 4 (stages world mode)) = (least_one (IsNamed world (IsModelElement world)) (LoopFault world) (λ id f g h k. h.0 ∙ sym k.0), axes) in
+    let guids : AllOne (drop 3 (stages world mode)) = (least_one (IsModelElement world) (GuidFault world (IsModelElement world)) (λ id f g h k. h.0 ∙ sym k.0), loops) in
+    first_one (stages world mode) (one_survey_fault world, (one_unit_fault world, (one_tree_fault world, guids)))
 
 -- A number has one element at most.
 

@@ -2,18 +2,15 @@
 -- IfcPolygonalFaceSet).
 use Rattle.std.specs.Prelude.{◌≡◌, ℕ, ◌<◌, ◌||◌, Bool, true, List, length}
 use Rattle.bim_model.specs.declared.upload.Mode.{Mode}
-use Rattle.bim_model.specs.declared.upload.UploadFault.TheVariants as faults
-use Rattle.bim_model.specs.declared.upload.Many.TheVariants as many
 use Rattle.bim_model.specs.declared.geometry.Point.{Point}
 use Rattle.p21_reader.specs.declared.value.Instance.{Instance}
 use Rattle.ifc_instances.specs.declared.entity.Entity.TheVariants.{Face, FaceWithVoids}
 use Rattle.ifc_instances.specs.Looking.{is_a}
 use Rattle.ifc_schema.specs.Used.{Used}
 use Rattle.ifc_units.specs.declared.scale.Scale.{Scale}
-use Rattle.ifc_units.specs.Lengths.{ArePoints}
-use Rattle.faceset.specs.Sets.{is_set, outline, spelled_points, most_corners, HasStuck}
-use Rattle.model_build.specs.Stages.{Stage}
-use Rattle.model_build.specs.Finding.{Finds}
+use Rattle.faceset.specs.Sets.{is_set, outline, most_corners, HasStuck}
+use Rattle.ifc_elements.specs.Finding.{Finds}
+use Rattle.ifc_elements.specs.Surfaces.{SetPoints}
 
 -- a face set that is used
 abbrev pub IsUsedSet : List Instance → ℕ → Type 0
@@ -26,15 +23,6 @@ is_face i = is_a Face i || is_a FaceWithVoids i
 -- a face with too many corners
 abbrev pub HasManyCorners : Instance → Type 0
 HasManyCorners i = (is_face i ≡ true) × (most_corners < length (outline i))
-
--- a face that is used has more than a thousand corners
-abbrev pub CornersStage : List Instance → Stage
-CornersStage world fault = (fault ≡ faults.TooMany many.Corners) × (id : ℕ) × Used world id
-    × Finds world id HasManyCorners
-
--- the points of a set on the grid
-abbrev pub SetPoints : List Instance → Scale → Mode → Instance → List Point → Type 0
-SetPoints world scale mode set points = ArePoints scale mode (spelled_points world set) points
 
 -- the set of that number has that face, which can't be cut
 abbrev pub ShowsStuck : List Instance → Scale → Mode → ℕ → ℕ → Type 0

@@ -7,7 +7,7 @@ use Rattle.faceset.specs.Sets.{is_set, HasBadIndex}
 use Rattle.placement.specs.declared.axes.Axes.{Axes}
 use Rattle.placement.specs.Directions.{HasAxes}
 use Rattle.placement.specs.Operators.{HasOperatorAxes}
-use Rattle.model_build.specs.Finding.{Finds}
+use Rattle.ifc_elements.specs.Finding.{Finds}
 
 -- the least of these numbers that is such
 pub record IsLeastOf (ids : List ℕ) (P : ℕ → Type 0) (id : ℕ) : Type 0 where

@@ -1,7 +1,7 @@
 -- The placements that elements name (IFC4 ADD2 TC1, IfcProduct).
 use Rattle.std.specs.Prelude.{◌≡◌, ℕ, List, Some, Contains}
 use Rattle.p21_reader.specs.declared.value.Instance.{Instance}
-use Rattle.model_build.specs.Finding.{Finds}
+use Rattle.ifc_elements.specs.Finding.{Finds}
 use Rattle.ifc_instances.specs.Attributes.{reference_at}
 
 -- one of them names that placement

@@ -8,9 +8,9 @@ use Rattle.ifc_schema.specs.Bodies.{is_body_representation}
 use Rattle.ifc_units.specs.declared.scale.Scale.{Scale}
 use Rattle.model_build.specs.declared.mapping.Lies.{Lies}
 use Rattle.model_build.specs.declared.mapping.Lies.TheVariants.{AtZero, OffZero, Between}
-use Rattle.model_build.specs.Finding.{Finds}
+use Rattle.ifc_elements.specs.Finding.{Finds}
 use Rattle.ifc_instances.specs.Attributes.{reference_at}
-use Rattle.model_build.specs.Items.{spelled_items, is_item, is_mapped_item}
+use Rattle.ifc_elements.specs.Items.{spelled_items, is_item, is_mapped_item}
 use Rattle.model_build.specs.Unsupported.{IsNoTarget, HasNoTarget, HasGridNumber, IsSome, IsShifted}
 
 -- the lesser of two numbers that may lack

@@ -18,8 +18,8 @@ use Rattle.ifc_units.specs.Lengths.{units}
 use Rattle.placement.specs.declared.axes.Axes.{Axes}
 use Rattle.placement.specs.Directions.{HasAxes}
 use Rattle.ifc_instances.specs.Attributes.{referred_at, value_at, reference_at}
-use Rattle.model_build.specs.Finding.{Finds}
-use Rattle.model_build.specs.Items.{spelled_items, is_item, is_mapped_item}
+use Rattle.ifc_elements.specs.Finding.{Finds}
+use Rattle.ifc_elements.specs.Items.{spelled_items, is_item, is_mapped_item}
 
 -- Of representations.
 

@@ -1,16 +1,17 @@
 //! The checks of a file, one for each kind of fault.
 ghost use Rattle.std.specs.Prelude.{ℕ, IfOk, IfErr, MatchOption, sum_by, ◌≤◌};
-ghost use Rattle.ifc_schema.specs.StageFive.{Surveyed, IsModelElement, used_ids, element_ids};
-ghost use Rattle.model_build.specs.Stages.{LeastFault};
-ghost use Rattle.model_build.specs.Texts.{GuidFault, NoneRepeats};
-ghost use Rattle.model_build.specs.Items.{TrianglesStage, count_of, most_triangles};
+ghost use Rattle.ifc_schema.specs.StageFive.{Surveyed, used_ids, element_ids};
+ghost use Rattle.model_build.specs.Faults.{LeastFault};
+ghost use Rattle.model_build.specs.Guids.{GuidFault, NoneRepeats};
+ghost use Rattle.model_build.specs.Stages.{TwiceStage, LoopStage, ObliqueStage, ItemStage, VoidStage, IndexStage, CornersStage, StuckStage, TrianglesStage};
+ghost use Rattle.ifc_elements.specs.Items.{count_of};
+ghost use Rattle.model_build.specs.Triangles.{most_triangles};
 ghost use Rattle.model_build.specs.Unsupported.{IsUnsupported};
-ghost use Rattle.model_build.specs.Faces.{CornersStage, IsStuckFace};
+ghost use Rattle.model_build.specs.Faces.{IsStuckFace};
 ghost use Rattle.model_build.specs.Least.{NoneOf, IsVoided, IsBadSet, IsOblique};
 ghost use Rattle.model_build.specs.Named.{IsNamed};
-ghost use Rattle.model_build.specs.PointTables.{IsTable};
-ghost use Rattle.model_build.specs.Shapes.{AreShapes};
-ghost use Rattle.model_build.specs.Profile.{LoopFault, ObliqueStage, ItemStage, VoidStage, IndexStage, StuckStage};
+ghost use Rattle.ifc_elements.specs.PointTables.{IsTable};
+ghost use Rattle.ifc_elements.specs.Shapes.{AreShapes};
 ghost use Rattle.model_build.specs.Outcomes.{IsErrorOf, HasChains, HaveFewCorners};
 
 use crate::counts::count_triangles;
@@ -19,10 +20,10 @@ use crate::guids::first_repeated;
 use crate::least::{first_bad_index, first_oblique};
 use crate::mapping::least_mapping;
 use crate::named::placements;
-use crate::shapes::Shapes;
 use crate::stuck::first_stuck;
 use crate::unsupported::{least_in_bodies, least_in_mapped, lesser};
 use bim_model::{BuildError, Items, Many, Mode, Point, UploadFault};
+use ifc_elements::Shapes;
 use ifc_schema::Survey;
 use ifc_units::Scale;
 use p21_reader::Exchange;
@@ -37,7 +38,7 @@ pub fn guid_fault(
 ) -> Result<Option<UploadFault>, AllocError>
     requires { Surveyed exchange.now survey.now }
     ensures { IfOk result (λ found. MatchOption found (NoneRepeats exchange.now (element_ids survey.now))
-        (LeastFault (IsModelElement exchange.now) (GuidFault exchange.now (IsModelElement exchange.now)))) }
+        (TwiceStage exchange.now)) }
 {
     match first_repeated(alloc, exchange, survey.elements())? {
         Some(id) => Ok(Some(UploadFault::DoubleGuid { id })),
@@ -49,8 +50,7 @@ pub fn guid_fault(
 pub fn chains_of(alloc: Global, exchange: &Exchange, survey: &Survey) -> Result<Chains, BuildError>
     requires { Surveyed exchange.now survey.now }
     ensures chains { IfOk result (HasChains exchange.now (element_ids survey.now)) }
-    ensures fault { IfErr result (IsErrorOf
-        (LeastFault (IsNamed exchange.now (IsModelElement exchange.now)) (LoopFault exchange.now))) }
+    ensures fault { IfErr result (IsErrorOf (LoopStage exchange.now)) }
 {
     let named = placements(alloc, exchange, survey.elements())?;
     Chains::of(alloc, exchange, &named)
@@ -77,7 +77,7 @@ pub fn item_fault(
 ) -> Option<UploadFault>
     requires { Surveyed exchange.now survey.now }
     ensures { MatchOption result ((id : ℕ) → IsUnsupported exchange.now scale mode id → ⊥)
-        (ItemStage exchange.now scale mode) }
+        (ItemStage exchange.now mode scale) }
 {
     let in_bodies = least_in_bodies(exchange, survey.used());
     let in_mapped = least_in_mapped(exchange, survey.mapped());
@@ -143,7 +143,7 @@ pub fn stuck_fault(
     requires surveyed { Surveyed exchange.now survey.now }
     requires table { IsTable exchange.now scale mode table.now }
     ensures { IfOk result (λ found. MatchOption found ((id : ℕ) → IsStuckFace exchange.now scale mode id → ⊥)
-        (StuckStage exchange.now scale mode)) }
+        (StuckStage exchange.now mode scale)) }
 {
     match first_stuck(alloc, exchange, table, survey.used(), scale, mode)? {
         Some(id) => Ok(Some(UploadFault::FaceStuck { id })),

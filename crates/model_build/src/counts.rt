@@ -2,14 +2,13 @@
 ghost use Rattle.std.specs.Prelude.{◌≤◌, ◌+◌, ◌∷◌, [], sum_by, IfOk};
 ghost use Rattle.faceset.specs.Sets.{triangle_count};
 ghost use Rattle.ifc_instances.specs.Attributes.{led_to};
-ghost use Rattle.model_build.specs.Items.{item_count, count_of, most_triangles};
-ghost use Rattle.model_build.specs.Counting.{CountsTo, body_count};
-ghost use Rattle.model_build.specs.Shapes.{AreShapes};
+ghost use Rattle.ifc_elements.specs.Items.{item_count, count_of};
+ghost use Rattle.model_build.specs.Triangles.{most_triangles, CountsTo, body_count};
+ghost use Rattle.ifc_elements.specs.Shapes.{AreShapes};
 
-use crate::items::{is_mapped_item, spelled_items, spelled_sets};
-use crate::shapes::{Shapes, bodies};
 use bim_model::MOST_TRIANGLES;
 use faceset::triangle_count;
+use ifc_elements::{Shapes, bodies, is_mapped_item, spelled_items, spelled_sets};
 use ifc_instances::{look, target};
 use p21_reader::{Exchange, Instance, Value21};
 use std::alloc::{AllocError, Global};

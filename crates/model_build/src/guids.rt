@@ -1,10 +1,10 @@
 //! Global identifiers that stand twice (IFC4 ADD2 TC1, IfcGloballyUniqueId).
 ghost use Rattle.std.specs.Prelude.{ℕ, Contains, IfOk, MatchOption};
 ghost use Rattle.std.specs.List.Sorted.{IsStrictlyIncreasing};
-ghost use Rattle.model_build.specs.Texts.{HasNoGuid, HasThatGuid, IsIdentified, NoneRepeats, IsFirstRepeated};
+ghost use Rattle.model_build.specs.Guids.{HasNoGuid, HasThatGuid, IsIdentified, NoneRepeats, IsFirstRepeated};
 
-use crate::texts::guid_of;
 use bim_model::Guid;
+use ifc_elements::guid_of;
 use ifc_instances::look;
 use p21_reader::Exchange;
 use std::alloc::{AllocError, Global};

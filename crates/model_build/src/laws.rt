@@ -4,8 +4,8 @@ ghost use Rattle.bim_model.specs.declared.upload.Mode.{Mode};
 ghost use Rattle.bim_model.specs.declared.upload.UploadFault.{UploadFault};
 ghost use Rattle.bim_model.specs.declared.element.Element.{Element};
 ghost use Rattle.p21_reader.specs.declared.value.Instance.{Instance};
-ghost use Rattle.model_build.specs.Elements.{IsModelOf};
-ghost use Rattle.model_build.specs.Profile.{FileFault, Profile};
+ghost use Rattle.model_build.specs.Stages.{FileFault};
+ghost use Rattle.model_build.specs.Profile.{IsModelOf, Profile};
 
 /// The instances of a file make one model at most, and have one first fault at most.
 pub fn instances_have_one_answer()

@@ -3,25 +3,17 @@
 
 mod checks;
 mod counts;
-mod element;
 mod faces;
+mod file;
 mod guids;
-mod items;
-mod lack;
 mod laws;
 mod least;
+mod lengths;
 mod mapping;
 mod named;
-mod names;
 mod order;
-mod points;
-mod sets;
-mod shapes;
 mod stages;
-mod storeys;
 mod stuck;
-mod surface;
-mod texts;
 mod unsupported;
 
 pub use laws::{instances_have_one_answer, profile_has_one_answer};

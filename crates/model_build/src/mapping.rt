@@ -6,10 +6,10 @@ ghost use Rattle.model_build.specs.Least.{ShownBy};
 ghost use Rattle.model_build.specs.Unsupported.{IsNotOne, IsNoTarget, IsAway, IsAwayValue, IsTurned, IsOtherOrigin};
 ghost use Rattle.model_build.specs.Showing.{ItemShows, NamesNoTarget, HasPlace, are_away};
 
-use crate::items::is_mapped_item;
 use crate::unsupported::lesser;
 use bim_model::Mode;
 use faceset::place_of;
+use ifc_elements::is_mapped_item;
 use ifc_instances::{Entity, is_a, items_of, look, number_of, reference_at, referred_at, value_at};
 use ifc_units::{GridFault, LengthError, Scale, length};
 use p21_reader::{Exchange, Instance, Value21};

@@ -1,81 +1,201 @@
-//! The model of a file, or its first fault.
-ghost use Rattle.std.specs.Prelude.{◌≡◌, ◌⊎◌, List, Ok, IfOk, IfErr, MatchResult, sum_by, ◌≤◌};
+//! The model of a file, or its first fault: the checks in their order.
+ghost use Rattle.std.specs.Prelude.{◌≡◌, ◌⊎◌, List, Ok, IfOk, IfErr};
 ghost use Rattle.p21_reader.specs.declared.value.Instance.{Instance};
 ghost use Rattle.p21_reader.specs.Uploads.{SpellsExchange};
 ghost use Rattle.p21_reader.specs.Uploads as uploads;
-ghost use Rattle.ifc_schema.specs.StageFive.{Surveyed, used_ids, element_ids};
-ghost use Rattle.ifc_units.specs.Units.{IsLengthUnit};
-ghost use Rattle.spatial_tree.specs.Trees.{ListsStoreys};
+ghost use Rattle.ifc_schema.specs.StageFive.{used_ids, element_ids};
 ghost use Rattle.placement.specs.Placed.{AreFrames, frame_in};
-ghost use Rattle.model_build.specs.Stages.{IsClear};
-ghost use Rattle.model_build.specs.Texts.{NoneRepeats};
-ghost use Rattle.model_build.specs.Items.{TrianglesStage, count_of, most_triangles};
-ghost use Rattle.model_build.specs.Least.{NoneOf, IsVoided, IsBadSet};
-ghost use Rattle.model_build.specs.PointTables.{IsTable};
-ghost use Rattle.model_build.specs.Sound.{AreSets};
-ghost use Rattle.model_build.specs.Shapes.{AreShapes};
-ghost use Rattle.model_build.specs.Names.{AreNames};
-ghost use Rattle.model_build.specs.Elements.{IsModelOf};
-ghost use Rattle.model_build.specs.Outcomes.{IsErrorOf, HasChains, IsChecked, IsSettled, AreReady, AreSound};
-ghost use Rattle.model_build.specs.Profile.{ReachStage, AfterCorners, AfterIndexes, AfterItems, AfterChains, AfterTree, AfterUnit, FileFault, StuckStage, Profile, IsCause};
+ghost use Rattle.ifc_elements.specs.Names.{AreNames};
+ghost use Rattle.ifc_elements.specs.PointTables.{IsTable};
+ghost use Rattle.ifc_elements.specs.Shapes.{AreShapes};
+ghost use Rattle.ifc_elements.specs.Sound.{AreSets};
+ghost use Rattle.model_build.specs.Faults.{IsClear};
+ghost use Rattle.model_build.specs.Stages.{TrianglesStage, FileFault};
+ghost use Rattle.model_build.specs.Outcomes.{IsErrorOf, IsOpened, IsSupported, IsMeasured, IsCut, AreReady};
+ghost use Rattle.model_build.specs.Profile.{IsModelOf, Profile, IsCause};
 
 use crate::checks::{
     chains_of, corners_fault, guid_fault, index_fault, item_fault, oblique_fault, stuck_fault,
     triangles_fault, void_fault,
 };
-use crate::element::elements_of;
-use crate::lack::Lack;
-use crate::names::Names;
+use crate::file::File;
+use crate::lengths::first_length_fault;
 use crate::order::in_order;
-use crate::points::{first_fault, table_of};
-use crate::sets::Sets;
-use crate::shapes::Shapes;
 use bim_model::{BuildError, Bytes, Items, Mode, Model, Point, UploadFault};
-use ifc_schema::{Survey, survey};
-use ifc_units::{Scale, length_unit};
+use ifc_elements::{Lack, Names, Sets, Shapes, elements_of, table_of};
+use ifc_schema::survey;
+use ifc_units::length_unit;
 use p21_reader::{Exchange, read};
-use placement::{Chains, Frames};
-use spatial_tree::{Tree, tree};
+use placement::Frames;
+use spatial_tree::tree;
 use std::alloc::{AllocError, Global};
 
-/// The model of elements, the last check made.
+/// The file of instances: their forms, the unit, the tree, the global identifiers and the chains of placements are checked.
+fn opened(alloc: Global, exchange: Exchange, mode: Mode) -> Result<File, BuildError>
+    ensures same { IfOk result (λ file. (file.exchange ≡ exchange) × (file.mode ≡ mode)) }
+    ensures opened { IfOk result (λ file. IsOpened file) }
+    ensures fault { IfErr result (IsErrorOf (FileFault exchange mode)) }
+{
+    let survey = survey(alloc, &exchange)?;
+    let scale = length_unit(&exchange)?;
+    let tree = tree(alloc, &exchange)?;
+    if let Some(fault) = guid_fault(alloc, &exchange, &survey)? {
+        return Err(BuildError::Fault(fault));
+    }
+    let chains = chains_of(alloc, &exchange, &survey)?;
+    Ok(File {
+        exchange,
+        survey,
+        scale,
+        mode,
+        tree,
+        chains,
+    })
+}
+
+/// The checks of what the profile supports: axes, items, faces with voids, and indexes.
+fn check_support(alloc: Global, file: &File) -> Result<(), BuildError>
+    requires { IsOpened file.now }
+    ensures supported { IfOk result (λ done. IsSupported file.now) }
+    ensures fault { IfErr result (IsErrorOf (FileFault file.now.exchange file.now.mode)) }
+{
+    if let Some(fault) = oblique_fault(&file.exchange, &file.survey) {
+        return Err(BuildError::Fault(fault));
+    }
+    if let Some(fault) = item_fault(&file.exchange, &file.survey, file.scale, file.mode) {
+        return Err(BuildError::Fault(fault));
+    }
+    if let Some(fault) = void_fault(&file.exchange, &file.survey) {
+        return Err(BuildError::Fault(fault));
+    }
+    if let Some(fault) = index_fault(alloc, &file.exchange, &file.survey)? {
+        return Err(BuildError::Fault(fault));
+    }
+    Ok(())
+}
+
+/// The table of the points of a file. Its lengths and the corners of its faces are checked.
+fn measured(alloc: Global, file: &File) -> Result<Vec<Option<Items<Point>>>, BuildError>
+    requires { IsSupported file.now }
+    ensures table { IfOk result
+        (λ table. IsTable file.now.exchange file.now.scale file.now.mode table.items) }
+    ensures measured { IfOk result (λ table. IsMeasured file.now) }
+    ensures fault { IfErr result (IsErrorOf (FileFault file.now.exchange file.now.mode)) }
+{
+    let exchange = &file.exchange;
+    let table = table_of(alloc, exchange.instances(), file.scale, file.mode)?;
+    let used = file.survey.used();
+    if let Some(fault) = first_length_fault(exchange, &table, used, file.scale, file.mode) {
+        return Err(BuildError::Fault(fault));
+    }
+    if let Some(fault) = corners_fault(exchange, &file.survey) {
+        return Err(BuildError::Fault(fault));
+    }
+    Ok(table)
+}
+
+/// The fault of a file with too many triangles. That of a face that can't be cut stands before it.
+fn fault_of_many(
+    alloc: Global,
+    file: &File,
+    table: &[Option<Items<Point>>],
+    many: UploadFault,
+) -> Result<UploadFault, AllocError>
+    requires measured { IsMeasured file.now }
+    requires table { IsTable file.now.exchange file.now.scale file.now.mode table.now }
+    requires many { TrianglesStage file.now.exchange many }
+    ensures { IfOk result (FileFault file.now.exchange file.now.mode) }
+{
+    match stuck_fault(
+        alloc,
+        &file.exchange,
+        &file.survey,
+        table,
+        file.scale,
+        file.mode,
+    )? {
+        Some(fault) => Ok(fault),
+        None => Ok(many),
+    }
+}
+
+/// The triangles of the sets that are used, or the fault of a face that can't be cut. The table of points ends here.
+fn sets_of(alloc: Global, file: &File, table: Vec<Option<Items<Point>>>) -> Result<Sets, BuildError>
+    requires measured { IsMeasured file.now }
+    requires table { IsTable file.now.exchange file.now.scale file.now.mode table.items }
+    ensures sets { IfOk result
+        (AreSets file.now.exchange file.now.scale file.now.mode (used_ids file.now.survey)) }
+    ensures fault { IfErr result (IsErrorOf (FileFault file.now.exchange file.now.mode)) }
+{
+    let used = file.survey.used();
+    match Sets::of(alloc, &file.exchange, used, &table, file.scale, file.mode)? {
+        Some(sets) => Ok(sets),
+        None => match stuck_fault(
+            alloc,
+            &file.exchange,
+            &file.survey,
+            &table,
+            file.scale,
+            file.mode,
+        )? {
+            Some(fault) => Err(BuildError::Fault(fault)),
+            None => unreachable!(),
+        },
+    }
+}
+
+/// The triangles of the sets that are used; the faces and the number of triangles are checked. Where there are too many, none is made.
+fn cut(
+    alloc: Global,
+    file: &File,
+    shapes: &Shapes,
+    table: Vec<Option<Items<Point>>>,
+) -> Result<Sets, BuildError>
+    requires measured { IsMeasured file.now }
+    requires shapes { AreShapes file.now.exchange shapes.now }
+    requires table { IsTable file.now.exchange file.now.scale file.now.mode table.items }
+    ensures cut { IfOk result (IsCut file.now) }
+    ensures fault { IfErr result (IsErrorOf (FileFault file.now.exchange file.now.mode)) }
+{
+    let Some(many) = triangles_fault(alloc, &file.exchange, &file.survey, shapes)? else {
+        return sets_of(alloc, file, table);
+    };
+    let fault = fault_of_many(alloc, file, &table, many)?;
+    Err(BuildError::Fault(fault))
+}
+
+/// The model of the elements of a file whose sets are cut. Their corners in the building are the last check.
 fn model_of(
     alloc: Global,
-    exchange: &Exchange,
-    survey: &Survey,
-    scale: Scale,
-    mode: Mode,
-    tree: &Tree,
-    chains: &Chains,
+    file: &File,
     names: &Names,
     frames: &Frames,
     shapes: &Shapes,
     sets: &Sets,
 ) -> Result<Model, BuildError>
-    requires settled { IsSettled exchange.now scale mode survey.now chains.now }
-    requires storeys { ListsStoreys exchange.now tree.now }
-    requires names { AreNames exchange.now names.now }
-    requires frames { AreFrames exchange.now scale mode chains.now (frame_in frames.now) }
-    requires shapes { AreShapes exchange.now shapes.now }
-    requires sets { AreSets exchange.now scale mode (used_ids survey.now) sets.now }
-    requires ready { AreReady exchange.now scale mode chains.now (used_ids survey.now)
-        (element_ids survey.now) }
-    requires few { sum_by (count_of exchange.now) (element_ids survey.now) ≤ most_triangles }
-    ensures model { IfOk result (λ model. IsClear (ReachStage exchange.now scale mode)
-        × IsModelOf exchange.now mode model) }
-    ensures fault { IfErr result (IsErrorOf (ReachStage exchange.now scale mode)) }
+    requires measured { IsMeasured file.now }
+    requires names { AreNames file.now.exchange names.now }
+    requires frames { AreFrames file.now.exchange file.now.scale file.now.mode file.now.chains
+        (frame_in frames.now) }
+    requires shapes { AreShapes file.now.exchange shapes.now }
+    requires cut { IsCut file.now sets.now }
+    requires ready { AreReady file.now.exchange file.now.scale file.now.mode file.now.chains
+        (used_ids file.now.survey) (element_ids file.now.survey) }
+    ensures model { IfOk result (λ model. IsClear (FileFault file.now.exchange file.now.mode)
+        × IsModelOf file.now.exchange file.now.mode model) }
+    ensures fault { IfErr result (IsErrorOf (FileFault file.now.exchange file.now.mode)) }
 {
     match elements_of(
         alloc,
-        exchange,
-        tree,
+        &file.exchange,
+        &file.tree,
         names,
         frames,
         shapes,
         sets,
-        survey.elements(),
-        scale,
-        mode,
+        file.survey.elements(),
+        file.scale,
+        file.mode,
     )? {
         Ok(elements) => Ok(Model::of(alloc, in_order(elements))?),
         Err(lacking) => match lacking.lack {
@@ -85,272 +205,46 @@ fn model_of(
     }
 }
 
-/// The model of elements whose sets are cut.
-fn after_cuts(
-    alloc: Global,
-    exchange: &Exchange,
-    survey: &Survey,
-    scale: Scale,
-    mode: Mode,
-    tree: &Tree,
-    chains: &Chains,
-    shapes: &Shapes,
-    sets: &Sets,
-) -> Result<Model, BuildError>
-    requires settled { IsSettled exchange.now scale mode survey.now chains.now }
-    requires storeys { ListsStoreys exchange.now tree.now }
-    requires shapes { AreShapes exchange.now shapes.now }
-    requires sets { AreSets exchange.now scale mode (used_ids survey.now) sets.now }
-    requires few { sum_by (count_of exchange.now) (element_ids survey.now) ≤ most_triangles }
-    ensures model { IfOk result (λ model. IsClear (ReachStage exchange.now scale mode)
-        × IsModelOf exchange.now mode model) }
-    ensures fault { IfErr result (IsErrorOf (ReachStage exchange.now scale mode)) }
+/// The model of a file whose sets are cut: its placements are composed, and the names of its storeys read.
+fn placed(alloc: Global, file: &File, shapes: &Shapes, sets: &Sets) -> Result<Model, BuildError>
+    requires measured { IsMeasured file.now }
+    requires shapes { AreShapes file.now.exchange shapes.now }
+    requires cut { IsCut file.now sets.now }
+    ensures model { IfOk result (λ model. IsClear (FileFault file.now.exchange file.now.mode)
+        × IsModelOf file.now.exchange file.now.mode model) }
+    ensures fault { IfErr result (IsErrorOf (FileFault file.now.exchange file.now.mode)) }
 {
-    let Some(frames) = Frames::of(alloc, exchange, chains, scale, mode)? else {
+    let Some(frames) = Frames::of(alloc, &file.exchange, &file.chains, file.scale, file.mode)?
+    else {
         unreachable!()
     };
-    let names = Names::of(alloc, exchange, survey.used())?;
-    model_of(
-        alloc, exchange, survey, scale, mode, tree, chains, &names, &frames, shapes, sets,
-    )
+    let names = Names::of(alloc, &file.exchange, file.survey.used())?;
+    model_of(alloc, file, &names, &frames, shapes, sets)
 }
 
-/// The triangles of the sets that are used, or the fault of a face that can't be cut. The table of points ends here.
-fn sets_of(
-    alloc: Global,
-    exchange: &Exchange,
-    survey: &Survey,
-    scale: Scale,
-    mode: Mode,
-    table: Vec<Option<Items<Point>>>,
-) -> Result<Result<Sets, UploadFault>, AllocError>
-    requires surveyed { Surveyed exchange.now survey.now }
-    requires table { IsTable exchange.now scale mode table.items }
-    requires sound { AreSound exchange.now scale mode (used_ids survey.now) }
-    ensures { IfOk result (λ cut. MatchResult cut (AreSets exchange.now scale mode (used_ids survey.now))
-        (StuckStage exchange.now scale mode)) }
+/// The model of a file, or the first fault of the checks that are left.
+fn checked(alloc: Global, file: &File) -> Result<Model, BuildError>
+    requires { IsOpened file.now }
+    ensures model { IfOk result (λ model. IsClear (FileFault file.now.exchange file.now.mode)
+        × IsModelOf file.now.exchange file.now.mode model) }
+    ensures fault { IfErr result (IsErrorOf (FileFault file.now.exchange file.now.mode)) }
 {
-    match Sets::of(alloc, exchange, survey.used(), &table, scale, mode)? {
-        Some(sets) => Ok(Ok(sets)),
-        None => match stuck_fault(alloc, exchange, survey, &table, scale, mode)? {
-            Some(fault) => Ok(Err(fault)),
-            None => unreachable!(),
-        },
-    }
-}
-
-/// The faces are cut, and the model; there are few enough triangles.
-fn cut_all(
-    alloc: Global,
-    exchange: &Exchange,
-    survey: &Survey,
-    scale: Scale,
-    mode: Mode,
-    tree: &Tree,
-    chains: &Chains,
-    table: Vec<Option<Items<Point>>>,
-    shapes: &Shapes,
-) -> Result<Model, BuildError>
-    requires settled { IsSettled exchange.now scale mode survey.now chains.now }
-    requires storeys { ListsStoreys exchange.now tree.now }
-    requires table { IsTable exchange.now scale mode table.items }
-    requires shapes { AreShapes exchange.now shapes.now }
-    requires few { sum_by (count_of exchange.now) (element_ids survey.now) ≤ most_triangles }
-    ensures model { IfOk result (λ model. IsClear (AfterCorners exchange.now scale mode)
-        × IsModelOf exchange.now mode model) }
-    ensures fault { IfErr result (IsErrorOf (AfterCorners exchange.now scale mode)) }
-{
-    match sets_of(alloc, exchange, survey, scale, mode, table)? {
-        Ok(sets) => after_cuts(
-            alloc, exchange, survey, scale, mode, tree, chains, shapes, &sets,
-        ),
-        Err(fault) => Err(BuildError::Fault(fault)),
-    }
-}
-
-/// The fault of a file with too many triangles. That of a face that can't be cut stands before it.
-fn fault_of_many(
-    alloc: Global,
-    exchange: &Exchange,
-    survey: &Survey,
-    scale: Scale,
-    mode: Mode,
-    table: &[Option<Items<Point>>],
-    many: UploadFault,
-) -> Result<UploadFault, AllocError>
-    requires surveyed { Surveyed exchange.now survey.now }
-    requires table { IsTable exchange.now scale mode table.now }
-    requires many { TrianglesStage exchange.now many }
-    ensures { IfOk result (AfterCorners exchange.now scale mode) }
-{
-    match stuck_fault(alloc, exchange, survey, table, scale, mode)? {
-        Some(fault) => Ok(fault),
-        None => Ok(many),
-    }
-}
-
-/// The checks from the cutting of faces on, and the model. Where there are too many triangles none is made.
-fn after_corners(
-    alloc: Global,
-    exchange: &Exchange,
-    survey: &Survey,
-    scale: Scale,
-    mode: Mode,
-    tree: &Tree,
-    chains: &Chains,
-    table: Vec<Option<Items<Point>>>,
-) -> Result<Model, BuildError>
-    requires settled { IsSettled exchange.now scale mode survey.now chains.now }
-    requires storeys { ListsStoreys exchange.now tree.now }
-    requires table { IsTable exchange.now scale mode table.items }
-    ensures model { IfOk result (λ model. IsClear (AfterCorners exchange.now scale mode)
-        × IsModelOf exchange.now mode model) }
-    ensures fault { IfErr result (IsErrorOf (AfterCorners exchange.now scale mode)) }
-{
-    let shapes = Shapes::of(alloc, exchange, survey.used())?;
-    let Some(many) = triangles_fault(alloc, exchange, survey, &shapes)? else {
-        return cut_all(
-            alloc, exchange, survey, scale, mode, tree, chains, table, &shapes,
-        );
-    };
-    let fault = fault_of_many(alloc, exchange, survey, scale, mode, &table, many)?;
-    Err(BuildError::Fault(fault))
-}
-
-/// The checks from the lengths on, and the model.
-fn after_indexes(
-    alloc: Global,
-    exchange: &Exchange,
-    survey: &Survey,
-    scale: Scale,
-    mode: Mode,
-    tree: &Tree,
-    chains: &Chains,
-) -> Result<Model, BuildError>
-    requires checked { IsChecked exchange.now scale mode survey.now chains.now }
-    requires storeys { ListsStoreys exchange.now tree.now }
-    requires solid { NoneOf (used_ids survey.now) (IsVoided exchange.now) }
-    requires indexed { NoneOf (used_ids survey.now) (IsBadSet exchange.now) }
-    ensures model { IfOk result (λ model. IsClear (AfterIndexes exchange.now scale mode)
-        × IsModelOf exchange.now mode model) }
-    ensures fault { IfErr result (IsErrorOf (AfterIndexes exchange.now scale mode)) }
-{
-    let table = table_of(alloc, exchange.instances(), scale, mode)?;
-    if let Some(fault) = first_fault(exchange, &table, survey.used(), scale, mode) {
-        return Err(BuildError::Fault(fault));
-    }
-    if let Some(fault) = corners_fault(exchange, survey) {
-        return Err(BuildError::Fault(fault));
-    }
-    after_corners(alloc, exchange, survey, scale, mode, tree, chains, table)
-}
-
-/// The checks from the faces with voids on, and the model.
-fn after_items(
-    alloc: Global,
-    exchange: &Exchange,
-    survey: &Survey,
-    scale: Scale,
-    mode: Mode,
-    tree: &Tree,
-    chains: &Chains,
-) -> Result<Model, BuildError>
-    requires checked { IsChecked exchange.now scale mode survey.now chains.now }
-    requires storeys { ListsStoreys exchange.now tree.now }
-    ensures model { IfOk result (λ model. IsClear (AfterItems exchange.now scale mode)
-        × IsModelOf exchange.now mode model) }
-    ensures fault { IfErr result (IsErrorOf (AfterItems exchange.now scale mode)) }
-{
-    if let Some(fault) = void_fault(exchange, survey) {
-        return Err(BuildError::Fault(fault));
-    }
-    if let Some(fault) = index_fault(alloc, exchange, survey)? {
-        return Err(BuildError::Fault(fault));
-    }
-    after_indexes(alloc, exchange, survey, scale, mode, tree, chains)
-}
-
-/// The checks from the axes of placements on, and the model.
-fn after_chains(
-    alloc: Global,
-    exchange: &Exchange,
-    survey: &Survey,
-    scale: Scale,
-    mode: Mode,
-    tree: &Tree,
-    chains: &Chains,
-) -> Result<Model, BuildError>
-    requires surveyed { Surveyed exchange.now survey.now }
-    requires unit { IsLengthUnit exchange.now scale }
-    requires storeys { ListsStoreys exchange.now tree.now }
-    requires distinct { NoneRepeats exchange.now (element_ids survey.now) }
-    requires chains { HasChains exchange.now (element_ids survey.now) chains.now }
-    ensures model { IfOk result (λ model. IsClear (AfterChains exchange.now scale mode)
-        × IsModelOf exchange.now mode model) }
-    ensures fault { IfErr result (IsErrorOf (AfterChains exchange.now scale mode)) }
-{
-    if let Some(fault) = oblique_fault(exchange, survey) {
-        return Err(BuildError::Fault(fault));
-    }
-    if let Some(fault) = item_fault(exchange, survey, scale, mode) {
-        return Err(BuildError::Fault(fault));
-    }
-    after_items(alloc, exchange, survey, scale, mode, tree, chains)
-}
-
-/// The checks from the global identifiers on, and the model.
-fn after_tree(
-    alloc: Global,
-    exchange: &Exchange,
-    survey: &Survey,
-    scale: Scale,
-    mode: Mode,
-    tree: &Tree,
-) -> Result<Model, BuildError>
-    requires surveyed { Surveyed exchange.now survey.now }
-    requires unit { IsLengthUnit exchange.now scale }
-    requires storeys { ListsStoreys exchange.now tree.now }
-    ensures model { IfOk result (λ model. IsClear (AfterTree exchange.now scale mode)
-        × IsModelOf exchange.now mode model) }
-    ensures fault { IfErr result (IsErrorOf (AfterTree exchange.now scale mode)) }
-{
-    if let Some(fault) = guid_fault(alloc, exchange, survey)? {
-        return Err(BuildError::Fault(fault));
-    }
-    match chains_of(alloc, exchange, survey) {
-        Ok(chains) => after_chains(alloc, exchange, survey, scale, mode, tree, &chains),
-        Err(error) => Err(error),
-    }
-}
-
-/// The checks from the tree on, and the model.
-fn after_unit(
-    alloc: Global,
-    exchange: &Exchange,
-    survey: &Survey,
-    scale: Scale,
-    mode: Mode,
-) -> Result<Model, BuildError>
-    requires surveyed { Surveyed exchange.now survey.now }
-    requires unit { IsLengthUnit exchange.now scale }
-    ensures model { IfOk result (λ model. IsClear (AfterUnit exchange.now scale mode)
-        × IsModelOf exchange.now mode model) }
-    ensures fault { IfErr result (IsErrorOf (AfterUnit exchange.now scale mode)) }
-{
-    let tree = tree(alloc, exchange)?;
-    after_tree(alloc, exchange, survey, scale, mode, &tree)
+    check_support(alloc, file)?;
+    let table = measured(alloc, file)?;
+    let shapes = Shapes::of(alloc, &file.exchange, file.survey.used())?;
+    let sets = cut(alloc, file, &shapes, table)?;
+    placed(alloc, file, &shapes, &sets)
 }
 
 /// The model of the instances of a file, or their first fault.
-fn build_file(alloc: Global, exchange: &Exchange, mode: Mode) -> Result<Model, BuildError>
-    ensures model { IfOk result (λ model. IsClear (FileFault exchange.now mode)
-        × IsModelOf exchange.now mode model) }
-    ensures fault { IfErr result (IsErrorOf (FileFault exchange.now mode)) }
+fn build_file(alloc: Global, exchange: Exchange, mode: Mode) -> Result<Model, BuildError>
+    ensures model { IfOk result (λ model. IsClear (FileFault exchange mode)
+        × IsModelOf exchange mode model) }
+    ensures fault { IfErr result (IsErrorOf (FileFault exchange mode)) }
 {
-    let survey = survey(alloc, exchange)?;
-    match length_unit(exchange) {
-        Ok(scale) => after_unit(alloc, exchange, &survey, scale, mode),
-        Err(fault) => Err(BuildError::Fault(fault)),
+    match opened(alloc, exchange, mode) {
+        Ok(file) => checked(alloc, &file),
+        Err(error) => Err(error),
     }
 }
 
@@ -362,7 +256,7 @@ pub fn build(alloc: Global, bytes: &[u8], mode: Mode) -> Result<Model, BuildErro
     ensures fault { IfErr result (λ error. IsCause bytes.now mode error) }
 {
     match read(alloc, bytes) {
-        Ok(exchange) => build_file(alloc, &exchange, mode),
+        Ok(exchange) => build_file(alloc, exchange, mode),
         Err(error) => Err(error),
     }
 }
@@ -384,7 +278,7 @@ pub fn build_owned(alloc: Global, bytes: Bytes, mode: Mode) -> Result<Model, Bui
     ensures fault { IfErr result (λ error. IsCause bytes mode error) }
 {
     match read_owned(alloc, bytes) {
-        Ok(exchange) => build_file(alloc, &exchange, mode),
+        Ok(exchange) => build_file(alloc, exchange, mode),
         Err(error) => Err(error),
     }
 }

@@ -1,14 +1,14 @@
 //! Faces that can't be cut.
 ghost use Rattle.std.specs.Prelude.{◌≡◌, ℕ, IfOk};
-ghost use Rattle.model_build.specs.PointTables.{IsTable};
+ghost use Rattle.ifc_elements.specs.PointTables.{IsTable};
 ghost use Rattle.ifc_instances.specs.Least.{LeastOf};
 ghost use Rattle.model_build.specs.Least.{ShownBy};
 ghost use Rattle.model_build.specs.Outcomes.{ShowsStuckSet};
 
-use crate::points::points_at;
 use crate::unsupported::lesser;
 use bim_model::{Items, Mode, Point};
 use faceset::{is_set, least_stuck};
+use ifc_elements::points_at;
 use ifc_instances::{look, reference_at};
 use ifc_units::Scale;
 use p21_reader::Exchange;

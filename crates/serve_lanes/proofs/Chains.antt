@@ -1,18 +1,16 @@
 -- Connections one after another, and what they are in one history.
-use Rattle.std.proofs.Common.{◌≡◌, ℕ, ◌+◌, ◌<◌, ◌≤◌, List, [], ◌∷◌, ◌++◌, length-append, if◌then◌else◌, Option, Some, None, IsSome, refl, sym, ◌∙◌, ap, subst, arith, append_assoc, append-nil, le-leb, Bool, true, false, ◌||◌}
+use Rattle.std.proofs.Common.{◌≡◌, ℕ, ◌+◌, ◌≤◌, List, [], ◌∷◌, ◌++◌, length-append, Option, Some, None, IsSome, refl, sym, ◌∙◌, ap, subst, arith, append_assoc, append-nil, Bool, true, false, ◌||◌}
 use Rattle.std.proofs.lemmas.List.Folds.{list_any-append}
-use mathlib.Core.Logic.{dite}
-use native.Mathlib.Decide.{dec_le}
-use borrow.Author.Tests.{lt-leb}
+use Rattle.check_workers.proofs.Fronts.{front_of, seen_twice}
 use Rattle.bim_net.specs.Seen.{EndedLink, DoorSeen}
 use Rattle.bim_net.specs.Doors.{GrowsBy}
-use Rattle.book_turn.specs.Entries.{AllBefore, AllAfter, up_to}
-use Rattle.book_turn.proofs.Prefixes.{up_to_later, up_to_all}
+use Rattle.book_turn.specs.Entries.{AllBefore, AllAfter}
 use Rattle.book_history.specs.declared.changes.Entry.{Entry}
 use Rattle.book_passes.specs.Lessons.{turn_of}
-use Rattle.serve_lanes.specs.declared.workers.Lack.{Lack}
-use Rattle.serve_lanes.specs.Lanes.{Chain, ChainIn, LaneServed, seen_at, end_turn, is_memory, some_memory, is_spent, some_turns}
-use Rattle.serve_lanes.proofs.Entries.{either}
+use Rattle.check_workers.specs.declared.workers.Lack.{Lack}
+use Rattle.serve_lanes.specs.Lanes.{Chain, ChainIn, LaneServed, end_turn, is_memory, some_memory, is_spent, some_turns}
+use Rattle.check_workers.specs.Joins.{seen_at}
+use Rattle.check_workers.proofs.Entries.{either}
 
 pub grows_by_none : {X : Type 0} (o : Option (List X)) → GrowsBy o o []
 grows_by_none None = tt
@@ -37,15 +35,15 @@ or_both false x y = refl
 
 -- what is noted of two lists of connections, one after the other
 noted_both : (a b c : Bool) (xs ys : List EndedLink) → b ≡ (a || some_memory xs) → c ≡ (b || some_memory ys) → c ≡ (a || some_memory (xs ++ ys))
-noted_both a b c xs ys first then =
-    then ∙ ap (λ b. b || some_memory ys) first ∙ or_both a (some_memory xs) (some_memory ys)
+noted_both a b c xs ys first second =
+    second ∙ ap (λ b. b || some_memory ys) first ∙ or_both a (some_memory xs) (some_memory ys)
     ∙ ap (λ n. a || n) (sym (list_any-append (λ (x : EndedLink). is_memory x.end.kind) xs ys))
 
 -- .. and of ends for want of a turn
 turns_both : (n o : Lack) (xs ys : List EndedLink) → (some_turns xs ≡ true → IsSome n.spent) → (some_turns ys ≡ true → IsSome o.spent) → (IsSome n.spent → IsSome o.spent)
     → some_turns (xs ++ ys) ≡ true → IsSome o.spent
-turns_both n o xs ys first then kept is =
-    either (some_turns xs) (some_turns ys) (some_turns (xs ++ ys)) (list_any-append (λ (x : EndedLink). is_spent x.end.kind) xs ys) (λ a. kept (first a)) then is
+turns_both n o xs ys first second kept is =
+    either (some_turns xs) (some_turns ys) (some_turns (xs ++ ys)) (list_any-append (λ (x : EndedLink). is_spent x.end.kind) xs ys) (λ a. kept (first a)) second is
 
 module _ (serves : List Entry → ℕ → EndedLink → List Entry → Type 0) where
   pub chain_append : (before : List Entry) (last : ℕ) (xs ys : List EndedLink) (mid : List Entry) (between : ℕ) (history : List Entry) (top : ℕ)
@@ -64,7 +62,6 @@ module _ (serves : List Entry → ℕ → EndedLink → List Entry → Type 0) w
     gave = (let none : d.gave ≡ d.gave + 0 = omega arith in none);
     balanced = λ b. b;
     tells = λ b s. s;
-    faults = omega arith;
     memory = or_none noted.memory;
     turns = λ is. cc;
     kept = λ some. some;
@@ -78,45 +75,13 @@ module _ (serves : List Entry → ℕ → EndedLink → List Entry → Type 0) w
     chain = chain_append before last p.links q.links mid between history top p.chain q.chain;
     up_to = λ are. q.up_to (p.up_to are);
     number = q.number ∙ p.number;
-    gave = (let first = p.gave in let then = q.gave in let both = length-append p.links q.links in omega (arith, first, then, both));
+    gave = (let first = p.gave in let second = q.gave in let both = length-append p.links q.links in omega (arith, first, second, both));
     balanced = λ even. q.balanced (p.balanced even);
     tells = λ even some. q.tells (p.balanced even) (p.tells even some);
-    faults = (let first = p.faults in let then = q.faults in omega (arith, first, then));
     memory = noted_both m.memory n.memory o.memory p.links q.links p.memory q.memory;
     turns = turns_both n o p.links q.links p.turns q.turns q.kept;
     kept = λ some. q.kept (p.kept some);
   }
-
--- ---- what is seen up to a turn
-
-taken : (t : ℕ) (e : Entry) (es : List Entry) → e.stamp.turn ≤ t → seen_at t (e ∷ es) ≡ e ∷ seen_at t es
-taken t e es le = ap (λ b. if b then e ∷ seen_at t es else seen_at t es) (le-leb e.stamp.turn t le)
-
-left_out : (t : ℕ) (e : Entry) (es : List Entry) → t < e.stamp.turn → seen_at t (e ∷ es) ≡ seen_at t es
-left_out t e es lt = ap (λ b. if b then e ∷ seen_at t es else seen_at t es) (lt-leb e.stamp.turn t lt)
-
-seen_inside : (s t : ℕ) (e : Entry) (es : List Entry) → s ≤ t → seen_at s (seen_at t es) ≡ seen_at s es → e.stamp.turn ≤ t → seen_at s (seen_at t (e ∷ es)) ≡ seen_at s (e ∷ es)
-seen_inside s t e es le again in_t = ap (λ l. seen_at s l) (taken t e es in_t) ∙ dite (dec_le e.stamp.turn s)
-    (λ in_s. taken s e (seen_at t es) in_s ∙ ap (λ l. e ∷ l) again ∙ sym (taken s e es in_s))
-    (λ not. let lt : s < e.stamp.turn = omega arith in left_out s e (seen_at t es) lt ∙ again ∙ sym (left_out s e es lt))
-
-seen_outside : (s t : ℕ) (e : Entry) (es : List Entry) → s ≤ t → seen_at s (seen_at t es) ≡ seen_at s es → t < e.stamp.turn → seen_at s (seen_at t (e ∷ es)) ≡ seen_at s (e ∷ es)
-seen_outside s t e es le again lt =
-    let lt' : s < e.stamp.turn = omega arith in
-    ap (λ l. seen_at s l) (left_out t e es lt) ∙ again ∙ sym (left_out s e es lt')
-
--- what is seen up to an earlier turn of what is seen up to a later one
-pub seen_twice : (s t : ℕ) (h : List Entry) → s ≤ t → seen_at s (seen_at t h) ≡ seen_at s h
-seen_twice s t [] le = refl
-seen_twice s t (e ∷ es) le =
-    let again : seen_at s (seen_at t es) ≡ seen_at s es = seen_twice s t es le in
-    dite (dec_le e.stamp.turn t)
-    (λ in_t. seen_inside s t e es le again in_t)
-    (λ not. seen_outside s t e es le again (omega arith))
-
--- what the front of a longer list had seen
-pub front_of : (last : ℕ) (before news : List Entry) → AllBefore turn_of (last + 1) before → AllAfter turn_of last news → seen_at last (before ++ news) ≡ before
-front_of last before news are later = up_to_later turn_of last before news later ∙ up_to_all turn_of last before are
 
 -- ---- in one history
 

@@ -1,22 +1,23 @@
 -- Doors whose passes were joined, and the one history in which their connections stand.
-use Rattle.std.proofs.Common.{◌≡◌, ◌≢◌, ◌≤◌, ◌<◌, ◌⊎◌, ℕ, ◌+◌, max, List, [], ◌∷◌, ◌++◌, map, length, Bool, true, false, IsSome, IfSome, All, inl, inr, refl, sym, ◌∙◌, ap, subst, arith}
+use Rattle.std.proofs.Common.{◌≡◌, ◌≢◌, ◌≤◌, ℕ, ◌+◌, max, List, [], ◌∷◌, ◌++◌, length, Bool, true, false, IsSome, IfSome, All, refl, sym, ◌∙◌, ap, subst, arith}
 use Rattle.std.proofs.lemmas.List.Elements.{All-weaker}
 use Rattle.bim_net.specs.Seen.{EndedLink, DoorSeen, IsNew, told}
 use Rattle.bim_net.specs.Doors.{GrowsBy}
 use Rattle.book_turn.specs.Numbers.{has}
-use Rattle.book_turn.specs.Entries.{AllBefore, OwnUpTo, calls_by}
+use Rattle.book_turn.specs.Entries.{AllBefore, calls_by}
 use Rattle.book_turn.specs.Passes.{TurnState, Joined}
 use Rattle.book_turn.proofs.Prefixes.{own_all}
 use Rattle.book_history.specs.declared.limits.Settings.{Settings}
 use Rattle.book_history.specs.declared.changes.Entry.{Entry}
 use Rattle.book_passes.specs.Lessons.{BookPass, turn_of, stamp_of}
-use Rattle.serve_lanes.specs.declared.workers.Lack.{Lack}
+use Rattle.check_workers.specs.declared.workers.Lack.{Lack}
 use Rattle.serve_lanes.specs.declared.lane.LaneEnd.{LaneEnd}
-use Rattle.serve_lanes.specs.Lanes.{ServedLink, Chain, IsBalanced, seen_at, end_turn}
-use Rattle.serve_lanes.specs.Histories.{Service, LaneOver, DoorDone, DoorServed, Extends, OwnWithin, last_turn, pass_of, of_pass}
-use Rattle.serve_lanes.proofs.Chains.{seen_twice, chain_in}
-use Rattle.serve_lanes.proofs.Entries.{has_second, has_one, own_same}
-use Rattle.serve_lanes.proofs.Joins.{joined_up_to}
+use Rattle.serve_lanes.specs.Lanes.{ServedLink, Chain, IsBalanced, end_turn}
+use Rattle.check_workers.specs.Joins.{seen_at, Extends, pass_of, of_pass}
+use Rattle.serve_lanes.specs.Histories.{Service, LaneOver, DoorDone, DoorServed, OwnWithin, last_turn}
+use Rattle.check_workers.proofs.Fronts.{seen_twice}
+use Rattle.serve_lanes.proofs.Chains.{chain_in}
+use Rattle.check_workers.proofs.Entries.{has_second, has_one, own_same}
 use Rattle.serve_lanes.proofs.Links.{link_grew}
 
 -- a door stays served as what the pass has seen grows
@@ -64,7 +65,7 @@ door_joined s links turn v other w door end lack j lane apart =
 -- ---- in the end
 
 some_told : (tells : Bool) → tells ≡ true → IsSome (told {X = EndedLink} tells [])
-some_told true is = tt
+some_told true is = refl
 some_told false is = cc
 
 even_told : (tells : Bool) (gave : ℕ) → gave ≡ 0 → IfSome (told {X = EndedLink} tells []) (λ es. length es ≡ gave)

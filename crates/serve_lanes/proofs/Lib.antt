@@ -1,7 +1,7 @@
-pub mod Entries
+pub mod Rows
 pub mod Chains
 pub mod Links
-pub mod Joins
 pub mod Histories
-pub mod Lanes
+pub mod Joining
 pub mod Making
+pub mod Closing

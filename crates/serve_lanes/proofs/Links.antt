@@ -9,13 +9,13 @@ use Rattle.book_history.specs.declared.limits.Settings.{Settings}
 use Rattle.book_history.specs.declared.changes.Entry.{Entry}
 use Rattle.book_passes.specs.Lessons.{CallerSeen, turn_of}
 use Rattle.bim_session.specs.declared.end.SessionEnd.{SessionEnd}
-use Rattle.bim_session.specs.declared.end.SessionEnd.TheVariants as ends
-use Rattle.bim_net.specs.declared.ends.EndKind.TheVariants as kinds
 use Rattle.link_session.specs.Callers.{GoesByPass}
 use Rattle.link_session.specs.Serving.{Serves}
-use Rattle.serve_lanes.specs.declared.workers.Lack.{Lack}
+use Rattle.check_workers.specs.declared.workers.Lack.{Lack}
 use Rattle.serve_lanes.specs.Lanes.{ServedLink, LaneServed, NotesEnd, IsBalanced, kind_of, end_turn, is_memory, is_spent}
 use Rattle.serve_lanes.proofs.Chains.{Grew, grows_by_none}
+use Rattle.bim_session.specs.declared.end.SessionEnd.TheVariants as ends
+use Rattle.bim_net.specs.declared.ends.EndKind.TheVariants as kinds
 
 -- the session over a connection that was given back
 pub served_link : (settings : Settings) (v w : CallerSeen) (first after : LinkSeen) (clock clock' : ClockSeen) (end : SessionEnd) (x : LinkEnd) → IsFresh first
@@ -59,12 +59,12 @@ link_grew one settings number before last x history s =
     let l = s.serves.learns.1 in
     let rises : s.v.last ≤ s.w.last = l.rises in
     let first : s.v.last ≡ last = s.last_is in
-    let then : s.w.last ≡ x.end.last = s.turn_is in
+    let second : s.w.last ≡ x.end.last = s.turn_is in
     record {
       news = news;
       grown = sym s.history_is ∙ l.seen ∙ ap (λ h. h ++ news) s.before_is;
       later = subst (λ (n : ℕ). AllAfter turn_of n news) s.last_is l.later;
-      rises = (let le : last ≤ x.end.last = omega (arith, rises, first, then) in le);
+      rises = (let le : last ≤ x.end.last = omega (arith, rises, first, second) in le);
       up_to = λ are.
           let at : AllBefore turn_of (s.v.last + 1) s.v.seen =
           subst (λ (n : ℕ). AllBefore turn_of (n + 1) s.v.seen) (sym s.last_is) (subst (λ (h : List Entry). AllBefore turn_of (last + 1) h) (sym s.before_is) are) in
@@ -120,7 +120,6 @@ pub lane_one : (serves : List Entry → ℕ → EndedLink → List Entry → Typ
     → LaneServed serves before last history top a c m n
 lane_one serves before last x history top a b c m n given back one is up noted =
     let ended : b.ended ≡ a.ended = ap (λ (d : DoorSeen). d.ended) given in
-    let faults : c.faults ≡ a.faults = ap (λ (d : DoorSeen). d.faults) back.others ∙ ap (λ (d : DoorSeen). d.faults) given in
     record {
       links = x ∷ [];
       grown = subst (λ (o : Option (List EndedLink)). GrowsBy o c.ended (x ∷ [])) ended back.grows;
@@ -130,7 +129,6 @@ lane_one serves before last x history top a b c m n given back one is up noted =
       gave = ap (λ (d : DoorSeen). d.gave) back.others ∙ ap (λ (d : DoorSeen). d.gave) given;
       balanced = λ even. back_even b c x back (gives_out a b given even);
       tells = λ even some. back.tells (has_out b.ended b.gave (gives_out a b given even) (subst IsSome (sym ended) some));
-      faults = omega (arith, faults);
       memory = noted_one m.memory n.memory (is_memory x.end.kind) noted.memory;
       turns = one_spent (is_spent x.end.kind) noted.turns;
       kept = noted.kept;
@@ -138,8 +136,8 @@ lane_one serves before last x history top a b c m n given back one is up noted =
 
 -- a lane that served none: its door is closed, or failed
 pub lane_none : (serves : List Entry → ℕ → EndedLink → List Entry → Type 0) (before : List Entry) (last : ℕ) (a c : DoorSeen) (m : Lack)
-    → c.ended ≡ a.ended → c.gave ≡ a.gave → c.number ≡ a.number → a.faults ≤ c.faults → LaneServed serves before last before last a c m m
-lane_none serves before last a c m ended gave number faults = record {
+    → c.ended ≡ a.ended → c.gave ≡ a.gave → c.number ≡ a.number → LaneServed serves before last before last a c m m
+lane_none serves before last a c m ended gave number = record {
   links = [];
   grown = subst (λ (o : Option (List EndedLink)). GrowsBy a.ended o []) (sym ended) (grows_by_none a.ended);
   chain = (refl, refl);
@@ -148,7 +146,6 @@ lane_none serves before last a c m ended gave number faults = record {
   gave = (let none : c.gave ≡ a.gave + 0 = omega (arith, gave) in none);
   balanced = λ even. subst (λ n. IfSome c.ended (λ es. length es ≡ n)) (sym gave) (subst (λ o. IfSome o (λ es. length es ≡ a.gave)) (sym ended) even);
   tells = λ even some. subst IsSome (sym ended) some;
-  faults = faults;
   memory = noted_none m.memory;
   turns = λ is. cc;
   kept = λ some. some;

@@ -1,22 +1,22 @@
 -- Many lanes over one book, and the one history in which all their connections stand.
-use Rattle.std.specs.Prelude.{◌≡◌, ◌≢◌, ◌≤◌, ◌<◌, ◌⊎◌, ℕ, ◌+◌, List, [], ◌∷◌, ◌++◌, map, length, Bool, true, false, Option, None, Some, IsSome, All}
+use Rattle.std.specs.Prelude.{◌≡◌, ◌≢◌, ◌≤◌, ◌<◌, ◌⊎◌, ℕ, ◌+◌, List, [], ◌∷◌, map, length, Bool, true, false, Option, None, Some, IsSome, All}
 use Rattle.std.specs.List.{list_any}
 use Rattle.bim_io.specs.Seen.{ClockSeen}
 use Rattle.bim_net.specs.Seen.{EndedLink, DoorSeen, IsNew, told}
 use Rattle.bim_net.specs.Doors.{GrowsBy}
 use Rattle.bim_net.specs.Hosts.{some_failed}
 use Rattle.book_turn.specs.Numbers.{has}
-use Rattle.book_turn.specs.Entries.{AllBefore, OwnUpTo, calls_by}
+use Rattle.book_turn.specs.Entries.{AllBefore, OwnUpTo}
 use Rattle.book_turn.specs.Passes.{TurnState, BelongsTo, IsSingle}
 use Rattle.book_history.specs.declared.limits.Settings.{Settings}
 use Rattle.book_history.specs.declared.changes.Entry.{Entry}
 use Rattle.book_passes.specs.Lessons.{BookPass, caller_of, own_of, turn_of}
 use Rattle.bim_session.specs.Replay.{stated_settings}
-use Rattle.check_workers.specs.Working.{IsDone, AreDone}
-use Rattle.serve_lanes.specs.declared.workers.Lack.{Lack}
+use Rattle.check_workers.specs.declared.workers.Lack.{Lack}
 use Rattle.serve_lanes.specs.declared.lane.LaneEnd.{LaneEnd}
 use Rattle.serve_lanes.specs.declared.lane.LaneEnd.TheVariants.{Closed, Full, Failed}
-use Rattle.serve_lanes.specs.Lanes.{ServedLink, LaneServed, ChainIn, IsBalanced, seen_at, end_turn, some_memory, some_turns}
+use Rattle.serve_lanes.specs.Lanes.{ServedLink, LaneServed, ChainIn, IsBalanced, end_turn, some_memory, some_turns}
+use Rattle.check_workers.specs.Joins.{nothing_lacked, seen_at, pass_of}
 
 -- what holds of all lanes of a server: whether its doors tell what was given back, the one moment of its clocks, where
 -- there is one, and the settings of its book
@@ -28,10 +28,6 @@ pub record Service : Type 0 where
 -- a service of no projects, whose doors and clocks tell nothing
 abbrev pub no_service : Service
 no_service = record { tells = false; one = None; settings = stated_settings 0 }
-
--- nothing was lacked yet
-abbrev pub nothing_lacked : Lack
-nothing_lacked = record { memory = false; spent = None }
 
 -- a lane that has not begun: a pass that has seen nothing, a door of its number on which no call was made yet, a clock of
 -- the service, and nothing noted
@@ -84,10 +80,6 @@ IsOver links failed d = (d.closed ≡ true)
     ⊎ (((0 < d.faults) × (failed ≡ true)) ⊎ ((0 < links) × (d.gave ≡ links)))
 
 -- ---- doors in one history
-
--- the number of the pass that made an entry
-abbrev pub pass_of : Entry → ℕ
-pass_of e = e.stamp.pass
 
 -- each entry that carries the pass of this number is of a turn up to `top`
 abbrev pub OwnWithin : ℕ → ℕ → List Entry → Type 0
@@ -145,49 +137,7 @@ told_turns (Some ended) = some_turns ended
 abbrev pub some_spent : List DoorSeen → Bool
 some_spent doors = list_any (λ (d : DoorSeen). told_turns d.ended) doors
 
--- ---- workers
-
--- a worker that has not begun: a pass that has seen nothing
-pub record IsNewWorker (turn : TurnState Settings) (pass : BookPass) : Type 0 where
-  pub own : IsSingle turn pass
-  pub unseen : pass.seen ≡ []
-  pub untaken : pass.last ≡ 0
-
--- a worker that has ended: each entry that its pass made says that a bucket is checked
-pub record WorkerOver (turn : TurnState Settings) (pass : BookPass) : Type 0 where
-  pub own : IsSingle turn pass
-  pub done : AreDone (own_of (caller_of pass) pass.seen)
-
--- each number from the first up to the end, which is left out, is among these
-abbrev pub HasEach : ℕ → ℕ → List ℕ → Type 0
-HasEach first end numbers = (k : ℕ) → first ≤ k → k < end → has k numbers ≡ true
-
--- ---- passes that are joined, and whose entries a history has
-
--- the entries that carry the pass of this number
-abbrev pub of_pass : ℕ → List Entry → List Entry
-of_pass number es = calls_by pass_of (number ∷ []) es
-
--- each entry says that a bucket is checked, or carries the pass of one of so many lanes
-abbrev pub AreOfLanes : ℕ → List Entry → Type 0
-AreOfLanes lanes es = All (λ e. IsDone e ⊎ (e.stamp.pass < lanes)) es
-
--- A pass took others in, or took turns: what it had seen is the front, up to its last turn then, of what it has seen. Of
--- the passes that were joined into it none is gone, and none but that of its own number has more entries.
-pub record Extends (v w : BookPass) : Type 0 where
-  pub number : w.number ≡ v.number
-  pub named : (k : ℕ) → has k v.numbers ≡ true → has k w.numbers ≡ true
-  pub front : v.seen ≡ seen_at v.last w.seen
-  pub rises : v.last ≤ w.last
-  pub stay : (k : ℕ) → has k v.numbers ≡ true → k ≢ v.number → of_pass k w.seen ≡ of_pass k v.seen
-  pub up_to : AllBefore turn_of (w.last + 1) w.seen
-
--- the same of one that took workers in, or worked: where its entries, and those of the passes that were joined into it, said
--- that buckets are checked or were of lanes, they are so now
-pub record ExtendsByWork (v w : BookPass) : Type 0 where
-  pub extends : Extends v w
-  pub entries : (lanes : ℕ) → AreOfLanes lanes (own_of (caller_of v) v.seen)
-      → AreOfLanes lanes (own_of (caller_of w) w.seen)
+-- ---- lanes whose passes are joined
 
 -- each entry carries one of these passes
 abbrev pub AreAmong : List ℕ → List Entry → Type 0

@@ -5,7 +5,6 @@ ghost use Rattle.book_turn.specs.Passes.{IsSingle};
 ghost use Rattle.book_turn.specs.declared.limits.TheConstants.{MOST_TURNS};
 ghost use Rattle.serve_lanes.specs.Lanes.{ServedLink, LaneServed, kind_of, is_memory, NotesEnd};
 
-use crate::workers::Lack;
 use bim_io::Clock;
 use bim_net::{Door, EndKind, Gate, LinkEnd};
 use bim_session::SessionEnd;
@@ -13,6 +12,7 @@ use book_history::BookRequest;
 use book_turn::fault::{CallFault, SpentPass};
 use book_turn::pass::Pass;
 use book_turn::turn::Turn;
+use check_workers::Lack;
 use federation_book::Book;
 use link_session::serve_link;
 use std::alloc::Global;

@@ -1,20 +1,20 @@
 //! Lanes in threads of their own, over one book.
 ghost use Rattle.std.specs.Prelude.{◌≡◌, ◌⊎◌, ◌+◌, ◌≢◌, ◌||◌, ◌++◌, ◌≤◌, ◌<◌, [], ◌∷◌, true, IsSome, vec_len, vec_capacity, map, All, IfOk};
 ghost use Rattle.book_turn.specs.Numbers.{numbers_from};
-ghost use Rattle.book_turn.specs.Passes.{IsSingle, new_passes};
+ghost use Rattle.book_turn.specs.Passes.{new_passes};
 ghost use Rattle.bim_net.specs.Hosts.{AreNew, some_failed};
 ghost use Rattle.book_history.specs.History.{left_all};
-ghost use Rattle.serve_lanes.specs.Histories.{Service, IsReady, LaneOver, LanesJoined, DoorServed, IsOver, is_failed};
-ghost use Rattle.serve_lanes.specs.Histories.{some_lacked, some_spent, IsNewWorker, WorkerOver, HasEach, AreOfLanes};
+ghost use Rattle.serve_lanes.specs.Histories.{Service, IsReady, LaneOver, LanesJoined, DoorServed, IsOver, is_failed, some_lacked, some_spent};
+ghost use Rattle.check_workers.specs.Joins.{IsNewWorker, WorkerOver, HasEach, AreOfLanes};
 
 use crate::lane::{LaneEnd, serve_lane};
-use crate::workers::{Lack, Worker, join_workers, make_workers, run_workers, work_out};
 use bim_io::Clock;
 use bim_net::{Door, Gate};
 use book_turn::fault::SpentPass;
 use book_turn::limits::MOST_PASSES;
 use book_turn::pass::Pass;
 use book_turn::turn::Turn;
+use check_workers::{Lack, Worker, join_workers, make_workers, run_workers, work_out};
 use federation_book::Book;
 use std::alloc::{AllocError, Global};
 use std::collections::VecDeque;
@@ -76,7 +76,7 @@ fn run_lane<K: Serving, R: Wait, D: Door + Drop, C: Clock + Drop, G: Gate>(
 
 // Runs all lanes, each in a thread of its own.
 fn run_all<
-    K: Serving,
+    K: Serving + Sync,
     R: Threads + Wait + Sync,
     D: Door + Send + Drop,
     C: Clock + Send + Drop,
@@ -108,7 +108,7 @@ where
 
 // The same for lanes in a vector.
 fn run_vec<
-    K: Serving,
+    K: Serving + Sync,
     R: Threads + Wait + Sync,
     D: Door + Send + Drop,
     C: Clock + Send + Drop,
@@ -288,7 +288,7 @@ fn open_turn(
 
 // Runs the lanes and the workers side by side.
 fn run_both<
-    K: Serving,
+    K: Serving + Sync,
     R: Threads + Wait + Sync,
     D: Door + Send + Drop,
     C: Clock + Send + Drop,

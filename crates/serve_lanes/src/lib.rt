@@ -3,11 +3,6 @@
 
 mod lane;
 mod lanes;
-mod workers;
 
 pub use lane::{LaneEnd, serve_lane};
 pub use lanes::{Lane, Served, Serving, run_lanes};
-pub use workers::{Lack, Worker};
-
-#[cfg(test)]
-mod tests;

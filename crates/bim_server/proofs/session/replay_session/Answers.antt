@@ -1,6 +1,6 @@
 use Rattle.std.proofs.Common.{refl}
 use Rattle.bim_session.specs.Replay.{stated_settings}
-use Rattle.bim_server.proofs.Alone.{laws_alone, stays_alone}
+use Rattle.bim_server.proofs.OneActor.{laws_alone, stays_alone}
 use Rattle.bim_server.proofs.Replaying.{settled_new, replays_of, nothing_replayed}
 use Rattle.bim_server.proofs.session.replay_session.Goals as goal
 

@@ -1,5 +1,5 @@
 use Rattle.book_passes.specs.Lessons.{caller_of}
-use Rattle.check_workers.proofs.Workers.{teaches_none}
+use Rattle.check_workers.proofs.Turns.{teaches_none, teaches_trans, nothing_left}
 use Rattle.check_workers.proofs.work.work_loop.Goals as goal
 
 pub loop-init : goal.loop-init
@@ -8,4 +8,34 @@ loop-init g c = record {
   finite = tt;
   own = c.requires.own;
   teaches = teaches_none (caller_of c.args.pass.now);
+}
+
+pub returns-in_err-work_one-clause-teaches : goal.returns-in_err-work_one-clause-teaches
+returns-in_err-work_one-clause-teaches g c =
+    teaches_trans (caller_of c.args.pass.now) (caller_of c.loop.pass) (caller_of c.work_one.new.pass) c.loop.invariant.teaches c.work_one.ensures.teaches
+
+pub returns-then-closed-clause-teaches : goal.returns-then-closed-clause-teaches
+returns-then-closed-clause-teaches g c =
+    teaches_trans (caller_of c.args.pass.now) (caller_of c.loop.pass) (caller_of c.work_one.new.pass) c.loop.invariant.teaches c.work_one.ensures.teaches
+
+pub returns-then-closed-clause-done : goal.returns-then-closed-clause-done
+returns-then-closed-clause-done g c =
+    nothing_left c.args.turn.now.settings c.args.seat c.loop.pass c.work_one.new.pass c.in_ok-work_one.field-0 c.in_ok-work_one.ensures.worked c.in-Nothing.is
+
+pub loop-preserved-in-Nothing : goal.loop-preserved-in-Nothing
+loop-preserved-in-Nothing g c = record {
+  can = tt;
+  finite = tt;
+  own = c.work_one.ensures.own;
+  teaches =
+      teaches_trans (caller_of c.args.pass.now) (caller_of c.loop.pass) (caller_of c.work_one.new.pass) c.loop.invariant.teaches c.work_one.ensures.teaches;
+}
+
+pub loop-preserved : goal.loop-preserved
+loop-preserved g c = record {
+  can = tt;
+  finite = tt;
+  own = c.work_one.ensures.own;
+  teaches =
+      teaches_trans (caller_of c.args.pass.now) (caller_of c.loop.pass) (caller_of c.work_one.new.pass) c.loop.invariant.teaches c.work_one.ensures.teaches;
 }

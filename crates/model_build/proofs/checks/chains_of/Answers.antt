@@ -2,7 +2,7 @@ use Rattle.std.proofs.Common.{ℕ, List, subst}
 use Rattle.ifc_schema.specs.StageFive.{IsModelElement, element_ids}
 use Rattle.placement.specs.Chains.{IsLoopCause}
 use Rattle.model_build.specs.Named.{ListsNamed}
-use Rattle.model_build.proofs.Checking.{loop_stage, err_by}
+use Rattle.model_build.proofs.ChainsEnd.{loop_stage, err_by}
 use Rattle.model_build.proofs.checks.chains_of.Goals as goal
 
 pub returns-clause-fault : goal.returns-clause-fault

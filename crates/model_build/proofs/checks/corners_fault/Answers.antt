@@ -1,10 +1,10 @@
 use Rattle.std.proofs.Common.{ℕ, List, subst}
 use Rattle.std.specs.List.{Any}
 use Rattle.ifc_schema.specs.StageFive.{used_ids}
-use Rattle.model_build.specs.Finding.{Finds}
+use Rattle.ifc_elements.specs.Finding.{Finds}
 use Rattle.model_build.specs.Faces.{HasManyCorners}
 use Rattle.model_build.specs.Outcomes.{HaveFewCorners}
-use Rattle.model_build.proofs.Cornered.{corners_stage}
+use Rattle.model_build.proofs.ManyCorners.{corners_stage}
 use Rattle.model_build.proofs.checks.corners_fault.Goals as goal
 
 pub returns-then-some_has_many_corners : goal.returns-then-some_has_many_corners

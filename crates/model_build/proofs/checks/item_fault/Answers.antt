@@ -1,6 +1,6 @@
 use Rattle.std.proofs.Common.{Some, None}
 use Rattle.ifc_schema.specs.StageFive.{used_ids, mapped_ids}
-use Rattle.model_build.proofs.Opened.{item_least, item_stage}
+use Rattle.model_build.proofs.UnsupportedLeast.{item_least, item_stage}
 use Rattle.model_build.proofs.checks.item_fault.Goals as goal
 
 pub returns-in-Some : goal.returns-in-Some

@@ -1,8 +1,8 @@
 use Rattle.std.proofs.Common.{ℕ, List, Contains, subst}
 use Rattle.ifc_schema.specs.StageFive.{used_ids}
 use Rattle.model_build.specs.Least.{NoneOf, IsLeastOf, IsOblique}
-use Rattle.model_build.proofs.Squared.{placements_read, operators_read}
-use Rattle.model_build.proofs.LeastOf.{oblique_least}
+use Rattle.model_build.proofs.AxesAlongGrid.{placements_read, operators_read}
+use Rattle.model_build.proofs.FirstIsLeast.{oblique_least}
 use Rattle.model_build.proofs.checks.oblique_fault.Goals as goal
 
 pub first_oblique-requires-clause-placements : goal.first_oblique-requires-clause-placements

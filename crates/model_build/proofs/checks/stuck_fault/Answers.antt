@@ -3,7 +3,7 @@ use Rattle.ifc_schema.specs.StageFive.{used_ids}
 use Rattle.ifc_instances.specs.Least.{IsLeast, LeastOf}
 use Rattle.model_build.specs.Least.{ShownBy}
 use Rattle.model_build.specs.Outcomes.{ShowsStuckSet}
-use Rattle.model_build.proofs.StuckSets.{stuck_stage, none_stuck}
+use Rattle.model_build.proofs.StuckFaces.{stuck_stage, none_stuck}
 use Rattle.model_build.proofs.checks.stuck_fault.Goals as goal
 
 pub returns-in-Some : goal.returns-in-Some

@@ -1,8 +1,8 @@
 use Rattle.std.proofs.Common.{ℕ, ◌<◌, ◌≤◌, List, Option, sum_by, subst}
 use Rattle.ifc_schema.specs.StageFive.{element_ids}
-use Rattle.model_build.specs.Items.{count_of, most_triangles}
-use Rattle.model_build.specs.Counting.{CountsTo}
-use Rattle.model_build.proofs.Staged.{triangles_stage, few_triangles}
+use Rattle.ifc_elements.specs.Items.{count_of}
+use Rattle.model_build.specs.Triangles.{most_triangles, CountsTo}
+use Rattle.model_build.proofs.TrianglesCounted.{triangles_stage, few_triangles}
 use Rattle.model_build.proofs.checks.triangles_fault.Goals as goal
 
 pub returns-in-Some : goal.returns-in-Some

@@ -1,6 +1,5 @@
 use Rattle.std.proofs.Common.{◌≡◌, ◌≤◌, ◌+◌, take, sum_by}
-use Rattle.model_build.specs.Items.{most_triangles}
-use Rattle.model_build.specs.Counting.{body_count}
+use Rattle.model_build.specs.Triangles.{most_triangles, body_count}
 use Rattle.model_build.proofs.counts.count_bodies.Given as goal
 
 abbrev pub invariant-loop-id : goal.invariant-loop-id

@@ -1,6 +1,6 @@
 use Rattle.std.proofs.Common.{ℕ, ◌+◌, sum_by, subst, ap, ◌∙◌}
-use Rattle.model_build.specs.Counting.{CountsTo, body_count}
-use Rattle.model_build.proofs.Collecting.{counts_element}
+use Rattle.model_build.specs.Triangles.{CountsTo, body_count}
+use Rattle.model_build.proofs.TrianglesCounted.{counts_element}
 use Rattle.model_build.proofs.counts.count_element.Goals as goal
 
 pub returns-in_ok-found-in-Some : goal.returns-in_ok-found-in-Some

@@ -1,5 +1,5 @@
 use Rattle.faceset.specs.Sets.{triangle_count}
-use Rattle.model_build.proofs.Collecting.{counts_more, counts_past}
+use Rattle.model_build.proofs.TrianglesCounted.{counts_more, counts_past}
 use Rattle.model_build.proofs.counts.count_sets.Goals as goal
 
 pub returns-in_default : goal.returns-in_default

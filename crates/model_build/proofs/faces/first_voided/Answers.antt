@@ -1,7 +1,7 @@
 use Rattle.std.proofs.Common.{arith}
 use Rattle.std.proofs.lemmas.List.Elements.{All-more}
 use Rattle.model_build.specs.Least.{IsVoided}
-use Rattle.model_build.proofs.LeastOf.{least_here, none_there}
+use Rattle.model_build.proofs.FirstIsLeast.{least_here, none_there}
 use Rattle.model_build.proofs.faces.first_voided.Goals as goal
 
 pub returns-then-is_voided : goal.returns-then-is_voided

@@ -1,8 +1,8 @@
 use Rattle.std.proofs.Common.{arith}
 use Rattle.std.proofs.lemmas.List.Elements.{All-more}
-use Rattle.model_build.specs.Finding.{Finds}
+use Rattle.ifc_elements.specs.Finding.{Finds}
 use Rattle.model_build.specs.Faces.{HasManyCorners}
-use Rattle.model_build.proofs.Cornered.{any_here, none_any}
+use Rattle.model_build.proofs.ManyCorners.{any_here, none_any}
 use Rattle.model_build.proofs.faces.some_has_many_corners.Goals as goal
 
 pub returns-then-has_many_corners : goal.returns-then-has_many_corners

@@ -1,5 +1,5 @@
 use Rattle.std.proofs.Common.{take, All}
-use Rattle.model_build.specs.Finding.{Finds}
+use Rattle.ifc_elements.specs.Finding.{Finds}
 use Rattle.model_build.specs.Faces.{HasManyCorners}
 use Rattle.model_build.proofs.faces.some_has_many_corners.Given as goal
 

@@ -1,4 +1,4 @@
-use Rattle.model_build.proofs.Repeating.{Searched}
+use Rattle.model_build.proofs.FirstRepeated.{Searched}
 use Rattle.model_build.proofs.guids.first_repeated.Given as goal
 
 abbrev pub invariant-loop-id : goal.invariant-loop-id

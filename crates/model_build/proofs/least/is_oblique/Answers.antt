@@ -1,4 +1,4 @@
-use Rattle.model_build.proofs.Squared.{placement_told, operator_told}
+use Rattle.model_build.proofs.AxesAlongGrid.{placement_told, operator_told}
 use Rattle.model_build.proofs.least.is_oblique.Goals as goal
 
 pub returns-then-is_axis_placement : goal.returns-then-is_axis_placement

@@ -1,7 +1,7 @@
 use Rattle.std.proofs.Common.{◌≡◌, Bool, [], ◌∷◌, Some, ap, sym, ◌∙◌, subst}
 use Rattle.std.specs.Bool.{MatchBool}
 use Rattle.model_build.specs.Unsupported.{IsAwayValue}
-use Rattle.model_build.proofs.Lying.{three_items, away_told}
+use Rattle.model_build.proofs.LocationsAway.{three_items, away_told}
 use Rattle.model_build.proofs.mapping.is_away_value.Goals as goal
 
 pub returns-in-len3 : goal.returns-in-len3

@@ -1,5 +1,5 @@
 use Rattle.std.proofs.Common.{◌≡◌, ℕ, Bor, true, List, Option, Some, None, is_some, option_copied, refl, sym, ◌∙◌}
-use Rattle.model_build.proofs.Mapped.{not_one}
+use Rattle.model_build.proofs.MappingsUnsupported.{not_one}
 use Rattle.model_build.proofs.mapping.is_not_one.Goals as goal
 
 bytes_there : (o : Option (Bor (List ℕ))) → true ≡ is_some o → (bytes : List ℕ) × (option_copied o ≡ Some bytes)

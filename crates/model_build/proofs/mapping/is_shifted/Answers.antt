@@ -1,4 +1,4 @@
-use Rattle.model_build.proofs.Mapped.{origin_told}
+use Rattle.model_build.proofs.MappingsUnsupported.{origin_told}
 use Rattle.model_build.proofs.mapping.is_shifted.Goals as goal
 
 pub returns-else-is_turned : goal.returns-else-is_turned

@@ -1,4 +1,4 @@
-use Rattle.model_build.proofs.Mapped.{turned_told, never_plain}
+use Rattle.model_build.proofs.MappingsUnsupported.{turned_told, never_plain}
 use Rattle.model_build.proofs.mapping.is_turned.Goals as goal
 
 pub returns-in-Some : goal.returns-in-Some

@@ -1,5 +1,5 @@
 use Rattle.std.proofs.Common.{sym, ◌∙◌}
-use Rattle.model_build.proofs.Mapped.{mapping_least}
+use Rattle.model_build.proofs.MappingsUnsupported.{mapping_least}
 use Rattle.model_build.proofs.mapping.other_mapping.Goals as goal
 
 pub returns : goal.returns

@@ -2,7 +2,7 @@ use Rattle.std.proofs.Common.{◌≡◌, ◌++◌, ◌∷◌, [], take, get_or, 
 use Rattle.std.proofs.lemmas.Grind.{common_steps}
 use Rattle.std.proofs.lemmas.List.{take_more}
 use Rattle.model_build.specs.Named.{ListsNamed}
-use Rattle.model_build.proofs.Naming.{named_pushed, named_passed}
+use Rattle.model_build.proofs.PlacementsNamed.{named_pushed, named_passed}
 use Rattle.model_build.proofs.named.placements.Goals as goal
 use Rattle.model_build.proofs.named.placements.Goals.{in-Some+in_ok-push, in_default}
 

@@ -1,7 +1,7 @@
 use Rattle.std.proofs.Common.{rules}
 use Rattle.std.proofs.lemmas.List.Sorted.{answers_always}
 use Rattle.bim_model.specs.declared.element.Element.{Element}
-use Rattle.model_build.proofs.Ordering.{rise_strictly}
+use Rattle.model_build.proofs.ElementsRise.{rise_strictly}
 use Rattle.model_build.proofs.order.in_order.Goals as goal
 
 pub returns-clause-rising : goal.returns-clause-rising

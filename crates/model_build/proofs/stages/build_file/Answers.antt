@@ -1,13 +1,8 @@
-use Rattle.std.proofs.Common.{inl, inr}
-use Rattle.model_build.proofs.Flawless.{survey_clear}
-use Rattle.model_build.proofs.Profiled.{unit_ok, unit_err}
+use Rattle.model_build.proofs.ProfileOfStages.{same_ok, same_err}
 use Rattle.model_build.proofs.stages.build_file.Goals as goal
 
 pub returns-in-Ok-clause-model : goal.returns-in-Ok-clause-model
-returns-in-Ok-clause-model c = unit_ok c.args.exchange.now c.in-Ok.scale c.args.mode c.after_unit.result (survey_clear c.args.exchange.now c.in_ok-survey.survey c.in_ok-survey.ensures.surveyed) c.in-Ok.ensures.clear c.in-Ok.ensures.unit c.after_unit.ensures.model
+returns-in-Ok-clause-model c = same_ok c.args.exchange c.in-Ok.file.exchange c.args.mode c.in-Ok.file.mode c.checked.result c.in-Ok.ensures.same.0 c.in-Ok.ensures.same.1 c.checked.ensures.model
 
 pub returns-in-Ok-clause-fault : goal.returns-in-Ok-clause-fault
-returns-in-Ok-clause-fault c = unit_err c.args.exchange.now c.in-Ok.scale c.args.mode c.after_unit.result (survey_clear c.args.exchange.now c.in_ok-survey.survey c.in_ok-survey.ensures.surveyed) c.in-Ok.ensures.clear c.in-Ok.ensures.unit c.after_unit.ensures.fault
-
-pub returns-clause-fault : goal.returns-clause-fault
-returns-clause-fault c = inr ((survey_clear c.args.exchange.now c.in_ok-survey.survey c.in_ok-survey.ensures.surveyed), inl c.in-Err.ensures.fault)
+returns-in-Ok-clause-fault c = same_err c.args.exchange c.in-Ok.file.exchange c.args.mode c.in-Ok.file.mode c.checked.result c.in-Ok.ensures.same.0 c.in-Ok.ensures.same.1 c.checked.ensures.fault

@@ -1,4 +1,4 @@
-use Rattle.model_build.proofs.Profiled.{profile_ok, profile_err, read_cause}
+use Rattle.model_build.proofs.ProfileOfStages.{profile_ok, profile_err, read_cause}
 use Rattle.model_build.proofs.stages.build_owned.Goals as goal
 
 pub returns-in-Ok-clause-model : goal.returns-in-Ok-clause-model

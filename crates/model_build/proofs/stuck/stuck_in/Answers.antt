@@ -2,8 +2,8 @@ use Rattle.std.proofs.Common.{◌∙◌, sym}
 use Rattle.faceset.specs.Sets.{HasStuck}
 use Rattle.ifc_instances.specs.Least.{LeastOf}
 use Rattle.model_build.specs.Outcomes.{ShowsStuckSet}
-use Rattle.model_build.proofs.Gridded.{listed_grid}
-use Rattle.model_build.proofs.StuckSets.{IsFound, no_points, stuck_least, ok_by}
+use Rattle.ifc_elements.proofs.PointsOnGrid.{listed_grid}
+use Rattle.model_build.proofs.StuckFaces.{IsFound, no_points, stuck_least, ok_by}
 use Rattle.model_build.proofs.stuck.stuck_in.Goals as goal
 
 pub returns-in_default-points_at : goal.returns-in_default-points_at

@@ -2,7 +2,7 @@ use Rattle.std.proofs.Common.{rules, ◌+◌, take, Option, ℕ, sym, subst}
 use Rattle.ifc_instances.specs.Least.{LeastOf}
 use Rattle.model_build.specs.Least.{ShownBy}
 use Rattle.model_build.specs.Showing.{MapShows}
-use Rattle.model_build.proofs.Lesser.{shown_none, shown_more, shown_all}
+use Rattle.model_build.proofs.LeastOfParts.{shown_none, shown_more, shown_all}
 use Rattle.model_build.proofs.unsupported.least_in_mapped.Goals as goal
 
 pub loop-id-init : goal.loop-id-init

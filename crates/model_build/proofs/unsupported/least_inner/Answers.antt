@@ -1,8 +1,8 @@
 use Rattle.std.proofs.Common.{rules, ◌≡◌, ◌+◌, true, take, Option, ℕ, sym, subst}
-use Rattle.model_build.specs.Items.{is_mapped_item}
+use Rattle.ifc_elements.specs.Items.{is_mapped_item}
 use Rattle.ifc_instances.specs.Least.{LeastOf}
 use Rattle.model_build.specs.Showing.{HasInner}
-use Rattle.model_build.proofs.Others.{leads_none, leads_more, leads_all}
+use Rattle.model_build.proofs.OtherItems.{leads_none, leads_more, leads_all}
 use Rattle.model_build.proofs.unsupported.least_inner.Goals as goal
 
 pub loop-value-init : goal.loop-value-init

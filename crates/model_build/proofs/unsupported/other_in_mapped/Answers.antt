@@ -1,4 +1,4 @@
-use Rattle.model_build.proofs.Others.{map_least}
+use Rattle.model_build.proofs.OtherItems.{map_least}
 use Rattle.model_build.proofs.unsupported.other_in_mapped.Goals as goal
 
 pub returns : goal.returns

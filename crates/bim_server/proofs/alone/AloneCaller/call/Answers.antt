@@ -1,8 +1,8 @@
 use Rattle.std.proofs.Common.{inl, ap, ◌∙◌}
 use Rattle.bim_session.specs.Replay.{stated_settings}
-use Rattle.bim_server.specs.Alone.{seen_alone}
+use Rattle.bim_server.specs.OneActor.{seen_alone}
 use Rattle.bim_server.proofs.Giving.{legal_of}
-use Rattle.bim_server.proofs.Alone.{taken_alone, went_alone, stays_alone}
+use Rattle.bim_server.proofs.OneActor.{taken_alone, went_alone, stays_alone}
 use Rattle.bim_server.proofs.alone.AloneCaller.call.Goals as goal
 
 pub call-requires : goal.call-requires

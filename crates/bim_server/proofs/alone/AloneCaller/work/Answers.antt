@@ -1,6 +1,6 @@
 use Rattle.std.proofs.Common.{◌∙◌}
 use Rattle.bim_session.specs.Replay.{stated_settings}
-use Rattle.bim_server.proofs.Alone.{works_alone}
+use Rattle.bim_server.proofs.OneActor.{works_alone}
 use Rattle.bim_server.proofs.alone.AloneCaller.work.Goals as goal
 
 pub returns-clause-works : goal.returns-clause-works

@@ -1,0 +1,12 @@
+pub mod BodiesCollected
+pub mod BodiesOfShapes
+pub mod CasesOfAnswers
+pub mod ElementsMade
+pub mod OneSet
+pub mod OneSurface
+pub mod PointsOnGrid
+pub mod SetsKept
+pub mod StoreysThere
+pub mod TablesOfPoints
+pub mod TrianglesAdded
+pub mod TrianglesMoved

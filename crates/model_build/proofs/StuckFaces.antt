@@ -1,0 +1,134 @@
+-- Faces of sets that can't be cut: by the points of a table, and by those that the sets spell.
+use Rattle.std.proofs.Common.{◌≡◌, ℕ, ◌<◌, true, List, Option, Some, None, Result, Ok, Err, option_and_then, refl, sym, ap, ◌∙◌, subst}
+use Rattle.std.specs.Option.{MatchOption}
+use Rattle.std.specs.Result.{IfOk}
+use Rattle.bim_model.specs.declared.geometry.Point.{Point}
+use Rattle.bim_model.specs.declared.upload.Mode.{Mode}
+use Rattle.bim_model.specs.declared.upload.UploadFault.TheVariants as faults
+use Rattle.p21_reader.specs.declared.value.Instance.{Instance}
+use Rattle.ifc_instances.specs.declared.entity.Entity.TheVariants as entity
+use Rattle.ifc_instances.specs.Looking.{look, is_a}
+use Rattle.ifc_schema.specs.Used.{Used}
+use Rattle.ifc_schema.specs.StageFive.{Lists}
+use Rattle.ifc_units.specs.declared.scale.Scale.{Scale}
+use Rattle.ifc_units.specs.Lengths.{ArePoints}
+use Rattle.ifc_units.proofs.PointFacts.{one_points}
+use Rattle.faceset.specs.Sets.{is_set, listed_in, points_of, HasStuck}
+use Rattle.ifc_instances.specs.Attributes.{listed, reference_at}
+use Rattle.ifc_elements.specs.PointTables.{ListsPoints}
+use Rattle.ifc_elements.specs.Surfaces.{SetPoints}
+use Rattle.model_build.specs.Faces.{IsStuckFace}
+use Rattle.ifc_instances.specs.Least.{IsLeast, LeastOf}
+use Rattle.model_build.specs.Least.{ShownBy}
+use Rattle.model_build.specs.Stages.{StuckStage}
+use Rattle.model_build.specs.Outcomes.{ShowsStuckSet}
+use Rattle.model_build.proofs.AttributesFormed.{Shaped}
+use Rattle.model_build.proofs.UsedFormed.{named_at}
+use Rattle.model_build.proofs.SetsFormed.{set_points}
+use Rattle.model_build.proofs.LeastOfParts.{same_least}
+use Rattle.model_build.proofs.OtherItems.{found_least}
+
+-- a list has one list of points at most
+pub lists_same : (world : List Instance) (scale : Scale) (mode : Mode) (list : ℕ) (ps qs : List Point) → ListsPoints world scale mode list ps → ListsPoints world scale mode list qs → ps ≡ qs
+lists_same world scale mode list ps qs a b =
+    let same : a.instance ≡ b.instance = (let f = a.found in let g = b.found in cc) in
+    one_points scale mode (listed b.instance 0) ps qs (subst (λ (i : Instance). ArePoints scale mode (listed i 0) ps) same a.holds.are) b.holds.are
+
+-- The points of the list that a set refers to are those of the set.
+
+spelled_listed : (world : List Instance) (s i : Instance) (list : ℕ) → reference_at s 0 ≡ Some list → look world list ≡ Some i → points_of world s ≡ Some i
+unfolding points_of
+spelled_listed world s i list refers found = ap (option_and_then (look world)) refers ∙ found
+
+pub from_list : (world : List Instance) (scale : Scale) (mode : Mode) (s : Instance) (list : ℕ) (points : List Point) → reference_at s 0 ≡ Some list → ListsPoints world scale mode list points → SetPoints world scale mode s points
+from_list world scale mode s list points refers l =
+    subst (λ (o : Option Instance). ArePoints scale mode (listed_in o) points) (sym (spelled_listed world s l.instance list refers l.found)) l.holds.are
+
+to_list : (world : List Instance) (scale : Scale) (mode : Mode) (s i : Instance) (list : ℕ) (points : List Point) → reference_at s 0 ≡ Some list → look world list ≡ Some i → is_a entity.PointList i ≡ true
+    → SetPoints world scale mode s points → ListsPoints world scale mode list points
+to_list world scale mode s i list points refers found is are = record {
+  instance = i;
+  found = found;
+  holds = record { kind = is; are = subst (λ (o : Option Instance). ArePoints scale mode (listed_in o) points) (spelled_listed world s i list refers found) are };
+}
+
+-- What one set shows.
+
+-- the set has that face, which can't be cut
+abbrev Stuck : List Instance → Scale → Mode → Instance → ℕ → Type 0
+Stuck world scale mode s id = (is_set s ≡ true) × (list : ℕ) × (reference_at s 0 ≡ Some list) × (points : List Point) × ListsPoints world scale mode list points × HasStuck world points s id
+
+-- the answer of the search in one set
+abbrev pub IsFound : (ℕ → Type 0) → Option ℕ → Type 0
+IsFound P found = MatchOption found ((id : ℕ) → P id → ⊥) (λ id. P id × ((k : ℕ) → k < id → P k → ⊥))
+
+least_found : (P : ℕ → Type 0) (found : Option ℕ) → IsFound P found → LeastOf P found
+least_found P None h = h
+least_found P (Some id) h = record { here = h.0; lower = h.1 }
+
+pub stuck_least : (world : List Instance) (scale : Scale) (mode : Mode) (id list : ℕ) (s : Instance) (points : List Point) → Some s ≡ look world id → is_set s ≡ true → Some list ≡ reference_at s 0
+    → ListsPoints world scale mode list points → (found : Option ℕ) → IsFound (HasStuck world points s) found → LeastOf (ShowsStuckSet world scale mode id) found
+stuck_least world scale mode id list s points e is refers l found h =
+    found_least world id s (Stuck world scale mode) found (sym e) (same_least (HasStuck world points s) (Stuck world scale mode s) found to back (least_found (HasStuck world points s) found h))
+  where
+    to : (k : ℕ) → HasStuck world points s k → Stuck world scale mode s k
+    to k g = (is, list, sym refers, points, l, g)
+
+    back : (k : ℕ) → Stuck world scale mode s k → HasStuck world points s k
+    back k g =
+        let f = g.2 in
+        let same : g.1 ≡ list = cc in
+        let points_same = lists_same world scale mode list g.3 points (subst (λ (n : ℕ). ListsPoints world scale mode n g.3) same g.4) l in
+        subst (λ (ps : List Point). HasStuck world ps s k) points_same g.5
+
+-- it refers to no list of points on the grid
+pub no_points : (world : List Instance) (scale : Scale) (mode : Mode) (id list : ℕ) (s : Instance) → Some s ≡ look world id → Some list ≡ reference_at s 0
+    → ((points : List Point) → ListsPoints world scale mode list points → ⊥) → LeastOf (ShowsStuckSet world scale mode id) None
+no_points world scale mode id list s e refers none =
+    found_least world id s (Stuck world scale mode) None (sym e) (λ k g. (
+    let f = g.2 in
+    let same : g.1 ≡ list = cc in
+    none g.3 (subst (λ (n : ℕ). ListsPoints world scale mode n g.3) same g.4)))
+
+pub ok_by : {A E : Type 0} (P Q : A → Type 0) (r : Result A E) → ((a : A) → P a → Q a) → IfOk r P → IfOk r Q
+ok_by P Q (Ok a) f h = f a h
+ok_by P Q (Err e) f h = h
+
+-- What the sets that are used show.
+
+shown_stuck : (world : List Instance) (scale : Scale) (mode : Mode) (used : List ℕ) → Lists (Used world) used → (id : ℕ) → ShownBy (ShowsStuckSet world scale mode) used id → IsStuckFace world scale mode id
+shown_stuck world scale mode used ls id h =
+    let f = h.2 in
+    let s = f.instance in
+    let g = f.holds in (
+      h.0,
+      (ls.each h.0 h.1, record { instance = s; found = f.found; holds = g.0 }),
+      record { instance = s; found = f.found; holds = (g.3, from_list world scale mode s g.1 g.3 g.2 g.4, g.5) },
+    )
+
+stuck_shown : (world : List Instance) (scale : Scale) (mode : Mode) (used : List ℕ) → Shaped world → Lists (Used world) used → (id : ℕ) → IsStuckFace world scale mode id → ShownBy (ShowsStuckSet world scale mode) used id
+stuck_shown world scale mode used shaped ls id h =
+    let u = h.1.0 in
+    let f = h.2 in
+    let s = f.instance in
+    let same : h.1.1.instance ≡ s = (let a = h.1.1.found in let b = f.found in cc) in
+    let is : is_set s ≡ true = subst (λ (i : Instance). is_set i ≡ true) same h.1.1.holds in
+    let n = named_at world s 0 entity.PointList (set_points world h.0 s shaped u f.found is) in
+    let l = to_list world scale mode s n.2.1.instance n.0 f.holds.0 n.1 n.2.1.found n.2.1.holds f.holds.1 in (
+      h.0,
+      ls.all h.0 u,
+      record { instance = s; found = f.found; holds = (is, n.0, n.1, f.holds.0, l, f.holds.2) },
+    )
+
+pub stuck_stage : (world : List Instance) (scale : Scale) (mode : Mode) (used : List ℕ) (id : ℕ) → Shaped world → Lists (Used world) used → IsLeast (ShownBy (ShowsStuckSet world scale mode) used) id
+    → StuckStage world mode scale (faults.FaceStuck id)
+stuck_stage world scale mode used id shaped ls h = record {
+  id = id;
+  of = shown_stuck world scale mode used ls id h.here;
+  here = refl;
+  lower = λ k low of other g. h.lower k low (stuck_shown world scale mode used shaped ls k of);
+}
+
+pub none_stuck : (world : List Instance) (scale : Scale) (mode : Mode) (used : List ℕ) → Shaped world → Lists (Used world) used → ((id : ℕ) → ShownBy (ShowsStuckSet world scale mode) used id → ⊥)
+    → (id : ℕ) → IsStuckFace world scale mode id → ⊥
+none_stuck world scale mode used shaped ls none id h = none id (stuck_shown world scale mode used shaped ls id h)

@@ -1,0 +1,64 @@
+-- What values refer to, collected and counted value by value.
+-- What the count of triangles says of the stages of a file.
+use Rattle.std.proofs.Common.{◌≡◌, ℕ, ◌+◌, ◌<◌, ◌≤◌, List, [], ◌∷◌, length, get_or, take, map, flat_map, sum_by, Some, refl, sym, ap, ◌∙◌, arith, subst}
+use Rattle.std.proofs.lemmas.List.Sums.{sum_by-cons, sum_by-append}
+use Rattle.std.proofs.lemmas.List.Concat.{flat_map-cons}
+use Rattle.p21_reader.specs.declared.value.Value21.{Value21}
+use Rattle.p21_reader.specs.declared.value.Instance.{Instance}
+use Rattle.ifc_instances.specs.Looking.{look}
+use Rattle.faceset.proofs.Named.{summed_more, summed_part}
+use Rattle.ifc_instances.specs.Attributes.{led_to}
+use Rattle.ifc_elements.specs.Items.{items_of, bodies, item_count, counted, count_of}
+use Rattle.model_build.specs.Triangles.{most_triangles, body_count, items_count, CountsTo}
+use Rattle.ifc_elements.specs.Finding.{Number}
+use Rattle.bim_model.specs.declared.upload.UploadFault.TheVariants as faults
+use Rattle.bim_model.specs.declared.upload.Many.TheVariants as many
+use Rattle.ifc_schema.specs.StageFive.{Lists, IsModelElement}
+use Rattle.model_build.specs.Faults.{IsClear}
+use Rattle.model_build.specs.Stages.{TrianglesStage}
+use Rattle.model_build.proofs.OneList.{same_lists}
+
+-- Counting.
+
+-- one value more
+pub counts_more : (f : Instance → ℕ) (world : List Instance) (vs : List Value21) (i : ℕ) (v : Value21) (so_far count more : ℕ) → i < length vs → v ≡ get_or vs i v
+    → so_far + sum_by f (led_to world (take i vs)) ≡ count → more ≡ count + sum_by f (led_to world (v ∷ [])) → so_far + sum_by f (led_to world (take (i + 1) vs)) ≡ more
+counts_more f world vs i v so_far count more lt at e m =
+    let whole : sum_by f (led_to world (take (i + 1) vs)) ≡ sum_by f (led_to world (take i vs)) + sum_by f (led_to world (v ∷ [])) = summed_more f world vs i v lt at in
+    omega (arith, whole, e, m)
+
+pub counts_past : (f : Instance → ℕ) (world : List Instance) (vs : List Value21) (i : ℕ) (v : Value21) (so_far count : ℕ) → i < length vs → v ≡ get_or vs i v
+    → so_far + sum_by f (led_to world (take i vs)) ≡ count → most_triangles < count + sum_by f (led_to world (v ∷ [])) → most_triangles < so_far + sum_by f (led_to world vs)
+counts_past f world vs i v so_far count lt at e past =
+    let whole : sum_by f (led_to world (take (i + 1) vs)) ≡ sum_by f (led_to world (take i vs)) + sum_by f (led_to world (v ∷ [])) = summed_more f world vs i v lt at in
+    let part : sum_by f (led_to world (take (i + 1) vs)) ≤ sum_by f (led_to world vs) = summed_part f world vs (i + 1) in
+    omega (arith, whole, part, e, past)
+
+counts_bodies : (world : List Instance) (ids : List ℕ) (are : List Instance) → Number world ids are → sum_by (body_count world) ids ≡ sum_by (item_count world) (flat_map (items_of world) are)
+counts_bodies world [] [] h = refl
+counts_bodies world [] (s ∷ ss) h = cc
+counts_bodies world (id ∷ ids) [] h = cc
+counts_bodies world (id ∷ ids) (s ∷ ss) h =
+    let e : look world id ≡ Some s = cc in
+    let t : map (look world) ids ≡ map Some ss = cc in
+    sum_by-cons (body_count world) id ids ∙ ap (λ o. items_count world o + sum_by (body_count world) ids) e ∙ ap (λ n. sum_by (item_count world) (items_of world s) + n) (counts_bodies world ids ss t)
+    ∙ sym (sum_by-append (item_count world) (items_of world s) (flat_map (items_of world) ss)) ∙ ap (sum_by (item_count world)) (sym (flat_map-cons (items_of world) s ss))
+
+pub counts_element : (world : List Instance) (id : ℕ) (i : Instance) (ids : List ℕ) → Some i ≡ look world id → Number world ids (bodies world i) → sum_by (body_count world) ids ≡ count_of world id
+counts_element world id i ids e h = counts_bodies world ids (bodies world i) h ∙ ap (counted world) e
+
+-- Triangles.
+
+pub few_triangles : (count n : ℕ) → CountsTo count (Some n) → count ≤ most_triangles
+few_triangles count n h = subst (λ (m : ℕ). m ≤ most_triangles) h.0 h.1
+
+pub triangles_stage : (world : List Instance) (elements : List ℕ) → Lists (IsModelElement world) elements → most_triangles < sum_by (count_of world) elements → TrianglesStage world (faults.TooMany many.Triangles)
+triangles_stage world elements ls above = (refl, sum_by (count_of world) elements, record { ids = elements; lists = ls; sum = refl }, above)
+
+pub triangles_clear : (world : List Instance) (elements : List ℕ) → Lists (IsModelElement world) elements → sum_by (count_of world) elements ≤ most_triangles → IsClear (TrianglesStage world)
+triangles_clear world elements ls few fault h =
+    let same = same_lists (IsModelElement world) h.2.ids elements h.2.lists ls in
+    let e = ap (sum_by (count_of world)) same in
+    let s = h.2.sum in
+    let l = h.3 in
+    omega arith

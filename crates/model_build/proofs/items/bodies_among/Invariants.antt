@@ -1,7 +1,0 @@
-use Rattle.std.proofs.Common.{◌≡◌, map, take, Some}
-use Rattle.ifc_instances.specs.Looking.{look}
-use Rattle.model_build.specs.Items.{bodies_among}
-use Rattle.model_build.proofs.items.bodies_among.Given as goal
-
-abbrev pub invariant-loop-value : goal.invariant-loop-value
-invariant-loop-value l = map (look l.exchange) l.found.items ≡ map Some (bodies_among l.exchange (take l.value-index l.values))

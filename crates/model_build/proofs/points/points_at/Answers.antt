@@ -1,6 +1,0 @@
-use Rattle.std.specs.Option.{option_copied}
-use Rattle.model_build.proofs.Tables.{points_told}
-use Rattle.model_build.proofs.points.points_at.Goals as goal
-
-pub returns : goal.returns
-returns c = points_told c.args.exchange.now c.args.table.now c.args.id c.in_ok-at.at (option_copied c.kept_at.result) c.in_ok-at.ensures c.kept_at.ensures

@@ -1,6 +1,0 @@
-use Rattle.serve_lanes.proofs.Lanes.{worker_over}
-use Rattle.serve_lanes.proofs.workers.run_worker.Goals as goal
-
-pub returns-clause-over : goal.returns-clause-over
-returns-clause-over g c =
-    worker_over c.args.turn.now c.args.worker.now.pass c.work_out.new.pass c.requires c.work_out.ensures.own c.work_out.ensures.teaches

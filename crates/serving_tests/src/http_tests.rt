@@ -1,0 +1,532 @@
+//! Requests as calls, and responses against bytes written by hand.
+use bcf_bodies::BodyFault;
+use bcf_http::{
+    Answer, HttpCall, QueryName, Refusal, ReplyKind, RequestFault, RoutePath, Routes, kind_of,
+    to_call, to_response,
+};
+use bcf_topics::{CommentIn, Topic, TopicBody};
+use bcf_viewpoints::ViewPart;
+use bim_model::{Author, Bytes, Items, Mode, Moment, Text};
+use book_history::{BookFault, BookReply, BookRequest, Horizon, ReplyBody, Wanted};
+use clash_rules::RuleFault;
+use http_frame::{FrameFault, HttpRequest};
+use std::alloc::{AllocError, Global};
+use std::process::Abort;
+use std::test::Fail;
+
+fn request(
+    alloc: Global,
+    method: &str,
+    target: &str,
+    body: &str,
+) -> Result<HttpRequest, AllocError> {
+    Ok(HttpRequest {
+        method: Bytes::of(alloc, method.as_bytes())?,
+        target: Bytes::of(alloc, target.as_bytes())?,
+        minor: 1,
+        user: Text::of(alloc, "anna")?,
+        close: false,
+        encoded: false,
+        body: Items::from_vec(body.as_bytes().to_vec(alloc)?),
+    })
+}
+
+fn kind_for(alloc: Global, request: &HttpRequest) -> Result<ReplyKind, AllocError> {
+    let routes = Routes::new(alloc)?;
+    let kind = kind_of(&routes, request);
+    drop(routes);
+    Ok(kind)
+}
+
+// What the response to a request without a body needs of it.
+fn kind(alloc: Global, method: &str, target: &str) -> Result<ReplyKind, Fail> {
+    let request = request(alloc, method, target, "")?;
+    let kind = kind_for(alloc, &request);
+    drop(request);
+    Ok(kind?)
+}
+
+#[test]
+fn kinds_are_told(rt: HostRuntime) -> Result<(), Fail> {
+    let alloc = rt.alloc();
+    let target = "http://localhost/bcf/3.0/projects/00000002-0000-8000-8000-000000000000/topics?x";
+    let made = ReplyKind {
+        project: 2,
+        created: true,
+        head: false,
+        part: ViewPart::Whole,
+    };
+    assert_eq!(rt; kind(alloc, "POST", target)?, made);
+    let target =
+        "/bcf/3.0/projects/00000001-0000-8000-8000-000000000000/topics/00000001-0000-8000-8000-000000000001/comments/00000001-0000-8000-8000-000000000002";
+    assert!(rt; !kind(alloc, "PUT", target)?.created);
+    let target =
+        "/bcf/3.0/projects/00000001-0000-8000-8000-000000000000/topics/00000001-0000-8000-8000-000000000001/viewpoints/00000001-0000-8000-8000-000000000002/coloring";
+    assert_eq!(rt; kind(alloc, "GET", target)?.part, ViewPart::Coloring);
+    Ok(())
+}
+
+fn topic_line(
+    alloc: Global,
+    project: u128,
+    body: &TopicBody,
+    author: &Author,
+    weight: u64,
+) -> Result<String, AllocError> {
+    let title = body.title.as_str();
+    let user = author.user.as_str();
+    let seconds = author.moment.seconds();
+    format!(in alloc; "topic {project:032x} {title} {user} {seconds} {weight}")
+}
+
+fn comment_line(
+    alloc: Global,
+    ids: (u128, u128, u128),
+    body: &CommentIn,
+    author: &Author,
+    weight: u64,
+) -> Result<String, AllocError> {
+    let (project, topic, comment) = ids;
+    let text = body.comment.as_str();
+    let view = body.viewpoint.unwrap_or(0);
+    let user = author.user.as_str();
+    format!(in alloc;
+        "comment {project:032x} {topic:032x} {comment:032x} {text} {view:032x} {user} {weight}"
+    )
+}
+
+fn clashes_line(
+    alloc: Global,
+    version: Wanted,
+    first: u64,
+    count: u64,
+) -> Result<String, AllocError> {
+    match version {
+        Wanted::Newest => format!(in alloc; "clashes newest {first} {count}"),
+        Wanted::Number(number) => format!(in alloc; "clashes {number} {first} {count}"),
+    }
+}
+
+fn rules_line(alloc: Global, count: usize, weight: u64) -> Result<String, AllocError> {
+    format!(in alloc; "rules {count} {weight}")
+}
+
+fn remove_line(alloc: Global, name: &str) -> Result<String, AllocError> {
+    format!(in alloc; "remove {name}")
+}
+
+fn model_line(
+    alloc: Global,
+    project: u128,
+    name: &str,
+    mode: Mode,
+    body: &[u8],
+) -> Result<String, AllocError> {
+    let body = String::from_utf8_lossy(alloc, body)?;
+    let snaps = mode == Mode::Snap;
+    format!(in alloc; "model {project:032x} {name} {snaps} {}", body.as_str())
+}
+
+// A request of the book in a line: its kind, whom it names and what it brings.
+fn request_line(alloc: Global, request: &BookRequest) -> Result<String, AllocError> {
+    match request {
+        BookRequest::PostTopic {
+            project,
+            body,
+            author,
+            weight,
+        } => topic_line(alloc, *project, body, author, *weight),
+        BookRequest::PutComment {
+            project,
+            topic,
+            comment,
+            body,
+            author,
+            weight,
+        } => comment_line(alloc, (*project, *topic, *comment), body, author, *weight),
+        BookRequest::SetRules { rules, weight, .. } => {
+            rules_line(alloc, rules.list().len(), *weight)
+        }
+        BookRequest::Remove { name, .. } => remove_line(alloc, name.as_str()),
+        BookRequest::ReadClashes {
+            version,
+            first,
+            count,
+            ..
+        } => clashes_line(alloc, *version, *first, *count),
+        _ => String::from_str(alloc, "another request"),
+    }
+}
+
+fn call_line(alloc: Global, call: &Result<HttpCall, Refusal>) -> Result<String, AllocError> {
+    match call {
+        Ok(HttpCall::Ask(request)) => request_line(alloc, request),
+        Ok(
+            HttpCall::Build {
+                project,
+                name,
+                mode,
+                body,
+            },
+        ) => model_line(alloc, *project, name.as_str(), *mode, body.as_slice()),
+        Err(_) => String::from_str(alloc, "refused"),
+    }
+}
+
+fn call_of(
+    alloc: Global,
+    method: &str,
+    target: &str,
+    body: &str,
+) -> Result<Result<HttpCall, Refusal>, Fail> {
+    let request = request(alloc, method, target, body)?;
+    match Routes::new(alloc) {
+        Ok(routes) => {
+            let call = to_call(alloc, &routes, request, 1_714_564_800);
+            drop(routes);
+            Ok(call)
+        }
+        Err(error) => {
+            drop(request);
+            Err(Fail::from(error))
+        }
+    }
+}
+
+// What a request asks, in a line.
+fn told(alloc: Global, method: &str, target: &str, body: &str) -> Result<String, Fail> {
+    let call = call_of(alloc, method, target, body)?;
+    let line = call_line(alloc, &call);
+    drop(call);
+    Ok(line?)
+}
+
+fn asks(
+    rt: &impl Abort,
+    alloc: Global,
+    (method, target, body): (&str, &str, &str),
+    wanted: &str,
+) -> Result<(), Fail> {
+    let line = told(alloc, method, target, body)?;
+    assert_eq!(rt; line.as_str(), wanted);
+    Ok(())
+}
+
+#[test]
+fn topics_and_comments_are_asked_for(rt: HostRuntime) -> Result<(), Fail> {
+    let target = "http://localhost/bcf/3.0/projects/00000002-0000-8000-8000-000000000000/topics?x";
+    let post = ("POST", target, r#"{"title":"Pipe"}"#);
+    let wanted = "topic 00000002000080008000000000000000 Pipe anna 1714564800 16";
+    asks(&rt, rt.alloc(), post, wanted)?;
+    let target =
+        "/bcf/3.0/projects/00000001-0000-8000-8000-000000000000/topics/00000001-0000-8000-8000-000000000001/comments/00000001-0000-8000-8000-000000000002";
+    let said = r#"{"comment":"Moved","viewpoint_guid":"00000001-0000-8000-8000-000000000003"}"#;
+    let wanted =
+        "comment 00000001000080008000000000000000 00000001000080008000000000000001 00000001000080008000000000000002 Moved 00000001000080008000000000000003 anna 75";
+    asks(&rt, rt.alloc(), ("PUT", target, said), wanted)
+}
+
+#[test]
+fn models_and_versions_are_asked_for(rt: HostRuntime) -> Result<(), Fail> {
+    let cases = [
+        (
+            (
+                "PUT",
+                "/coord/1/projects/00000001000080008000000000000000/models/a.b?y&gri%64=snap",
+                "ISO",
+            ),
+            "model 00000001000080008000000000000000 a.b true ISO",
+        ),
+        (
+            (
+                "PUT",
+                "/coord/1/projects/00000001-0000-8000-8000-000000000000/rules",
+                r#"{"rules":[{"a":"*","b":"*","distance":50}]}"#,
+            ),
+            "rules 1 43",
+        ),
+        (
+            (
+                "DELETE",
+                "/coord/1/projects/00000001-0000-8000-8000-000000000000/models/m",
+                "x",
+            ),
+            "remove m",
+        ),
+        (
+            (
+                "GET",
+                "/coord/1/projects/00000001-0000-8000-8000-000000000000/versions/newest/clashes?x=1",
+                "",
+            ),
+            "clashes newest 0 1000",
+        ),
+        (
+            (
+                "GET",
+                "/coord/1/projects/00000001-0000-8000-8000-000000000000/versions/00002/clashes?count=1&fir%73t=999999999999999",
+                "",
+            ),
+            "clashes 2 999999999999999 1",
+        ),
+    ];
+    for (request, wanted) in cases {
+        asks(&rt, rt.alloc(), request, wanted)?;
+    }
+    Ok(())
+}
+
+fn is_refused(call: &Result<HttpCall, Refusal>, wanted: &RequestFault) -> bool {
+    match call {
+        Err(Refusal::Fault(fault)) => fault == wanted,
+        _ => false,
+    }
+}
+
+fn is_refused_for(
+    alloc: Global,
+    (method, target, body): (&str, &str, &str),
+    wanted: &RequestFault,
+) -> Result<bool, Fail> {
+    let call = call_of(alloc, method, target, body)?;
+    let is_refused = is_refused(&call, wanted);
+    drop(call);
+    Ok(is_refused)
+}
+
+fn refuses(
+    rt: &impl Abort,
+    alloc: Global,
+    request: (&str, &str, &str),
+    wanted: RequestFault,
+) -> Result<(), Fail> {
+    let is_refused = is_refused_for(alloc, request, &wanted);
+    drop(wanted);
+    assert!(rt; is_refused?);
+    Ok(())
+}
+
+// A query of the clashes of a version is refused for the parameter.
+fn refuses_query(rt: &impl Abort, alloc: Global, query: &str, name: QueryName) -> Result<(), Fail> {
+    let target = format!(in alloc;
+        "/coord/1/projects/00000001-0000-8000-8000-000000000000/versions/1/clashes?{query}"
+    )?;
+    let request = ("GET", target.as_str(), "");
+    let refused = refuses(rt, alloc, request, RequestFault::Query { name });
+    drop(target);
+    refused
+}
+
+#[test]
+fn bad_queries_are_refused(rt: HostRuntime) -> Result<(), Fail> {
+    let cases = [
+        ("first=1&count=0&first=x", QueryName::Count),
+        ("count=1001", QueryName::Count),
+        ("count=1&count=1", QueryName::Count),
+        ("count=", QueryName::Count),
+        ("first=+1&count=0", QueryName::First),
+        ("first=1&first=1", QueryName::First),
+        ("first=1000000000000000", QueryName::First),
+    ];
+    for (query, name) in cases {
+        refuses_query(&rt, rt.alloc(), query, name)?;
+    }
+    Ok(())
+}
+
+#[test]
+fn bad_bodies_are_refused(rt: HostRuntime) -> Result<(), Fail> {
+    let alloc = rt.alloc();
+    let target = "/coord/1/projects/00000001-0000-8000-8000-000000000000/rules";
+    let far = r#"{"rules":[{"a":"*","b":"*","distance":1001}]}"#;
+    let fault = RequestFault::Rules(RuleFault::Distance { index: 0 });
+    refuses(&rt, alloc, ("PUT", target, far), fault)?;
+    refuses(&rt, alloc, ("PUT", target, "[]"), RequestFault::BadJson)?;
+    let target =
+        "/bcf/3.0/projects/00000001-0000-8000-8000-000000000000/topics/00000001-0000-8000-8000-000000000001/comments/00000001-0000-8000-8000-000000000002";
+    let name = Text::of(alloc, "comment")?;
+    let fault = RequestFault::Body(BodyFault::BadMember { name });
+    refuses(&rt, alloc, ("PUT", target, r#"{"comment":""}"#), fault)
+}
+
+#[test]
+fn bad_targets_are_refused(rt: HostRuntime) -> Result<(), Fail> {
+    let alloc = rt.alloc();
+    let nowhere = [
+        (
+            "PUT",
+            "/bcf/3.0/projects/00000001-0000-8000-8000-000000000000/topics/00000001-0000-8000-8000-000000000001/comments/%30",
+            "",
+        ),
+        (
+            "GET",
+            "/coord/1/projects/00000001-0000-8000-8000-000000000000/versions/1234567890123456",
+            "",
+        ),
+        ("GET", "/bcf/3.0/projects/7", ""),
+    ];
+    for request in nowhere {
+        refuses(&rt, alloc, request, RequestFault::NoRoute)?;
+    }
+    let target =
+        "/coord/1/projects/00000001-0000-8000-8000-000000000000/models/m?grid=exact&grid=exact";
+    let name = QueryName::Grid;
+    refuses(
+        &rt,
+        alloc,
+        ("PUT", target, ""),
+        RequestFault::Query { name },
+    )?;
+    let path = RoutePath::Model;
+    refuses(
+        &rt,
+        alloc,
+        ("HEAD", target, ""),
+        RequestFault::Method { path },
+    )
+}
+
+fn pipe(alloc: Global) -> Result<Topic, AllocError> {
+    let user = Text::of(alloc, "anonymous")?;
+    Ok(Topic {
+        serial: 1,
+        body: TopicBody {
+            title: Text::of(alloc, "Pipe")?,
+            topic_type: None,
+            topic_status: None,
+            priority: None,
+            index: None,
+            labels: Items::new(alloc),
+            assigned_to: None,
+            stage: None,
+            description: None,
+            due: None,
+        },
+        created: Author {
+            user,
+            moment: Moment::new(1_714_564_800),
+        },
+        modified: None,
+    })
+}
+
+fn replied(body: ReplyBody) -> Answer {
+    let horizon = Horizon { newest: [0; 8] };
+    Answer::Book(BookReply { body, horizon })
+}
+
+fn refused(fault: BookFault) -> Answer {
+    replied(ReplyBody::Refused(fault))
+}
+
+fn made(alloc: Global) -> Result<Answer, AllocError> {
+    Ok(replied(ReplyBody::TopicIs(pipe(alloc)?)))
+}
+
+fn pipes(alloc: Global) -> Result<Items<Topic>, AllocError> {
+    let pipe = pipe(alloc)?;
+    let mut topics = Items::new(alloc);
+    match topics.push(pipe) {
+        Ok(()) => Ok(topics),
+        Err(error) => {
+            drop(topics);
+            Err(error)
+        }
+    }
+}
+
+fn listed(alloc: Global) -> Result<Answer, AllocError> {
+    Ok(replied(ReplyBody::TopicList(pipes(alloc)?)))
+}
+
+// The response that a method isn't one of the row's.
+fn lacks(path: RoutePath) -> Answer {
+    Answer::Refused(RequestFault::Method { path })
+}
+
+// The kind of a whole reply of the first project.
+fn whole(created: bool, head: bool) -> ReplyKind {
+    ReplyKind {
+        project: 1,
+        created,
+        head,
+        part: ViewPart::Whole,
+    }
+}
+
+fn try_answer(
+    rt: &impl Abort,
+    alloc: Global,
+    answer: Answer,
+    (kind, turn, close): (ReplyKind, Option<u64>, bool),
+    wanted: &str,
+) -> Result<(), AllocError> {
+    let bytes = to_response(alloc, &answer, kind, turn, close);
+    drop(answer);
+    let bytes = bytes?;
+    assert_eq!(rt; bytes.as_slice(), wanted.as_bytes());
+    drop(bytes);
+    Ok(())
+}
+
+#[test]
+fn topics_are_written(rt: HostRuntime) -> Result<(), Fail> {
+    let alloc = rt.alloc();
+    let kind = (whole(true, false), Some(1), false);
+    let wanted =
+        "HTTP/1.1 201 Created\r\nContent-Type: application/json\r\nX-Book-Turn: 1\r\nContent-Length: 156\r\n\r\n{\"creation_author\":\"anonymous\",\"creation_date\":\"2024-05-01T12:00:00Z\",\"guid\":\"00000001-0000-8000-8000-000000000001\",\"server_assigned_id\":\"1\",\"title\":\"Pipe\"}";
+    try_answer(&rt, alloc, made(alloc)?, kind, wanted)?;
+    let kind = (whole(false, false), Some(2), false);
+    let wanted =
+        "HTTP/1.1 200 OK\r\nContent-Type: application/json\r\nX-Book-Turn: 2\r\nContent-Length: 158\r\n\r\n[{\"creation_author\":\"anonymous\",\"creation_date\":\"2024-05-01T12:00:00Z\",\"guid\":\"00000001-0000-8000-8000-000000000001\",\"server_assigned_id\":\"1\",\"title\":\"Pipe\"}]";
+    try_answer(&rt, alloc, listed(alloc)?, kind, wanted)?;
+    Ok(())
+}
+
+#[test]
+fn faults_of_the_book_are_written(rt: HostRuntime) -> Result<(), Fail> {
+    let alloc = rt.alloc();
+    let fault = BookFault::NoClash { place: 1, total: 0 };
+    let kind = (ReplyKind::none(), Some(2), false);
+    let wanted =
+        "HTTP/1.1 404 Not Found\r\nContent-Type: application/json\r\nX-Book-Turn: 2\r\nContent-Length: 58\r\n\r\n{\"code\":\"K12\",\"message\":\"K12 NoClash\",\"place\":1,\"total\":0}";
+    try_answer(&rt, alloc, refused(fault), kind, wanted)?;
+    let (version, left) = (2, 1);
+    let fault = BookFault::Pending { version, left };
+    let kind = (ReplyKind::none(), Some(5), false);
+    let wanted =
+        "HTTP/1.1 202 Accepted\r\nContent-Type: application/json\r\nX-Book-Turn: 5\r\nContent-Length: 22\r\n\r\n{\"left\":1,\"version\":2}";
+    try_answer(&rt, alloc, refused(fault), kind, wanted)?;
+    Ok(())
+}
+
+#[test]
+fn methods_of_a_route_are_written(rt: HostRuntime) -> Result<(), Fail> {
+    let alloc = rt.alloc();
+    let kind = (ReplyKind::none(), None, false);
+    let wanted =
+        "HTTP/1.1 405 Method Not Allowed\r\nContent-Type: application/json\r\nAllow: PUT, DELETE\r\nContent-Length: 35\r\n\r\n{\"code\":\"H8\",\"message\":\"H8 Method\"}";
+    try_answer(&rt, alloc, lacks(RoutePath::Model), kind, wanted)?;
+    Ok(())
+}
+
+#[test]
+fn head_has_no_body(rt: HostRuntime) -> Result<(), Fail> {
+    let alloc = rt.alloc();
+    let kind = (whole(false, true), None, false);
+    let wanted =
+        "HTTP/1.1 405 Method Not Allowed\r\nContent-Type: application/json\r\nAllow: GET, POST\r\nContent-Length: 35\r\n\r\n";
+    try_answer(&rt, alloc, lacks(RoutePath::Topics), kind, wanted)?;
+    Ok(())
+}
+
+#[test]
+fn faults_of_frames_are_written(rt: HostRuntime) -> Result<(), Fail> {
+    let alloc = rt.alloc();
+    let kind = (ReplyKind::none(), None, true);
+    let wanted =
+        "HTTP/1.1 431 Request Header Fields Too Large\r\nContent-Type: application/json\r\nConnection: close\r\nContent-Length: 40\r\n\r\n{\"code\":\"H2\",\"message\":\"H2 HeadTooLong\"}";
+    let long = Answer::Frame(FrameFault::HeadTooLong);
+    try_answer(&rt, alloc, long, kind, wanted)?;
+    Ok(())
+}
