@@ -1,6 +1,6 @@
 //! Workers over a book with two buckets.
-ghost use Rattle.std.specs.Prelude.{IfOk};
-ghost use Rattle.book_turn.specs.Passes.{BelongsTo, IsSingle};
+ghost use Rattle.std.specs.Prelude.{IfSome};
+ghost use Rattle.book_turn.specs.Passes.{BelongsTo};
 ghost use Rattle.federation_book.specs.AnyTime.{IsFree};
 
 use crate::{Worked, work_loop, work_one};
@@ -14,73 +14,83 @@ use book_turn::pass::Pass;
 use book_turn::turn::Turn;
 use bucket_check::Room;
 use federation_book::Book;
-use std::alloc::{AllocError, Global};
-use std::process::Abort;
+use std::alloc::Global;
+use std::mem::drop;
 use std::sync::Wait;
 use std::test::Fail;
 use std::thread::{Threads, join};
 
 // A corner in millimetres.
-fn corner(x: i32, y: i32, z: i32) -> Result<Point, Fail> {
-    Ok(Point {
-        x: x.checked_mul(PER_MM).ok_or("a corner")?,
-        y: y.checked_mul(PER_MM).ok_or("a corner")?,
-        z: z.checked_mul(PER_MM).ok_or("a corner")?,
+fn corner(x: i32, y: i32, z: i32) -> Option<Point> {
+    Some(Point {
+        x: x.checked_mul(PER_MM)?,
+        y: y.checked_mul(PER_MM)?,
+        z: z.checked_mul(PER_MM)?,
     })
 }
 
 // A triangle of a hundred millimetres, from this corner.
-fn pipe(alloc: Global, guid: &[u8], x: i32, z: i32) -> Result<Element, Fail> {
+fn pipe(alloc: Global, guid: &[u8], x: i32, z: i32) -> Option<Element> {
     let mut triangles = Items::new(alloc);
-    triangles.push(Triangle {
+    let triangle = Triangle {
         a: corner(x, 1500, z)?,
-        b: corner(x.checked_add(100).ok_or("a side")?, 1500, z)?,
+        b: corner(x.checked_add(100)?, 1500, z)?,
         c: corner(x, 1600, z)?,
-    })?;
-    Ok(Element {
-        guid: Guid::read(guid).ok_or("an identifier")?,
-        class: Text::of(alloc, "IFCPIPESEGMENT")?,
-        name: Text::of(alloc, "Pipe 1")?,
+    };
+    triangles.push(triangle).ok()?;
+    Some(Element {
+        guid: Guid::read(guid)?,
+        class: Text::of(alloc, "IFCPIPESEGMENT").ok()?,
+        name: Text::of(alloc, "Pipe 1").ok()?,
         storey: None,
         triangles,
     })
 }
 
 // Two pipes 50 millimetres apart, and two others far from them.
-fn four_pipes(alloc: Global) -> Result<Shared<Model>, Fail> {
+fn four_pipes(alloc: Global) -> Option<Shared<Model>> {
     let mut elements = Vec::new(alloc);
-    elements.push(pipe(alloc, b"0000000000000000000011", 1500, 1500)?)?;
-    elements.push(pipe(alloc, b"0000000000000000000012", 1500, 1550)?)?;
-    elements.push(pipe(alloc, b"0000000000000000000013", 9500, 1500)?)?;
-    elements.push(pipe(alloc, b"0000000000000000000014", 9500, 1700)?)?;
-    let model = Model::checked(alloc, elements)?.ok_or("a model")?;
-    Ok(Shared::new(alloc, model)?)
+    elements
+        .push(pipe(alloc, b"0000000000000000000011", 1500, 1500)?)
+        .ok()?;
+    elements
+        .push(pipe(alloc, b"0000000000000000000012", 1500, 1550)?)
+        .ok()?;
+    elements
+        .push(pipe(alloc, b"0000000000000000000013", 9500, 1500)?)
+        .ok()?;
+    elements
+        .push(pipe(alloc, b"0000000000000000000014", 9500, 1700)?)
+        .ok()?;
+    let model = Model::checked(alloc, elements).ok()??;
+    Shared::new(alloc, model).ok()
 }
 
-fn to_upload(alloc: Global, model: Shared<Model>) -> Result<BookRequest, AllocError>
-    ensures { IfOk result IsFree }
+fn to_upload(alloc: Global) -> Option<BookRequest>
+    ensures { IfSome result IsFree }
 {
-    Ok(BookRequest::Upload {
+    Some(BookRequest::Upload {
         project: id_of(1, 0),
-        name: Text::of(alloc, "m")?,
-        model,
+        name: Text::of(alloc, "m").ok()?,
+        model: four_pipes(alloc)?,
     })
 }
 
 // Any two elements clash within 50 millimetres.
-fn to_set_rules(alloc: Global) -> Result<BookRequest, AllocError>
-    ensures { IfOk result IsFree }
+fn to_set_rules(alloc: Global) -> Option<BookRequest>
+    ensures { IfSome result IsFree }
 {
     let mut rules = Vec::new(alloc);
-    rules.push(Rule {
+    let rule = Rule {
         a: ClassTest::Any,
         b: ClassTest::Any,
         storey: StoreyTest::Any,
         level: None,
         models: ModelTest::Any,
         kind: RuleKind::Clash { distance: 50 },
-    })?;
-    Ok(BookRequest::SetRules {
+    };
+    rules.push(rule).ok()?;
+    Some(BookRequest::SetRules {
         project: id_of(1, 0),
         rules: Rules::from_vec(rules),
         weight: 45,
@@ -113,34 +123,36 @@ fn ask<R: Wait>(
         .map(|receipt| receipt.reply.body)
 }
 
-// What an editor asks for: rules, and four pipes, which make two buckets.
-fn edits(alloc: Global) -> Result<(BookRequest, BookRequest), Fail>
-    ensures { IfOk result (λ r. IsFree r.0 × IsFree r.1) }
-{
-    let rules = to_set_rules(alloc)?;
-    let model = to_upload(alloc, four_pipes(alloc)?)?;
-    Ok((rules, model))
+// The version that was made, and how many buckets of it are left.
+fn made(reply: Option<ReplyBody>) -> Option<(u64, u64)> {
+    match reply {
+        Some(ReplyBody::Changed { version, left, .. }) => Some((version, left)),
+        _ => None,
+    }
 }
 
-// Asks for these.
-fn edit<R: Wait + Abort>(
+// How many clashes are told.
+fn told(reply: Option<ReplyBody>) -> Option<u64> {
+    match reply {
+        Some(ReplyBody::Clashes { set, .. }) => Some(set.get().total()),
+        _ => None,
+    }
+}
+
+// Sets rules and uploads four pipes, which make two buckets of version 2.
+fn edit<R: Wait>(
     rt: &R,
+    alloc: Global,
     turn: &Turn<Book>,
     pass: &mut Pass<Book>,
-    requests: (BookRequest, BookRequest),
-)
-    requires own { BelongsTo turn.now pass.old }
-    requires free { IsFree requests.0 × IsFree requests.1 }
+) -> Option<(u64, u64)>
+    requires { BelongsTo turn.now pass.old }
     ensures { BelongsTo turn.now pass.new }
 {
-    let (rules, model) = requests;
-    ask(rt, turn, pass, rules);
-    match ask(rt, turn, pass, model) {
-        Some(ReplyBody::Changed { version, left, .. }) => {
-            assert_eq!(rt; (version, left), (2, 2));
-        }
-        _ => panic!(rt; "no version"),
-    }
+    let rules = to_set_rules(alloc)?;
+    drop(ask(rt, turn, pass, rules));
+    let model = to_upload(alloc)?;
+    made(ask(rt, turn, pass, model))
 }
 
 // How many clashes the version has; none where buckets of it are still to be checked.
@@ -148,10 +160,23 @@ fn total<R: Wait>(rt: &R, turn: &Turn<Book>, pass: &mut Pass<Book>) -> Option<u6
     requires { BelongsTo turn.now pass.old }
     ensures { BelongsTo turn.now pass.new }
 {
-    match ask(rt, turn, pass, to_read()) {
-        Some(ReplyBody::Clashes { set, .. }) => Some(set.get().total()),
-        _ => None,
-    }
+    told(ask(rt, turn, pass, to_read()))
+}
+
+// What came of one bucket.
+fn worked<R: Wait>(
+    rt: &R,
+    alloc: Global,
+    turn: &Turn<Book>,
+    pass: &mut Pass<Book>,
+    seat: u32,
+) -> Option<Worked>
+    requires { BelongsTo turn.now pass.old }
+    ensures { BelongsTo turn.now pass.new }
+{
+    let mut room = Room::new(alloc);
+    let gate = FreeGate::new(1);
+    work_one(rt, alloc, turn, pass, &mut room, seat, false, &gate).ok()
 }
 
 #[test]
@@ -159,42 +184,42 @@ fn a_worker_brings_what_it_took(rt: HostRuntime) -> Result<(), Fail> {
     let alloc = rt.alloc();
     let book = Book::new(alloc, 1, Limits::stated())?;
     let (turn, mut passes) = Turn::new(alloc, book, 2)?;
-    let (Some(mut worker), Some(mut editor)) = (passes.pop(), passes.pop()) else {
-        panic!(rt; "no passes")
-    };
-    let mut room = Room::new(alloc);
-    let gate = FreeGate::new(1);
-    let none = work_one(&rt, alloc, &turn, &mut worker, &mut room, 0, false, &gate).ok();
-    assert_eq!(rt; none, Some(Worked::Nothing));
-    edit(&rt, &turn, &mut editor, edits(alloc)?);
+    let mut worker = passes.pop().ok_or("a worker")?;
+    let mut editor = passes.pop().ok_or("an editor")?;
+    assert_eq!(rt;
+        worked(&rt, alloc, &turn, &mut worker, 0),
+        Some(Worked::Nothing)
+    );
+    assert_eq!(rt; edit(&rt, alloc, &turn, &mut editor), Some((2, 2)));
     assert_eq!(rt; total(&rt, &turn, &mut editor), None);
-    for left in [1, 0] {
-        let done = work_one(&rt, alloc, &turn, &mut worker, &mut room, 7, true, &gate).ok();
-        assert_eq!(rt; done, Some(Worked::Done { left }));
-    }
+    assert_eq!(rt;
+        worked(&rt, alloc, &turn, &mut worker, 7),
+        Some(Worked::Done { left: 1 })
+    );
+    assert_eq!(rt;
+        worked(&rt, alloc, &turn, &mut worker, 7),
+        Some(Worked::Done { left: 0 })
+    );
     assert_eq!(rt; total(&rt, &turn, &mut editor), Some(1));
-    let none = work_one(&rt, alloc, &turn, &mut worker, &mut room, 0, false, &gate).ok();
-    assert_eq!(rt; none, Some(Worked::Nothing));
-    turn.join(&mut editor, worker);
-    let book = turn.close(editor);
-    assert_eq!(rt; (book.journal().len(), book.left_all()), (4, 0));
+    assert_eq!(rt;
+        worked(&rt, alloc, &turn, &mut worker, 0),
+        Some(Worked::Nothing)
+    );
     Ok(())
 }
 
 // Edits, and looks for the clashes of the version until they are there, at most so often; then the lane ends.
-fn edit_and_look<R: Wait + Abort, G: Gate>(
+fn edit_and_look<R: Wait, G: Gate>(
     rt: &R,
+    alloc: Global,
     turn: &Turn<Book>,
     mut pass: Pass<Book>,
-    requests: (BookRequest, BookRequest),
     gate: &G,
     looks: u32,
-) -> (Pass<Book>, Option<u64>)
-    requires own { BelongsTo turn.now pass }
-    requires free { IsFree requests.0 × IsFree requests.1 }
-    ensures { BelongsTo turn.now result.0 }
+) -> Option<u64>
+    requires { BelongsTo turn.now pass }
 {
-    edit(rt, turn, &mut pass, requests);
+    let _ = edit(rt, alloc, turn, &mut pass);
     let mut found = None;
     for _ in 0..looks {
         if found.is_none() {
@@ -202,7 +227,7 @@ fn edit_and_look<R: Wait + Abort, G: Gate>(
         }
     }
     gate.lane_ended(0);
-    (pass, found)
+    found
 }
 
 // Works until the lane has ended and nothing is left.
@@ -212,55 +237,48 @@ fn work_on<R: Wait, G: Gate>(
     turn: &Turn<Book>,
     mut pass: Pass<Book>,
     gate: &G,
-) -> (Pass<Book>, bool)
+) -> bool
     requires { BelongsTo turn.now pass }
-    ensures { BelongsTo turn.now result.0 }
 {
     let mut room = Room::new(alloc);
-    let ended = work_loop(rt, alloc, turn, &mut pass, &mut room, 0, gate).is_ok();
-    (pass, ended)
+    work_loop(rt, alloc, turn, &mut pass, &mut room, 0, gate).is_ok()
 }
 
 // A worker beside an editor, each in a thread of its own. While the editor looks for the clashes, nobody but the worker
 // can find them.
-fn side_by_side<R: Threads + Wait + Sync + Abort>(
+fn side_by_side<R: Threads + Wait + Sync>(
     rt: &R,
     alloc: Global,
-    requests: (BookRequest, BookRequest),
-) -> Option<(Book, Option<u64>, bool)>
-    requires { IsFree requests.0 × IsFree requests.1 }
+    turn: &Turn<Book>,
+    editor: Pass<Book>,
+    worker: Pass<Book>,
+) -> (Option<u64>, bool)
+    requires editor { BelongsTo turn.now editor }
+    requires worker { BelongsTo turn.now worker }
 {
-    let book = Book::new(alloc, 1, Limits::stated()).ok()?;
-    let (turn, mut passes) = Turn::new(alloc, book, 2).ok()?;
-    let worker = passes.pop()?;
-    let editor = passes.pop()?;
     let gate = FreeGate::new(1);
-    let shared = &turn;
     let lanes = &gate;
-    let (edited, worked) = join(
+    join(
         rt,
-        move || -> (Pass<Book>, Option<u64>)
-            requires { BelongsTo shared.now editor × IsFree requests.0 × IsFree requests.1 }
-            ensures { BelongsTo shared.entry.now result.0 }
-        { edit_and_look(rt, shared, editor, requests, lanes, 1_000_000) },
-        move || -> (Pass<Book>, bool)
-            requires { BelongsTo shared.now worker }
-            ensures { BelongsTo shared.entry.now result.0 }
-        { work_on(rt, alloc, shared, worker, lanes) },
-    );
-    let (mut into, found) = edited;
-    let (other, ended) = worked;
-    turn.join(&mut into, other);
-    Some((turn.close(into), found, ended))
+        move || -> Option<u64>
+            requires { BelongsTo turn.now editor }
+        { edit_and_look(rt, alloc, turn, editor, lanes, 1_000_000) },
+        move || -> bool
+            requires { BelongsTo turn.now worker }
+        { work_on(rt, alloc, turn, worker, lanes) },
+    )
 }
 
 #[test]
 fn a_worker_works_beside_an_editor(rt: HostRuntime) -> Result<(), Fail> {
     let alloc = rt.alloc();
-    let Some((book, found, ended)) = side_by_side(&rt, alloc, edits(alloc)?) else {
-        panic!(rt; "no answer")
-    };
-    assert_eq!(rt; (found, ended), (Some(1), true));
-    assert_eq!(rt; (book.journal().len(), book.left_all()), (4, 0));
+    let book = Book::new(alloc, 1, Limits::stated())?;
+    let (turn, mut passes) = Turn::new(alloc, book, 2)?;
+    let worker = passes.pop().ok_or("a worker")?;
+    let editor = passes.pop().ok_or("an editor")?;
+    assert_eq!(rt;
+        side_by_side(&rt, alloc, &turn, editor, worker),
+        (Some(1), true)
+    );
     Ok(())
 }

@@ -1,16 +1,12 @@
 -- The book was called, and its response written.
-use Rattle.std.proofs.Common.{◌≡◌, ℕ, List, [], ◌∷◌, Option, Some, None, IsSome, IfSome, IfOk, IfErr, Result, Ok, Err, inl, inr, refl, sym, ◌∙◌, ap}
+use Rattle.std.proofs.Common.{◌≡◌, ℕ, List, Option, Some, None, IsSome, IfSome, IfOk, IfErr, Result, Ok, Err, inl, inr, refl, ap}
 use Rattle.bim_io.specs.Seen.{SinkSeen}
-use Rattle.book_turn.specs.Passes.{TurnState, BelongsTo, IsSingle, KeepsNumbers}
+use Rattle.book_turn.specs.Passes.{KeepsNumbers}
 use Rattle.book_turn.specs.declared.fault.CallFault.{CallFault}
 use Rattle.book_turn.specs.declared.fault.CallFault.TheVariants.{Memory, PassSpent}
 use Rattle.book_turn.specs.Faults.{Failed}
 use Rattle.book_history.specs.declared.limits.Settings.{Settings}
-use Rattle.book_history.specs.declared.changes.Entry.{Entry}
 use Rattle.book_history.specs.declared.requests.BookRequest.{BookRequest}
-use Rattle.book_history.specs.declared.requests.BookRequest.TheVariants.{Finish}
-use Rattle.book_history.specs.Legal.{IsLegal}
-use Rattle.bcf_http.specs.Calls.{BringsNone}
 use Rattle.bim_session.specs.declared.end.SessionEnd.{SessionEnd}
 use Rattle.bim_session.specs.declared.want.Waiting.{Waiting}
 use Rattle.bim_session.specs.declared.want.Want.TheVariants.{Write, Leave}

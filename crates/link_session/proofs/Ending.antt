@@ -1,5 +1,5 @@
 -- A session so far ends.
-use Rattle.std.proofs.Common.{◌≡◌, ◌⊎◌, ℕ, List, [], ◌++◌, length, true, false, Option, Some, None, inl, inr, sym, ap, ◌∙◌, subst, refl, append-nil, arith}
+use Rattle.std.proofs.Common.{◌≡◌, ◌⊎◌, ℕ, List, [], ◌++◌, length, true, false, Some, None, inl, inr, sym, ap, ◌∙◌, subst, refl, append-nil, arith}
 use Rattle.bim_io.specs.Causes.{Rose, ComesOfFault}
 use Rattle.bim_io.specs.Seen.{Outside, EndsEmpty, Exchanges}
 use Rattle.bim_io.proofs.Calls.{exchanges_none, exchanges_trans}

@@ -278,9 +278,10 @@ module _ (k : Service) (v w w' : CallerSeen) (events : List Event) (steps : List
   -- the shelf before, at what was seen in the turn
   keeps_then : Keeps k.settings w'.seen notes printed
   keeps_then =
-      keeps_learnt k.settings w w' notes printed few
-      (c.others ++ added_by k.settings (w.seen ++ c.others) (stamp_in receipt.turn w) call,
-      learns_turn receipt.turn c.others (added_by k.settings (w.seen ++ c.others) (stamp_in receipt.turn w) call) w w' c.takes) keeps
+      keeps_learnt k.settings w w' notes printed few (
+        c.others ++ added_by k.settings (w.seen ++ c.others) (stamp_in receipt.turn w) call,
+        learns_turn receipt.turn c.others (added_by k.settings (w.seen ++ c.others) (stamp_in receipt.turn w) call) w w' c.takes,
+      ) keeps
 
   -- the reply is the book's at the entries below the turn
   replied_then : receipt.reply ≡ reply_of k.settings (at_turn receipt.turn w'.seen) (stamp_in receipt.turn w) call

@@ -7,7 +7,6 @@ use Rattle.bim_io.proofs.Calls.{exchanges_none, exchanges_trans}
 use Rattle.http_frame.specs.Events.{Event, IsRest, IsTold}
 use Rattle.http_frame.specs.Events as frame
 use Rattle.http_frame.specs.Framers.{Stands}
-use Rattle.book_history.specs.declared.limits.Settings.{Settings}
 use Rattle.book_history.specs.Runs.{Step}
 use Rattle.bim_session.specs.declared.end.SessionEnd.{SessionEnd}
 use Rattle.bim_session.specs.declared.end.SessionEnd.TheVariants as end

@@ -1,11 +1,10 @@
 -- What a session's shelf holds, by what was printed and by the history.
-use Rattle.std.proofs.Common.{◌≡◌, ◌⊎◌, ◌==◌, ◌&&◌, ℕ, zero, suc, ◌+◌, ◌<◌, ◌≤◌, Bool, true, false, cond, nat_lt, nat_le, if◌then◌else◌, List, [], ◌∷◌, ◌++◌, length, map, Option, Some, None, Result, Ok, Err, inl, inr, refl, sym, ◌∙◌, ap, subst, arith, append-nil, append_assoc}
+use Rattle.std.proofs.Common.{◌≡◌, ◌⊎◌, ◌==◌, ◌&&◌, ℕ, zero, suc, ◌+◌, ◌<◌, ◌≤◌, Bool, true, false, cond, nat_lt, nat_le, if◌then◌else◌, List, [], ◌∷◌, ◌++◌, map, Option, Some, None, Result, Ok, Err, inl, inr, refl, sym, ◌∙◌, ap, subst, arith, append-nil, append_assoc}
 use Rattle.std.specs.List.{Contains, slice_index_or}
 use Rattle.std.proofs.lemmas.Bool.{and_parts, and_from, eq-eqb, eqb-true, le-leb, lt-ltb, ltb-true}
 use Rattle.std.proofs.lemmas.Bool.Decides.{nat_tests}
 use Rattle.std.proofs.lemmas.List.Elements.{Contains-append_right, Contains-append_cases}
 use Rattle.bim_model.specs.Snapshots.{Version}
-use Rattle.bim_model.specs.declared.element.Element.{Element}
 use Rattle.http_frame.specs.declared.types.HttpRequest.{HttpRequest}
 use Rattle.clash_publish.specs.Shelves.{set_of, is_live}
 use Rattle.clash_publish.specs.Shelves as shelves
@@ -16,10 +15,9 @@ use Rattle.book_turn.proofs.Prefixes.{before_append, before_later}
 use Rattle.book_history.specs.declared.limits.Settings.{Settings}
 use Rattle.book_history.specs.declared.changes.Entry.{Entry}
 use Rattle.book_history.specs.declared.requests.BookRequest.{BookRequest}
-use Rattle.book_history.specs.declared.requests.BookRequest.TheVariants.{Upload, ReadClashes}
+use Rattle.book_history.specs.declared.requests.BookRequest.TheVariants.{ReadClashes}
 use Rattle.book_history.specs.declared.requests.Wanted.{Wanted}
 use Rattle.book_history.specs.declared.requests.Wanted.TheVariants.{Number}
-use Rattle.book_history.specs.declared.replies.ReplyBody.{ReplyBody}
 use Rattle.book_history.specs.declared.replies.ReplyBody.TheVariants as reply
 use Rattle.book_history.specs.declared.replies.BookReply.{BookReply}
 use Rattle.book_history.specs.History.{state_of, newest_of, at_turn, horizon_of, project_numbers, IsBefore}

@@ -1,5 +1,5 @@
 -- A request was answered: the work behind the answer, done or not.
-use Rattle.std.proofs.Common.{◌≡◌, ◌⊎◌, ℕ, ◌+◌, ◌<◌, ◌≤◌, List, [], ◌∷◌, ◌++◌, false, Option, Some, None, inl, inr, sym, ◌∙◌, ap, subst, refl, append_assoc, arith}
+use Rattle.std.proofs.Common.{◌≡◌, ◌⊎◌, ℕ, ◌+◌, ◌≤◌, List, [], ◌∷◌, ◌++◌, false, Some, None, inl, inr, ◌∙◌, ap, subst, refl, append_assoc, arith}
 use Rattle.bim_io.specs.Seen.{Outside, EndsEmpty, Exchanges}
 use Rattle.http_frame.specs.declared.types.HttpRequest.{HttpRequest}
 use Rattle.http_frame.specs.Events as frame
@@ -7,8 +7,8 @@ use Rattle.http_frame.specs.Framers.{Stands}
 use Rattle.book_history.specs.Runs.{Step}
 use Rattle.book_passes.specs.Lessons.{CallerSeen}
 use Rattle.bim_session.specs.declared.end.SessionEnd.TheVariants as end
-use Rattle.bim_session.specs.Works.{Standing, Printed, Works, WorksShort, last_turn}
-use Rattle.bim_session.specs.Session.{Reads, AnswersEvent, Answered, past, requests}
+use Rattle.bim_session.specs.Works.{Printed, Works, WorksShort, last_turn}
+use Rattle.bim_session.specs.Session.{Reads, AnswersEvent, Answered, requests}
 use Rattle.bim_session.specs.Replay.{IsReadFault, IsWriteFault}
 use Rattle.bim_session.specs.Talking.{TalkState}
 use Rattle.bim_session.proofs.Sessions.{last_turn-append}

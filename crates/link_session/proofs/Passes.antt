@@ -1,6 +1,5 @@
 -- How a caller by a pass goes on.
-use Rattle.std.proofs.Common.{◌≡◌, ◌⊎◌, ℕ, [], ◌∷◌, Some, Ok, inl, refl, sym, subst}
-use Rattle.std.specs.declared.alloc.AllocError.{AllocError}
+use Rattle.std.proofs.Common.{◌≡◌, [], ◌∷◌, Some, Ok, inl, refl}
 use Rattle.book_history.specs.declared.limits.Settings.{Settings}
 use Rattle.book_passes.specs.Lessons.{CallerSeen}
 use Rattle.link_session.specs.Callers.{CallerLaws, GoesByPass, WorksBehind, start_of}

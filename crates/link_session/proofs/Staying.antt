@@ -1,5 +1,5 @@
 -- A version whose buckets are all done stays so, with what it holds, as a history grows.
-use Rattle.std.proofs.Common.{◌≡◌, ◌+◌, ◌<◌, ◌≤◌, ◌⊎◌, ℕ, Bool, true, false, nat_lt, nat_le, List, [], ◌∷◌, ◌++◌, length, set, filter, fold, not, Option, Some, inl, inr, refl, sym, ◌∙◌, ap, subst, arith, length-append}
+use Rattle.std.proofs.Common.{◌≡◌, ◌+◌, ◌<◌, ◌≤◌, ◌⊎◌, ℕ, Bool, true, false, nat_lt, nat_le, List, [], ◌∷◌, ◌++◌, length, set, filter, fold, not, Some, inl, inr, refl, sym, ◌∙◌, ap, subst, arith, length-append}
 use Rattle.std.proofs.lemmas.Bool.{cases_eq, le-ltb, lt-leb, ltb-false, leb-false}
 use Rattle.std.proofs.lemmas.Bool.Decides.{eqb_tells}
 use Rattle.std.proofs.lemmas.List.{get_or_append_left, get_or-set_same, get_or-set_other, length-set}
@@ -41,10 +41,11 @@ done_settled : (vs : List VersionState) (n : ℕ) (cell : Cell) (number : ℕ) �
 done_settled vs n cell number lt none (inl e) =
     subst (λ m. ((version_at (set vs n (with_done cell (version_at vs n))) m).content ≡ (version_at vs m).content)
     × ((version_at (set vs n (with_done cell (version_at vs n))) m).undone ≡ [])) e
-    (let same = get_or-set_same vs n (with_done cell (version_at vs n)) nothing (subst (λ m. m < length vs) (sym e) lt) in
-    (ap (λ (x : VersionState). x.content) same,
-    ap (λ (x : VersionState). x.undone) same
-    ∙ ap (filter (λ (c : Cell). not (is_cell c cell))) (subst (λ m. (version_at vs m).undone ≡ []) (sym e) none)))
+    (let same = get_or-set_same vs n (with_done cell (version_at vs n)) nothing (subst (λ m. m < length vs) (sym e) lt) in (
+      ap (λ (x : VersionState). x.content) same,
+      ap (λ (x : VersionState). x.undone) same
+          ∙ ap (filter (λ (c : Cell). not (is_cell c cell))) (subst (λ m. (version_at vs m).undone ≡ []) (sym e) none),
+    ))
 done_settled vs n cell number lt none (inr ne) =
     let same = get_or-set_other vs n number (with_done cell (version_at vs n)) nothing (λ e. ne (sym e)) in
     (ap (λ (x : VersionState). x.content) same, ap (λ (x : VersionState). x.undone) same ∙ none)

@@ -1,5 +1,5 @@
 -- Where a session stands after one step.
-use Rattle.std.proofs.Common.{◌≡◌, ◌⊎◌, ℕ, ◌+◌, ◌<◌, ◌≤◌, List, [], ◌∷◌, ◌++◌, Bool, true, false, Option, Some, None, Result, Ok, Err, inl, inr, sym, ◌∙◌, ap, subst, refl, append-nil, arith}
+use Rattle.std.proofs.Common.{◌≡◌, ◌⊎◌, ℕ, ◌+◌, ◌≤◌, List, [], ◌∷◌, ◌++◌, Bool, true, false, Option, Some, None, Result, Ok, Err, inl, inr, sym, ◌∙◌, ap, subst, refl, append-nil, arith}
 use Rattle.bim_io.specs.Seen.{SourceSeen, SinkSeen, ClockSeen, Outside, EndsEmpty, SourceGives, SinkTakes, ClockGives, Exchanges}
 use Rattle.bim_io.proofs.Calls.{gives_none, takes_none}
 use Rattle.http_frame.specs.declared.types.HttpRequest.{HttpRequest}
@@ -34,7 +34,6 @@ use Rattle.link_session.specs.declared.session.Progress.{Progress}
 use Rattle.link_session.specs.declared.session.Progress.TheVariants.{Again, End}
 use Rattle.link_session.proofs.Kept.{Keeps, unkept}
 use Rattle.link_session.proofs.SoFar.{Service, SoFar, Owes, Goes, Finishes, IsQuiet, LeavesBy, start, stop_of}
-use Rattle.link_session.proofs.Turns.{step_in}
 use Rattle.link_session.proofs.Growing.{quiet_trans, exchanged, open_of, plain_moments, plain_output, leaving_behind, so_far_fed, so_far_push}
 use Rattle.link_session.proofs.Events.{stands, once_answers, lacks_answers, turn_in, called_answers, CallAnswers, answered_learnt, keeps_learnt, last_of}
 use Rattle.link_session.proofs.Owed.{Replied, owed}

@@ -11,7 +11,7 @@ use Rattle.book_history.specs.History.{of_turn, IsBefore}
 use Rattle.book_history.specs.Requests.{Outcome, Refusal, Answer, Accepted, entry_by, outcome_of, added_by}
 use Rattle.book_history.specs.Runs.{Step}
 use Rattle.book_history.proofs.Histories.{AreOf, AreAbove, added_of, before_all, of_turn-grown, of_turn-new}
-use Rattle.book_passes.specs.Lessons.{CallerSeen, TakesTurn, Learns, own_of, stamp_in, turn_of}
+use Rattle.book_passes.specs.Lessons.{CallerSeen, TakesTurn, own_of, stamp_in, turn_of}
 use Rattle.book_passes.proofs.Learning.{learns_none, learns_turn, learns_trans}
 use Rattle.book_turn.specs.declared.fault.CallFault.{CallFault}
 use Rattle.book_turn.specs.declared.fault.CallFault.TheVariants.{Memory, PassSpent}

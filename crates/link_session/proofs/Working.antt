@@ -1,5 +1,5 @@
 -- The work behind an answer, by where a session stands.
-use Rattle.std.proofs.Common.{◌≡◌, ◌⊎◌, ℕ, zero, suc, ◌+◌, ◌*◌, ◌<◌, ◌≤◌, List, [], ◌∷◌, ◌++◌, Option, Some, None, inl, inr, refl, sym, ap, subst, arith}
+use Rattle.std.proofs.Common.{◌≡◌, ◌⊎◌, ℕ, zero, suc, ◌+◌, ◌*◌, ◌<◌, ◌≤◌, List, [], ◌∷◌, Option, Some, None, inl, inr, refl, sym, subst, arith}
 use Rattle.book_history.specs.Runs.{Step}
 use Rattle.bim_session.specs.Works.{Standing, Printed, IsTaken, Gives, WorksOne, WorksOn, Works, WorksShort, IsEnough, IsMore, left_behind}
 

@@ -38,7 +38,8 @@ LearnsBy v w = (news : List Entry) × Learns v w news
 
 -- How a caller goes on that works at most so many buckets behind answers: by steps one after another; what it has seen is
 -- a front of what it sees later; and where it works buckets, its last turn is that of its last step.
-pub record CallerLaws (buckets : Option ℕ) (goes : CallerSeen → List Step → CallerSeen → Type 0) : Type 0 where
+pub record CallerLaws (buckets : Option ℕ)
+    (goes : CallerSeen → List Step → CallerSeen → Type 0) : Type 0 where
   pub goes_on : (u v w : CallerSeen) (first second : List Step) → goes u first v → goes v second w
       → goes u (first ++ second) w
   pub learns : (v w : CallerSeen) (steps : List Step) → goes v steps w → LearnsBy v w

@@ -110,7 +110,7 @@ WorksOn settings buckets goes served server Again server' =
     WorksBehind settings buckets goes server (Ok tt) server'
 WorksOn settings buckets goes served server (End e) server' =
     (e ≡ end.Memory served) × ((fault : AllocError)
-        × WorksBehind settings buckets goes server (Err fault) server')
+    × WorksBehind settings buckets goes server (Err fault) server')
 
 -- behind a step there is work exactly where it answered a request
 abbrev pub WorksAfter : Settings → Option ℕ → Going → ℕ → TalkState → CallerSeen → Progress → Progress

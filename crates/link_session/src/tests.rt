@@ -1,5 +1,5 @@
 //! Sessions by a pass, over connections in memory.
-ghost use Rattle.std.specs.Prelude.{◌≤◌};
+ghost use Rattle.std.specs.Prelude.{◌≡◌, ◌≤◌, IfOk};
 ghost use Rattle.book_turn.specs.Passes.{IsSingle};
 
 use crate::serve_link;
@@ -69,7 +69,10 @@ fn assert_serves<R: Wait + Abort>(
     Ok(())
 }
 
-fn opened(alloc: Global) -> Result<(Turn<Book>, Pass<Book>), Fail> {
+fn opened(alloc: Global) -> Result<(Turn<Book>, Pass<Book>), Fail>
+    ensures single { IfOk result (λ r. IsSingle r.0 r.1) }
+    ensures one { IfOk result (λ r. r.0.passes ≡ 1) }
+{
     let book = Book::new(alloc, 1, Limits::stated())?;
     let (turn, mut passes) = Turn::new(alloc, book, 1)?;
     let pass = passes.pop().ok_or("a pass")?;

@@ -4,7 +4,7 @@ use Rattle.std.proofs.lemmas.List.Folds.{list_any-append}
 use Rattle.check_workers.proofs.Fronts.{front_of, seen_twice}
 use Rattle.bim_net.specs.Seen.{EndedLink, DoorSeen}
 use Rattle.bim_net.specs.Doors.{GrowsBy}
-use Rattle.book_turn.specs.Entries.{AllBefore, AllAfter, up_to}
+use Rattle.book_turn.specs.Entries.{AllBefore, AllAfter}
 use Rattle.book_history.specs.declared.changes.Entry.{Entry}
 use Rattle.book_passes.specs.Lessons.{turn_of}
 use Rattle.check_workers.specs.declared.workers.Lack.{Lack}
@@ -62,7 +62,6 @@ module _ (serves : List Entry → ℕ → EndedLink → List Entry → Type 0) w
     gave = (let none : d.gave ≡ d.gave + 0 = omega arith in none);
     balanced = λ b. b;
     tells = λ b s. s;
-    faults = omega arith;
     memory = or_none noted.memory;
     turns = λ is. cc;
     kept = λ some. some;
@@ -79,7 +78,6 @@ module _ (serves : List Entry → ℕ → EndedLink → List Entry → Type 0) w
     gave = (let first = p.gave in let second = q.gave in let both = length-append p.links q.links in omega (arith, first, second, both));
     balanced = λ even. q.balanced (p.balanced even);
     tells = λ even some. q.tells (p.balanced even) (p.tells even some);
-    faults = (let first = p.faults in let second = q.faults in omega (arith, first, second));
     memory = noted_both m.memory n.memory o.memory p.links q.links p.memory q.memory;
     turns = turns_both n o p.links q.links p.turns q.turns q.kept;
     kept = λ some. q.kept (p.kept some);

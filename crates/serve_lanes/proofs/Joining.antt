@@ -1,8 +1,8 @@
 -- Lanes that end, and whose passes are joined one after another.
-use Rattle.std.proofs.Common.{◌≡◌, ◌≢◌, ◌≤◌, ◌<◌, ◌⊎◌, ℕ, zero, suc, ◌+◌, List, [], ◌∷◌, ◌++◌, map, length, Bool, true, false, ◌||◌, nat_lt, eqb, Option, None, Some, IsSome, All, inl, inr, refl, sym, ◌∙◌, ap, subst, arith}
+use Rattle.std.proofs.Common.{◌≡◌, ◌≢◌, ◌≤◌, ◌<◌, ◌⊎◌, ℕ, zero, suc, ◌+◌, List, [], ◌∷◌, ◌++◌, map, length, length-append, Bool, true, false, ◌||◌, nat_lt, eqb, Option, None, Some, IsSome, All, inl, inr, refl, sym, ◌∙◌, ap, subst, arith}
 use mathlib.Core.Logic.{dite}
 use native.Mathlib.Decide.{dec_le}
-use Rattle.std.proofs.lemmas.List.{map-append}
+use Rattle.std.proofs.lemmas.List.{map-append, length-map}
 use Rattle.std.proofs.lemmas.List.Folds.{list_any-append}
 use Rattle.std.proofs.lemmas.Bool.{eqb-true, lt-ltb}
 use Rattle.std.proofs.lemmas.List.Elements.{All-nil, All-cons, All-push, All-weaker}
@@ -47,16 +47,15 @@ pub lane_over : (s : Service) (links : ℕ) (turn : TurnState Settings) (v w : B
 lane_over s links turn v w door door' clock lack lack' end ready own number served ends =
     let same : door.number ≡ door'.number = sym served.number in
     let mine : v.number ≡ door'.number = ready.number ∙ same in
-    let a = subst (λ (o : Option ℕ). LaneServed (ServedLink o turn.settings v.number) v.seen v.last w.seen w.last door door' lack lack') ready.one served in
-    let b = subst (λ (t : Settings). LaneServed (ServedLink s.one t v.number) v.seen v.last w.seen w.last door door' lack lack') ready.settings a in
-    let c = subst (λ (n : ℕ). LaneServed (ServedLink s.one s.settings n) v.seen v.last w.seen w.last door door' lack lack') mine b in
-    let d = subst (λ (h : List Entry). LaneServed (ServedLink s.one s.settings door'.number) h v.last w.seen w.last door door' lack lack') ready.unseen c in
-    let e = subst (λ (n : ℕ). LaneServed (ServedLink s.one s.settings door'.number) [] n w.seen w.last door door' lack lack') ready.untaken d in
-    let f = subst (λ (l : Lack). LaneServed (ServedLink s.one s.settings door'.number) [] 0 w.seen w.last door door' l lack') ready.unnoted e in
+    let b = subst (λ (t : Settings). LaneServed (ServedLink clock.one t v.number) v.seen v.last w.seen w.last door door' lack lack') ready.settings served in
+    let c = subst (λ (n : ℕ). LaneServed (ServedLink clock.one s.settings n) v.seen v.last w.seen w.last door door' lack lack') mine b in
+    let d = subst (λ (h : List Entry). LaneServed (ServedLink clock.one s.settings door'.number) h v.last w.seen w.last door door' lack lack') ready.unseen c in
+    let e = subst (λ (n : ℕ). LaneServed (ServedLink clock.one s.settings door'.number) [] n w.seen w.last door door' lack lack') ready.untaken d in
+    let f = subst (λ (l : Lack). LaneServed (ServedLink clock.one s.settings door'.number) [] 0 w.seen w.last door door' l lack') ready.unnoted e in
     record {
       own = own;
       number = number ∙ mine;
-      done = record { first = door; new = subst (λ (n : ℕ). IsNew s.tells n door) same ready.new; lane = f };
+      done = record { first = door; new = subst (λ (n : ℕ). IsNew s.tells n door) same ready.new; one = clock.one; one_is = ready.one; lane = f };
       ends = ends;
     }
 
@@ -110,10 +109,10 @@ among_more : (v other w : BookPass) (ps : List ℕ) (k : ℕ) (qs : List ℕ) �
 among_more v other w ps k qs j alone before names =
     let Among : Entry → Type 0 = λ e. has e.stamp.pass (ps ++ k ∷ []) ≡ true in
     let mine : All Among (calls_by pass_of v.numbers w.seen) = subst (All Among) (sym j.own_first)
-        (All-weaker (λ (e : Entry). has e.stamp.pass ps ≡ true) Among (λ e is. has_first e.stamp.pass ps (k ∷ []) is) (calls_by pass_of v.numbers v.seen) before) in
+    (All-weaker (λ (e : Entry). has e.stamp.pass ps ≡ true) Among (λ e is. has_first e.stamp.pass ps (k ∷ []) is) (calls_by pass_of v.numbers v.seen) before) in
     let others : All Among (calls_by pass_of other.numbers w.seen) =
-        All-weaker (λ (e : Entry). has e.stamp.pass other.numbers ≡ true) Among
-        (λ e is. has_second e.stamp.pass ps (k ∷ []) (subst (λ (ns : List ℕ). has e.stamp.pass ns ≡ true) alone is)) (calls_by pass_of other.numbers w.seen) (calls_among pass_of other.numbers w.seen) in
+    All-weaker (λ (e : Entry). has e.stamp.pass other.numbers ≡ true) Among
+    (λ e is. has_second e.stamp.pass ps (k ∷ []) (subst (λ (ns : List ℕ). has e.stamp.pass ns ≡ true) alone is)) (calls_by pass_of other.numbers w.seen) (calls_among pass_of other.numbers w.seen) in
     subst (λ (ns : List ℕ). AreAmong ns (own_of (caller_of w) w.seen)) (sym names)
     (subst (λ (ns : List ℕ). All Among (calls_by pass_of ns w.seen)) (sym j.numbers) (calls_both pass_of Among v.numbers other.numbers w.seen mine others))
 
@@ -181,6 +180,31 @@ pub numbers_next : (a n : ℕ) → numbers_from a n ++ (a + n) ∷ [] ≡ number
 numbers_next a zero = (let e : a + 0 ≡ a = omega arith in ap (λ (k : ℕ). k ∷ []) e)
 numbers_next a (suc n) = (let e : a + suc n ≡ suc a + n = omega arith in ap (λ (k : ℕ). a ∷ (numbers_from (suc a) n ++ k ∷ [])) e ∙ ap (λ (l : List ℕ). a ∷ l) (numbers_next (suc a) n))
 
+-- how many have numbers
+pub numbered_length : {X : Type 0} (f : X → ℕ) (xs : List X) (n : ℕ) → map f xs ≡ numbers_from 0 n → length xs ≡ n
+numbered_length f xs n is = sym (length-map xs f) ∙ ap (λ (l : List ℕ). length l) is ∙ numbers_length 0 n
+
+pub numbered_alike : {X : Type 0} (f : X → ℕ) (xs ys : List X) → map f ys ≡ map f xs → length ys ≡ length xs
+numbered_alike f xs ys is = sym (length-map ys f) ∙ ap (λ (l : List ℕ). length l) is ∙ length-map xs f
+
+-- how many passes were joined
+pub all_joined : (v0 v1 v2 : BookPass) (ps seats : List ℕ) (lanes workers : ℕ) → v0.numbers ≡ v0.number ∷ ps → ps ≡ numbers_from 0 lanes → v1.numbers ≡ v0.numbers ++ seats → length seats ≡ workers
+    → v2.numbers ≡ v1.numbers → length v2.numbers ≡ (lanes + workers) + 1
+all_joined v0 v1 v2 ps seats lanes workers first are more many same =
+    let own : length v0.numbers ≡ length (v0.number ∷ ps) = ap (λ (l : List ℕ). length l) first in
+    let some : length ps ≡ lanes = ap (λ (l : List ℕ). length l) are ∙ numbers_length 0 lanes in
+    let both : length v1.numbers ≡ length v0.numbers + length seats = ap (λ (l : List ℕ). length l) more ∙ length-append v0.numbers seats in
+    let last : length v2.numbers ≡ length v1.numbers = ap (λ (l : List ℕ). length l) same in
+    omega arith
+
+-- one more, which has the next number
+pub numbers_more : {X : Type 0} (f : X → ℕ) (xs all : List X) (x : X) (n m : ℕ) → all ≡ xs ++ x ∷ [] → m ≡ n + 1 → f x ≡ n → map f xs ≡ numbers_from 0 n → map f all ≡ numbers_from 0 m
+numbers_more {X = X} f xs all x n m is more here before =
+    let next : suc n ≡ m = omega arith in
+    let from_zero : n ≡ 0 + n = omega arith in
+    ap (λ (l : List X). map f l) is ∙ map-append f xs (x ∷ []) ∙ ap (λ (l : List ℕ). l ++ f x ∷ []) before
+    ∙ ap (λ (y : ℕ). numbers_from 0 n ++ y ∷ []) (here ∙ from_zero) ∙ numbers_next 0 n ∙ ap (λ (y : ℕ). numbers_from 0 y) next
+
 -- numbers below a top one
 pub numbers_apart : {X : Type 0} (f : X → ℕ) (xs : List X) (a n top : ℕ) → map f xs ≡ numbers_from a n → a + n ≤ top → All (λ x. f x ≢ top) xs
 numbers_apart f [] a n top is le = All-nil (λ x. f x ≢ top)
@@ -214,6 +238,6 @@ of_lanes lanes v0 v1 v2 ps seats among are own numbers p q each before =
     in_lanes : (x : ℕ) → x < v0.number + 1 → has x v2.numbers ≡ false → has v0.number v2.numbers ≡ true → ((y : ℕ) → has y seats ≡ true → has y v2.numbers ≡ true) → x < lanes
     in_lanes x lt none here seated = dite (dec_le lanes x)
         (λ le. dite (dec_le v0.number x)
-            (λ high. let same : v0.number ≡ x = omega arith in absurd (let is = subst (λ (y : ℕ). has y v2.numbers ≡ true) same here in cc))
-            (λ low. absurd (let is = seated x (each x le (omega arith)) in cc)))
+        (λ high. let same : v0.number ≡ x = omega arith in absurd (let is = subst (λ (y : ℕ). has y v2.numbers ≡ true) same here in cc))
+        (λ low. absurd (let is = seated x (each x le (omega arith)) in cc)))
         (λ not. omega arith)

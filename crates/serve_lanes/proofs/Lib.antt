@@ -4,3 +4,4 @@ pub mod Links
 pub mod Histories
 pub mod Joining
 pub mod Making
+pub mod Closing

@@ -120,7 +120,6 @@ pub lane_one : (serves : List Entry → ℕ → EndedLink → List Entry → Typ
     → LaneServed serves before last history top a c m n
 lane_one serves before last x history top a b c m n given back one is up noted =
     let ended : b.ended ≡ a.ended = ap (λ (d : DoorSeen). d.ended) given in
-    let faults : c.faults ≡ a.faults = ap (λ (d : DoorSeen). d.faults) back.others ∙ ap (λ (d : DoorSeen). d.faults) given in
     record {
       links = x ∷ [];
       grown = subst (λ (o : Option (List EndedLink)). GrowsBy o c.ended (x ∷ [])) ended back.grows;
@@ -130,7 +129,6 @@ lane_one serves before last x history top a b c m n given back one is up noted =
       gave = ap (λ (d : DoorSeen). d.gave) back.others ∙ ap (λ (d : DoorSeen). d.gave) given;
       balanced = λ even. back_even b c x back (gives_out a b given even);
       tells = λ even some. back.tells (has_out b.ended b.gave (gives_out a b given even) (subst IsSome (sym ended) some));
-      faults = omega (arith, faults);
       memory = noted_one m.memory n.memory (is_memory x.end.kind) noted.memory;
       turns = one_spent (is_spent x.end.kind) noted.turns;
       kept = noted.kept;
@@ -138,8 +136,8 @@ lane_one serves before last x history top a b c m n given back one is up noted =
 
 -- a lane that served none: its door is closed, or failed
 pub lane_none : (serves : List Entry → ℕ → EndedLink → List Entry → Type 0) (before : List Entry) (last : ℕ) (a c : DoorSeen) (m : Lack)
-    → c.ended ≡ a.ended → c.gave ≡ a.gave → c.number ≡ a.number → a.faults ≤ c.faults → LaneServed serves before last before last a c m m
-lane_none serves before last a c m ended gave number faults = record {
+    → c.ended ≡ a.ended → c.gave ≡ a.gave → c.number ≡ a.number → LaneServed serves before last before last a c m m
+lane_none serves before last a c m ended gave number = record {
   links = [];
   grown = subst (λ (o : Option (List EndedLink)). GrowsBy a.ended o []) (sym ended) (grows_by_none a.ended);
   chain = (refl, refl);
@@ -148,7 +146,6 @@ lane_none serves before last a c m ended gave number faults = record {
   gave = (let none : c.gave ≡ a.gave + 0 = omega (arith, gave) in none);
   balanced = λ even. subst (λ n. IfSome c.ended (λ es. length es ≡ n)) (sym gave) (subst (λ o. IfSome o (λ es. length es ≡ a.gave)) (sym ended) even);
   tells = λ even some. subst IsSome (sym ended) some;
-  faults = faults;
   memory = noted_none m.memory;
   turns = λ is. cc;
   kept = λ some. some;

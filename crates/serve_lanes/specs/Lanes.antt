@@ -5,7 +5,7 @@ use Rattle.bim_io.specs.Seen.{ClockSeen, outside}
 use Rattle.bim_net.specs.declared.ends.EndKind.{EndKind}
 use Rattle.bim_net.specs.Seen.{LinkSeen, EndedLink, DoorSeen, IsFresh}
 use Rattle.bim_net.specs.Doors.{GrowsBy}
-use Rattle.book_turn.specs.Entries.{AllBefore, up_to}
+use Rattle.book_turn.specs.Entries.{AllBefore}
 use Rattle.book_history.specs.declared.limits.Settings.{Settings}
 use Rattle.book_history.specs.declared.changes.Entry.{Entry}
 use Rattle.book_passes.specs.Lessons.{CallerSeen, turn_of}
@@ -13,6 +13,7 @@ use Rattle.bim_session.specs.declared.end.SessionEnd.{SessionEnd}
 use Rattle.link_session.specs.Callers.{GoesByPass}
 use Rattle.link_session.specs.Serving.{Serves}
 use Rattle.check_workers.specs.declared.workers.Lack.{Lack}
+use Rattle.check_workers.specs.Joins.{seen_at}
 use Rattle.bim_net.specs.declared.ends.EndKind.TheVariants as kind
 use Rattle.bim_session.specs.declared.end.SessionEnd.TheVariants as end
 
@@ -103,7 +104,6 @@ pub record LaneServed (serves : List Entry → ℕ → EndedLink → List Entry 
   pub gave : new.gave ≡ old.gave + length links
   pub balanced : IsBalanced old → IsBalanced new
   pub tells : IsBalanced old → IsSome old.ended → IsSome new.ended
-  pub faults : old.faults ≤ new.faults
   pub memory : noted'.memory ≡ (noted.memory || some_memory links)
   pub turns : some_turns links ≡ true → IsSome noted'.spent
   pub kept : IsSome noted.spent → IsSome noted'.spent

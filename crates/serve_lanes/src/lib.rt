@@ -6,6 +6,3 @@ mod lanes;
 
 pub use lane::{LaneEnd, serve_lane};
 pub use lanes::{Lane, Served, Serving, run_lanes};
-
-#[cfg(test)]
-mod tests;

@@ -25,7 +25,7 @@ loop-preserved-else-left-eq0 g c = record {
   left = λ some.
       let before = c.loop.invariant.left some in
       let more = c.serve_next.ensures.more c.in-More.is in
-      let fewer : c.saturating_sub.result ≡ c.loop.left - 1 = search rules in
+      let fewer : c.saturating_sub-left.result ≡ c.loop.left - 1 = search rules in
       let other = c.if-left-eq0.false in
       (omega arith, omega arith);
   can = tt;

@@ -1,4 +1,4 @@
-use Rattle.std.proofs.Common.{sym, ◌∙◌, ap, subst, arith}
+use Rattle.std.proofs.Common.{sym, ◌∙◌, ap, subst}
 use Rattle.bim_net.specs.Seen.{DoorSeen}
 use Rattle.book_passes.specs.Lessons.{BookPass, caller_of}
 use Rattle.serve_lanes.specs.Lanes.{ServedLink, LaneServed}
@@ -25,12 +25,10 @@ returns-in-Ok-Some-clause-served g c =
 
 pub returns-in-Ok-None-clause-served : goal.returns-in-Ok-None-clause-served
 returns-in-Ok-None-clause-served g c =
-    let is = rw c.in-Ok-None.is at c.accept.ensures.door in
+    let is = rw c.in-Ok-None.field-0-is at c.in-Ok-None.ensures.door in
     lane_none _ c.args.pass.now.seen c.args.pass.now.last _ _ _ (ap (λ (d : DoorSeen). d.ended) is) (ap (λ (d : DoorSeen). d.gave) is) (ap (λ (d : DoorSeen). d.number) is)
-    (let same = ap (λ (d : DoorSeen). d.faults) is in omega (arith, same))
 
 pub returns-in-Err-clause-served : goal.returns-in-Err-clause-served
 returns-in-Err-clause-served g c =
     let is = c.in-Err.ensures.door in
     lane_none _ c.args.pass.now.seen c.args.pass.now.last _ _ _ (ap (λ (d : DoorSeen). d.ended) is.0) (ap (λ (d : DoorSeen). d.gave) is.0) (ap (λ (d : DoorSeen). d.number) is.0)
-    (let rose = is.1 in omega (arith, rose))

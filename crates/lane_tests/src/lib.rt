@@ -1,0 +1,5 @@
+//! Tests of lanes over doors in memory.
+#![tactic(auto)]
+
+#[cfg(test)]
+mod lanes_tests;
