@@ -95,8 +95,10 @@ door_in s v door d =
       gave = omega (arith, gave, none);
       balanced = lane.balanced even;
       tells = λ is. lane.tells even (subst IsSome (sym new.none_ended) (some_told s.tells is));
-      chain = (chain_in (ServedLink s.one s.settings door.number) (link_grew s.one s.settings door.number) [] 0 lane.links d.seen d.last v.seen lane.chain tt d.front).1;
-      own = subst (λ (t : ℕ). OwnWithin door.number t v.seen) (chain_last (ServedLink s.one s.settings door.number) [] 0 lane.links d.seen d.last lane.chain) d.own;
+      one = d.done.one;
+      one_is = d.done.one_is;
+      chain = (chain_in (ServedLink d.done.one s.settings door.number) (link_grew d.done.one s.settings door.number) [] 0 lane.links d.seen d.last v.seen lane.chain tt d.front).1;
+      own = subst (λ (t : ℕ). OwnWithin door.number t v.seen) (chain_last (ServedLink d.done.one s.settings door.number) [] 0 lane.links d.seen d.last lane.chain) d.own;
     }
 
 pub doors_in : (s : Service) (v : BookPass) (doors : List DoorSeen) → All (DoorDone s v) doors → All (DoorServed s v.seen) doors

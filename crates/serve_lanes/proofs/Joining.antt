@@ -47,16 +47,15 @@ pub lane_over : (s : Service) (links : ℕ) (turn : TurnState Settings) (v w : B
 lane_over s links turn v w door door' clock lack lack' end ready own number served ends =
     let same : door.number ≡ door'.number = sym served.number in
     let mine : v.number ≡ door'.number = ready.number ∙ same in
-    let a = subst (λ (o : Option ℕ). LaneServed (ServedLink o turn.settings v.number) v.seen v.last w.seen w.last door door' lack lack') ready.one served in
-    let b = subst (λ (t : Settings). LaneServed (ServedLink s.one t v.number) v.seen v.last w.seen w.last door door' lack lack') ready.settings a in
-    let c = subst (λ (n : ℕ). LaneServed (ServedLink s.one s.settings n) v.seen v.last w.seen w.last door door' lack lack') mine b in
-    let d = subst (λ (h : List Entry). LaneServed (ServedLink s.one s.settings door'.number) h v.last w.seen w.last door door' lack lack') ready.unseen c in
-    let e = subst (λ (n : ℕ). LaneServed (ServedLink s.one s.settings door'.number) [] n w.seen w.last door door' lack lack') ready.untaken d in
-    let f = subst (λ (l : Lack). LaneServed (ServedLink s.one s.settings door'.number) [] 0 w.seen w.last door door' l lack') ready.unnoted e in
+    let b = subst (λ (t : Settings). LaneServed (ServedLink clock.one t v.number) v.seen v.last w.seen w.last door door' lack lack') ready.settings served in
+    let c = subst (λ (n : ℕ). LaneServed (ServedLink clock.one s.settings n) v.seen v.last w.seen w.last door door' lack lack') mine b in
+    let d = subst (λ (h : List Entry). LaneServed (ServedLink clock.one s.settings door'.number) h v.last w.seen w.last door door' lack lack') ready.unseen c in
+    let e = subst (λ (n : ℕ). LaneServed (ServedLink clock.one s.settings door'.number) [] n w.seen w.last door door' lack lack') ready.untaken d in
+    let f = subst (λ (l : Lack). LaneServed (ServedLink clock.one s.settings door'.number) [] 0 w.seen w.last door door' l lack') ready.unnoted e in
     record {
       own = own;
       number = number ∙ mine;
-      done = record { first = door; new = subst (λ (n : ℕ). IsNew s.tells n door) same ready.new; lane = f };
+      done = record { first = door; new = subst (λ (n : ℕ). IsNew s.tells n door) same ready.new; one = clock.one; one_is = ready.one; lane = f };
       ends = ends;
     }
 

@@ -8,7 +8,7 @@ use Rattle.book_history.specs.declared.changes.Entry.{Entry}
 use Rattle.book_passes.specs.Lessons.{BookPass}
 use Rattle.check_workers.proofs.Making.{new_passes_length, passes_last, new_worker}
 use Rattle.check_workers.specs.declared.workers.Lack.{Lack}
-use Rattle.serve_lanes.specs.Histories.{Service, IsReady}
+use Rattle.serve_lanes.specs.Histories.{Service, IsReady, TellsOne}
 use Rattle.check_workers.specs.Joins.{nothing_lacked}
 
 -- the first of new passes
@@ -31,7 +31,7 @@ passes_opened t all left own count new is =
 
 -- a new pass may be a lane's with a door of its number
 pub ready_lane : (s : Service) (t : TurnState Settings) (k : ℕ) (p : BookPass) (door : DoorSeen) (clock : ClockSeen) (lack : Lack) → t.settings ≡ s.settings → p ≡ new_pass t k
-    → IsNew s.tells k door → clock.one ≡ s.one → lack ≡ nothing_lacked → IsReady s t p door clock lack
+    → IsNew s.tells k door → TellsOne s.one clock.one → lack ≡ nothing_lacked → IsReady s t p door clock lack
 ready_lane s t k p door clock lack settings is new one none =
     let w = new_worker t k p is in
     let mine : k ≡ door.number = sym new.number_is in

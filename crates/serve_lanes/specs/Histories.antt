@@ -1,5 +1,5 @@
 -- Many lanes over one book, and the one history in which all their connections stand.
-use Rattle.std.specs.Prelude.{◌≡◌, ◌≢◌, ◌≤◌, ◌<◌, ◌⊎◌, ℕ, ◌+◌, List, [], ◌∷◌, map, length, Bool, true, false, Option, None, Some, IsSome, All}
+use Rattle.std.specs.Prelude.{◌≡◌, ◌≢◌, ◌≤◌, ◌<◌, ◌⊎◌, ℕ, ◌+◌, List, [], ◌∷◌, map, length, Bool, true, false, Option, None, Some, IsSome, IfSome, All}
 use Rattle.std.specs.List.{list_any}
 use Rattle.bim_io.specs.Seen.{ClockSeen}
 use Rattle.bim_net.specs.Seen.{EndedLink, DoorSeen, IsNew, told}
@@ -29,6 +29,10 @@ pub record Service : Type 0 where
 abbrev pub no_service : Service
 no_service = record { tells = false; one = None; settings = stated_settings 0 }
 
+-- where there is one moment, a clock tells that one
+abbrev pub TellsOne : Option ℕ → Option ℕ → Type 0
+TellsOne one told = IfSome one (λ moment. told ≡ Some moment)
+
 -- a lane that has not begun: a pass that has seen nothing, a door of its number on which no call was made yet, a clock of
 -- the service, and nothing noted
 pub record IsReady (s : Service) (turn : TurnState Settings) (pass : BookPass) (door : DoorSeen)
@@ -39,7 +43,7 @@ pub record IsReady (s : Service) (turn : TurnState Settings) (pass : BookPass) (
   pub unseen : pass.seen ≡ []
   pub untaken : pass.last ≡ 0
   pub new : IsNew s.tells door.number door
-  pub one : clock.one ≡ s.one
+  pub one : TellsOne s.one clock.one
   pub unnoted : lack ≡ nothing_lacked
 
 -- A door's connections were served by the pass of the door's number, from the first on: it had seen nothing before, and
@@ -48,7 +52,9 @@ pub record LaneDone (s : Service) (seen : List Entry) (last : ℕ) (door : DoorS
     (lack : Lack) : Type 0 where
   pub first : DoorSeen
   pub new : IsNew s.tells door.number first
-  pub lane : LaneServed (ServedLink s.one s.settings door.number)
+  pub one : Option ℕ
+  pub one_is : TellsOne s.one one
+  pub lane : LaneServed (ServedLink one s.settings door.number)
       [] 0 seen last first door nothing_lacked lack
 
 -- ---- why lanes end
@@ -112,7 +118,9 @@ pub record DoorServed (s : Service) (history : List Entry) (door : DoorSeen) : T
   pub gave : door.gave ≡ length links
   pub balanced : IsBalanced door
   pub tells : s.tells ≡ true → IsSome door.ended
-  pub chain : ChainIn (ServedLink s.one s.settings door.number) history 0 links
+  pub one : Option ℕ
+  pub one_is : TellsOne s.one one
+  pub chain : ChainIn (ServedLink one s.settings door.number) history 0 links
   pub own : OwnWithin door.number (last_turn 0 links) history
 
 -- whether one of them did, where they are told

@@ -4,7 +4,7 @@ ghost use Rattle.book_turn.specs.Numbers.{numbers_from};
 ghost use Rattle.book_turn.specs.Passes.{new_passes};
 ghost use Rattle.bim_net.specs.Hosts.{AreNew, some_failed};
 ghost use Rattle.book_history.specs.History.{left_all};
-ghost use Rattle.serve_lanes.specs.Histories.{Service, IsReady, LaneOver, LanesJoined, DoorServed, IsOver, is_failed, some_lacked, some_spent};
+ghost use Rattle.serve_lanes.specs.Histories.{Service, TellsOne, IsReady, LaneOver, LanesJoined, DoorServed, IsOver, is_failed, some_lacked, some_spent};
 ghost use Rattle.check_workers.specs.Joins.{IsNewWorker, WorkerOver, HasEach, AreOfLanes};
 
 use crate::lane::{LaneEnd, serve_lane};
@@ -148,7 +148,7 @@ fn make_lanes<K: Serving, D: Door + Drop, C: Clock + Drop>(
     requires passes { passes.items ≡ new_passes turn.now 0 (vec_len doors) }
     requires doors { AreNew K.service.tells 0 (map D.seen doors.items) }
     requires clocks { vec_len clocks ≡ vec_len doors }
-    requires one { All (λ c. (C.seen c).one ≡ K.service.one) clocks.items }
+    requires one { All (λ c. TellsOne K.service.one (C.seen c).one) clocks.items }
     ensures ready { IfOk result (λ lanes.
         All (λ l. IsReady K.service turn.now l.pass (D.seen l.door) (C.seen l.clock) l.lack) lanes.items) }
     ensures numbers { IfOk result (λ lanes.
@@ -427,7 +427,7 @@ where
     requires few { vec_len doors + workers < MOST_PASSES }
     requires doors { AreNew service.tells 0 (map D.seen doors.items) }
     requires clocks { vec_len clocks ≡ vec_len doors }
-    requires one { All (λ c. (C.seen c).one ≡ service.one) clocks.items }
+    requires one { All (λ c. TellsOne service.one (C.seen c).one) clocks.items }
     ensures settings { IfOk result (λ r. r.book.settings ≡ book.settings) }
     ensures served { IfOk result (λ r.
         All (DoorServed service r.book.journal) (map D.seen r.doors.items)) }

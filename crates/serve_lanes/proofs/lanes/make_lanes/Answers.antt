@@ -5,7 +5,7 @@ use Rattle.book_turn.specs.Numbers.{numbers_from}
 use Rattle.book_turn.specs.Passes.{new_passes}
 use Rattle.book_history.specs.declared.changes.Entry.{Entry}
 use Rattle.check_workers.proofs.Making.{new_passes_length}
-use Rattle.serve_lanes.specs.Histories.{IsReady}
+use Rattle.serve_lanes.specs.Histories.{IsReady, TellsOne}
 use Rattle.serve_lanes.proofs.Making.{passes_first, ready_lane}
 use Rattle.serve_lanes.proofs.Joining.{numbers_more}
 use Rattle.serve_lanes.proofs.lanes.make_lanes.Goals as goal
@@ -29,7 +29,7 @@ loop-pass-init g c =
           (subst (λ ds. AreNew s.tells 0 (map g.D.Door.seen ds)) (sym doors) c.requires.doors);
       as_doors = omega (arith, all, as_doors, c.args.doors.ok.0);
       as_clocks = (let same = c.requires.clocks in omega (arith, all, as_clocks, same, c.args.clocks.ok.0));
-      one = subst (λ cs. All (λ x. (g.C.Clock.seen x).one ≡ s.one) cs) (sym clocks) c.requires.one;
+      one = subst (λ cs. All (λ x. TellsOne s.one (g.C.Clock.seen x).one) cs) (sym clocks) c.requires.one;
       ready = subst (λ ls. All (λ x. IsReady s t x.pass (g.D.Door.seen x.door) (g.C.Clock.seen x.clock) x.lack) ls) (sym c.new-lanes.ensures.items)
           (All-nil (λ x. IsReady s t x.pass (g.D.Door.seen x.door) (g.C.Clock.seen x.clock) x.lack));
       numbers = ap (λ ls. map (λ x. (g.D.Door.seen x.door).number) ls) c.new-lanes.ensures.items ∙ ap (λ (n : ℕ). numbers_from 0 n) (sym none);
@@ -56,18 +56,18 @@ loop-pass-preserved g c =
     let more : vec_len c.push.new.self ≡ n + 1 = c.in_ok-push.ensures.len in
     let first = passes_first t n p c.pop_front.new.self.items (sym passes ∙ i.passes ∙ ap (λ (m : ℕ). new_passes {E = Entry} t n m) long_passes) in
     let new : AreNew s.tells n (map g.D.Door.seen (door ∷ c.pop_front-in-Some.new.self.items)) = subst (λ ds. AreNew s.tells n (map g.D.Door.seen ds)) doors i.doors in
-    let ones : All (λ x. (g.C.Clock.seen x).one ≡ s.one) (clock ∷ c.pop_front-in-Some-2.new.self.items) =
-    subst (λ cs. All (λ x. (g.C.Clock.seen x).one ≡ s.one) cs) clocks i.one in
+    let ones : All (λ x. TellsOne s.one (g.C.Clock.seen x).one) (clock ∷ c.pop_front-in-Some-2.new.self.items) =
+    subst (λ cs. All (λ x. TellsOne s.one (g.C.Clock.seen x).one) cs) clocks i.one in
     record {
       count = omega (arith, count, more, long_passes);
       passes = first.1 ∙ ap (λ (k : ℕ). new_passes {E = Entry} t k (length c.pop_front.new.self.items)) (sym more);
       doors = subst (λ (k : ℕ). AreNew s.tells k (map g.D.Door.seen c.pop_front-in-Some.new.self.items)) (sym more) new.1;
       as_doors = omega (arith, as_doors, long_passes, long_doors);
       as_clocks = omega (arith, as_clocks, long_passes, long_clocks);
-      one = All-tail (λ x. (g.C.Clock.seen x).one ≡ s.one) clock c.pop_front-in-Some-2.new.self.items ones;
+      one = All-tail (λ x. TellsOne s.one (g.C.Clock.seen x).one) clock c.pop_front-in-Some-2.new.self.items ones;
       ready = subst (λ ls. All (λ x. IsReady s t x.pass (g.D.Door.seen x.door) (g.C.Clock.seen x.clock) x.lack) ls) (sym c.in_ok-push.ensures.items)
           (All-push (λ x. IsReady s t x.pass (g.D.Door.seen x.door) (g.C.Clock.seen x.clock) x.lack) c.loop-pass.lanes.items _ i.ready
           (ready_lane s t n p (g.D.Door.seen door) (g.C.Clock.seen clock) c.none.result c.requires.settings first.0 new.0
-          (All-head (λ x. (g.C.Clock.seen x).one ≡ s.one) clock c.pop_front-in-Some-2.new.self.items ones) c.none.ensures));
+          (All-head (λ x. TellsOne s.one (g.C.Clock.seen x).one) clock c.pop_front-in-Some-2.new.self.items ones) c.none.ensures));
       numbers = numbers_more (λ x. (g.D.Door.seen x.door).number) c.loop-pass.lanes.items c.push.new.self.items _ n (vec_len c.push.new.self) c.in_ok-push.ensures.items more new.0.number_is i.numbers;
     }
