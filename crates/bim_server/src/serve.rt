@@ -2,10 +2,9 @@
 ghost use Rattle.std.specs.Prelude.{◌≡◌, ◌↔◌, [], IsSome, IfOk, All, vec_len, map};
 ghost use Rattle.bim_io.specs.Causes.{Rose};
 ghost use Rattle.bim_net.specs.Hosts.{AreNew};
-ghost use Rattle.bim_session.specs.Replay.{stated_settings};
-ghost use Rattle.serve_lanes.specs.Histories.{TellsOne};
+ghost use Rattle.serve_lanes.specs.Histories.{Service, TellsOne};
 ghost use Rattle.bim_server.specs.ServeWords.{serve_words, IsServe};
-ghost use Rattle.bim_server.specs.Serving.{Serves, ServesDoors, ServesBy, EndsAs, without_book};
+ghost use Rattle.bim_server.specs.Serving.{Serves, ServesDoors, ServesBy, EndsAs, service_of, without_book};
 
 use crate::serve_words::{ServeCounts, ServeWords, serve_words};
 use bim_io::Clock;
@@ -75,7 +74,8 @@ fn clocks_of<C: Clock + Drop, H: Host<C = C>>(
     count: u32,
 ) -> Result<Vec<C>, AllocError>
     ensures count { IfOk result (λ clocks. vec_len clocks ≡ count) }
-    ensures one { IfOk result (λ clocks. All (λ c. TellsOne (H.seen host.old).moment (C.seen c).one) clocks.items) }
+    ensures one { IfOk result (λ clocks.
+        All (λ c. TellsOne (H.seen host.old).moment (C.seen c).one) clocks.items) }
     ensures host { H.seen host.new ≡ H.seen host.old }
 {
     let mut clocks = Vec::new(alloc);
@@ -105,13 +105,15 @@ fn serve_doors<
 where
     D::S: Send,
     D::K: Send,
+    ghost service: { Service }
     requires serve { IsServe counts }
+    requires service { service ≡ service_of counts (H.seen host.old) }
     requires empty { book.journal ≡ [] }
-    requires settings { book.settings ≡ stated_settings counts.projects }
+    requires settings { book.settings ≡ service.settings }
     requires count { vec_len doors ≡ counts.lanes }
-    requires new { AreNew (H.seen host.old).tells 0 (map D.seen doors.items) }
+    requires new { AreNew service.tells 0 (map D.seen doors.items) }
     requires clocks { vec_len clocks ≡ vec_len doors }
-    requires one { All (λ c. TellsOne (H.seen host.old).moment (C.seen c).one) clocks.items }
+    requires one { All (λ c. TellsOne service.one (C.seen c).one) clocks.items }
     ensures served { ServesDoors counts (H.seen host.old) (H.seen host.new) result }
     ensures spent { (result.status ≡ 7) ↔ IsSome result.spent }
 {

@@ -1,0 +1,5 @@
+use Rattle.bim_server.proofs.Serving.{usage_alone, never_five}
+use Rattle.bim_server.proofs.commands.run.Goals as goal
+
+pub say_usage-requires : goal.say_usage-requires
+say_usage-requires g c = usage_alone _ (g.H.Host.seen c.args.host.now) (g.H.Host.seen c.run_serve-ended.new.host) c.run_serve-ended.result c.run_serve-ended.ensures.does
