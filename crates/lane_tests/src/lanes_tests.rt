@@ -162,7 +162,9 @@ fn told(served: Served<MemDoor>) -> ((bool, bool), (usize, u64), Option<(usize, 
 #[test]
 fn lanes_share_one_history(rt: HostRuntime) -> Result<(), Fail> {
     let alloc = rt.alloc();
-    let doors = opened(alloc).ok_or("doors")?;
+    let Some(doors) = opened(alloc) else {
+        panic!(rt; "no doors")
+    };
     let clocks = clocks(alloc, 3)?;
     let book = Book::new(alloc, 1, Limits::stated())?;
     let gate = FreeGate::new(3);
