@@ -1,8 +1,8 @@
 //! The command that serves.
-ghost use Rattle.std.specs.Prelude.{◌≡◌, ◌↔◌, [], IsSome, IfOk, All, vec_len, map};
+ghost use Rattle.std.specs.Prelude.{◌≡◌, ◌↔◌, ◌+◌, ◌<◌, [], IsSome, IfOk, All, vec_len, map};
 ghost use Rattle.bim_io.specs.Causes.{Rose};
 ghost use Rattle.bim_net.specs.Hosts.{AreNew};
-ghost use Rattle.serve_lanes.specs.Histories.{Service, TellsOne};
+ghost use Rattle.serve_lanes.specs.Histories.{TellsOne};
 ghost use Rattle.bim_server.specs.ServeWords.{serve_words, IsServe};
 ghost use Rattle.bim_server.specs.Serving.{Serves, ServesDoors, ServesBy, EndsAs, service_of, without_book};
 
@@ -12,9 +12,11 @@ use bim_model::Text;
 use bim_net::{Door, Gate, Host, HostFault};
 use book_history::Limits;
 use book_turn::fault::SpentPass;
+use book_turn::limits::MOST_PASSES;
 use federation_book::Book;
-use serve_lanes::{Served, run_lanes};
+use serve_lanes::{Served, Serving, run_lanes};
 use std::alloc::{AllocError, Global};
+use std::marker::Brand;
 use std::sync::Wait;
 use std::thread::Threads;
 
@@ -87,6 +89,7 @@ fn clocks_of<C: Clock + Drop, H: Host<C = C>>(
 
 // Serves over doors that were opened, and hands them back.
 fn serve_doors<
+    K: Serving + Sync,
     R: Threads + Wait + Sync,
     D: Door + Send + Drop,
     C: Clock + Send + Drop,
@@ -105,19 +108,18 @@ fn serve_doors<
 where
     D::S: Send,
     D::K: Send,
-    ghost service: { Service }
-    requires serve { IsServe counts }
-    requires service { service ≡ service_of counts (H.seen host.old) }
+    requires service { K.service ≡ service_of counts (H.seen host.old) }
     requires empty { book.journal ≡ [] }
-    requires settings { book.settings ≡ service.settings }
+    requires settings { book.settings ≡ K.service.settings }
     requires count { vec_len doors ≡ counts.lanes }
-    requires new { AreNew service.tells 0 (map D.seen doors.items) }
+    requires few { vec_len doors + counts.workers < MOST_PASSES }
+    requires new { AreNew K.service.tells 0 (map D.seen doors.items) }
     requires clocks { vec_len clocks ≡ vec_len doors }
-    requires one { All (λ c. TellsOne service.one (C.seen c).one) clocks.items }
+    requires one { All (λ c. TellsOne K.service.one (C.seen c).one) clocks.items }
     ensures served { ServesDoors counts (H.seen host.old) (H.seen host.new) result }
     ensures spent { (result.status ≡ 7) ↔ IsSome result.spent }
 {
-    match run_lanes::<R, D, C, G>(
+    match run_lanes::<K, R, D, C, G>(
         rt,
         alloc,
         book,
@@ -166,7 +168,7 @@ where
     };
     let gate = host.gate(counts.lanes);
     match host.open_doors(alloc, &said.addr, counts.lanes) {
-        Ok(doors) => serve_doors::<R, D, C, G, H>(
+        Ok(doors) => serve_doors::<Brand, R, D, C, G, H>(
             rt, alloc, counts, book, doors, clocks, &gate, host,
         ),
         Err(HostFault::Failed) => Ended::of(4),

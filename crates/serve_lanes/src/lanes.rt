@@ -404,6 +404,7 @@ fn close_all<K: Serving, R: Wait, D: Door + Drop, C: Clock + Drop, G: Gate>(
 /// which works what is left, and the book is given back, with the doors in their order: all connections were served in the
 /// one history that is its journal. At an `Err`, which comes before the first connection is accepted, the book is dropped.
 pub fn run_lanes<
+    K: Serving + Sync,
     R: Threads + Wait + Sync,
     D: Door + Send + Drop,
     C: Clock + Send + Drop,
@@ -421,16 +422,15 @@ pub fn run_lanes<
 where
     D::S: Send,
     D::K: Send,
-    ghost service: { Service }
     requires empty { book.journal ≡ [] }
-    requires settings { book.settings ≡ service.settings }
+    requires settings { book.settings ≡ K.service.settings }
     requires few { vec_len doors + workers < MOST_PASSES }
-    requires doors { AreNew service.tells 0 (map D.seen doors.items) }
+    requires doors { AreNew K.service.tells 0 (map D.seen doors.items) }
     requires clocks { vec_len clocks ≡ vec_len doors }
-    requires one { All (λ c. TellsOne service.one (C.seen c).one) clocks.items }
+    requires one { All (λ c. TellsOne K.service.one (C.seen c).one) clocks.items }
     ensures settings { IfOk result (λ r. r.book.settings ≡ book.settings) }
     ensures served { IfOk result (λ r.
-        All (DoorServed service r.book.journal) (map D.seen r.doors.items)) }
+        All (DoorServed K.service r.book.journal) (map D.seen r.doors.items)) }
     ensures numbers { IfOk result (λ r.
         map (λ d. d.number) (map D.seen r.doors.items) ≡ numbers_from 0 (vec_len doors)) }
     ensures entries { IfOk result (λ r. AreOfLanes (vec_len doors) r.book.journal) }
@@ -445,9 +445,9 @@ where
     let count = doors.len() as u32;
     let (turn, own, mut passes) = open_turn(alloc, book, count + workers)?;
     let workers = make_workers(alloc, &turn, &mut passes, workers, count)?;
-    let lanes = make_lanes::<Brand, D, C>(alloc, &turn, passes, doors, clocks)?;
-    let (lanes, workers) = run_both::<Brand, R, D, C, G>(
+    let lanes = make_lanes::<K, D, C>(alloc, &turn, passes, doors, clocks)?;
+    let (lanes, workers) = run_both::<K, R, D, C, G>(
         rt, alloc, &turn, lanes, workers, gate, links,
     );
-    Ok(close_all::<Brand, R, D, C, G>(rt, alloc, turn, own, lanes, workers, room, gate, links))
+    Ok(close_all::<K, R, D, C, G>(rt, alloc, turn, own, lanes, workers, room, gate, links))
 }
