@@ -2,19 +2,23 @@
 # make replay            replays the stored run of cases/topics/stored_run over the built program, and prints what it writes
 # make check             the test command: the map of crates, the whole gate, then the end-to-end cases over the built program,
 #                        and clients over sockets
+# make serve             serves on 127.0.0.1:8080 over the built program, until it is stopped
 # make crate NAME=..     proves one crate, over what earlier checks kept of those below it, and runs its tests
 # make cases [GROUP=..]  the end-to-end cases alone, over the program as it was built last: all, or those of the groups
 #                        (upload/u07), or with one of the words in their path; cases/README.md names the groups
 
 SERVER := crates/bim_server/out/bim_server
 
-.PHONY: build replay check crate cases
+.PHONY: build replay serve check crate cases
 
 build:
 	@cd crates/bim_server && rt run -- replay </dev/null >&2
 
 replay: build
 	@$(SERVER) $$(cat cases/topics/stored_run/args) <cases/topics/stored_run/stdin
+
+serve: build
+	@$(SERVER) serve
 
 # rt ci leaves the program that it proved and built
 check:
