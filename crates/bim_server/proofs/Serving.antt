@@ -1,5 +1,5 @@
 -- How a server ends, by what its lanes left.
-use Rattle.std.proofs.Common.{◌≡◌, ◌⊎◌, ◌↔◌, ◌∙◌, ◌<◌, ℕ, Bool, true, false, true≢false, List, Option, Some, None, IsSome, All, inl, inr, map, refl, sym, ap, subst, arith}
+use Rattle.std.proofs.Common.{◌≡◌, ◌⊎◌, ◌↔◌, ◌∙◌, ℕ, Bool, true, false, true≢false, List, Option, Some, None, IsSome, All, inl, inr, map, refl, sym, ap, subst, arith}
 use Rattle.std.proofs.lemmas.List.Elements.{All-weaker}
 use Rattle.bim_io.specs.Causes.{Rose, counted}
 use Rattle.bim_net.specs.declared.hosts.Opening.{Opening}
@@ -53,8 +53,8 @@ left_status memory spent failed left (inr (inr some)) = inr (spent_status memory
 -- status 7 comes exactly with a pass that had made all its turns
 pub spent_told : (book : BookState) (failed memory : Bool) (spent : Option ℕ) (ended : Ended) → EndsAs book failed memory spent ended → (ended.status ≡ 7) ↔ IsSome ended.spent
 spent_told book failed memory spent ended is = (
-    λ seven. subst (λ (e : Ended). IsSome e.spent) (sym is) (told memory spent failed (sym (ap (λ (e : Ended). e.status) is) ∙ seven)),
-    λ some. ap (λ (e : Ended). e.status) is ∙ seven_of memory spent failed (subst (λ (e : Ended). IsSome e.spent) is some),
+  λ seven. subst (λ (e : Ended). IsSome e.spent) (sym is) (told memory spent failed (sym (ap (λ (e : Ended). e.status) is) ∙ seven)),
+  λ some. ap (λ (e : Ended). e.status) is ∙ seven_of memory spent failed (subst (λ (e : Ended). IsSome e.spent) is some),
 )
   where
     told : (memory : Bool) (spent : Option ℕ) (failed : Bool) → status_by memory spent failed ≡ 7 → IsSome (spent_by memory spent)
@@ -62,6 +62,7 @@ spent_told book failed memory spent ended is = (
     told false (Some pass) failed seven = refl
     told false None true seven = absurd (omega (arith, seven))
     told false None false seven = absurd (omega (arith, seven))
+
     seven_of : (memory : Bool) (spent : Option ℕ) (failed : Bool) → IsSome (spent_by memory spent) → status_by memory spent failed ≡ 7
     seven_of true spent failed some = absurd (true≢false (sym some))
     seven_of false (Some pass) failed some = refl
@@ -69,8 +70,8 @@ spent_told book failed memory spent ended is = (
 
 pub none_spent : (status : ℕ) (ended : Ended) → (status ≡ 7 → ⊥) → ended ≡ without_book status → (ended.status ≡ 7) ↔ IsSome ended.spent
 none_spent status ended other is = (
-    λ seven. absurd (other (sym (ap (λ (e : Ended). e.status) is) ∙ seven)),
-    λ some. absurd (true≢false (sym (subst (λ (e : Ended). IsSome e.spent) is some))),
+  λ seven. absurd (other (sym (ap (λ (e : Ended). e.status) is) ∙ seven)),
+  λ some. absurd (true≢false (sym (subst (λ (e : Ended). IsSome e.spent) is some))),
 )
 
 -- ---- all doors

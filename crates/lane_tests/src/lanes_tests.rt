@@ -149,7 +149,11 @@ fn ended(doors: &[MemDoor]) -> Option<(usize, usize, usize)> {
 fn told(served: Served<MemDoor>) -> ((bool, bool), (usize, u64), Option<(usize, usize, usize)>) {
     let lacked = served.memory || served.spent.is_some();
     let book = (served.book.journal().len(), served.book.left_all());
-    let told = ((served.failed, lacked), book, ended(served.doors.as_slice()));
+    let told = (
+        (served.failed, lacked),
+        book,
+        ended(served.doors.as_slice()),
+    );
     drop(served);
     told
 }

@@ -446,8 +446,6 @@ where
     let (turn, own, mut passes) = open_turn(alloc, book, count + workers)?;
     let workers = make_workers(alloc, &turn, &mut passes, workers, count)?;
     let lanes = make_lanes::<K, D, C>(alloc, &turn, passes, doors, clocks)?;
-    let (lanes, workers) = run_both::<K, R, D, C, G>(
-        rt, alloc, &turn, lanes, workers, gate, links,
-    );
+    let (lanes, workers) = run_both::<K, R, D, C, G>(rt, alloc, &turn, lanes, workers, gate, links);
     Ok(close_all::<K, R, D, C, G>(rt, alloc, turn, own, lanes, workers, room, gate, links))
 }
