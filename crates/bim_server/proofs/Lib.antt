@@ -4,3 +4,5 @@ pub mod OneActor
 pub mod Replaying
 pub mod Grammar
 pub mod Statuses
+pub mod ServeGrammar
+pub mod Serving

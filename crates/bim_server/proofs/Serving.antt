@@ -1,5 +1,5 @@
 -- How a server ends, by what its lanes left.
-use Rattle.std.proofs.Common.{◌≡◌, ◌⊎◌, ◌↔◌, ◌∙◌, ◌<◌, ℕ, Bool, true, false, true≢false, List, Option, Some, None, IsSome, All, inl, inr, map, refl, sym, ap, subst, arith}
+use Rattle.std.proofs.Common.{◌≡◌, ◌⊎◌, ◌↔◌, ◌∙◌, ℕ, Bool, true, false, true≢false, List, Option, Some, None, IsSome, All, inl, inr, map, refl, sym, ap, subst, arith}
 use Rattle.std.proofs.lemmas.List.Elements.{All-weaker}
 use Rattle.bim_io.specs.Causes.{Rose, counted}
 use Rattle.bim_net.specs.declared.hosts.Opening.{Opening}

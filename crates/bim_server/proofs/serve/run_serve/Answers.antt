@@ -1,4 +1,4 @@
-use Rattle.std.proofs.Common.{Option, Some, inl, inr, sym, subst, refl, arith}
+use Rattle.std.proofs.Common.{Option, inl, inr, subst, refl, arith}
 use Rattle.bim_server.specs.declared.serve_words.ServeWords.{ServeWords}
 use Rattle.bim_server.specs.Serving.{ServesBy}
 use Rattle.bim_server.proofs.Serving.{none_spent, served_fault, without_four}

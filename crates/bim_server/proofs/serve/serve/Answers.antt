@@ -1,7 +1,6 @@
 use Rattle.std.proofs.Common.{◌∙◌, All, subst, sym, map, arith}
 use Rattle.bim_net.specs.Hosts.{AreNew}
 use Rattle.serve_lanes.specs.Histories.{TellsOne}
-use Rattle.bim_server.specs.Serving.{ServesDoors}
 use Rattle.bim_server.proofs.Serving.{none_spent, same_told, opened_served, unopened_served}
 use Rattle.bim_server.proofs.serve.serve.Goals as goal
 
