@@ -7,7 +7,8 @@ use Rattle.book_turn.specs.Numbers.{numbers_from}
 use Rattle.book_history.specs.History.{left_all}
 use Rattle.book_history.specs.Requests.{BookState}
 use Rattle.bim_session.specs.Replay.{stated_settings}
-use Rattle.serve_lanes.specs.Histories.{Service, DoorServed, AreOfLanes, some_lacked, some_spent}
+use Rattle.check_workers.specs.Joins.{AreOfLanes}
+use Rattle.serve_lanes.specs.Histories.{Service, DoorServed, some_lacked, some_spent}
 use Rattle.bim_server.specs.declared.serve_words.ServeCounts.{ServeCounts}
 use Rattle.bim_server.specs.declared.serve_words.ServeWords.{ServeWords}
 use Rattle.bim_server.specs.declared.serve.Ended.{Ended}
