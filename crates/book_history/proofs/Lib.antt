@@ -9,3 +9,4 @@ pub mod Legality
 pub mod Live
 pub mod Given
 pub mod Histories
+pub mod Staying
