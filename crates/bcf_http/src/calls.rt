@@ -1,11 +1,12 @@
 //! From requests to calls of the book.
-ghost use Rattle.std.specs.Prelude.{◌≡◌, length, IfOk};
+ghost use Rattle.std.specs.Prelude.{◌≡◌, length, option_map, IfOk};
 ghost use Rattle.serde_json.specs.View.{view};
 ghost use Rattle.book_history.specs.declared.requests.BookRequest.TheVariants.{ClashTopic};
 ghost use Rattle.bim_model.specs.Moments.{IsMoment};
 ghost use Rattle.bcf_http.specs.Queries.{grid_asked, page_asked};
 ghost use Rattle.bcf_http.specs.Targets.{query_of};
-ghost use Rattle.bcf_http.specs.Calls.{object_of, author_of, put_call, model_call, with_rule_fault, rules_asked, rules_call, clashes_call, asked_by, number_of, number_if, creates, IsAskedAs, IsMeantAs, AsksNone, kind_of, no_kind};
+ghost use Rattle.bcf_http.specs.Places.{place_lent};
+ghost use Rattle.bcf_http.specs.Calls.{object_of, author_of, put_call, model_call, with_rule_fault, rules_asked, rules_call, clashes_call, asked_by, number_of, number_if, creates, IsAskedAs, IsMeantAs, AsksNone, kind_at, kind_of, no_kind};
 ghost use Rattle.clash_rules.specs.Json.{rules_of};
 
 use crate::board_calls::{call_of_topic, topics_call};
@@ -116,14 +117,13 @@ fn number_if(id: Option<u128>) -> u32
     }
 }
 
-/// What the response needs of the request.
-#[tactic(auto, unfolding(crate::specs::Calls::kind_of))]
-pub fn kind_of(routes: &Routes, request: &HttpRequest) -> ReplyKind
-    ensures { result ≡ kind_of request.now }
+// What the response needs of the request, by what its target names.
+fn kind_at(request: &HttpRequest, named: Option<Resource<'_>>) -> ReplyKind
+    ensures { result ≡ kind_at request.now (option_map place_lent named) }
 {
     let method = request.method.as_slice();
     let head = is_same(method, "HEAD");
-    match routes.resource_of(request.target.as_slice()) {
+    match named {
         Some(resource) => ReplyKind {
             project: number_if(resource.project()),
             created: creates(method, resource.row()),
@@ -253,67 +253,86 @@ fn clashes_call(
     }
 }
 
-/// What a request asks for at a moment, in seconds since 1970; or the first fault that the request alone
-/// decides: its target names nothing, this hasn't the method, the body is encoded, the query, the body. A call that is
-/// asked for brings no set of a bucket.
-pub fn to_call(
+/// What the response needs of a request; and what the request asks for at a moment, in seconds since 1970, or the first
+/// fault that it alone decides: its target names nothing, this hasn't the method, the body is encoded, the query, the
+/// body. What the target names is found once for both. A call that is asked for brings no set of a bucket.
+pub fn asked_of(
     alloc: Global,
     routes: &Routes,
     request: HttpRequest,
     moment: u64,
-) -> Result<HttpCall, Refusal>
+) -> (ReplyKind, Result<HttpCall, Refusal>)
     requires { IsMoment moment }
-    ensures asked { IsAskedAs result (asked_by moment request) }
-    ensures none { IfOk result AsksNone }
+    ensures kind { result.0 ≡ kind_of request }
+    ensures asked { IsAskedAs result.1 (asked_by moment request) }
+    ensures none { IfOk result.1 AsksNone }
 {
-    asked_by(alloc, routes, request, moment)
+    asked_at(alloc, routes, request, moment)
 }
 
-// What a request asks for at a moment.
-#[tactic(auto, unfolding(crate::specs::Calls::asked_by))]
-fn asked_by(
+// The same, but for the sets of buckets.
+#[tactic(auto, unfolding(crate::specs::Calls::asked_by, crate::specs::Calls::kind_of))]
+fn asked_at(
     alloc: Global,
     routes: &Routes,
     request: HttpRequest,
     moment: u64,
-) -> Result<HttpCall, Refusal>
+) -> (ReplyKind, Result<HttpCall, Refusal>)
     requires { IsMoment moment }
-    ensures { IsAskedAs result (asked_by moment request) }
+    ensures kind { result.0 ≡ kind_of request }
+    ensures asked { IsAskedAs result.1 (asked_by moment request) }
 {
-    let Some(resource) = routes.resource_of(request.target.as_slice()) else {
-        return Err(Refusal::Fault(RequestFault::NoRoute));
+    let named = routes.resource_of(request.target.as_slice());
+    let kind = kind_at(&request, named);
+    let Some(resource) = named else {
+        return (kind, Err(Refusal::Fault(RequestFault::NoRoute)));
     };
     let path = resource.row();
     if !has_method(path, request.method.as_slice()) {
-        return Err(Refusal::Fault(RequestFault::Method { path }));
+        return (kind, Err(Refusal::Fault(RequestFault::Method { path })));
     }
     if request.encoded {
-        return Err(Refusal::Fault(RequestFault::Encoding));
+        return (kind, Err(Refusal::Fault(RequestFault::Encoding)));
     }
     match resource {
-        Resource::Projects => Ok(HttpCall::Ask(BookRequest::ListProjects)),
-        Resource::Project { project } => Ok(HttpCall::Ask(BookRequest::ReadProject { project })),
-        Resource::Topics { project } => topics_call(alloc, request, moment, project),
+        Resource::Projects => (kind, Ok(HttpCall::Ask(BookRequest::ListProjects))),
+        Resource::Project { project } => (
+            kind,
+            Ok(HttpCall::Ask(BookRequest::ReadProject { project })),
+        ),
+        Resource::Topics { project } => (kind, topics_call(alloc, request, moment, project)),
         Resource::OfTopic {
             project,
             topic,
             place,
-        } => call_of_topic(alloc, request, moment, project, topic, place),
+        } => (
+            kind,
+            call_of_topic(alloc, request, moment, project, topic, place),
+        ),
         Resource::Model { project, name } => match Text::of(alloc, name) {
-            Ok(name) => model_call(alloc, request, project, name),
-            Err(_) => Err(Refusal::Memory),
+            Ok(name) => (kind, model_call(alloc, request, project, name)),
+            Err(_) => (kind, Err(Refusal::Memory)),
         },
-        Resource::Rules { project } => rules_call(alloc, &request, project),
-        Resource::Version { project, wanted } => Ok(HttpCall::Ask(BookRequest::ReadVersion {
-            project,
-            version: wanted,
-        })),
-        Resource::Clashes { project, wanted } => clashes_call(alloc, &request, project, wanted),
+        Resource::Rules { project } => (kind, rules_call(alloc, &request, project)),
+        Resource::Version { project, wanted } => (
+            kind,
+            Ok(HttpCall::Ask(BookRequest::ReadVersion {
+                project,
+                version: wanted,
+            })),
+        ),
+        Resource::Clashes { project, wanted } => (
+            kind,
+            clashes_call(alloc, &request, project, wanted),
+        ),
         Resource::Clash {
             project,
             wanted,
             place,
-        } => Ok(HttpCall::Ask(clash_topic(request, moment, project, wanted, place))),
+        } => (
+            kind,
+            Ok(HttpCall::Ask(clash_topic(request, moment, project, wanted, place))),
+        ),
     }
 }
 

@@ -17,7 +17,7 @@ mod target;
 mod trees;
 
 pub use answers::{Answer, to_response};
-pub use calls::{HttpCall, Refusal, ReplyKind, RequestFault, kind_of, to_call};
+pub use calls::{HttpCall, Refusal, ReplyKind, RequestFault, asked_of};
 pub use paths::{RoutePath, TopicRow};
 pub use query::{MOST_PAIRS, QueryName};
 pub use routes::Routes;
