@@ -22,7 +22,7 @@ use Rattle.book_history.specs.declared.replies.ReplyBody.{ReplyBody}
 use Rattle.book_history.specs.declared.replies.ReplyBody.TheVariants as reply
 use Rattle.bcf_http.specs.declared.answers.Answer.{Answer}
 use Rattle.bcf_http.specs.declared.answers.Answer.TheVariants as answer
-use Rattle.bcf_http.specs.Calls.{kind_of}
+use Rattle.bcf_http.specs.ReplyKinds.{kind_of}
 use Rattle.bcf_http.specs.Answers.{IsResponse}
 use Rattle.bim_session.specs.declared.notes.Notes.{Notes}
 use Rattle.bim_session.specs.declared.end.SessionEnd.{SessionEnd}

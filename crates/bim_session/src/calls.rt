@@ -4,12 +4,14 @@ ghost use Rattle.bim_model.specs.Moments.{IsMoment};
 ghost use Rattle.model_build.specs.Profile.{IsCause};
 ghost use Rattle.bim_session.specs.Session.{Means, MeansCall};
 ghost use Rattle.bim_session.specs.Talking.{IsUnasked};
-ghost use Rattle.bcf_http.specs.Calls.{kind_of, BringsNone};
+ghost use Rattle.bcf_http.specs.ReplyKinds.{kind_of};
+ghost use Rattle.bcf_http.specs.Asked.{BringsNone};
 
-use bcf_http::{Answer, HttpCall, Refusal, ReplyKind, Routes, asked_of};
+use bcf_http::{Action, Answer, Refusal, ReplyKind, asked_of};
 use bim_model::{BuildError, Bytes, Mode, Shared, Text};
 use book_history::BookRequest;
 use http_frame::HttpRequest;
+use http_routes::Routes;
 use model_build::build_owned;
 use std::alloc::Global;
 
@@ -21,7 +23,7 @@ fn upload_of(
     mode: Mode,
     body: Bytes,
 ) -> Result<BookRequest, BuildError>
-    ensures call { IfOk result (MeansCall (Ok (HttpCall.Build project name mode body))) }
+    ensures call { IfOk result (MeansCall (Ok (Action.Build project name mode body))) }
     ensures none { IfOk result BringsNone }
     ensures fault { IfErr result (λ error. IsCause body mode error) }
 {
@@ -51,9 +53,9 @@ pub fn call_of(
 {
     let (kind, asked) = asked_of(alloc, routes, request, moment);
     match asked {
-        Ok(HttpCall::Ask(call)) => (kind, Ok(call)),
+        Ok(Action::Call(call)) => (kind, Ok(call)),
         Ok(
-            HttpCall::Build {
+            Action::Build {
                 project,
                 name,
                 mode,

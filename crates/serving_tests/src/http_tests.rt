@@ -1,15 +1,13 @@
-//! Requests as calls, and responses against bytes written by hand.
+//! What requests ask for, and responses against bytes written by hand.
 use bcf_bodies::BodyFault;
-use bcf_http::{
-    Answer, HttpCall, QueryName, Refusal, ReplyKind, RequestFault, RoutePath, Routes, asked_of,
-    to_response,
-};
+use bcf_http::{Action, Answer, Refusal, ReplyKind, RequestFault, asked_of, to_response};
 use bcf_topics::{CommentIn, Topic, TopicBody};
 use bcf_viewpoints::ViewPart;
 use bim_model::{Author, Bytes, Items, Mode, Moment, Text};
 use book_history::{BookFault, BookReply, BookRequest, Horizon, ReplyBody, Wanted};
 use clash_rules::RuleFault;
 use http_frame::{FrameFault, HttpRequest};
+use http_routes::{QueryName, RoutePath, Routes};
 use std::alloc::{AllocError, Global};
 use std::process::Abort;
 use std::test::Fail;
@@ -37,7 +35,7 @@ fn asked_for(
     method: &str,
     target: &str,
     body: &str,
-) -> Result<(ReplyKind, Result<HttpCall, Refusal>), Fail> {
+) -> Result<(ReplyKind, Result<Action, Refusal>), Fail> {
     let request = request(alloc, method, target, body)?;
     match Routes::new(alloc) {
         Ok(routes) => {
@@ -171,11 +169,11 @@ fn request_line(alloc: Global, request: &BookRequest) -> Result<String, AllocErr
     }
 }
 
-fn asked_line(alloc: Global, asked: &Result<HttpCall, Refusal>) -> Result<String, AllocError> {
+fn asked_line(alloc: Global, asked: &Result<Action, Refusal>) -> Result<String, AllocError> {
     match asked {
-        Ok(HttpCall::Ask(request)) => request_line(alloc, request),
+        Ok(Action::Call(request)) => request_line(alloc, request),
         Ok(
-            HttpCall::Build {
+            Action::Build {
                 project,
                 name,
                 mode,
@@ -269,7 +267,7 @@ fn models_and_versions_are_asked_for(rt: HostRuntime) -> Result<(), Fail> {
     Ok(())
 }
 
-fn is_refused(asked: &Result<HttpCall, Refusal>, wanted: &RequestFault) -> bool {
+fn is_refused(asked: &Result<Action, Refusal>, wanted: &RequestFault) -> bool {
     match asked {
         Err(Refusal::Fault(fault)) => fault == wanted,
         _ => false,
