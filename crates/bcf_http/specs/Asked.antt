@@ -173,7 +173,8 @@ place_asked moment request projects = Ok (Call ListProjects)
 place_asked moment request (project p) = Ok (Call (ReadProject p))
 place_asked moment request (topics p) = topics_call moment request p
 place_asked moment request (of_topic p t named) = call_of_topic moment request p t named
-place_asked moment request (model p name) = model_asked_by request p name (grid_asked (query_of request.target))
+place_asked moment request (model p name) =
+    model_asked_by request p name (grid_asked (query_of request.target))
 place_asked moment request (rules p) = rules_call request p (rules_asked (object_of request.body))
 place_asked moment request (version p wanted) = Ok (Call (ReadVersion p wanted))
 place_asked moment request (clashes p wanted) = clashes_call p wanted (page_asked (query_of request.target))
@@ -193,7 +194,7 @@ asked_by moment request = asked_at moment request (place_of request.target)
 
 -- the answer is what is meant, or want of memory
 abbrev pub IsAskedAs : Result Action Refusal → Result Action RequestFault → Type 0
-IsAskedAs (Ok call) meant = meant ≡ Ok call
+IsAskedAs (Ok action) meant = meant ≡ Ok action
 IsAskedAs (Err (Fault fault)) meant = meant ≡ Err fault
 IsAskedAs (Err Memory) meant = ⊤
 

@@ -62,7 +62,7 @@ fn number_if(id: Option<u128>) -> u32
 
 /// What the response needs of the request, by what its target names.
 pub fn kind_at(request: &HttpRequest, named: Option<Resource<'_>>) -> ReplyKind
-    ensures { result ≡ kind_at request.now (option_map place_lent named) }
+    ensures { result ≡ kind_at request.now (option_map place_lent named.entry) }
 {
     let method = request.method.as_slice();
     let head = is_same(method, "HEAD");
