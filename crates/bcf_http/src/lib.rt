@@ -2,10 +2,10 @@
 #![tactic(auto)]
 
 mod answers;
+mod arrays;
 mod asked;
 mod board_calls;
 mod bodies;
-mod lists;
 mod reply_kind;
 mod responses;
 mod trees;

@@ -4,8 +4,8 @@ ghost use Rattle.serde_json.specs.View.{view};
 ghost use Rattle.bcf_http.specs.Answers.{query_text, store_text, body_fault_tree, request_fault_tree, book_fault_tree, frame_fault_tree, IsReplyTree, IsAnswerTree};
 
 use crate::answers::Answer;
+use crate::arrays::{comments_out, project_out, projects_out, topics_out, views_out};
 use crate::asked::RequestFault;
-use crate::lists::{comments_out, project_out, projects_out, topics_out, views_out};
 use bcf_bodies::{BodyFault, comment_out, topic_out, view_out};
 use bcf_viewpoints::ViewPart;
 use book_history::{BookFault, ReplyBody, StoreWhat};

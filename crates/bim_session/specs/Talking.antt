@@ -1,4 +1,4 @@
--- One connection as a machine: what each of its calls does.
+-- One connection as a machine: what each of its methods does.
 use Rattle.std.specs.Prelude.{◌≡◌, ◌≢◌, ◌⊎◌, ℕ, ◌+◌, ◌==◌, ◌++◌, List, [], ◌∷◌, ◌||◌, Bool, true, false, not, IsTrue, if◌then◌else◌, Option, Some, None, IsSome, Result, Ok, Err}
 use Rattle.bim_io.specs.Seen.{ClockSeen, ClockGives}
 use Rattle.http_frame.specs.declared.types.HttpRequest.{HttpRequest}

@@ -6,7 +6,7 @@ ghost use Rattle.matchit.specs.Params.{AllText};
 ghost use Rattle.http_routes.specs.Forms.{identifier_in, wanted_in};
 ghost use Rattle.http_routes.specs.Places.{place_lent, parts_of, id_in, name_in, version_in, clash_in, topic_place, in_topic, in_clashes, place_for, place_by};
 
-use crate::numbers::number_in;
+use crate::number_forms::number_in;
 use crate::paths::{RoutePath, TopicRow, is_same};
 use crate::resource::{Resource, TopicPlace};
 use book_history::Wanted;

@@ -3,7 +3,7 @@
 #![tactic(auto)]
 
 mod forms;
-mod numbers;
+mod number_forms;
 mod paths;
 mod query;
 mod resource;

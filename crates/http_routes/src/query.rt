@@ -5,7 +5,7 @@ ghost use Rattle.form_urlencoded.specs.Form.{raw_pairs};
 ghost use Rattle.http_routes.specs.Queries.{form_text, values_given, mode_in, grid_asked, if_new, with_first, with_count, with_pair, given_by, nothing_given, page_asked, IsAsMeant};
 ghost use Rattle.http_routes.specs.Numbers.{number_in};
 
-use crate::numbers::{number_in, number_within};
+use crate::number_forms::{number_in, number_within};
 use crate::paths::is_same;
 use bim_model::Mode;
 use form_urlencoded::{RawPairs, decode, raw_pairs};

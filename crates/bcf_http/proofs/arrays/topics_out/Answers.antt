@@ -1,7 +1,7 @@
 use Rattle.std.proofs.Common.{arith}
 use Rattle.bcf_bodies.specs.TopicTrees.{IsTopicTree}
 use Rattle.bcf_http.proofs.GrownTrees.{trees_more, trees_all}
-use Rattle.bcf_http.proofs.lists.topics_out.Goals as goal
+use Rattle.bcf_http.proofs.arrays.topics_out.Goals as goal
 
 pub loop-topic-preserved : goal.loop-topic-preserved
 loop-topic-preserved c =

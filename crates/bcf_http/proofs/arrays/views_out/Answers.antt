@@ -2,7 +2,7 @@ use Rattle.std.proofs.Common.{arith}
 use Rattle.bcf_bodies.specs.ViewTrees.{whole_tree}
 use Rattle.bcf_bodies.proofs.Lists.{written_more}
 use Rattle.bcf_http.proofs.GrownTrees.{listed_all}
-use Rattle.bcf_http.proofs.lists.views_out.Goals as goal
+use Rattle.bcf_http.proofs.arrays.views_out.Goals as goal
 
 pub loop-viewpoint-preserved : goal.loop-viewpoint-preserved
 loop-viewpoint-preserved c =

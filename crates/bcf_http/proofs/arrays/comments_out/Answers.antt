@@ -1,7 +1,7 @@
 use Rattle.std.proofs.Common.{arith}
 use Rattle.bcf_bodies.specs.CommentTrees.{IsCommentTree}
 use Rattle.bcf_http.proofs.GrownTrees.{trees_more, trees_all}
-use Rattle.bcf_http.proofs.lists.comments_out.Goals as goal
+use Rattle.bcf_http.proofs.arrays.comments_out.Goals as goal
 
 pub loop-comment-preserved : goal.loop-comment-preserved
 loop-comment-preserved c =

@@ -1,7 +1,7 @@
 use Rattle.std.proofs.Common.{arith}
 use Rattle.bcf_http.specs.Answers.{project_tree}
 use Rattle.bcf_http.proofs.GrownTrees.{numbers_more, listed_all}
-use Rattle.bcf_http.proofs.lists.projects_out.Goals as goal
+use Rattle.bcf_http.proofs.arrays.projects_out.Goals as goal
 
 pub loop-number-preserved : goal.loop-number-preserved
 loop-number-preserved c =

@@ -1,6 +1,6 @@
 use Rattle.std.proofs.Common.{sym}
 use Rattle.http_routes.proofs.Numerals.{unwritten, word_read, word_is_read}
-use Rattle.http_routes.proofs.numbers.number_in.Goals as goal
+use Rattle.http_routes.proofs.number_forms.number_in.Goals as goal
 
 pub returns-then-not-is_number : goal.returns-then-not-is_number
 returns-then-not-is_number c = unwritten c.args.text.now (sym c.if-not-is_number.ensures)
