@@ -1,5 +1,5 @@
 -- What a request asks for brings no set of a bucket.
-use Rattle.std.proofs.Common.{ℕ, List, Bool, true, false, not, if◌then◌else◌, Option, Some, None, Result, Ok, Err, IfOk, codes, bytes_eq, subst}
+use Rattle.std.proofs.Common.{ℕ, List, Bool, true, false, if◌then◌else◌, Option, Some, None, Result, Ok, Err, IfOk, codes, bytes_eq, subst}
 use Rattle.bim_model.specs.declared.upload.Mode.{Mode}
 use Rattle.bim_model.specs.declared.rules.Rule.{Rule}
 use Rattle.book_history.specs.declared.requests.Wanted.{Wanted}
@@ -7,7 +7,6 @@ use Rattle.http_frame.specs.declared.types.HttpRequest.{HttpRequest}
 use Rattle.http_routes.specs.declared.query.QueryName.{QueryName}
 use Rattle.http_routes.specs.declared.query.Page.{Page}
 use Rattle.bcf_http.specs.declared.asked.RequestFault.{RequestFault}
-use Rattle.bcf_http.specs.declared.asked.RequestFault.TheVariants.{Method, Encoding}
 use Rattle.bcf_http.specs.declared.asked.Refusal.{Refusal}
 use Rattle.bcf_http.specs.declared.asked.Refusal.TheVariants.{Fault, Memory}
 use Rattle.bcf_http.specs.declared.asked.Action.{Action}
@@ -17,13 +16,12 @@ use Rattle.book_history.specs.declared.requests.BookRequest.TheVariants.{ReadTop
 use Rattle.bcf_bodies.specs.TopicBodies.{topic_body}
 use Rattle.bcf_bodies.specs.CommentBodies.{comment_body}
 use Rattle.bcf_bodies.specs.ViewBodies.{view_body}
-use Rattle.http_routes.specs.Paths.{has_method}
 use Rattle.http_routes.specs.Targets.{query_of}
 use Rattle.http_routes.specs.Queries.{grid_asked, page_asked}
 use Rattle.http_routes.specs.declared.resource.TopicPlace.{TopicPlace}
 use Rattle.http_routes.specs.declared.resource.TopicPlace.TheVariants as place
-use Rattle.http_routes.specs.Places.{Place, projects, project, topics, of_topic, model, rules, version, clashes, clash, row_of, place_of}
-use Rattle.bcf_http.specs.Asked.{object_of, is_method, asked_as, call_with, topics_call, topic_call, comments_call, comment_call, views_call, call_of_topic, model_asked, model_asked_by, rules_asked, rules_call, clashes_call, place_asked, asked_at, asked_by, IsAskedAs, BringsNone, AsksNone}
+use Rattle.http_routes.specs.Places.{Place, projects, project, topics, of_topic, model, rules, version, clashes, clash, place_of}
+use Rattle.bcf_http.specs.Asked.{object_of, is_method, asked_as, call_with, topics_call, topic_call, comments_call, comment_call, views_call, call_of_topic, model_asked, model_asked_by, rules_asked, rules_call, clashes_call, place_asked, judged, asked_at, asked_by, IsAskedAs, BringsNone, AsksNone}
 
 abbrev AllNone : Result Action RequestFault → Type 0
 AllNone r = IfOk r AsksNone
@@ -102,18 +100,13 @@ at_none moment request (version p wanted) = λ set e. cc
 at_none moment request (clashes p wanted) = clashes_none p wanted (page_asked (query_of request.target))
 at_none moment request (clash p wanted n) = λ set e. cc
 
-asked_at_none : (moment : ℕ) (request : HttpRequest) (place : Option Place) → AllNone (asked_at moment request place)
-asked_at_none moment request None = tt
-asked_at_none moment request (Some place) = by (not (has_method (row_of place) request.method)) request.encoded
-  where
-    by : (lacks encoded : Bool) → AllNone (if lacks then Err (Method (row_of place)) else (if encoded then Err Encoding else place_asked moment request place))
-    by true encoded = tt
-    by false true = tt
-    by false false = at_none moment request place
+asked_at_none : (moment : ℕ) (request : HttpRequest) (named : Result Place RequestFault) → AllNone (asked_at moment request named)
+asked_at_none moment request (Ok place) = at_none moment request place
+asked_at_none moment request (Err fault) = tt
 
 all_none : (moment : ℕ) (request : HttpRequest) → AllNone (asked_by moment request)
 unfolding asked_by
-all_none moment request = asked_at_none moment request (place_of request.target)
+all_none moment request = asked_at_none moment request (judged request (place_of request.target))
 
 pub asked_none : (moment : ℕ) (request : HttpRequest) (r : Result Action Refusal) → IsAskedAs r (asked_by moment request) → IfOk r AsksNone
 asked_none moment request (Ok call) is = subst AllNone is (all_none moment request)

@@ -34,9 +34,10 @@ use Rattle.bcf_http.specs.declared.asked.Action.TheVariants.{Call, Build}
 use Rattle.http_routes.specs.Paths.{has_method}
 use Rattle.http_routes.specs.Targets.{query_of}
 use Rattle.http_routes.specs.Queries.{grid_asked, page_asked}
+use Rattle.http_routes.specs.declared.resource.Resource.{Resource}
 use Rattle.http_routes.specs.declared.resource.TopicPlace.{TopicPlace}
 use Rattle.http_routes.specs.declared.resource.TopicPlace.TheVariants as place
-use Rattle.http_routes.specs.Places.{Place, projects, project, topics, of_topic, model, rules, version, clashes, clash, row_of, place_of}
+use Rattle.http_routes.specs.Places.{Place, projects, project, topics, of_topic, model, rules, version, clashes, clash, place_lent, row_of, place_of}
 
 -- the tree, where it is an object
 abbrev pub if_object : Data → Option Data
@@ -181,16 +182,27 @@ place_asked moment request (clashes p wanted) = clashes_call p wanted (page_aske
 place_asked moment request (clash p wanted n) =
     Ok (Call (ClashTopic p wanted n (author_of moment request) (length request.body)))
 
--- what is asked for where a place is named: the method is judged first, then the encoding, then the rest
-abbrev pub asked_at : ℕ → HttpRequest → Option Place → Result Action RequestFault
-asked_at moment request None = Err NoRoute
-asked_at moment request (Some place) =
+-- the place that a request names, or the first of these faults: it names none, the row hasn't its method, its body is
+-- encoded
+abbrev pub judged : HttpRequest → Option Place → Result Place RequestFault
+judged request None = Err NoRoute
+judged request (Some place) =
     if not (has_method (row_of place) request.method) then Err (Method (row_of place))
-    else (if request.encoded then Err Encoding else place_asked moment request place)
+    else (if request.encoded then Err Encoding else Ok place)
+
+-- the same of what is lent
+abbrev pub IsJudged : Result Resource RequestFault → Result Place RequestFault → Type 0
+IsJudged (Ok resource) meant = meant ≡ Ok (place_lent resource)
+IsJudged (Err fault) meant = meant ≡ Err fault
+
+-- what is asked for at the place that a request names
+abbrev pub asked_at : ℕ → HttpRequest → Result Place RequestFault → Result Action RequestFault
+asked_at moment request (Ok place) = place_asked moment request place
+asked_at moment request (Err fault) = Err fault
 
 -- what a request asks for at a moment, or the first fault that the request alone decides
 unfoldable pub asked_by : ℕ → HttpRequest → Result Action RequestFault
-asked_by moment request = asked_at moment request (place_of request.target)
+asked_by moment request = asked_at moment request (judged request (place_of request.target))
 
 -- the answer is what is meant, or want of memory
 abbrev pub IsAskedAs : Result Action Refusal → Result Action RequestFault → Type 0

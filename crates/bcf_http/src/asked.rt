@@ -7,7 +7,7 @@ ghost use Rattle.http_routes.specs.Queries.{grid_asked, page_asked};
 ghost use Rattle.http_routes.specs.Targets.{query_of};
 ghost use Rattle.http_routes.specs.Places.{place_lent};
 ghost use Rattle.bcf_http.specs.ReplyKinds.{kind_of};
-ghost use Rattle.bcf_http.specs.Asked.{object_of, author_of, model_asked, model_asked_by, with_rule_fault, rules_asked, rules_call, clashes_call, asked_by, IsAskedAs, IsMeantAs, AsksNone};
+ghost use Rattle.bcf_http.specs.Asked.{object_of, author_of, model_asked, model_asked_by, with_rule_fault, rules_asked, rules_call, clashes_call, judged, asked_by, IsJudged, IsAskedAs, IsMeantAs, AsksNone};
 ghost use Rattle.clash_rules.specs.Json.{rules_of};
 
 use crate::board_calls::{call_of_topic, topics_call};
@@ -196,7 +196,27 @@ pub fn asked_of(
     asked_by(alloc, routes, request, moment)
 }
 
-// The same, but for the sets of buckets.
+// What the target of a request names; or the first fault of it, of the method and of the encoding.
+fn judged<'t>(
+    request: &HttpRequest,
+    named: Option<Resource<'t>>,
+) -> Result<Resource<'t>, RequestFault>
+    ensures { IsJudged result (judged request.now (option_map place_lent named.entry)) }
+{
+    let Some(resource) = named else {
+        return Err(RequestFault::NoRoute);
+    };
+    let path = resource.row();
+    if !has_method(path, request.method.as_slice()) {
+        return Err(RequestFault::Method { path });
+    }
+    if request.encoded {
+        return Err(RequestFault::Encoding);
+    }
+    Ok(resource)
+}
+
+// What the response needs of a request, and what the request asks for.
 #[tactic(auto, unfolding(crate::specs::Asked::asked_by, crate::specs::ReplyKinds::kind_of))]
 fn asked_by(
     alloc: Global,
@@ -210,56 +230,37 @@ fn asked_by(
 {
     let named = routes.resource_of(request.target.as_slice());
     let kind = kind_at(&request, named);
-    let Some(resource) = named else {
-        return (kind, Err(Refusal::Fault(RequestFault::NoRoute)));
-    };
-    let path = resource.row();
-    if !has_method(path, request.method.as_slice()) {
-        return (kind, Err(Refusal::Fault(RequestFault::Method { path })));
-    }
-    if request.encoded {
-        return (kind, Err(Refusal::Fault(RequestFault::Encoding)));
-    }
-    match resource {
-        Resource::Projects => (kind, Ok(Action::Call(BookRequest::ListProjects))),
-        Resource::Project { project } => (
-            kind,
-            Ok(Action::Call(BookRequest::ReadProject { project })),
-        ),
-        Resource::Topics { project } => (kind, topics_call(alloc, request, moment, project)),
-        Resource::OfTopic {
-            project,
-            topic,
-            place,
-        } => (
-            kind,
-            call_of_topic(alloc, request, moment, project, topic, place),
-        ),
-        Resource::Model { project, name } => match Text::of(alloc, name) {
-            Ok(name) => (kind, model_asked_by(alloc, request, project, name)),
-            Err(_) => (kind, Err(Refusal::Memory)),
-        },
-        Resource::Rules { project } => (kind, rules_call(alloc, &request, project)),
-        Resource::Version { project, wanted } => (
-            kind,
-            Ok(Action::Call(BookRequest::ReadVersion {
+    let asked = match judged(&request, named) {
+        Err(fault) => Err(Refusal::Fault(fault)),
+        Ok(Resource::Projects) => Ok(Action::Call(BookRequest::ListProjects)),
+        Ok(Resource::Project { project }) => Ok(Action::Call(BookRequest::ReadProject { project })),
+        Ok(Resource::Topics { project }) => topics_call(alloc, request, moment, project),
+        Ok(
+            Resource::OfTopic {
                 project,
-                version: wanted,
-            })),
-        ),
-        Resource::Clashes { project, wanted } => (
-            kind,
-            clashes_call(alloc, &request, project, wanted),
-        ),
-        Resource::Clash {
+                topic,
+                place,
+            },
+        ) => call_of_topic(alloc, request, moment, project, topic, place),
+        Ok(Resource::Model { project, name }) => match Text::of(alloc, name) {
+            Ok(name) => model_asked_by(alloc, request, project, name),
+            Err(_) => Err(Refusal::Memory),
+        },
+        Ok(Resource::Rules { project }) => rules_call(alloc, &request, project),
+        Ok(Resource::Version { project, wanted }) => Ok(Action::Call(BookRequest::ReadVersion {
             project,
-            wanted,
-            place,
-        } => (
-            kind,
-            Ok(Action::Call(clash_topic(request, moment, project, wanted, place))),
-        ),
-    }
+            version: wanted,
+        })),
+        Ok(Resource::Clashes { project, wanted }) => clashes_call(alloc, &request, project, wanted),
+        Ok(
+            Resource::Clash {
+                project,
+                wanted,
+                place,
+            },
+        ) => Ok(Action::Call(clash_topic(request, moment, project, wanted, place))),
+    };
+    (kind, asked)
 }
 
 // The call that makes a topic of a clash.
