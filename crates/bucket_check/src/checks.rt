@@ -215,7 +215,7 @@ fn own_places<L: Ledger>(
         2 * steps.new ≤ 2 * steps.old + m * (m - 1) }
 {
     let _boxes = grid.boxes();
-    let members = grid.members(cell);
+    let members = grid.members_in_turn(cell, &mut room.next);
     found_among(alloc, grid, cell, members, room, steps)
 }
 
