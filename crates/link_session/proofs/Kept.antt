@@ -40,7 +40,7 @@ use Rattle.bim_session.specs.Session.{Means, MeansCall, IsKept, IsShelved, askin
 use Rattle.bim_session.specs.Talking.{AnswersKept, KeepsNone, waiting_for}
 use Rattle.bim_session.proofs.Sessions.{up_to_grown}
 use Rattle.book_history.proofs.Staying.{Settled, settled_later, newest_later, read_settled}
-use Rattle.link_session.proofs.Told.{read_told}
+use Rattle.link_session.proofs.ToldClashes.{read_told}
 
 -- a version on the shelf: the session was answered it, and at these entries it is live and checked
 pub record OnShelf (settings : Settings) (front : List Entry) (sets : List (ℕ × ℕ)) (p v : ℕ) (content : Version) : Type 0 where

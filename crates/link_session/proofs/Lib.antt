@@ -1,5 +1,5 @@
 pub mod Turns
-pub mod Told
+pub mod ToldClashes
 pub mod Kept
 pub mod SoFar
 pub mod Growing
