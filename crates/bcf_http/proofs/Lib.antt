@@ -1,10 +1,6 @@
 pub mod Reading
-pub mod Texts
-pub mod Routers
-pub mod Parts
-pub mod Rows
 pub mod GrownTrees
 pub mod BodyFloats
 pub mod Floats
-pub mod Numerals
 pub mod Plain
+pub mod Projects

@@ -1,35 +1,33 @@
 -- What a request asks for brings no set of a bucket.
-use Rattle.std.proofs.Common.{ℕ, List, Bool, true, false, not, if◌then◌else◌, Option, Some, None, Result, Ok, Err, IfOk, codes, bytes_eq, subst}
+use Rattle.std.proofs.Common.{ℕ, List, Bool, true, false, if◌then◌else◌, Option, Some, None, Result, Ok, Err, IfOk, codes, bytes_eq, subst}
 use Rattle.bim_model.specs.declared.upload.Mode.{Mode}
 use Rattle.bim_model.specs.declared.rules.Rule.{Rule}
 use Rattle.book_history.specs.declared.requests.Wanted.{Wanted}
 use Rattle.http_frame.specs.declared.types.HttpRequest.{HttpRequest}
-use Rattle.bcf_http.specs.declared.query.QueryName.{QueryName}
-use Rattle.bcf_http.specs.declared.query.Page.{Page}
-use Rattle.bcf_http.specs.declared.calls.RequestFault.{RequestFault}
-use Rattle.bcf_http.specs.declared.calls.RequestFault.TheVariants.{Method, Encoding}
-use Rattle.bcf_http.specs.declared.calls.Refusal.{Refusal}
-use Rattle.bcf_http.specs.declared.calls.Refusal.TheVariants.{Fault, Memory}
-use Rattle.bcf_http.specs.declared.calls.HttpCall.{HttpCall}
-use Rattle.bcf_http.specs.declared.calls.HttpCall.TheVariants.{Ask, Build}
+use Rattle.http_routes.specs.declared.query.QueryName.{QueryName}
+use Rattle.http_routes.specs.declared.query.Page.{Page}
+use Rattle.bcf_http.specs.declared.asked.RequestFault.{RequestFault}
+use Rattle.bcf_http.specs.declared.asked.Refusal.{Refusal}
+use Rattle.bcf_http.specs.declared.asked.Refusal.TheVariants.{Fault, Memory}
+use Rattle.bcf_http.specs.declared.asked.Action.{Action}
+use Rattle.bcf_http.specs.declared.asked.Action.TheVariants.{Call, Build}
 use Rattle.book_history.specs.declared.requests.BookRequest.{BookRequest}
 use Rattle.book_history.specs.declared.requests.BookRequest.TheVariants.{ReadTopic, DeleteTopic, ReadComment, DeleteComment, ReadView, DeleteView, Remove}
 use Rattle.bcf_bodies.specs.TopicBodies.{topic_body}
 use Rattle.bcf_bodies.specs.CommentBodies.{comment_body}
 use Rattle.bcf_bodies.specs.ViewBodies.{view_body}
-use Rattle.bcf_http.specs.Paths.{has_method}
-use Rattle.bcf_http.specs.Targets.{query_of}
-use Rattle.bcf_http.specs.Queries.{grid_asked, page_asked}
-use Rattle.bcf_http.specs.declared.resource.TopicPlace.{TopicPlace}
-use Rattle.bcf_http.specs.declared.resource.TopicPlace.TheVariants as place
-use Rattle.bcf_http.specs.Places.{Place, projects, project, topics, of_topic, model, rules, version, clashes, clash, row_of, place_of}
-use Rattle.bcf_http.specs.Calls.{object_of, is_method, asked_as, call_with, topics_call, topic_call, comments_call, comment_call, views_call, call_of_topic, put_call, model_call, rules_asked, rules_call, clashes_call, call_at, asked_at, asked_by, IsAskedAs, BringsNone, AsksNone}
+use Rattle.http_routes.specs.Targets.{query_of}
+use Rattle.http_routes.specs.Queries.{grid_asked, page_asked}
+use Rattle.http_routes.specs.declared.resource.TopicPlace.{TopicPlace}
+use Rattle.http_routes.specs.declared.resource.TopicPlace.TheVariants as place
+use Rattle.http_routes.specs.Places.{Place, projects, project, topics, of_topic, model, rules, version, clashes, clash, place_of}
+use Rattle.bcf_http.specs.Asked.{object_of, is_method, asked_as, call_with, topics_call, topic_call, comments_call, comment_call, views_call, call_of_topic, model_asked, model_asked_by, rules_asked, rules_call, clashes_call, place_asked, judged, asked_at, asked_by, IsAskedAs, BringsNone, AsksNone}
 
-abbrev AllNone : Result HttpCall RequestFault → Type 0
+abbrev AllNone : Result Action RequestFault → Type 0
 AllNone r = IfOk r AsksNone
 
 -- of two, one
-either_none : (b : Bool) (x y : Result HttpCall RequestFault) → AllNone x → AllNone y → AllNone (if b then x else y)
+either_none : (b : Bool) (x y : Result Action RequestFault) → AllNone x → AllNone y → AllNone (if b then x else y)
 either_none true x y one other = one
 either_none false x y one other = other
 
@@ -72,14 +70,14 @@ of_topic_none moment request p t place.Views = views_none request p t
 of_topic_none moment request p t (place.View w part) =
     one_none (is_method request (codes "DELETE")) (DeleteView p t w) (ReadView p t w) (λ set e. cc) (λ set e. cc)
 
-put_none : (request : HttpRequest) (p : ℕ) (name : List ℕ) (mode : Mode) → AllNone (put_call request p name mode)
+put_none : (request : HttpRequest) (p : ℕ) (name : List ℕ) (mode : Mode) → AllNone (model_asked request p name mode)
 put_none request p name mode = by (bytes_eq request.method (codes "PUT"))
   where
-    by : (b : Bool) → AllNone (if b then Ok (Build p name mode request.body) else Ok (Ask (Remove p name)))
+    by : (b : Bool) → AllNone (if b then Ok (Build p name mode request.body) else Ok (Call (Remove p name)))
     by true = tt
     by false = λ set e. cc
 
-model_none : (request : HttpRequest) (p : ℕ) (name : List ℕ) (mode : Option Mode) → AllNone (model_call request p name mode)
+model_none : (request : HttpRequest) (p : ℕ) (name : List ℕ) (mode : Option Mode) → AllNone (model_asked_by request p name mode)
 model_none request p name None = tt
 model_none request p name (Some mode) = put_none request p name mode
 
@@ -91,7 +89,7 @@ clashes_none : (p : ℕ) (wanted : Wanted) (r : Result Page QueryName) → AllNo
 clashes_none p wanted (Ok page) = λ set e. cc
 clashes_none p wanted (Err name) = tt
 
-at_none : (moment : ℕ) (request : HttpRequest) (place : Place) → AllNone (call_at moment request place)
+at_none : (moment : ℕ) (request : HttpRequest) (place : Place) → AllNone (place_asked moment request place)
 at_none moment request projects = λ set e. cc
 at_none moment request (project p) = λ set e. cc
 at_none moment request (topics p) = topics_none moment request p
@@ -102,20 +100,15 @@ at_none moment request (version p wanted) = λ set e. cc
 at_none moment request (clashes p wanted) = clashes_none p wanted (page_asked (query_of request.target))
 at_none moment request (clash p wanted n) = λ set e. cc
 
-asked_at_none : (moment : ℕ) (request : HttpRequest) (place : Option Place) → AllNone (asked_at moment request place)
-asked_at_none moment request None = tt
-asked_at_none moment request (Some place) = by (not (has_method (row_of place) request.method)) request.encoded
-  where
-    by : (lacks encoded : Bool) → AllNone (if lacks then Err (Method (row_of place)) else (if encoded then Err Encoding else call_at moment request place))
-    by true encoded = tt
-    by false true = tt
-    by false false = at_none moment request place
+asked_at_none : (moment : ℕ) (request : HttpRequest) (named : Result Place RequestFault) → AllNone (asked_at moment request named)
+asked_at_none moment request (Ok place) = at_none moment request place
+asked_at_none moment request (Err fault) = tt
 
 all_none : (moment : ℕ) (request : HttpRequest) → AllNone (asked_by moment request)
 unfolding asked_by
-all_none moment request = asked_at_none moment request (place_of request.target)
+all_none moment request = asked_at_none moment request (judged request (place_of request.target))
 
-pub asked_none : (moment : ℕ) (request : HttpRequest) (r : Result HttpCall Refusal) → IsAskedAs r (asked_by moment request) → IfOk r AsksNone
+pub asked_none : (moment : ℕ) (request : HttpRequest) (r : Result Action Refusal) → IsAskedAs r (asked_by moment request) → IfOk r AsksNone
 asked_none moment request (Ok call) is = subst AllNone is (all_none moment request)
 asked_none moment request (Err (Fault fault)) is = tt
 asked_none moment request (Err Memory) is = tt

@@ -3,7 +3,7 @@ use Rattle.std.proofs.Common.{◌≡◌, ℕ, List, Bool, true, false, None, opt
 use Rattle.std.specs.Str.{IsUtf8, is_utf8}
 use Rattle.std.proofs.lemmas.Str.{is_utf8-from_IsUtf8, IsUtf8-from_is_utf8}
 use Rattle.serde_json.specs.Read.{read}
-use Rattle.bcf_http.specs.Calls.{object_of, if_object}
+use Rattle.bcf_http.specs.Asked.{object_of, if_object}
 
 pub of_text : (body : List ℕ) → IsUtf8 body → object_of body ≡ option_and_then if_object (read body)
 unfolding object_of

@@ -16,14 +16,14 @@ use Rattle.bcf_bodies.specs.Objects.{listed}
 use Rattle.bcf_bodies.specs.TopicTrees.{IsTopicTree}
 use Rattle.bcf_bodies.specs.CommentTrees.{IsCommentTree}
 use Rattle.bcf_bodies.specs.ViewTrees.{whole_tree, view_tree}
-use Rattle.bcf_http.specs.declared.calls.RequestFault.{RequestFault}
-use Rattle.bcf_http.specs.declared.calls.RequestFault.TheVariants.{NoRoute, Method, Encoding, Query, BadJson, Rules, Body}
-use Rattle.bcf_http.specs.declared.paths.RoutePath.{RoutePath}
-use Rattle.bcf_http.specs.declared.query.QueryName.{QueryName}
-use Rattle.bcf_http.specs.declared.query.QueryName.TheVariants.{Grid, First, Count}
+use Rattle.bcf_http.specs.declared.asked.RequestFault.{RequestFault}
+use Rattle.bcf_http.specs.declared.asked.RequestFault.TheVariants.{NoRoute, Method, Encoding, Query, BadJson, Rules, Body}
+use Rattle.http_routes.specs.declared.paths.RoutePath.{RoutePath}
+use Rattle.http_routes.specs.declared.query.QueryName.{QueryName}
+use Rattle.http_routes.specs.declared.query.QueryName.TheVariants.{Grid, First, Count}
 use Rattle.http_frame.specs.declared.types.FrameFault.{FrameFault}
 use Rattle.http_frame.specs.declared.types.FrameFault.TheVariants as frame
-use Rattle.bcf_http.specs.declared.calls.ReplyKind.{ReplyKind}
+use Rattle.bcf_http.specs.declared.reply_kind.ReplyKind.{ReplyKind}
 use Rattle.bcf_http.specs.declared.answers.Answer.{Answer}
 use Rattle.bcf_http.specs.declared.answers.Answer.TheVariants as answer
 use Rattle.coord_json.specs.Errors.{error_tree, error_named, error_newest, error_version, error_store, error_full, error_place}

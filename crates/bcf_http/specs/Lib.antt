@@ -1,9 +1,4 @@
-pub mod Paths
-pub mod Targets
-pub mod Forms
-pub mod Places
-pub mod Queries
-pub mod Calls
+pub mod ReplyKinds
+pub mod Asked
 pub mod Responses
 pub mod Answers
-pub mod Numbers

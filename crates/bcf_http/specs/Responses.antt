@@ -3,8 +3,8 @@ use Rattle.std.specs.Prelude.{ℕ, ◌++◌, List, [], length, Bool, if◌then�
 use Rattle.http.specs.StatusCode.{code_digits, reason_phrase}
 use Rattle.serde_json.specs.Data.{Data}
 use Rattle.serde_json.specs.Written.{compact_text}
-use Rattle.bcf_http.specs.declared.paths.RoutePath.{RoutePath}
-use Rattle.bcf_http.specs.Paths.{joined, methods_of}
+use Rattle.http_routes.specs.declared.paths.RoutePath.{RoutePath}
+use Rattle.http_routes.specs.Paths.{joined, methods_of}
 
 -- the status, with the phrase that the crate http gives to it
 unfoldable pub status_line : ℕ → List ℕ

@@ -2,8 +2,8 @@
 ghost use Rattle.std.specs.Prelude.{◌≡◌, IfOk, string_bytes};
 ghost use Rattle.bcf_http.specs.Answers.{IsResponse, IsAnswerText, refusal_status, reply_status, fault_status, frame_status, status_of, allow_of};
 
-use crate::calls::{ReplyKind, RequestFault};
-use crate::paths::RoutePath;
+use crate::asked::RequestFault;
+use crate::reply_kind::ReplyKind;
 use crate::responses::response;
 use crate::trees::answer_out;
 use bcf_viewpoints::ViewPart;
@@ -11,6 +11,7 @@ use bim_model::{Bytes, UploadFault};
 use book_history::{BookFault, BookReply, ReplyBody};
 use http::StatusCode;
 use http_frame::FrameFault;
+use http_routes::RoutePath;
 use std::alloc::{AllocError, Global};
 
 /// What is answered to a request, or to bytes that are none.

@@ -5,16 +5,15 @@ ghost use Rattle.book_history.specs.declared.requests.BookRequest.TheVariants.{P
 ghost use Rattle.bcf_bodies.specs.TopicBodies.{topic_body};
 ghost use Rattle.bcf_bodies.specs.CommentBodies.{comment_body};
 ghost use Rattle.bcf_bodies.specs.ViewBodies.{view_body};
-ghost use Rattle.bcf_http.specs.Calls.{object_of, author_of, asked_as, call_with, greatest, colored_weight, view_weight, topics_call, topic_call, comments_call, comment_call, views_call, view_call, call_of_topic, IsAskedAs};
+ghost use Rattle.bcf_http.specs.Asked.{object_of, author_of, asked_as, call_with, greatest, colored_weight, view_weight, topics_call, topic_call, comments_call, comment_call, views_call, view_call, call_of_topic, IsAskedAs};
 
+use crate::asked::{Action, Refusal};
 use crate::bodies::{comment_asked, topic_asked, view_asked};
-use crate::calls::{HttpCall, Refusal};
-use crate::paths::is_same;
-use crate::resource::TopicPlace;
 use bcf_viewpoints::{Coloring, ViewBody};
 use bim_model::{Author, Moment};
 use book_history::BookRequest;
 use http_frame::HttpRequest;
+use http_routes::{TopicPlace, is_same};
 use std::alloc::Global;
 
 // The call that makes a topic of the body.
@@ -23,7 +22,7 @@ fn post_topic(
     request: HttpRequest,
     moment: u64,
     project: u128,
-) -> Result<HttpCall, Refusal>
+) -> Result<Action, Refusal>
     requires { IsMoment moment }
     ensures { IsAskedAs result
         (call_with (λ body. PostTopic project body (author_of moment request) (length request.body))
@@ -31,7 +30,7 @@ fn post_topic(
 {
     let HttpRequest { user, body, .. } = request;
     match topic_asked(alloc, body.as_slice()) {
-        Ok(topic) => Ok(HttpCall::Ask(BookRequest::PostTopic {
+        Ok(topic) => Ok(Action::Call(BookRequest::PostTopic {
             project,
             body: topic,
             author: Author {
@@ -51,7 +50,7 @@ fn put_topic(
     moment: u64,
     project: u128,
     topic: u128,
-) -> Result<HttpCall, Refusal>
+) -> Result<Action, Refusal>
     requires { IsMoment moment }
     ensures { IsAskedAs result
         (call_with (λ body. PutTopic project topic body (author_of moment request) (length request.body))
@@ -59,7 +58,7 @@ fn put_topic(
 {
     let HttpRequest { user, body, .. } = request;
     match topic_asked(alloc, body.as_slice()) {
-        Ok(asked) => Ok(HttpCall::Ask(BookRequest::PutTopic {
+        Ok(asked) => Ok(Action::Call(BookRequest::PutTopic {
             project,
             topic,
             body: asked,
@@ -80,7 +79,7 @@ fn post_comment(
     moment: u64,
     project: u128,
     topic: u128,
-) -> Result<HttpCall, Refusal>
+) -> Result<Action, Refusal>
     requires { IsMoment moment }
     ensures { IsAskedAs result
         (call_with (λ body. PostComment project topic body (author_of moment request) (length request.body))
@@ -88,7 +87,7 @@ fn post_comment(
 {
     let HttpRequest { user, body, .. } = request;
     match comment_asked(alloc, body.as_slice()) {
-        Ok(comment) => Ok(HttpCall::Ask(BookRequest::PostComment {
+        Ok(comment) => Ok(Action::Call(BookRequest::PostComment {
             project,
             topic,
             body: comment,
@@ -110,7 +109,7 @@ fn put_comment(
     project: u128,
     topic: u128,
     comment: u128,
-) -> Result<HttpCall, Refusal>
+) -> Result<Action, Refusal>
     requires { IsMoment moment }
     ensures { IsAskedAs result
         (call_with
@@ -119,7 +118,7 @@ fn put_comment(
 {
     let HttpRequest { user, body, .. } = request;
     match comment_asked(alloc, body.as_slice()) {
-        Ok(asked) => Ok(HttpCall::Ask(BookRequest::PutComment {
+        Ok(asked) => Ok(Action::Call(BookRequest::PutComment {
             project,
             topic,
             comment,
@@ -140,14 +139,14 @@ pub fn topics_call(
     request: HttpRequest,
     moment: u64,
     project: u128,
-) -> Result<HttpCall, Refusal>
+) -> Result<Action, Refusal>
     requires { IsMoment moment }
     ensures { IsAskedAs result (topics_call moment request project) }
 {
     if is_same(request.method.as_slice(), "POST") {
         return post_topic(alloc, request, moment, project);
     }
-    Ok(HttpCall::Ask(BookRequest::ListTopics { project }))
+    Ok(Action::Call(BookRequest::ListTopics { project }))
 }
 
 // What is asked of a topic.
@@ -157,7 +156,7 @@ fn topic_call(
     moment: u64,
     project: u128,
     topic: u128,
-) -> Result<HttpCall, Refusal>
+) -> Result<Action, Refusal>
     requires { IsMoment moment }
     ensures { IsAskedAs result (topic_call moment request project topic) }
 {
@@ -165,9 +164,9 @@ fn topic_call(
         return put_topic(alloc, request, moment, project, topic);
     }
     if is_same(request.method.as_slice(), "DELETE") {
-        return Ok(HttpCall::Ask(BookRequest::DeleteTopic { project, topic }));
+        return Ok(Action::Call(BookRequest::DeleteTopic { project, topic }));
     }
-    Ok(HttpCall::Ask(BookRequest::ReadTopic { project, topic }))
+    Ok(Action::Call(BookRequest::ReadTopic { project, topic }))
 }
 
 // What is asked of the comments on a topic.
@@ -177,14 +176,14 @@ fn comments_call(
     moment: u64,
     project: u128,
     topic: u128,
-) -> Result<HttpCall, Refusal>
+) -> Result<Action, Refusal>
     requires { IsMoment moment }
     ensures { IsAskedAs result (comments_call moment request project topic) }
 {
     if is_same(request.method.as_slice(), "POST") {
         return post_comment(alloc, request, moment, project, topic);
     }
-    Ok(HttpCall::Ask(BookRequest::ListComments { project, topic }))
+    Ok(Action::Call(BookRequest::ListComments { project, topic }))
 }
 
 // What is asked of a comment on a topic.
@@ -195,7 +194,7 @@ fn comment_call(
     project: u128,
     topic: u128,
     comment: u128,
-) -> Result<HttpCall, Refusal>
+) -> Result<Action, Refusal>
     requires { IsMoment moment }
     ensures { IsAskedAs result (comment_call moment request project topic comment) }
 {
@@ -203,13 +202,13 @@ fn comment_call(
         return put_comment(alloc, request, moment, project, topic, comment);
     }
     if is_same(request.method.as_slice(), "DELETE") {
-        return Ok(HttpCall::Ask(BookRequest::DeleteComment {
+        return Ok(Action::Call(BookRequest::DeleteComment {
             project,
             topic,
             comment,
         }));
     }
-    Ok(HttpCall::Ask(BookRequest::ReadComment {
+    Ok(Action::Call(BookRequest::ReadComment {
         project,
         topic,
         comment,
@@ -245,7 +244,7 @@ fn post_view(
     request: &HttpRequest,
     project: u128,
     topic: u128,
-) -> Result<HttpCall, Refusal>
+) -> Result<Action, Refusal>
     ensures { IsAskedAs result
         (call_with (λ body. PostView project topic body (view_weight body))
         (asked_as view_body (object_of request.now.body))) }
@@ -253,7 +252,7 @@ fn post_view(
     match view_asked(alloc, request.body.as_slice()) {
         Ok(body) => {
             let weight = view_weight(body.get());
-            Ok(HttpCall::Ask(BookRequest::PostView {
+            Ok(Action::Call(BookRequest::PostView {
                 project,
                 topic,
                 body,
@@ -270,13 +269,13 @@ fn views_call(
     request: &HttpRequest,
     project: u128,
     topic: u128,
-) -> Result<HttpCall, Refusal>
+) -> Result<Action, Refusal>
     ensures { IsAskedAs result (views_call request.now project topic) }
 {
     if is_same(request.method.as_slice(), "POST") {
         return post_view(alloc, request, project, topic);
     }
-    Ok(HttpCall::Ask(BookRequest::ListViews { project, topic }))
+    Ok(Action::Call(BookRequest::ListViews { project, topic }))
 }
 
 // What is asked of a viewpoint.
@@ -305,7 +304,7 @@ pub fn call_of_topic(
     project: u128,
     topic: u128,
     place: TopicPlace,
-) -> Result<HttpCall, Refusal>
+) -> Result<Action, Refusal>
     requires { IsMoment moment }
     ensures { IsAskedAs result (call_of_topic moment request project topic place) }
 {
@@ -316,6 +315,6 @@ pub fn call_of_topic(
             comment_call(alloc, request, moment, project, topic, comment)
         }
         TopicPlace::Views => views_call(alloc, &request, project, topic),
-        TopicPlace::View(view, _) => Ok(HttpCall::Ask(view_call(&request, project, topic, view))),
+        TopicPlace::View(view, _) => Ok(Action::Call(view_call(&request, project, topic, view))),
     }
 }

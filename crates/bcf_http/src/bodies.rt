@@ -5,9 +5,9 @@ ghost use Rattle.serde_json.specs.Read.{read};
 ghost use Rattle.bcf_bodies.specs.TopicBodies.{topic_body};
 ghost use Rattle.bcf_bodies.specs.CommentBodies.{comment_body};
 ghost use Rattle.bcf_bodies.specs.ViewBodies.{view_body};
-ghost use Rattle.bcf_http.specs.Calls.{object_of, if_object, with_fault, asked_as, IsTreeOf, IsMeantAs};
+ghost use Rattle.bcf_http.specs.Asked.{object_of, if_object, with_fault, asked_as, IsTreeOf, IsMeantAs};
 
-use crate::calls::{Refusal, RequestFault};
+use crate::asked::{Refusal, RequestFault};
 use bcf_bodies::{BodyError, comment_in, topic_in, view_in};
 use bcf_topics::{CommentIn, TopicBody};
 use bcf_viewpoints::CheckedBody;

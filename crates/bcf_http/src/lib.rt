@@ -1,23 +1,15 @@
-//! From requests to calls of the book, and from its replies to responses (BCF API 3.0 over RFC 9112).
+//! What requests ask for, and from answers to the bytes of responses (BCF API 3.0 over RFC 9112).
 #![tactic(auto)]
 
 mod answers;
+mod arrays;
+mod asked;
 mod board_calls;
 mod bodies;
-mod calls;
-mod forms;
-mod lists;
-mod numbers;
-mod paths;
-mod query;
-mod resource;
+mod reply_kind;
 mod responses;
-mod routes;
-mod target;
 mod trees;
 
 pub use answers::{Answer, to_response};
-pub use calls::{HttpCall, Refusal, ReplyKind, RequestFault, kind_of, to_call};
-pub use paths::{RoutePath, TopicRow};
-pub use query::{MOST_PAIRS, QueryName};
-pub use routes::Routes;
+pub use asked::{Action, Refusal, RequestFault, asked_of};
+pub use reply_kind::ReplyKind;

@@ -2,9 +2,9 @@
 ghost use Rattle.std.specs.Prelude.{◌≡◌, ◌++◌, IfOk, string_bytes};
 ghost use Rattle.bcf_http.specs.Responses.{status_line, type_line, allow_line, turn_line, close_line, length_line, head_text, body_part, response_text};
 
-use crate::paths::{RoutePath, methods_text};
 use bim_model::Bytes;
 use http::StatusCode;
+use http_routes::{RoutePath, methods_text};
 use std::alloc::{AllocError, Global};
 
 #[tactic(auto, unfolding(crate::specs::Responses::status_line))]

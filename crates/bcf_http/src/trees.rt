@@ -4,9 +4,8 @@ ghost use Rattle.serde_json.specs.View.{view};
 ghost use Rattle.bcf_http.specs.Answers.{query_text, store_text, body_fault_tree, request_fault_tree, book_fault_tree, frame_fault_tree, IsReplyTree, IsAnswerTree};
 
 use crate::answers::Answer;
-use crate::calls::RequestFault;
-use crate::lists::{comments_out, project_out, projects_out, topics_out, views_out};
-use crate::query::QueryName;
+use crate::arrays::{comments_out, project_out, projects_out, topics_out, views_out};
+use crate::asked::RequestFault;
 use bcf_bodies::{BodyFault, comment_out, topic_out, view_out};
 use bcf_viewpoints::ViewPart;
 use book_history::{BookFault, ReplyBody, StoreWhat};
@@ -15,6 +14,7 @@ use coord_json::{
     error_store, error_version, pending_out, rule_fault_out, upload_fault_out, version_out,
 };
 use http_frame::FrameFault;
+use http_routes::QueryName;
 use serde_json::{Map, Value};
 use std::alloc::{AllocError, Global};
 

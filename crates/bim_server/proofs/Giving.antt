@@ -18,7 +18,7 @@ use Rattle.book_history.specs.Requests.{orders_in, orders_from, orders_of, all_o
 use Rattle.book_history.specs.Legal.{IsLegal}
 use Rattle.book_history.proofs.Given.{given_out}
 use Rattle.book_history.proofs.Legality.{given_later}
-use Rattle.bcf_http.specs.Calls.{BringsNone}
+use Rattle.bcf_http.specs.Asked.{BringsNone}
 use Rattle.bim_session.specs.Works.{IsFoundFor}
 use Rattle.bim_server.specs.Turns.{ServerState, Calls, with_turn, stamp_of, left_of}
 use Rattle.bim_server.specs.Working.{GivesOut}

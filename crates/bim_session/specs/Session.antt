@@ -18,12 +18,13 @@ use Rattle.book_history.specs.Runs.{Step}
 use Rattle.book_turn.specs.declared.object.Stamp.{Stamp}
 use Rattle.bim_model.specs.Snapshots.{Version}
 use Rattle.clash_publish.specs.declared.horizon.TheConstants.{LIVE_VERSIONS}
-use Rattle.bcf_http.specs.declared.calls.RequestFault.{RequestFault}
-use Rattle.bcf_http.specs.declared.calls.HttpCall.{HttpCall}
-use Rattle.bcf_http.specs.declared.calls.HttpCall.TheVariants.{Ask, Build}
+use Rattle.bcf_http.specs.declared.asked.RequestFault.{RequestFault}
+use Rattle.bcf_http.specs.declared.asked.Action.{Action}
+use Rattle.bcf_http.specs.declared.asked.Action.TheVariants.{Call, Build}
 use Rattle.bcf_http.specs.declared.answers.Answer.{Answer}
 use Rattle.bcf_http.specs.declared.answers.Answer.TheVariants as answer
-use Rattle.bcf_http.specs.Calls.{asked_by, kind_of, no_kind}
+use Rattle.bcf_http.specs.ReplyKinds.{kind_of, no_kind}
+use Rattle.bcf_http.specs.Asked.{asked_by}
 use Rattle.bcf_http.specs.Answers.{IsResponse}
 use Rattle.bim_session.specs.declared.talk.TheConstants.{MOST_REQUESTS}
 use Rattle.bim_session.specs.Notes.{named_project, project_read, set_told}
@@ -87,8 +88,8 @@ asking standing moment request = record { standing = standing; moment = moment; 
 
 -- the call of the book that what is asked for means: itself, or the upload of a model that the profile
 -- accepts
-abbrev pub MeansCall : Result HttpCall RequestFault → BookRequest → Type 0
-MeansCall (Ok (Ask asked)) call = asked ≡ call
+abbrev pub MeansCall : Result Action RequestFault → BookRequest → Type 0
+MeansCall (Ok (Call asked)) call = asked ≡ call
 MeansCall (Ok (Build project name mode body)) call =
     (model : List Element) × Profile body mode (Ok model) × (Upload project name model ≡ call)
 MeansCall (Err fault) call = ⊥
@@ -98,8 +99,8 @@ abbrev pub Means : ℕ → HttpRequest → BookRequest → Type 0
 Means moment request call = MeansCall (asked_by moment request) call
 
 -- how what is asked for is refused: by the request's fault, or by the one that the profile finds in the body
-abbrev pub RefusesCall : Result HttpCall RequestFault → Answer → Type 0
-RefusesCall (Ok (Ask asked)) refusal = ⊥
+abbrev pub RefusesCall : Result Action RequestFault → Answer → Type 0
+RefusesCall (Ok (Call asked)) refusal = ⊥
 RefusesCall (Ok (Build project name mode body)) refusal =
     (fault : UploadFault) × Profile body mode (Err fault) × (refusal ≡ answer.Built fault)
 RefusesCall (Err fault) refusal = refusal ≡ answer.Refused fault

@@ -1,15 +1,17 @@
 //! From requests to calls of the book, with the models that are built for them.
-ghost use Rattle.std.specs.Prelude.{Ok, IfOk, IfErr};
+ghost use Rattle.std.specs.Prelude.{◌≡◌, Ok, IfOk, IfErr};
 ghost use Rattle.bim_model.specs.Moments.{IsMoment};
 ghost use Rattle.model_build.specs.Profile.{IsCause};
 ghost use Rattle.bim_session.specs.Session.{Means, MeansCall};
 ghost use Rattle.bim_session.specs.Talking.{IsUnasked};
-ghost use Rattle.bcf_http.specs.Calls.{BringsNone};
+ghost use Rattle.bcf_http.specs.ReplyKinds.{kind_of};
+ghost use Rattle.bcf_http.specs.Asked.{BringsNone};
 
-use bcf_http::{Answer, HttpCall, Refusal, Routes, to_call};
+use bcf_http::{Action, Answer, Refusal, ReplyKind, asked_of};
 use bim_model::{BuildError, Bytes, Mode, Shared, Text};
 use book_history::BookRequest;
 use http_frame::HttpRequest;
+use http_routes::Routes;
 use model_build::build_owned;
 use std::alloc::Global;
 
@@ -21,7 +23,7 @@ fn upload_of(
     mode: Mode,
     body: Bytes,
 ) -> Result<BookRequest, BuildError>
-    ensures call { IfOk result (MeansCall (Ok (HttpCall.Build project name mode body))) }
+    ensures call { IfOk result (MeansCall (Ok (Action.Build project name mode body))) }
     ensures none { IfOk result BringsNone }
     ensures fault { IfErr result (λ error. IsCause body mode error) }
 {
@@ -34,35 +36,37 @@ fn upload_of(
     })
 }
 
-/// The call of the book that a request means at a moment, in seconds since 1970; or how the request is
-/// answered without one: by the fault that it alone decides, or by want of memory. The model of an upload is
-/// built here, before any turn is taken. The call brings no set of a bucket, so it may be made at every history.
+/// What the response needs of a request; and the call of the book that the request means at a moment, in seconds since
+/// 1970, or how it is answered without one: by the fault that it alone decides, or by want of memory. The model of an
+/// upload is built here, before any turn is taken. The call brings no set of a bucket, so it may be made at every history.
 pub fn call_of(
     alloc: Global,
     routes: &Routes,
     request: HttpRequest,
     moment: u64,
-) -> Result<BookRequest, Answer>
+) -> (ReplyKind, Result<BookRequest, Answer>)
     requires { IsMoment moment }
-    ensures call { IfOk result (Means moment request) }
-    ensures none { IfOk result BringsNone }
-    ensures unasked { IfErr result (IsUnasked moment request) }
+    ensures kind { result.0 ≡ kind_of request }
+    ensures call { IfOk result.1 (Means moment request) }
+    ensures none { IfOk result.1 BringsNone }
+    ensures unasked { IfErr result.1 (IsUnasked moment request) }
 {
-    match to_call(alloc, routes, request, moment) {
-        Ok(HttpCall::Ask(call)) => Ok(call),
+    let (kind, asked) = asked_of(alloc, routes, request, moment);
+    match asked {
+        Ok(Action::Call(call)) => (kind, Ok(call)),
         Ok(
-            HttpCall::Build {
+            Action::Build {
                 project,
                 name,
                 mode,
                 body,
             },
         ) => match upload_of(alloc, project, name, mode, body) {
-            Ok(call) => Ok(call),
-            Err(BuildError::Fault(fault)) => Err(Answer::Built(fault)),
-            Err(BuildError::Memory) => Err(Answer::Memory),
+            Ok(call) => (kind, Ok(call)),
+            Err(BuildError::Fault(fault)) => (kind, Err(Answer::Built(fault))),
+            Err(BuildError::Memory) => (kind, Err(Answer::Memory)),
         },
-        Err(Refusal::Fault(fault)) => Err(Answer::Refused(fault)),
-        Err(Refusal::Memory) => Err(Answer::Memory),
+        Err(Refusal::Fault(fault)) => (kind, Err(Answer::Refused(fault))),
+        Err(Refusal::Memory) => (kind, Err(Answer::Memory)),
     }
 }

@@ -11,7 +11,7 @@ use crate::calls::call_of;
 use crate::end::SessionEnd;
 use crate::notes::{Notes, project_read};
 use crate::want::{Waiting, Want};
-use bcf_http::{Answer, ReplyKind, Routes, kind_of, to_response};
+use bcf_http::{Answer, ReplyKind, to_response};
 use bim_io::Clock;
 use bim_model::Bytes;
 use book_history::{BookReply, BookRequest, ReplyBody};
@@ -19,6 +19,7 @@ use book_turn::fault::CallFault;
 use book_turn::turn::Receipt;
 use federation_book::Book;
 use http_frame::{FrameError, FrameFault, FrameStep, Framer, HttpRequest};
+use http_routes::Routes;
 use std::alloc::{AllocError, Global};
 use std::marker::Model;
 use std::mem::drop;
@@ -368,15 +369,15 @@ impl Talk {
         ensures own { IfOk result IsOwnWant }
         ensures callable { IfOk result IsCallable }
     {
-        let kind = kind_of(&self.routes, &request);
         let close = closes_after(&request, self.served + 1);
+        let (kind, call) = call_of(self.alloc, &self.routes, request, moment);
         let waiting = Waiting {
             kind,
             close,
             changes: false,
             reads: None,
         };
-        match call_of(self.alloc, &self.routes, request, moment) {
+        match call {
             Ok(call) => self.ask(waiting, call),
             Err(answer) => self.respond(answer, waiting, None),
         }

@@ -32,7 +32,7 @@ use Rattle.book_history.specs.Requests.{Outcome, Refusal, Answer, Accepted, unle
 use Rattle.book_history.specs.Runs.{Step}
 use Rattle.book_history.proofs.Histories.{AreOf, AreAbove, added_of, before_all, at_turn-new, of_turn-new}
 use Rattle.bcf_http.specs.declared.answers.Answer.TheVariants as answer
-use Rattle.bcf_http.specs.Calls.{kind_of}
+use Rattle.bcf_http.specs.ReplyKinds.{kind_of}
 use Rattle.bcf_http.specs.Answers.{IsResponse}
 use Rattle.bim_io.specs.Seen.{Outside}
 use Rattle.bim_session.specs.declared.notes.Notes.{Notes}

@@ -27,11 +27,12 @@ use Rattle.book_history.specs.Runs.{Step}
 use Rattle.book_history.proofs.Histories.{AreAbove, before_all, at_turn-new}
 use Rattle.book_passes.specs.Lessons.{CallerSeen, AllOf, stamp_in, turn_of}
 use Rattle.book_passes.specs.Laws.{TakesCall}
-use Rattle.bcf_http.specs.declared.calls.RequestFault.{RequestFault}
-use Rattle.bcf_http.specs.declared.calls.HttpCall.{HttpCall}
-use Rattle.bcf_http.specs.declared.calls.HttpCall.TheVariants.{Ask, Build}
+use Rattle.bcf_http.specs.declared.asked.RequestFault.{RequestFault}
+use Rattle.bcf_http.specs.declared.asked.Action.{Action}
+use Rattle.bcf_http.specs.declared.asked.Action.TheVariants.{Call, Build}
 use Rattle.bcf_http.specs.declared.answers.Answer.TheVariants as answer
-use Rattle.bcf_http.specs.Calls.{asked_by, kind_of}
+use Rattle.bcf_http.specs.ReplyKinds.{kind_of}
+use Rattle.bcf_http.specs.Asked.{asked_by}
 use Rattle.bcf_http.specs.Answers.{IsResponse}
 use Rattle.bim_session.specs.declared.notes.Notes.{Notes}
 use Rattle.bim_session.specs.Notes.{project_read, set_told, put_set, AsksKept, Noted}
@@ -201,9 +202,9 @@ none_in : (x : ℕ × ℕ) → Contains [] x → ⊥
 none_in x c = let lt = c.1 in absurd (omega (arith, lt))
 
 -- what is asked for means one call
-means_one : (asked : Result HttpCall RequestFault) (id v first count : ℕ) (call : BookRequest) → MeansCall asked (ReadClashes id (Number v) first count) → MeansCall asked call
+means_one : (asked : Result Action RequestFault) (id v first count : ℕ) (call : BookRequest) → MeansCall asked (ReadClashes id (Number v) first count) → MeansCall asked call
     → call ≡ ReadClashes id (Number v) first count
-means_one (Ok (Ask one)) id v first count call a b = sym b ∙ a
+means_one (Ok (Call one)) id v first count call a b = sym b ∙ a
 means_one (Ok (Build project name mode body)) id v first count call a b = let e = a.2 in cc
 means_one (Err fault) id v first count call a b = absurd a
 

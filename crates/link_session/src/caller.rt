@@ -2,7 +2,7 @@
 ghost use Rattle.std.specs.Prelude.{◌≡◌, ℕ, List, Option};
 ghost use Rattle.book_history.specs.declared.limits.Settings.{Settings};
 ghost use Rattle.book_history.specs.Runs.{Step};
-ghost use Rattle.bcf_http.specs.Calls.{BringsNone};
+ghost use Rattle.bcf_http.specs.Asked.{BringsNone};
 ghost use Rattle.book_passes.specs.Lessons.{CallerSeen};
 ghost use Rattle.link_session.specs.Callers.{Calls, steps_of, WorksBehind};
 

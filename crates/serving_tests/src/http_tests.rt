@@ -1,15 +1,13 @@
-//! Requests as calls, and responses against bytes written by hand.
+//! What requests ask for, and responses against bytes written by hand.
 use bcf_bodies::BodyFault;
-use bcf_http::{
-    Answer, HttpCall, QueryName, Refusal, ReplyKind, RequestFault, RoutePath, Routes, kind_of,
-    to_call, to_response,
-};
+use bcf_http::{Action, Answer, Refusal, ReplyKind, RequestFault, asked_of, to_response};
 use bcf_topics::{CommentIn, Topic, TopicBody};
 use bcf_viewpoints::ViewPart;
 use bim_model::{Author, Bytes, Items, Mode, Moment, Text};
 use book_history::{BookFault, BookReply, BookRequest, Horizon, ReplyBody, Wanted};
 use clash_rules::RuleFault;
 use http_frame::{FrameFault, HttpRequest};
+use http_routes::{QueryName, RoutePath, Routes};
 use std::alloc::{AllocError, Global};
 use std::process::Abort;
 use std::test::Fail;
@@ -31,19 +29,32 @@ fn request(
     })
 }
 
-fn kind_for(alloc: Global, request: &HttpRequest) -> Result<ReplyKind, AllocError> {
-    let routes = Routes::new(alloc)?;
-    let kind = kind_of(&routes, request);
-    drop(routes);
-    Ok(kind)
+// What a request asks for at 2024-05-01T12:00:00Z, and what its response needs of it.
+fn asked_for(
+    alloc: Global,
+    method: &str,
+    target: &str,
+    body: &str,
+) -> Result<(ReplyKind, Result<Action, Refusal>), Fail> {
+    let request = request(alloc, method, target, body)?;
+    match Routes::new(alloc) {
+        Ok(routes) => {
+            let asked = asked_of(alloc, &routes, request, 1_714_564_800);
+            drop(routes);
+            Ok(asked)
+        }
+        Err(error) => {
+            drop(request);
+            Err(Fail::from(error))
+        }
+    }
 }
 
 // What the response to a request without a body needs of it.
 fn kind(alloc: Global, method: &str, target: &str) -> Result<ReplyKind, Fail> {
-    let request = request(alloc, method, target, "")?;
-    let kind = kind_for(alloc, &request);
-    drop(request);
-    Ok(kind?)
+    let (kind, asked) = asked_for(alloc, method, target, "")?;
+    drop(asked);
+    Ok(kind)
 }
 
 #[test]
@@ -158,11 +169,11 @@ fn request_line(alloc: Global, request: &BookRequest) -> Result<String, AllocErr
     }
 }
 
-fn call_line(alloc: Global, call: &Result<HttpCall, Refusal>) -> Result<String, AllocError> {
-    match call {
-        Ok(HttpCall::Ask(request)) => request_line(alloc, request),
+fn asked_line(alloc: Global, asked: &Result<Action, Refusal>) -> Result<String, AllocError> {
+    match asked {
+        Ok(Action::Call(request)) => request_line(alloc, request),
         Ok(
-            HttpCall::Build {
+            Action::Build {
                 project,
                 name,
                 mode,
@@ -173,31 +184,11 @@ fn call_line(alloc: Global, call: &Result<HttpCall, Refusal>) -> Result<String, 
     }
 }
 
-fn call_of(
-    alloc: Global,
-    method: &str,
-    target: &str,
-    body: &str,
-) -> Result<Result<HttpCall, Refusal>, Fail> {
-    let request = request(alloc, method, target, body)?;
-    match Routes::new(alloc) {
-        Ok(routes) => {
-            let call = to_call(alloc, &routes, request, 1_714_564_800);
-            drop(routes);
-            Ok(call)
-        }
-        Err(error) => {
-            drop(request);
-            Err(Fail::from(error))
-        }
-    }
-}
-
 // What a request asks, in a line.
 fn told(alloc: Global, method: &str, target: &str, body: &str) -> Result<String, Fail> {
-    let call = call_of(alloc, method, target, body)?;
-    let line = call_line(alloc, &call);
-    drop(call);
+    let (_, asked) = asked_for(alloc, method, target, body)?;
+    let line = asked_line(alloc, &asked);
+    drop(asked);
     Ok(line?)
 }
 
@@ -276,8 +267,8 @@ fn models_and_versions_are_asked_for(rt: HostRuntime) -> Result<(), Fail> {
     Ok(())
 }
 
-fn is_refused(call: &Result<HttpCall, Refusal>, wanted: &RequestFault) -> bool {
-    match call {
+fn is_refused(asked: &Result<Action, Refusal>, wanted: &RequestFault) -> bool {
+    match asked {
         Err(Refusal::Fault(fault)) => fault == wanted,
         _ => false,
     }
@@ -288,9 +279,9 @@ fn is_refused_for(
     (method, target, body): (&str, &str, &str),
     wanted: &RequestFault,
 ) -> Result<bool, Fail> {
-    let call = call_of(alloc, method, target, body)?;
-    let is_refused = is_refused(&call, wanted);
-    drop(call);
+    let (_, asked) = asked_for(alloc, method, target, body)?;
+    let is_refused = is_refused(&asked, wanted);
+    drop(asked);
     Ok(is_refused)
 }
 

@@ -1,5 +1,5 @@
 use Rattle.std.proofs.Common.{◌≡◌, take, min}
-use Rattle.bcf_http.specs.Calls.{greatest, colored_weight}
+use Rattle.bcf_http.specs.Asked.{greatest, colored_weight}
 use Rattle.bcf_http.proofs.board_calls.colored.Given as goal
 
 -- what was counted so far, or the greatest number

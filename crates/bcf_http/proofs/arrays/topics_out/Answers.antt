@@ -1,0 +1,16 @@
+use Rattle.std.proofs.Common.{arith}
+use Rattle.bcf_bodies.specs.TopicTrees.{IsTopicTree}
+use Rattle.bcf_http.proofs.GrownTrees.{trees_more, trees_all}
+use Rattle.bcf_http.proofs.arrays.topics_out.Goals as goal
+
+pub loop-topic-preserved : goal.loop-topic-preserved
+loop-topic-preserved c =
+    let l = c.loop-topic in
+    let pushed = c.in_ok-push_topic.ensures in
+    trees_more (IsTopicTree c.args.project) c.args.topics.now l.topic-index l.trees.items c.push_topic.new.trees.items
+    c.loop-topic-test.true c.topic-item.result c.topic-item.is pushed.0 pushed.1 pushed.2 l.invariant
+
+pub returns : goal.returns
+returns c =
+    let l = c.loop-topic in
+    trees_all (IsTopicTree c.args.project) c.args.topics.now l.topic-index l.trees (omega arith) l.invariant

@@ -1,7 +1,0 @@
-use Rattle.bcf_http.proofs.Parts.{parts_of_found}
-use Rattle.bcf_http.proofs.routes.resource_on.Goals as goal
-
-pub resource_by-requires : goal.resource_by-requires
-resource_by-requires c =
-    let found = rw c.requires.table at c.in-Ok.ensures.found in
-    rw c.in-Ok.ensures.path (parts_of_found c.args.path.now _ found c.requires.ascii)

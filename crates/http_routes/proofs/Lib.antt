@@ -1,0 +1,5 @@
+pub mod Texts
+pub mod Routers
+pub mod Parts
+pub mod Rows
+pub mod Numerals
