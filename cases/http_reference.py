@@ -58,6 +58,7 @@ BLOCKS = [[(4, "0000000000000000000002", "Pipe 1", (0, 0, 0))],
           pipes((1500, 1500, 1500), (1500, 1500, 1550), (9500, 1500, 1500), (9500, 1500, 1640)),
           pipes((3950, 3950, 1500), (3950, 3950, 1510))]
 FILES = {file_of(*blocks): elements_of(*blocks) for blocks in BLOCKS}
+SMALL_FILE = file_of(*BLOCKS[0])
 
 
 class Beyond(Exception):
