@@ -23,13 +23,15 @@ def rules(distance):
     return b'{"rules":[{"a":"*","b":"*","distance":%d}]}' % distance
 
 
-def placed(count, side, step, rows=47):
-    """A file of so many pipes of one triangle with legs of `side` millimetres, which share it and stand `step` apart."""
+def placed(count, side, step, rows=47, each=1):
+    """A file of so many pipes of one triangle with legs of `side` millimetres, which share it and stand `step` apart, so many
+    at each place."""
     lines = [HEAD, f"#4=IFCCARTESIANPOINTLIST3D(((0.,0.,0.),({side}.,0.,0.),(0.,{side}.,0.)));\n"
              "#5=IFCTRIANGULATEDFACESET(#4,$,$,((1,2,3)),$);\n#6=IFCSHAPEREPRESENTATION($,'Body','Tessellation',(#5));\n"
              "#7=IFCPRODUCTDEFINITIONSHAPE($,$,(#6));\n"]
     for n in range(count):
-        x, y, z = (k * step for k in (n % rows, n // rows % rows, n // rows // rows))
+        place = n // each
+        x, y, z = ((k - rows // 2) * step for k in (place % rows, place // rows % rows, place // rows // rows))
         k = 10 + 4 * n
         lines.append(f"#{k}=IFCCARTESIANPOINT(({x}.,{y}.,{z}.));\n#{k + 1}=IFCAXIS2PLACEMENT3D(#{k},$,$);\n"
                      f"#{k + 2}=IFCLOCALPLACEMENT($,#{k + 1});\n#{k + 3}=IFCPIPESEGMENT('{n:022}',$,$,$,$,#{k + 2},#7,$,$);\n")
@@ -59,6 +61,8 @@ class Table:
             if it.status != 202:
                 break
             time.sleep(0.02)
+        if told is None:
+            return
         tree = json.loads(it.reply)
         print(f"  {told}: checked after {time.monotonic() - began:.2f} s more, {tree['total']:,} clashes, "
               f"{memory(self.server) / MB:.0f} MB", flush=True)
@@ -103,29 +107,35 @@ def elements(program, scale):
 
 
 def memberships(program, scale):
-    """Elements in 2,000,000 cells, and in more; then new rules until the journal has no room for the buckets."""
+    """Elements in just under 2,000,000 cells, and in more."""
     count = int(100000 * scale)
     with Server(program, lanes=2, workers=1) as server:
         table = Table(server)
-        best = None
-        for side in (9300, 9200, 9100, 9000, 8900, 8800, 8700, 8600, 8400, 8200, 8000):
-            it = table.client.ask("PUT", f"{V}/models/m", placed(count, side, 3170))
-            if it.status == 201:
-                best = side
-                break
-            print(f"  {count:,} elements of {side} mm: {it.status} after {it.came - it.sent:.3f} s, {it.reply[:80].decode()}", flush=True)
-        want(best, "none is few enough")
-        print(f"  {count:,} elements of {best} mm: 201 after {it.came - it.sent:.3f} s, {it.reply.decode()}, "
-              f"{memory(server) / MB:.0f} MB", flush=True)
-        newest = json.loads(it.reply)["version"]
-        for n in range(20):
-            it = table.client.ask("PUT", f"{V}/rules", rules(n % 2))
+        if scale == 1:
+            table.ask(f"{count:,} elements of 8,700 mm", "PUT", f"{V}/models/m", placed(count, 8700, 3170), 507)
+        table.ask(f"{count:,} elements of 8,600 mm", "PUT", f"{V}/models/m", placed(count, 8600, 3170), 201)
+        table.checked("that version", 1)
+
+
+def journal(program, scale):
+    """Two pipes at each place, in cells of their own, so that nearly a million buckets are to be checked; new rules then, until
+    the journal has no room for the buckets of one version more, and hasn't once all are checked either."""
+    count = int(100000 * scale)
+    with Server(program, lanes=2, workers=1) as server:
+        table = Table(server)
+        made = table.ask(f"{count:,} elements", "PUT", f"{V}/models/m", placed(count, 8000, 15000, 100, 2), 201)
+        print(f"  {made['left']:,} buckets", flush=True)
+        for n in range(1, 20):
+            it = table.client.ask("PUT", f"{V}/rules", rules(n))
             if it.status != 200:
                 break
-            newest = json.loads(it.reply)["version"]
-        print(f"  new rules {n + 1} times: {it.status} after {it.came - it.sent:.3f} s, {it.reply[:100].decode()}, "
-              f"{memory(server) / MB:.0f} MB", flush=True)
-        table.checked("the newest version", newest)
+        print(f"  new rules, number {n}: {it.status} after {it.came - it.sent:.3f} s, {it.reply[:100].decode()}", flush=True)
+        table.checked("the newest version", n)
+        if scale == 1:
+            for old in range(1, n):
+                table.checked(None, old)
+            table.ask("new rules, once all is checked", "PUT", f"{V}/rules", rules(0), 507)
+            table.ask("a topic", "POST", topics_of(), b'{"title":"a"}', 201)
 
 
 def pairs(program, scale):
@@ -179,7 +189,7 @@ def triangles(program, scale):
             table.ask("one triangle more", "PUT", f"{V}/models/n", SMALL_FILE, 507)
 
 
-ROWS = {it.__name__: it for it in (elements, memberships, pairs, topics, triangles)}
+ROWS = {it.__name__: it for it in (elements, memberships, journal, pairs, topics, triangles)}
 
 
 def main():
@@ -192,7 +202,7 @@ def main():
         words.error("the rows are " + ", ".join(ROWS))
     failed = 0
     for name in said.rows or ROWS:
-        print(f"{name}: {ROWS[name].__doc__.split('.')[0]}", flush=True)
+        print(f"{name}: " + " ".join(ROWS[name].__doc__.split()), flush=True)
         try:
             ROWS[name](os.path.abspath(said.program), said.scale)
         except (Row, OSError) as fault:
