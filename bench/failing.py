@@ -14,7 +14,6 @@ import concurrent.futures
 import os
 import random
 import re
-import signal
 import socket
 import struct
 import subprocess
@@ -326,7 +325,7 @@ class Failing(Server):
         os.close(file)
         self.run = subprocess.Popen(self.words, env=tool.environment(kind, count=self.count, **settings),
                                     stdin=subprocess.DEVNULL, stdout=subprocess.PIPE, stderr=subprocess.PIPE,
-                                    preexec_fn=lambda: signal.signal(signal.SIGINT, signal.SIG_DFL))
+                                    preexec_fn=self.begins)
 
     def calls(self):
         """How many calls there were so far."""

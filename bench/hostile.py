@@ -10,11 +10,10 @@ import json
 import os
 import random
 import re
-import selectors
+import resource
 import signal
 import socket
 import struct
-import subprocess
 import sys
 import threading
 import time
@@ -22,14 +21,14 @@ import time
 HERE = os.path.dirname(os.path.abspath(__file__))
 sys.path[:0] = [HERE, os.path.join(HERE, "..", "cases")]
 import http_reference as reference  # noqa: E402
-from serve import (HOST, Client, Exchange, Row, Server, check_replies, fill, in_threads, model, plain, project_id,  # noqa: E402
-                   take_response, topics_of, want)
+from serve import (HOST, RULES as RULE_BODIES, Client, Exchange, Row, Server, check_replies, fill, in_threads,  # noqa: E402
+                   project_id, take_response, topics_of, want)
 
 MIB = 1 << 20
+RULES = RULE_BODIES[1]
 # What a server takes before anything is sent, and for each lane its stack, its buffers and its share of the C library's heap.
 # A lane holds the bytes of one request, in a buffer that doubles, and while that grows the old one beside it.
 IDLE, LANE, BODY = 16 * MIB, MIB, 3
-TURN = re.compile(rb"X-Book-Turn: \d+\r\n")
 
 
 class Flood:
@@ -42,10 +41,10 @@ class Flood:
         return whole if self.full else part
 
 
-def memory(server):
-    """The most memory that the server has taken so far, in bytes."""
+def memory(server, which="VmHWM"):
+    """The most memory that the server has taken so far, or what it takes now, in bytes."""
     with open(f"/proc/{server.run.pid}/status", encoding="ascii") as file:
-        return int(re.search(r"VmHWM:\s+(\d+) kB", file.read())[1]) * 1024
+        return int(re.search(which + r":\s+(\d+) kB", file.read())[1]) * 1024
 
 
 def bounded(server, lanes, body=0, book=0):
@@ -89,11 +88,6 @@ def send(it, data, pieces=None, chance=None):
             data = data[size:]
     except OSError:
         pass
-
-
-def like(data):
-    """Bytes without turns and dates."""
-    return TURN.sub(b"", plain(data))
 
 
 def ask_on(client, done, waits):
@@ -445,7 +439,61 @@ def bodies(flood, lanes=4):
     return f"{lanes - 2} bodies of {size / MIB:.0f} MiB at once, {told}, {taken}"
 
 
-ROWS = {it.__name__: it for it in (drip, heads, lengths, cuts, resets, pipelined, never_read, bodies)}
+class Limited(Server):
+    """A server whose address space has a bound, so that memory is refused beyond it."""
+
+    def __init__(self, program, space, **how):
+        self.space = space
+        super().__init__(program, **how)
+
+    def begins(self):
+        super().begins()
+        resource.setrlimit(resource.RLIMIT_AS, (self.space, self.space))
+
+
+def long_name(count, size):
+    """A file of so many pipes in one storey, whose name has so many bytes."""
+    pipes = reference.file_of(*((100 + 10 * n, f"{n:022}", "p", (1000 * n, 0, 0)) for n in range(count)))
+    storey = f"#4=IFCBUILDINGSTOREY('{'s' * 22}',$,'{'n' * size}',$,$,$,$,$,.ELEMENT.,$);\n#5=IFCRELCONTAINEDINSPATIALSTRUCTURE("
+    storey += f"'{'r' * 22}',$,$,$,({','.join(f'#{104 + 10 * n}' for n in range(count))}),#4);\n"
+    return pipes.replace(b"ENDSEC;\nEND-ISO", storey.encode() + b"ENDSEC;\nEND-ISO")
+
+
+def wanting(flood, lanes=3):
+    """A version whose list is longer than memory lasts, and one with more pairs than it lasts: the first is answered 503, the
+    second stays to be checked, and all else goes on, on the lanes and at the worker, also of versions made behind them."""
+    v = f"/coord/1/projects/{project_id(1)}"
+    with Limited(flood.program, 320 * MIB, lanes=lanes) as server:
+        client, other = Client(server), Client(server)
+        want(client.ask("PUT", f"{v}/models/a", long_name(100, MIB)).status == 201, "no version")
+        it = client.ask("GET", f"{v}/versions/1")
+        want(it.status == 503 and json.loads(it.reply)["code"] == "M1", f"{it.status} {it.reply[:80]!r}")
+        want(other.ask("POST", topics_of(), b'{"title":"beside"}').status == 201, "no topic beside it")
+        client.ask("DELETE", f"{v}/models/a")
+        client.ask("PUT", f"{v}/rules", RULES)
+        heap = reference.file_of(*((10 + 10 * n, f"{n:022}", "p", (1500, 1500, 1500)) for n in range(5000)))
+        want(client.ask("PUT", f"{v}/models/b", heap).status == 201, "no version")
+        deadline = time.monotonic() + 120
+        while memory(server, "VmRSS") > memory(server) / 2 or memory(server) < 80 * MIB:
+            want(time.monotonic() < deadline, "memory is not refused")
+            want(other.ask("GET", f"{v}/versions/4/clashes").status == 202, "the clashes are there")
+            time.sleep(0.01)
+        most = memory(server)
+        client.ask("DELETE", f"{v}/models/b")
+        client.ask("PUT", f"{v}/models/c", reference.file_of(*reference.BLOCKS[1]))
+        deadline = time.monotonic() + 60
+        while (found := client.ask("GET", f"{v}/versions/6/clashes")).status == 202:
+            want(time.monotonic() < deadline, "the worker that was refused memory works no more")
+            time.sleep(0.02)
+        want(json.loads(found.reply)["total"] == 1, f"{found.reply[:80]!r}")
+        want(json.loads(other.ask("GET", topics_of()).reply)[0]["title"] == "beside", "no topic")
+        client.close()
+        other.close()
+        end(server)
+    return f"refused at {most / MIB:.0f} MiB"
+
+
+ROWS = {it.__name__: it for it in (drip, heads, lengths, cuts, resets, pipelined, never_read, bodies, wanting)}
 
 
 def main():
