@@ -6,7 +6,8 @@ use Rattle.bim_io.specs.Seen.{SinkSeen, SinkTakes}
 use Rattle.bim_io.proofs.Calls.{takes_none, takes_trans}
 use Rattle.batch_commands.specs.declared.block.Stop.{Stop}
 use Rattle.batch_commands.specs.declared.block.Stop.TheVariants.{Write, Memory}
-use Rattle.batch_commands.specs.Writes.{WritesLess, WritesFront, Stops, Flushes, Puts, Prints, status_of, stop_status}
+use Rattle.bim_io.specs.Writes.{WritesLess}
+use Rattle.batch_commands.specs.Writes.{WritesFront, Stops, Flushes, Puts, Prints, status_of, stop_status}
 
 -- what a `?` returns
 pub residual : {A E : Type 0} (r : Result A E) (e : E) → IsErrAnd r (λ x. x ≡ e) → r ≡ Err e

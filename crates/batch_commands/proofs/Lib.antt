@@ -1,5 +1,4 @@
 pub mod Reading
-pub mod Written
 pub mod Blocks
 pub mod Printed
 pub mod Pieces

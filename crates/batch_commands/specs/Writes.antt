@@ -5,17 +5,6 @@ use Rattle.bim_io.specs.Seen.{SinkSeen, SinkTakes}
 use Rattle.batch_commands.specs.declared.block.Stop.{Stop}
 use Rattle.batch_commands.specs.declared.block.Stop.TheVariants.{Write, Memory}
 
--- a front of the bytes was written, and not all of them, since a write failed
-abbrev pub WritesLess : SinkSeen → SinkSeen → List ℕ → Type 0
-WritesLess old new bytes =
-    (front : List ℕ) × (more : List ℕ) × (bytes ≡ front ++ more) × (more ≢ [])
-    × SinkTakes old new front × Rose old.faults new.faults
-
--- all the bytes were written, or a front of them where a write failed
-abbrev pub WritesWhole : {E : Type 0} → SinkSeen → SinkSeen → List ℕ → Result (Unit {0}) E → Type 0
-WritesWhole old new bytes (Ok u) = SinkTakes old new bytes × (new.faults ≡ old.faults)
-WritesWhole old new bytes (Err e) = WritesLess old new bytes
-
 -- a front of these bytes was written
 abbrev pub WritesFront : SinkSeen → SinkSeen → List ℕ → Type 0
 WritesFront old new bytes =

@@ -1,8 +1,8 @@
 //! Writing in blocks.
-ghost use Rattle.std.specs.Prelude.{◌≡◌, ◌≤◌, [], length, drop, OnOk};
-ghost use Rattle.batch_commands.specs.Writes.{WritesWhole, Puts, Flushes};
+ghost use Rattle.std.specs.Prelude.{◌≡◌, [], OnOk};
+ghost use Rattle.batch_commands.specs.Writes.{Puts, Flushes};
 
-use bim_io::{Failed, Sink};
+use bim_io::{Sink, write_whole};
 use std::alloc::{AllocError, Global};
 
 /// Why what is printed stops.
@@ -27,28 +27,7 @@ impl From<AllocError> for Stop {
 // How many bytes are gathered before they are written.
 const BLOCK: usize = 65_536;
 
-fn tail(bytes: &[u8], at: usize) -> &[u8]
-    requires { at ≤ length bytes.now }
-    ensures { result.now ≡ drop at bytes.now }
-{
-    &bytes[at..]
-}
-
-/// Writes all the bytes, or a front of them where a write fails.
-pub fn write_whole<K: Sink>(sink: &mut K, bytes: &[u8]) -> Result<(), Failed>
-    ensures { WritesWhole (K.seen sink.old) (K.seen sink.new) bytes.now result }
-{
-    let mut at = 0;
-    while at < bytes.len() {
-        match sink.write(tail(bytes, at)) {
-            Ok(count) => at += count,
-            Err(failed) => return Err(failed),
-        }
-    }
-    Ok(())
-}
-
-/// The same, where a failure is a reason to stop.
+/// Writes all the bytes; a failed write is a reason to stop.
 pub fn write_bytes<K: Sink>(sink: &mut K, bytes: &[u8]) -> Result<(), Stop>
     ensures { Flushes (K.seen sink.old) (K.seen sink.new) bytes.now result }
 {

@@ -13,7 +13,6 @@ mod report;
 mod rules_file;
 mod statuses;
 
-pub use block::write_whole;
 pub use check::run_check;
 pub use generate::run_generate;
 pub use statuses::print_usage;

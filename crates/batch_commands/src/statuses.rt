@@ -2,8 +2,8 @@
 ghost use Rattle.std.specs.Prelude.{◌≡◌};
 ghost use Rattle.batch_commands.specs.Writes.{status_of, PrintsUsage};
 
-use crate::block::{Stop, write_whole};
-use bim_io::Sink;
+use crate::block::Stop;
+use bim_io::{Sink, write_whole};
 
 const USAGE: &str = "usage: bim_server replay|check|generate|serve\n";
 

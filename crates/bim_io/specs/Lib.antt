@@ -1,3 +1,4 @@
 pub mod Causes
 pub mod Seen
 pub mod Memory
+pub mod Writes

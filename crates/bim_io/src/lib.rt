@@ -6,9 +6,11 @@ mod clocks;
 mod memory;
 mod sure;
 mod traits;
+mod whole;
 
 pub use adapters::{StdSink, StdSource, SystemClock};
 pub use clocks::{ListClock, MemClock};
 pub use memory::{MemSink, MemSource};
 pub use sure::{SureSink, SureSource};
 pub use traits::{Clock, Failed, Sink, Source};
+pub use whole::write_whole;

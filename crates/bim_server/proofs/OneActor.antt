@@ -59,9 +59,6 @@ alone_of settings old new steps ready e =
           (e.run before (subst (λ (s : Settings). IsRun s before old.history) (sym ready.settings_are) run) one count);
     }
 
-pub settled_on : (settings : Settings) (old new : ServerState) (steps : List Step) → IsSettled settings old → Extends old new steps → IsSettled settings new
-settled_on settings old new steps ready e = record { settings_are = e.settings ∙ ready.settings_are; before = e.earlier ready.before }
-
 -- the laws of a caller
 pub laws_alone : (settings : Settings) (buckets : Option ℕ) → CallerLaws buckets (GoesAlone settings)
 laws_alone settings buckets = record {

@@ -1,5 +1,5 @@
 -- How a session grows by one more event, and its history by more steps.
-use Rattle.std.proofs.Common.{◌≡◌, ◌⊎◌, ℕ, zero, suc, ◌+◌, ◌*◌, ◌<◌, ◌≤◌, List, [], ◌∷◌, ◌++◌, length, filter, nat_lt, Some, true, false, inl, inr, sym, ◌∙◌, ap, subst, refl, append_assoc, append-nil, add_assoc, length-append, arith}
+use Rattle.std.proofs.Common.{◌≡◌, ◌⊎◌, ℕ, zero, suc, ◌+◌, ◌*◌, ◌<◌, ◌≤◌, List, [], ◌∷◌, ◌++◌, filter, nat_lt, Some, true, false, inl, inr, sym, ◌∙◌, ap, subst, refl, append_assoc, append-nil, add_assoc, arith}
 use Rattle.std.proofs.lemmas.List.Elements.{filter-append}
 use Rattle.std.proofs.lemmas.Bool.Decides.{nat_tests}
 use Rattle.http_frame.specs.Events.{Event}
@@ -11,7 +11,7 @@ use Rattle.book_history.specs.declared.requests.BookRequest.TheVariants.{ReadCla
 use Rattle.book_history.specs.declared.requests.Wanted.TheVariants.{Number}
 use Rattle.book_history.specs.History.{at_turn, of_turn, newest_of, left_all, IsBefore}
 use Rattle.book_history.specs.Requests.{reply_of, added_by}
-use Rattle.book_history.specs.Runs.{Step, Runs}
+use Rattle.book_history.specs.Runs.{Step}
 use Rattle.book_history.proofs.Histories.{AreAbove, AreOf, added_of, at_turn-grown, of_turn-grown, at_turn-new, of_turn-new}
 use Rattle.bcf_http.specs.declared.answers.Answer.TheVariants as answer
 use Rattle.bim_session.specs.Works.{Standing, Printed, IsTaken, Gives, WorksOne, WorksOn, Works, IsEnough, left_behind, last_turn}
@@ -403,12 +403,3 @@ entry_new settings history step before =
     of_turn-new step.stamp.turn history added before own
     ∙ ap (λ es. added_by settings es step.stamp step.request) (sym (at_turn-new step.stamp.turn history added before own))
 
--- the last turn of a run is the number of its steps
-pub run_last : (settings : Settings) (done : List Step) (h : List Entry) (steps : List Step) (final : List Entry) → Runs settings done h steps final
-    → last_turn (length done) steps ≡ length done + length steps
-run_last settings done h [] final runs = let e : length done ≡ length done + 0 = omega arith in e
-run_last settings done h (s ∷ ss) final runs =
-    let turn : s.stamp.turn ≡ length done + 1 = runs.0.turn in
-    let one : length (done ++ s ∷ []) ≡ length done + 1 = length-append done (s ∷ []) in
-    let rest = run_last settings (done ++ s ∷ []) (h ++ added_by settings h s.stamp s.request) ss final runs.1 in
-    ap (λ n. last_turn n ss) (turn ∙ sym one) ∙ rest ∙ (let e : length (done ++ s ∷ []) + length ss ≡ length done + suc (length ss) = omega (arith, one) in e)

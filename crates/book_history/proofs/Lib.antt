@@ -1,7 +1,7 @@
-pub mod Told
+pub mod ToldSums
 pub mod Least
 pub mod Listing
-pub mod Alone
+pub mod OneGrid
 pub mod Same
 pub mod States
 pub mod Growing
@@ -9,3 +9,4 @@ pub mod Legality
 pub mod Live
 pub mod Given
 pub mod Histories
+pub mod Staying

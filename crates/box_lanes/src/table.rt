@@ -1,5 +1,6 @@
 //! A table of boxes, in which those near a box are found eight at a time.
-ghost use Rattle.std.specs.Prelude.{◌≡◌, ◌+◌, ◌-◌, ◌*◌, ◌/◌, ◌%◌, ◌≤◌, ◌<◌, ◌^◌, ◌++◌, [], ℕ, List, length, map, take, drop, min, All, IfOk, OnOk, OnErr};
+ghost use Rattle.std.specs.Prelude.{◌≡◌, ◌+◌, ◌-◌, ◌+ℤ◌, ◌-ℤ◌, pos, ◌*◌, ◌/◌, ◌%◌, ◌≤◌, ◌<◌, ◌^◌, ◌++◌, [], ℕ, List, length, map, take, drop, min, All, IfOk, OnOk, OnErr};
+ghost use Rattle.std.specs.Int.{saturate_signed, w32};
 ghost use Rattle.std.specs.Simd.Lanes.{mask_l, chunk};
 ghost use Rattle.bim_model.specs.declared.geometry.Extent.{Extent};
 ghost use Rattle.bim_model.specs.Gaps.{is_within};
@@ -241,20 +242,46 @@ fn block_end(from: usize, count: usize) -> usize
     if end < count { end } else { count }
 }
 
+// A low side less `grow`, as far as 32 bits go. It takes half the steps of a subtraction that watches for overflow.
+#[inline(always)]
+fn lowered(side: i32, grow: u32) -> i32
+    ensures { result ≡ saturate_signed w32 (side -ℤ pos grow) }
+{
+    let least = i64::from(side) - i64::from(grow);
+    if least < i64::from(i32::MIN) {
+        i32::MIN
+    } else {
+        least as i32
+    }
+}
+
+// A high side and `grow`, as far as 32 bits go.
+#[inline(always)]
+fn raised(side: i32, grow: u32) -> i32
+    ensures { result ≡ saturate_signed w32 (side +ℤ pos grow) }
+{
+    let greatest = i64::from(side) + i64::from(grow);
+    if greatest > i64::from(i32::MAX) {
+        i32::MAX
+    } else {
+        greatest as i32
+    }
+}
+
 /// The box grown by `grow` on each side, as far as 32 bits go.
 fn grown(probe: &Extent, grow: u32) -> Extent
     ensures { (box : Extent) → Fits32 box → meets result box ≡ is_within probe.now grow box }
 {
     Extent {
         low: Point {
-            x: probe.low.x.saturating_sub_unsigned(grow),
-            y: probe.low.y.saturating_sub_unsigned(grow),
-            z: probe.low.z.saturating_sub_unsigned(grow),
+            x: lowered(probe.low.x, grow),
+            y: lowered(probe.low.y, grow),
+            z: lowered(probe.low.z, grow),
         },
         high: Point {
-            x: probe.high.x.saturating_add_unsigned(grow),
-            y: probe.high.y.saturating_add_unsigned(grow),
-            z: probe.high.z.saturating_add_unsigned(grow),
+            x: raised(probe.high.x, grow),
+            y: raised(probe.high.y, grow),
+            z: raised(probe.high.z, grow),
         },
     }
 }

@@ -122,7 +122,8 @@ fn add_pair<L: Ledger>(
     }
 }
 
-// Adds the pairs of one member with those at the places.
+// Adds the pairs of one member with those at the places. Most rows have none, and aren't worth a call.
+#[inline(always)]
 fn add_row<L: Ledger>(
     grid: &Grid,
     cell: Cell,
@@ -215,8 +216,22 @@ fn own_places<L: Ledger>(
         2 * steps.new ≤ 2 * steps.old + m * (m - 1) }
 {
     let _boxes = grid.boxes();
-    let members = grid.members(cell);
+    let members = grid.members_in_turn(cell, &mut room.next);
     found_among(alloc, grid, cell, members, room, steps)
+}
+
+// The pairs as a list that several owners hold.
+fn shared(
+    alloc: Global,
+    pairs: Vec<SetPair>,
+    room: &mut Room,
+) -> Result<Shared<Items<SetPair>>, AllocError>
+    ensures { IfOk result (λ list. list ≡ pairs.items) }
+{
+    if pairs.is_empty() {
+        return room.no_pairs(alloc);
+    }
+    Shared::new(alloc, Items::from_vec(pairs))
 }
 
 /// Checks a bucket: the set has exactly the clashes of the version that the bucket owns, in the order of
@@ -234,6 +249,6 @@ pub fn check<L: Ledger>(
         2 * steps.new ≤ 2 * steps.old + m * (m - 1) }
 {
     let pairs = own_places(alloc, work.grid.get(), work.cell, room, steps)?;
-    let pairs = Shared::new(alloc, Items::from_vec(pairs))?;
+    let pairs = shared(alloc, pairs, room)?;
     Ok(BucketSet::of(work, pairs))
 }

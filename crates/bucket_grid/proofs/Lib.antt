@@ -7,12 +7,12 @@ pub mod Parts
 pub mod Tables
 pub mod Zips
 pub mod Reach
-pub mod Lying
+pub mod LyingInCells
 pub mod Whole
 pub mod Found
 pub mod Rising
 pub mod Searching
-pub mod Alone
+pub mod OneOwner
 pub mod Points
 pub mod Near
 pub mod Counted

@@ -23,7 +23,7 @@ use Rattle.bucket_grid.specs.Cells.{owner_of}
 use Rattle.bucket_grid.specs.Places.{IsInOrder}
 use Rattle.bucket_grid.specs.Laws.{HaveOneOwner}
 use Rattle.bucket_grid.proofs.Owners.{Close, CloseBoxes, owner_is_least}
-use Rattle.bucket_grid.proofs.Alone.{one_owner}
+use Rattle.bucket_grid.proofs.OneOwner.{one_owner}
 use Rattle.bucket_grid.proofs.Reach.{in_order}
 
 -- ---- the distance of a rule that decides is at most 1,000

@@ -1,5 +1,5 @@
 -- Where a cell stands among buckets that rise.
-use Rattle.std.specs.Prelude.{◌≡◌, ℕ, ◌<◌, ◌≤◌, List, length, slice_index_or, AllPairs, Any}
+use Rattle.std.specs.Prelude.{◌≡◌, ℕ, ◌+◌, ◌<◌, ◌≤◌, List, length, slice_index_or, AllPairs, Any}
 use Rattle.std.specs.declared.cmp.Ordering.TheVariants.{Less, Greater}
 use Rattle.bucket_grid.specs.declared.cell.Cell.{Cell}
 use Rattle.bucket_grid.specs.declared.table.Bucket.{Bucket}
@@ -13,6 +13,10 @@ Rise buckets = AllPairs (λ (b c : Bucket). cell_cmp b.cell c.cell ≡ Less) buc
 pub record IsAt (buckets : List Bucket) (cell : Cell) (k : ℕ) : Type 0 where
   pub within : k < length buckets
   pub is : (d : Bucket) → (slice_index_or buckets k d).cell ≡ cell
+
+-- the place after the cell's
+abbrev pub IsAfter : List Bucket → Cell → ℕ → Type 0
+IsAfter buckets cell next = (k : ℕ) × (next ≡ k + 1) × IsAt buckets cell k
 
 -- no bucket is of the cell
 abbrev pub IsNowhere : List Bucket → Cell → Type 0

@@ -1,7 +1,8 @@
 //! Cells.
-ghost use Rattle.std.specs.Prelude.{◌≡◌, ◌≤◌, ◌&&◌, unsigned_abs};
+ghost use Rattle.std.specs.Prelude.{◌≡◌, ◌+◌, ◌≤◌, ◌&&◌, unsigned_abs};
 ghost use Rattle.bim_model.specs.Points.{grid_limit};
-ghost use Rattle.bucket_grid.specs.Cells.{first_cell, last_cell};
+ghost use Rattle.bucket_grid.specs.declared.cell.TheConstants.{GROWTH};
+ghost use Rattle.bucket_grid.specs.Cells.{cell_of, first_cell, last_cell};
 
 use bim_model::PER_MM;
 
@@ -19,13 +20,26 @@ pub const SIDE: i32 = 4_000 * PER_MM;
 /// By how much a box is grown on each side, in grid numbers.
 pub const GROWTH: i32 = 1_000 * PER_MM;
 
+// How many cells zero is moved up, so that no coordinate with its growth is below zero.
+const CELLS_UP: i32 = 2_100;
+
+// The cell of a coordinate. Numbers without a sign are divided in a third of the time.
+#[inline(always)]
+fn cell_of(coordinate: i32) -> i32
+    requires { unsigned_abs coordinate ≤ grid_limit + unsigned_abs GROWTH }
+    ensures is { result ≡ cell_of coordinate }
+    ensures small { unsigned_abs result ≤ 2100 }
+{
+    ((coordinate + CELLS_UP * SIDE) as u32 / SIDE as u32) as i32 - CELLS_UP
+}
+
 /// The first cell of an axis that holds a low side.
 pub fn first_cell(low: i32) -> i32
     requires { unsigned_abs low ≤ grid_limit }
     ensures is { result ≡ first_cell low }
     ensures small { unsigned_abs result ≤ 2100 }
 {
-    (low - GROWTH).div_euclid(SIDE)
+    cell_of(low - GROWTH)
 }
 
 /// The last cell of an axis that holds a high side.
@@ -34,5 +48,5 @@ pub fn last_cell(high: i32) -> i32
     ensures is { result ≡ last_cell high }
     ensures small { unsigned_abs result ≤ 2100 }
 {
-    (high + GROWTH).div_euclid(SIDE)
+    cell_of(high + GROWTH)
 }

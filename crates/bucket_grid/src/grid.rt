@@ -15,13 +15,14 @@ ghost use Rattle.bucket_grid.specs.Subjects.{AreBoxes, subject_at};
 ghost use Rattle.bucket_grid.specs.Places.{IsPlace, IsGridBox};
 ghost use Rattle.bucket_grid.specs.Table.{upto, table, IsTable};
 ghost use Rattle.bucket_grid.specs.Grids.{HasMemberships};
+ghost use Rattle.bucket_grid.specs.Search.{IsAfter};
 ghost use Rattle.bucket_grid.specs.declared.cell.Cell.{Cell};
 ghost use Rattle.bucket_grid.specs.declared.grid.GridError.TheVariants.{TooSpread};
 
 use crate::axis::{Axis, Range, cells_on, range_on, spans_on};
 use crate::cell::Cell;
 use crate::owner::shared_cell;
-use crate::search::place_of;
+use crate::search::{place_by, place_of};
 use crate::subjects::{Gathered, Member, gather};
 use crate::table::{Axes, Bucket, table_of};
 use bim_model::{Element, Extent, NamedModel, Rules, Shared, Snapshot};
@@ -304,6 +305,24 @@ impl Grid {
         let buckets = self.buckets();
         match place_of(buckets, cell) {
             Some(place) => buckets[place].members.as_slice(),
+            None => &[],
+        }
+    }
+
+    /// The same, for who asks for one bucket after the other: the cell is looked for at the place `next` among the
+    /// buckets first, and `next` is then the place after its bucket. Where the cell is no bucket, `next` stays.
+    pub fn members_in_turn(&self, cell: Cell, next: &mut usize) -> &[u32]
+        ensures bucket { IsBucket self.now.boxes cell → result.now ≡ members self.now.boxes cell }
+        ensures none { (IsBucket self.now.boxes cell → ⊥) → result.now ≡ [] }
+        ensures next { IsBucket self.now.boxes cell → IsAfter self.now.buckets cell next.new }
+        ensures stays { (IsBucket self.now.boxes cell → ⊥) → next.new ≡ next.old }
+    {
+        let buckets = self.buckets();
+        match place_by(buckets, cell, *next) {
+            Some(place) => {
+                *next = place + 1;
+                buckets[place].members.as_slice()
+            }
             None => &[],
         }
     }

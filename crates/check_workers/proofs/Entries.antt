@@ -72,14 +72,6 @@ module _ {E : Type 0} (pass : E → ℕ) where
     head_of e es true is all = All-head P e es all
     head_of e es false is all = absurd (cc)
 
-    pub calls_all : (ps : List ℕ) (es : List E) → All P es → All P (calls_by pass ps es)
-    calls_all ps [] all = All-nil P
-    calls_all ps (e ∷ es) all = kept (has (pass e) ps) (All-head P e es all) (calls_all ps es (All-tail P e es all))
-      where
-        kept : (b : Bool) → P e → All P (calls_by pass ps es) → All P (if b then e ∷ calls_by pass ps es else calls_by pass ps es)
-        kept true here rest = All-cons P e (calls_by pass ps es) here rest
-        kept false here rest = rest
-
     both_one : (e : E) (x y z : List E) (a b : Bool) → All P (if a then e ∷ x else x) → All P (if b then e ∷ y else y) → (All P x → All P y → All P z)
         → All P (if (a || b) then e ∷ z else z)
     both_one e x y z true b p q rest = All-cons P e z (All-head P e x p) (rest (All-tail P e x p) (tail_of e y b q))

@@ -4,4 +4,4 @@ pub mod Turns
 pub mod Entries
 pub mod Fronts
 pub mod Joins
-pub mod Making
+pub mod WorkersMade

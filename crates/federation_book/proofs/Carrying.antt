@@ -18,7 +18,7 @@ use Rattle.book_history.specs.Boxes.{boxes_of}
 use Rattle.book_history.specs.Buckets.{buckets_of, buckets_among, is_among}
 use Rattle.book_history.specs.Unmoved.{is_unmoved}
 use Rattle.book_history.specs.Versions.{VersionState, is_done, is_carried, made_after}
-use Rattle.book_history.proofs.Alone.{HasParts}
+use Rattle.book_history.proofs.OneGrid.{HasParts}
 use Rattle.book_history.proofs.Least.{boxes_are}
 use Rattle.book_history.proofs.Listing.{Below, table_cells, buckets_listed}
 use Rattle.book_history.proofs.Same.{unmoved_tells}

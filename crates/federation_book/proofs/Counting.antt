@@ -8,7 +8,7 @@ use Rattle.book_history.specs.declared.changes.Entry.{Entry}
 use Rattle.book_history.specs.History.{state_of, live_of, left_in, project_numbers}
 use Rattle.book_history.specs.Refusals.{left_if}
 use Rattle.book_history.specs.Weights.{told}
-use Rattle.book_history.proofs.Told.{told_both}
+use Rattle.book_history.proofs.ToldSums.{told_both}
 use Rattle.federation_book.specs.declared.project.Project.{Project}
 use Rattle.federation_book.specs.Kept.{KeepsProject, KeepStates}
 use Rattle.federation_book.proofs.Keeping.{kept_at}

@@ -20,7 +20,7 @@ use Rattle.book_history.specs.Projects.{ProjectState, newest, with_bucket}
 use Rattle.book_history.specs.History.{state_of, live_of, left_in, left_all, project_numbers}
 use Rattle.book_history.specs.Refusals.{first_of, dropped, done_before, left_if, left_after}
 use Rattle.book_history.specs.Requests.{Accepted, refused_or, finished}
-use Rattle.book_history.proofs.Alone.{HasParts}
+use Rattle.book_history.proofs.OneGrid.{HasParts}
 use Rattle.federation_book.specs.declared.project.Project.{Project}
 use Rattle.federation_book.specs.Kept.{KeepsProject}
 use Rattle.federation_book.proofs.Carrying.{bucket_among}

@@ -9,7 +9,7 @@ use Rattle.bucket_grid.specs.declared.table.Bucket.{Bucket}
 use Rattle.bucket_grid.specs.Cells.{memberships, IsBucket}
 use Rattle.bucket_grid.specs.Grids.{GridValue, HasMemberships}
 use Rattle.bucket_grid.specs.Subjects.{AreBoxes}
-use Rattle.book_history.proofs.Alone.{HasParts}
+use Rattle.book_history.proofs.OneGrid.{HasParts}
 
 no_boxes : (boxes : List Extent) → AreBoxes [] boxes → boxes ≡ []
 no_boxes [] h = refl

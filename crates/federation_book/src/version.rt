@@ -6,7 +6,7 @@ ghost use Rattle.bucket_grid.specs.declared.cell.Cell.{Cell};
 ghost use Rattle.book_history.specs.Orders.{OrderValue};
 ghost use Rattle.book_history.specs.Versions.{nothing, is_done, with_done, made_after};
 ghost use Rattle.book_history.specs.Requests.{order_at};
-ghost use Rattle.book_history.proofs.Alone.{HasParts};
+ghost use Rattle.book_history.proofs.OneGrid.{HasParts};
 
 use bim_model::{Rules, Shared, Snapshot};
 use book_history::WorkOrder;

@@ -19,7 +19,7 @@ use Rattle.ifc_instances.specs.Values.{number_of, items_of}
 use Rattle.ifc_schema.specs.Table.{row_at}
 use Rattle.ifc_schema.specs.Bodies.{applies}
 use Rattle.ifc_schema.specs.Used.{IsMapped}
-use Rattle.ifc_schema.specs.StageFive.{UsedFlaw}
+use Rattle.ifc_schema.specs.Surveys.{UsedFlaw}
 use Rattle.ifc_schema.specs.Flaws.{NumberFlaw, WholeFlaw, LeafFlaw, FirstFlaw, ItemsFlaw, ListFlaw, ShapeFlaw, ValueFlaw, PlaceFlaw, AttributeFlaw, InstanceFlaw, absent_stands}
 
 -- A thing that has no flaw has no flaw that is one.

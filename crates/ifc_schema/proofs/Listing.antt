@@ -15,7 +15,7 @@ use Rattle.ifc_instances.specs.Places.{IsPlaceOf}
 use Rattle.ifc_schema.specs.Used.{Used, root, named, mapped, IsMapped, is_root}
 use Rattle.ifc_schema.specs.Marks.{rank, rank_at, mark_at, is_seen, is_mapped, Known}
 use Rattle.ifc_schema.specs.Flaws.{InstanceFlaw}
-use Rattle.ifc_schema.specs.StageFive.{UsedFlaw, StageFive, IsModelElement, is_model_element, is_subject, Lists, fault_of}
+use Rattle.ifc_schema.specs.Surveys.{UsedFlaw, SurveyFault, IsModelElement, is_model_element, is_subject, Lists, fault_of}
 use Rattle.ifc_schema.specs.Steps.{FaultAt, CheckedAt, Checked, Below}
 use Rattle.ifc_schema.specs.Bodies.{has_body}
 use Rattle.ifc_instances.proofs.PlaceLemmas.{rising, place_found, some_instance}
@@ -196,7 +196,7 @@ fault_there world w at i flaw fault k r e h t =
 
 -- the first place that has a fault has the least number
 pub least_there : (world : List Instance) (at : ℕ) (fault : UploadFault) → Rises world → FaultAt world at fault
-    → ((k : ℕ) → k < at → (id : ℕ) → IsPlaceOf world id k → Used world id → UsedFlaw world id None) → StageFive world fault
+    → ((k : ℕ) → k < at → (id : ℕ) → IsPlaceOf world id k → Used world id → UsedFlaw world id None) → SurveyFault world fault
 least_there world at fault rises f before = record {
   id = f.id;
   used = f.used;

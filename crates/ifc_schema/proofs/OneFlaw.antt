@@ -23,7 +23,7 @@ use Rattle.ifc_schema.specs.Forms.{fits, allows_missing}
 use Rattle.ifc_schema.specs.Table.{row_at}
 use Rattle.ifc_schema.specs.Bodies.{applies}
 use Rattle.ifc_schema.specs.Used.{IsMapped}
-use Rattle.ifc_schema.specs.StageFive.{UsedFlaw, StageFive, Surveyed, fault_of}
+use Rattle.ifc_schema.specs.Surveys.{UsedFlaw, SurveyFault, Surveyed, fault_of}
 use Rattle.ifc_schema.specs.Flaws.{NumberFlaw, WholeFlaw, LeafFlaw, FirstFlaw, ItemsFlaw, ListFlaw, ShapeFlaw, ValueFlaw, PlaceFlaw, AttributeFlaw, InstanceFlaw, absent_stands, bad_unless, wanted_flaw, any_flaw, reference_flaw}
 use Rattle.ifc_schema.proofs.Apart.{Apart, leaf_apart, list_apart, attribute_apart, one_test, used_apart}
 
@@ -110,7 +110,7 @@ used_one world id f g h k =
 
 -- Files.
 
-pub one_survey_fault : (world : List Instance) (f g : UploadFault) → StageFive world f → StageFive world g → f ≡ g
+pub one_survey_fault : (world : List Instance) (f g : UploadFault) → SurveyFault world f → SurveyFault world g → f ≡ g
 one_survey_fault world f g h k = elim (trichotomy h.id k.id) [
   | inl below ↦ absurd (used_apart world h.id h.flaw (k.least h.id below h.used) h.flawed)
   | inr rest ↦ elim rest [
@@ -120,5 +120,5 @@ one_survey_fault world f g h k = elim (trichotomy h.id k.id) [
   ]
 ]
 
-pub surveyed_apart : (world : List Instance) (survey : Survey) (f : UploadFault) → Surveyed world survey → StageFive world f → ⊥
+pub surveyed_apart : (world : List Instance) (survey : Survey) (f : UploadFault) → Surveyed world survey → SurveyFault world f → ⊥
 surveyed_apart world survey f s h = used_apart world h.id h.flaw (s.shaped h.id h.used) h.flawed

@@ -4,7 +4,7 @@ pub mod Table
 pub mod Bodies
 pub mod Flaws
 pub mod Used
-pub mod StageFive
+pub mod Surveys
 pub mod Marks
 pub mod Steps
 pub mod Views

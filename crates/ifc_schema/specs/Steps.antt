@@ -5,7 +5,7 @@ use Rattle.p21_reader.specs.declared.value.Instance.{Instance}
 use Rattle.ifc_schema.specs.declared.flaw.Flaw.{Flaw}
 use Rattle.ifc_instances.specs.Places.{IsPlaceOf}
 use Rattle.ifc_schema.specs.Used.{Used}
-use Rattle.ifc_schema.specs.StageFive.{UsedFlaw, StageFive, fault_of}
+use Rattle.ifc_schema.specs.Surveys.{UsedFlaw, SurveyFault, fault_of}
 
 -- the fault of the instance at a place
 pub record FaultAt (world : List Instance) (at : ℕ) (fault : UploadFault) : Type 0 where
@@ -24,7 +24,7 @@ CheckedAt world at (Some fault) = FaultAt world at fault
 -- of all places
 abbrev pub Checked : List Instance → Option UploadFault → Type 0
 Checked world None = (id : ℕ) → Used world id → UsedFlaw world id None
-Checked world (Some fault) = StageFive world fault
+Checked world (Some fault) = SurveyFault world fault
 
 -- an instance of which P holds stands before that place
 pub record Below (world : List Instance) (at : ℕ) (P : ℕ → Type 0) (id : ℕ) : Type 0 where

@@ -5,7 +5,7 @@ ghost use Rattle.ifc_schema.specs.Used.{Used, IsMapped};
 ghost use Rattle.ifc_schema.specs.Bodies.{body_shapes};
 ghost use Rattle.ifc_schema.specs.Marks.{Known, rank_at};
 ghost use Rattle.ifc_schema.specs.Steps.{CheckedAt, Checked, Below};
-ghost use Rattle.ifc_schema.specs.StageFive.{UsedFlaw, IsModelElement, Lists, Surveyed, IsSurveyError, is_model_element, fault_of};
+ghost use Rattle.ifc_schema.specs.Surveys.{UsedFlaw, IsModelElement, Lists, Surveyed, IsSurveyError, is_model_element, fault_of};
 
 use crate::body::{body_shapes, has_body};
 use crate::flaw::{Flaw, instance_flaw};

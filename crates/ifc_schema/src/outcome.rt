@@ -1,6 +1,6 @@
 //! What a survey gives.
 ghost use Rattle.std.specs.Prelude.{◌≡◌};
-ghost use Rattle.ifc_schema.specs.StageFive.{used_ids, mapped_ids, element_ids};
+ghost use Rattle.ifc_schema.specs.Surveys.{used_ids, mapped_ids, element_ids};
 
 /// The instances of a file that are used, each with the form of its row.
 #[derive(Drop)]

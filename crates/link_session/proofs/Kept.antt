@@ -39,7 +39,8 @@ use Rattle.bim_session.specs.Works.{Standing, Printed}
 use Rattle.bim_session.specs.Session.{Means, MeansCall, IsKept, IsShelved, asking, up_to_printed, with_set, printed_after, closes_after}
 use Rattle.bim_session.specs.Talking.{AnswersKept, KeepsNone, waiting_for}
 use Rattle.bim_session.proofs.Sessions.{up_to_grown}
-use Rattle.link_session.proofs.Staying.{Settled, settled_later, newest_later, read_settled, read_told}
+use Rattle.book_history.proofs.Staying.{Settled, settled_later, newest_later, read_settled}
+use Rattle.link_session.proofs.ToldClashes.{read_told}
 
 -- a version on the shelf: the session was answered it, and at these entries it is live and checked
 pub record OnShelf (settings : Settings) (front : List Entry) (sets : List (ℕ × ℕ)) (p v : ℕ) (content : Version) : Type 0 where

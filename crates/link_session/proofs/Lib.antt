@@ -1,6 +1,5 @@
-pub mod Known
 pub mod Turns
-pub mod Staying
+pub mod ToldClashes
 pub mod Kept
 pub mod SoFar
 pub mod Growing

@@ -29,7 +29,7 @@ use Rattle.bim_session.specs.Replay.{IsReadFault, IsWriteFault}
 use Rattle.bim_session.specs.Talking.{TalkState, BookReceipt, Wants, LacksNext, Continues, AnswersOne, AnswersFault, TakesRequest, MeetsEnd, IsOwnWant, AnswersAtOnce, AnswersCall, LeavesCall, with_answer, with_call, with_framer, with_notes, leaving_after, asks_change, waiting_for}
 use Rattle.link_session.specs.Callers.{LearnsBy, Calls, steps_of}
 use Rattle.link_session.specs.Loop.{Reading, StopsReading, Writing, Called, StopsAnswering, Does, StepsOn}
-use Rattle.link_session.specs.Writes.{WritesFront}
+use Rattle.bim_io.specs.Writes.{WritesLess}
 use Rattle.link_session.specs.declared.session.Progress.{Progress}
 use Rattle.link_session.specs.declared.session.Progress.TheVariants.{Again, End}
 use Rattle.link_session.proofs.Kept.{Keeps, unkept}
@@ -299,7 +299,7 @@ wrote_fault k v w a b old mid server so moments bytes here x gave quiet over =
 
 -- a front of what comes next was written
 wrote_part : (k : Service) (v : CallerSeen) (w a b : Outside) (old : TalkState) (server : CallerSeen) (so : SoFar k v w a old server) (moments bytes : List ℕ) → old.leaving ≡ None
-    → ClockGives a.clock b.clock moments → b.source ≡ a.source → (front : WritesFront a.sink b.sink bytes) → EndsEmpty b.source
+    → ClockGives a.clock b.clock moments → b.source ≡ a.source → (front : WritesLess a.sink b.sink bytes) → EndsEmpty b.source
     → IsNext (stop_at k v w a b old server so moments front.0) bytes → Finishes k v server w b (end.WriteFault old.served)
 wrote_part k v w a b old server so moments bytes here told source front empty next =
     let goes = open_of k v w a old server so here in
@@ -662,7 +662,7 @@ next_called k v w a b old mid server server' so call waiting x (Err (PassSpent p
 cut_called : (k : Service) (v : CallerSeen) (w a b : Outside) (old mid : TalkState) (server server' : CallerSeen) (so : SoFar k v w a old server) (call : BookRequest) (waiting : Waiting)
     (x : Asks k v w a b old mid server so call waiting) (receipt : Result BookReceipt CallFault) (bytes : List ℕ) (later : Notes) → Calls k.settings call server receipt server'
     → k.goes server (steps_of call server receipt) server' → AnswersCall receipt waiting mid.notes bytes later
-    → WritesFront a.sink b.sink bytes → b.source ≡ a.source → EndsEmpty b.source → Finishes k v server' w b (end.WriteFault old.served)
+    → WritesLess a.sink b.sink bytes → b.source ≡ a.source → EndsEmpty b.source → Finishes k v server' w b (end.WriteFault old.served)
 cut_called k v w a b old mid server server' so call waiting x receipt bytes later calls goes answers front source empty =
     let open_ = open_of k v w a old server so x.here in
     let more : List Step = steps_of call server receipt in

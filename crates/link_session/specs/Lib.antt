@@ -1,4 +1,3 @@
 pub mod Callers
 pub mod Serving
 pub mod Loop
-pub mod Writes

@@ -17,7 +17,7 @@ use Rattle.bim_session.specs.declared.want.Want.TheVariants.{More, Write, Call, 
 use Rattle.bim_session.specs.Replay.{IsOneRead}
 use Rattle.bim_session.specs.Talking.{TalkState, BookReceipt, Feeds, Wants, LacksNext, IsOwnWant, AnswersCall, LeavesCall, with_answer, with_notes}
 use Rattle.link_session.specs.Callers.{Calls, steps_of, WorksBehind}
-use Rattle.link_session.specs.Writes.{WritesFront}
+use Rattle.bim_io.specs.Writes.{WritesLess}
 use Rattle.link_session.specs.declared.session.Progress.{Progress}
 use Rattle.link_session.specs.declared.session.Progress.TheVariants.{Again, End}
 
@@ -45,7 +45,7 @@ Reading source source' old (End e) new =
 -- the bytes were written, or a front of them, which ends the session
 abbrev pub Writing : ℕ → SinkSeen → SinkSeen → List ℕ → Progress → Type 0
 Writing served sink sink' bytes Again = SinkTakes sink sink' bytes × (sink'.faults ≡ sink.faults)
-Writing served sink sink' bytes (End e) = (e ≡ end.WriteFault served) × WritesFront sink sink' bytes
+Writing served sink sink' bytes (End e) = (e ≡ end.WriteFault served) × WritesLess sink sink' bytes
 
 -- how the answer to a call ends a session: the talk gives none, for want of memory or of a turn, or it was not written
 -- whole
@@ -54,7 +54,7 @@ abbrev pub StopsAnswering : SinkSeen → SinkSeen → TalkState → Result BookR
 StopsAnswering sink sink' talk receipt waiting e =
     (((later : TalkState) × LeavesCall receipt talk e later) × (sink' ≡ sink))
     ⊎ ((bytes : List ℕ) × (notes : Notes) × AnswersCall receipt waiting talk.notes bytes notes
-    × (e ≡ end.WriteFault talk.served) × WritesFront sink sink' bytes)
+    × (e ≡ end.WriteFault talk.served) × WritesLess sink sink' bytes)
 
 -- the book was called for the request that waits, and its response written; or that ended the session
 abbrev pub Called : Settings → Going → BookRequest → SinkSeen → SinkSeen → TalkState → CallerSeen → Progress

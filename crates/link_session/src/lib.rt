@@ -6,7 +6,6 @@ mod by_turn;
 mod caller;
 mod link;
 mod session;
-mod sinks;
 
 pub use by_turn::ByTurn;
 pub use caller::Caller;

@@ -7,8 +7,7 @@ ghost use Rattle.link_session.specs.Serving.{Serves};
 ghost use Rattle.link_session.specs.Loop.{Reading, Writing, Called, StepsOn, WorksOn, StepsAndWorks};
 
 use crate::caller::Caller;
-use crate::sinks::write_whole;
-use bim_io::{Clock, Sink, Source};
+use bim_io::{Clock, Sink, Source, write_whole};
 use bim_session::{MOST_READ, SessionEnd, Talk, Want};
 use book_history::BookRequest;
 use std::alloc::Global;

@@ -26,7 +26,7 @@ use Rattle.ifc_instances.specs.Looking.{look, entity_at, is_a}
 use Rattle.ifc_schema.specs.Bodies.{applies}
 use Rattle.ifc_schema.specs.Flaws.{LeafFlaw, NumberFlaw, WholeFlaw, ItemsFlaw, ListFlaw, ShapeFlaw, PlaceFlaw, AttributeFlaw, InstanceFlaw, bad_unless, target_flaw, wanted_flaw, any_flaw, reference_flaw}
 use Rattle.ifc_schema.specs.Used.{Used, named, LeadsTo, StandsIn}
-use Rattle.ifc_schema.specs.StageFive.{UsedFlaw}
+use Rattle.ifc_schema.specs.Surveys.{UsedFlaw}
 use Rattle.model_build.proofs.OneKeyword.{held_is_a}
 
 -- all that is used has the form of its row

@@ -6,7 +6,7 @@ use Rattle.p21_reader.specs.declared.value.Instance.{Instance}
 use Rattle.ifc_instances.specs.declared.entity.Entity.TheVariants.{AxisPlacement, Operator}
 use Rattle.ifc_instances.specs.Looking.{entity_at, is_a}
 use Rattle.ifc_schema.specs.Used.{Used}
-use Rattle.ifc_schema.specs.StageFive.{Lists}
+use Rattle.ifc_schema.specs.Surveys.{Lists}
 use Rattle.placement.specs.declared.axes.Axes.{Axes}
 use Rattle.placement.specs.Directions.{HasAxes, HasDirections, Oblique}
 use Rattle.placement.specs.Operators.{HasOperatorAxes, HasOperatorDirections, ObliqueOperator}

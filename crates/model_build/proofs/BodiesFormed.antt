@@ -17,7 +17,7 @@ use Rattle.ifc_instances.specs.Values.{reference_of, items_of}
 use Rattle.ifc_instances.specs.Looking.{look, entity_at, is_a, some_passes}
 use Rattle.ifc_schema.specs.Bodies.{target_passes, has_body, is_body, is_body_shape, is_body_representation, lists_body}
 use Rattle.ifc_schema.specs.Used.{Used}
-use Rattle.ifc_schema.specs.StageFive.{is_subject}
+use Rattle.ifc_schema.specs.Surveys.{is_subject}
 use Rattle.ifc_instances.specs.Attributes.{target_at, led_to}
 use Rattle.ifc_elements.specs.Items.{bodies, listed_by}
 use Rattle.model_build.proofs.OneKeyword.{is_shape, is_element, is_a_held, both}

@@ -16,7 +16,7 @@ use Rattle.ifc_schema.specs.declared.form.Count.TheVariants.{AtLeast}
 use Rattle.ifc_instances.specs.Values.{reference_of, items_of}
 use Rattle.ifc_instances.specs.Looking.{look, entity_at, is_a}
 use Rattle.ifc_schema.specs.Used.{Used}
-use Rattle.ifc_schema.specs.StageFive.{IsModelElement, used_ids, element_ids, is_subject}
+use Rattle.ifc_schema.specs.Surveys.{IsModelElement, used_ids, element_ids, is_subject}
 use Rattle.ifc_schema.proofs.Listing.{element_used}
 use Rattle.ifc_instances.proofs.PlaceLemmas.{place_found}
 use Rattle.ifc_units.specs.declared.scale.Scale.{Scale}

@@ -7,7 +7,7 @@ use Rattle.bim_model.specs.declared.upload.BuildError.TheVariants as errors
 use Rattle.bim_model.specs.declared.geometry.Triangle.{Triangle}
 use Rattle.p21_reader.specs.declared.value.Instance.{Instance}
 use Rattle.ifc_schema.specs.declared.outcome.Survey.{Survey}
-use Rattle.ifc_schema.specs.StageFive.{Surveyed, IsModelElement, used_ids, element_ids}
+use Rattle.ifc_schema.specs.Surveys.{Surveyed, IsModelElement, used_ids, element_ids}
 use Rattle.spatial_tree.specs.Trees.{IsTree, IsRefused}
 use Rattle.model_build.specs.declared.file.File.{File}
 use Rattle.model_build.specs.Faults.{IsClear, first_fault}

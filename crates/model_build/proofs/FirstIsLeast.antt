@@ -9,7 +9,7 @@ use Rattle.bim_model.specs.declared.upload.UploadFault.{UploadFault}
 use Rattle.bim_model.specs.declared.upload.UploadFault.TheVariants as faults
 use Rattle.ifc_instances.proofs.Rising.{before}
 use Rattle.ifc_schema.specs.Used.{Used}
-use Rattle.ifc_schema.specs.StageFive.{Lists}
+use Rattle.ifc_schema.specs.Surveys.{Lists}
 use Rattle.model_build.specs.Faults.{LeastFault}
 use Rattle.model_build.specs.Least.{IsLeastOf, NoneOf, IsVoided, IsBadSet, IsOblique}
 use Rattle.model_build.specs.Stages.{ObliqueStage, VoidStage, IndexStage}

@@ -10,7 +10,7 @@ use Rattle.p21_reader.specs.declared.value.Instance.{Instance}
 use Rattle.ifc_instances.specs.declared.entity.Entity.TheVariants as entity
 use Rattle.model_build.specs.declared.file.File.{File}
 use Rattle.ifc_instances.specs.Values.{reference_of, is_absent}
-use Rattle.ifc_schema.specs.StageFive.{IsModelElement, element_ids}
+use Rattle.ifc_schema.specs.Surveys.{IsModelElement, element_ids}
 use Rattle.ifc_schema.proofs.Listing.{element_used}
 use Rattle.ifc_units.specs.declared.scale.Scale.{Scale}
 use Rattle.ifc_units.specs.Lengths.{PointRefused}

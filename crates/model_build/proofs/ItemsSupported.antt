@@ -14,7 +14,7 @@ use Rattle.ifc_instances.specs.Values.{reference_of}
 use Rattle.ifc_instances.specs.Looking.{look, entity_at, is_a}
 use Rattle.ifc_schema.specs.Bodies.{has_body, is_body, is_body_representation}
 use Rattle.ifc_schema.specs.Used.{Used, mapped, IsMapped}
-use Rattle.ifc_schema.specs.StageFive.{IsModelElement, is_subject}
+use Rattle.ifc_schema.specs.Surveys.{IsModelElement, is_subject}
 use Rattle.ifc_schema.proofs.Listing.{element_used}
 use Rattle.ifc_units.specs.declared.scale.Scale.{Scale}
 use Rattle.ifc_instances.specs.Attributes.{listed, reference_at, target_at, led_to}

@@ -6,7 +6,7 @@ use Rattle.p21_reader.specs.declared.value.Instance.{Instance}
 use Rattle.bim_model.specs.declared.upload.UploadFault.TheVariants as faults
 use Rattle.bim_model.specs.declared.upload.Many.TheVariants as many
 use Rattle.ifc_schema.specs.Used.{Used}
-use Rattle.ifc_schema.specs.StageFive.{Lists}
+use Rattle.ifc_schema.specs.Surveys.{Lists}
 use Rattle.ifc_elements.specs.Finding.{Finds}
 use Rattle.model_build.specs.Faces.{HasManyCorners}
 use Rattle.model_build.specs.Stages.{CornersStage}

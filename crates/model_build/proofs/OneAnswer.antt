@@ -18,7 +18,7 @@ use Rattle.bim_model.specs.Models.{is_below}
 use Rattle.p21_reader.specs.declared.value.Instance.{Instance}
 use Rattle.p21_reader.proofs.OneAnswer.{one_exchange, refused, one_fault}
 use Rattle.p21_reader.proofs.Strict.{trichotomy}
-use Rattle.ifc_schema.specs.StageFive.{IsModelElement}
+use Rattle.ifc_schema.specs.Surveys.{IsModelElement}
 use Rattle.ifc_schema.specs.Used.{Used}
 use Rattle.ifc_schema.proofs.OneFlaw.{one_survey_fault}
 use Rattle.ifc_units.specs.declared.scale.Scale.{Scale}

@@ -2,7 +2,7 @@
 use Rattle.std.proofs.Common.{◌≡◌, ℕ, zero, suc, ◌<◌, ◌⊎◌, inl, inr, List, [], ◌∷◌, get_or, Contains, refl, sym, subst, arith}
 use Rattle.std.specs.List.{AllPairs}
 use Rattle.std.proofs.lemmas.List.Kept.{AllPairs-from_increasing}
-use Rattle.ifc_schema.specs.StageFive.{Lists}
+use Rattle.ifc_schema.specs.Surveys.{Lists}
 
 -- Numbers that rise, and are those of which something holds, are one list.
 

@@ -2,7 +2,7 @@
 use Rattle.std.proofs.Common.{ℕ, List, Contains, refl}
 use Rattle.p21_reader.specs.declared.value.Instance.{Instance}
 use Rattle.ifc_schema.specs.declared.outcome.Survey.{Survey}
-use Rattle.ifc_schema.specs.StageFive.{Surveyed, element_ids, Lists}
+use Rattle.ifc_schema.specs.Surveys.{Surveyed, element_ids, Lists}
 use Rattle.ifc_schema.proofs.Listing.{element_used}
 use Rattle.model_build.specs.Guids.{IsIdentified, RepeatsGuid, GuidFault, NoneRepeats, IsFirstRepeated}
 use Rattle.model_build.proofs.UsedFormed.{element_guid, guid_there}

@@ -5,7 +5,7 @@ use Rattle.bim_model.specs.declared.geometry.Triangle.{Triangle}
 use Rattle.p21_reader.specs.declared.value.Instance.{Instance}
 use Rattle.ifc_instances.specs.Looking.{look}
 use Rattle.ifc_schema.specs.Used.{Used}
-use Rattle.ifc_schema.specs.StageFive.{Lists}
+use Rattle.ifc_schema.specs.Surveys.{Lists}
 use Rattle.ifc_units.specs.declared.scale.Scale.{Scale}
 use Rattle.model_build.specs.Faults.{IsClear}
 use Rattle.model_build.specs.Faces.{IsStuckFace}

@@ -3,7 +3,7 @@ use Rattle.std.proofs.Common.{ℕ, List, Contains}
 use Rattle.bim_model.specs.declared.upload.Mode.{Mode}
 use Rattle.p21_reader.specs.declared.value.Instance.{Instance}
 use Rattle.ifc_schema.specs.Used.{Used}
-use Rattle.ifc_schema.specs.StageFive.{Lists, Surveyed}
+use Rattle.ifc_schema.specs.Surveys.{Lists, Surveyed}
 use Rattle.ifc_units.specs.declared.scale.Scale.{Scale}
 use Rattle.model_build.specs.Faults.{IsClear, LeastFault}
 use Rattle.model_build.specs.Unsupported.{IsUnsupported}

@@ -13,7 +13,7 @@ use Rattle.model_build.specs.Triangles.{most_triangles, body_count, items_count,
 use Rattle.ifc_elements.specs.Finding.{Number}
 use Rattle.bim_model.specs.declared.upload.UploadFault.TheVariants as faults
 use Rattle.bim_model.specs.declared.upload.Many.TheVariants as many
-use Rattle.ifc_schema.specs.StageFive.{Lists, IsModelElement}
+use Rattle.ifc_schema.specs.Surveys.{Lists, IsModelElement}
 use Rattle.model_build.specs.Faults.{IsClear}
 use Rattle.model_build.specs.Stages.{TrianglesStage}
 use Rattle.model_build.proofs.OneList.{same_lists}

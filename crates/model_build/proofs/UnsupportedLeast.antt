@@ -14,7 +14,7 @@ use Rattle.ifc_schema.specs.Table.{row_of, attribute}
 use Rattle.ifc_instances.specs.Values.{reference_of}
 use Rattle.ifc_instances.specs.Looking.{look}
 use Rattle.ifc_schema.specs.Used.{Used, IsMapped, named}
-use Rattle.ifc_schema.specs.StageFive.{Lists}
+use Rattle.ifc_schema.specs.Surveys.{Lists}
 use Rattle.ifc_units.specs.declared.scale.Scale.{Scale}
 use Rattle.ifc_elements.specs.Items.{spelled_items}
 use Rattle.ifc_instances.specs.Least.{IsLeast, LeastOf}

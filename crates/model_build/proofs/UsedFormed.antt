@@ -27,7 +27,7 @@ use Rattle.ifc_instances.specs.Looking.{look, entity_at, is_a, some_passes}
 use Rattle.ifc_schema.specs.Bodies.{applies, has_body}
 use Rattle.ifc_schema.specs.Flaws.{LeafFlaw, ListFlaw, ShapeFlaw, bad_unless}
 use Rattle.ifc_schema.specs.Used.{Used}
-use Rattle.ifc_schema.specs.StageFive.{is_subject}
+use Rattle.ifc_schema.specs.Surveys.{is_subject}
 use Rattle.placement.specs.declared.direction.Direction.{Direction}
 use Rattle.placement.specs.Directions.{Spelled, coordinates, three_numbers, IsDirection, Directs, HasDirections}
 use Rattle.ifc_instances.specs.Attributes.{listed, reference_at}

@@ -5,7 +5,7 @@ use Rattle.bim_model.specs.declared.upload.UploadFault.{UploadFault}
 use Rattle.bim_model.specs.declared.upload.BuildError.{BuildError}
 use Rattle.bim_model.specs.declared.upload.BuildError.TheVariants as errors
 use Rattle.p21_reader.specs.declared.value.Instance.{Instance}
-use Rattle.ifc_schema.specs.StageFive.{Surveyed, used_ids, element_ids}
+use Rattle.ifc_schema.specs.Surveys.{Surveyed, used_ids, element_ids}
 use Rattle.ifc_units.specs.Units.{IsLengthUnit}
 use Rattle.ifc_units.specs.declared.scale.Scale.{Scale}
 use Rattle.spatial_tree.specs.Trees.{IsTree, ListsStoreys}

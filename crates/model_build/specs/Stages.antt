@@ -9,10 +9,10 @@ use Rattle.ifc_instances.specs.declared.entity.Entity.{Entity}
 use Rattle.ifc_instances.specs.declared.entity.Entity.TheVariants.{FaceWithVoids}
 use Rattle.ifc_instances.specs.Looking.{is_a}
 use Rattle.ifc_schema.specs.Used.{Used}
-use Rattle.ifc_schema.specs.StageFive.{StageFive, IsModelElement}
+use Rattle.ifc_schema.specs.Surveys.{SurveyFault, IsModelElement}
 use Rattle.ifc_units.specs.declared.scale.Scale.{Scale}
 use Rattle.ifc_units.specs.Units.{IsLengthUnit, LengthUnitFault}
-use Rattle.spatial_tree.specs.Trees.{StageSeven}
+use Rattle.spatial_tree.specs.Trees.{LeastTreeFault}
 use Rattle.placement.specs.Chains.{NeverEnds}
 use Rattle.ifc_elements.specs.Finding.{Finds}
 use Rattle.ifc_elements.specs.Surfaces.{IsBeyond}
@@ -27,7 +27,7 @@ use Rattle.model_build.specs.Triangles.{HasTriangles, most_triangles}
 
 -- a reference that leads nowhere, or an attribute without the form of its row, of the least instance that is used and has one
 abbrev pub FormStage : List Instance → Stage
-FormStage world = StageFive world
+FormStage world = SurveyFault world
 
 -- not exactly one length unit
 abbrev pub UnitStage : List Instance → Stage
@@ -35,7 +35,7 @@ UnitStage world = LengthUnitFault world
 
 -- the least object for which the relations make no tree
 abbrev pub TreeStage : List Instance → Stage
-TreeStage world = StageSeven world
+TreeStage world = LeastTreeFault world
 
 -- an element whose identifier another one has
 abbrev pub TwiceStage : List Instance → Stage

@@ -2,7 +2,7 @@
 use Rattle.std.specs.Prelude.{◌≡◌, ℕ, ◌<◌, ◌≤◌, List, sum_by, Option, Some, None, MatchOption}
 use Rattle.bim_model.specs.declared.limits.TheConstants.{MOST_TRIANGLES}
 use Rattle.p21_reader.specs.declared.value.Instance.{Instance}
-use Rattle.ifc_schema.specs.StageFive.{IsModelElement, Lists}
+use Rattle.ifc_schema.specs.Surveys.{IsModelElement, Lists}
 use Rattle.ifc_elements.specs.Items.{count_of, items_of, item_count}
 use Rattle.ifc_instances.specs.Looking.{look}
 

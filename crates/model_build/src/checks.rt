@@ -1,6 +1,6 @@
 //! The checks of a file, one for each kind of fault.
 ghost use Rattle.std.specs.Prelude.{ℕ, IfOk, IfErr, MatchOption, sum_by, ◌≤◌};
-ghost use Rattle.ifc_schema.specs.StageFive.{Surveyed, used_ids, element_ids};
+ghost use Rattle.ifc_schema.specs.Surveys.{Surveyed, used_ids, element_ids};
 ghost use Rattle.model_build.specs.Faults.{LeastFault};
 ghost use Rattle.model_build.specs.Guids.{GuidFault, NoneRepeats};
 ghost use Rattle.model_build.specs.Stages.{TwiceStage, LoopStage, ObliqueStage, ItemStage, VoidStage, IndexStage, CornersStage, StuckStage, TrianglesStage};

@@ -3,7 +3,7 @@ ghost use Rattle.std.specs.Prelude.{◌≡◌, ◌⊎◌, List, Ok, IfOk, IfErr}
 ghost use Rattle.p21_reader.specs.declared.value.Instance.{Instance};
 ghost use Rattle.p21_reader.specs.Uploads.{SpellsExchange};
 ghost use Rattle.p21_reader.specs.Uploads as uploads;
-ghost use Rattle.ifc_schema.specs.StageFive.{used_ids, element_ids};
+ghost use Rattle.ifc_schema.specs.Surveys.{used_ids, element_ids};
 ghost use Rattle.placement.specs.Placed.{AreFrames, frame_in};
 ghost use Rattle.ifc_elements.specs.Names.{AreNames};
 ghost use Rattle.ifc_elements.specs.PointTables.{IsTable};

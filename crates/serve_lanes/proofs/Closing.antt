@@ -1,5 +1,5 @@
 -- What is left when all passes were joined into one and that has worked.
-use Rattle.std.proofs.Common.{◌≡◌, ℕ, ◌+◌, List, ◌++◌, Bool, ◌||◌, true, map, length, All, sym, ◌∙◌, subst}
+use Rattle.std.proofs.Common.{◌≡◌, ℕ, ◌+◌, List, ◌++◌, Bool, map, All, sym, subst}
 use Rattle.bim_net.specs.Seen.{DoorSeen}
 use Rattle.book_turn.specs.Numbers.{numbers_from}
 use Rattle.book_turn.specs.Entries.{AllBefore}
@@ -11,10 +11,9 @@ use Rattle.check_workers.specs.declared.workers.Lack.{Lack}
 use Rattle.check_workers.specs.Working.{Teaches}
 use Rattle.check_workers.specs.Joins.{ExtendsByWork, HasEach, AreOfLanes, pass_of}
 use Rattle.check_workers.proofs.Joins.{taught_work}
-use Rattle.check_workers.proofs.Entries.{or_first}
 use Rattle.serve_lanes.specs.Histories.{Service, LanesJoined, DoorServed}
 use Rattle.serve_lanes.proofs.Histories.{doors_grown, doors_in}
-use Rattle.serve_lanes.proofs.Joining.{of_lanes, all_joined}
+use Rattle.serve_lanes.proofs.Joining.{of_lanes}
 
 module _ (s : Service) (links : ℕ) (turn : TurnState Settings) (v0 v1 v2 : BookPass) (doors : List DoorSeen) (failed : Bool) (lack : Lack)
     (j : LanesJoined s links turn v0 doors failed lack) (p : ExtendsByWork v0 v1) (t : Teaches (caller_of v1) (caller_of v2)) where
@@ -34,11 +33,3 @@ module _ (s : Service) (links : ℕ) (turn : TurnState Settings) (v0 v1 v2 : Boo
       (subst (λ (n : ℕ). HasEach lanes n seats) (sym same) each)
       (subst (λ (n : ℕ). AllBefore pass_of (n + 1) v2.seen) (sym same) (subst (λ (h : List Entry). AllBefore pass_of (top + 1) h) is before)))
 
-  -- how many passes it is made of
-  pub closed_passes : (lanes workers : ℕ) (seats : List ℕ) → map (λ (d : DoorSeen). d.number) doors ≡ numbers_from 0 lanes → v1.numbers ≡ v0.numbers ++ seats → length seats ≡ workers
-      → length v2.numbers ≡ (lanes + workers) + 1
-  closed_passes lanes workers seats numbers more many = all_joined v0 v1 v2 (map (λ (d : DoorSeen). d.number) doors) seats lanes workers j.numbers numbers more many t.learns.keeps.numbers
-
--- what was noted first is noted in the end
-pub memory_kept : (a b c x y : Bool) → b ≡ (a || x) → c ≡ (b || y) → a ≡ true → c ≡ true
-memory_kept a b c x y first second is = second ∙ or_first b y (first ∙ or_first a x is)

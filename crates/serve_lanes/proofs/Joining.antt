@@ -1,5 +1,5 @@
 -- Lanes that end, and whose passes are joined one after another.
-use Rattle.std.proofs.Common.{◌≡◌, ◌≢◌, ◌≤◌, ◌<◌, ◌⊎◌, ℕ, zero, suc, ◌+◌, List, [], ◌∷◌, ◌++◌, map, length, length-append, Bool, true, false, ◌||◌, nat_lt, eqb, Option, None, Some, IsSome, All, inl, inr, refl, sym, ◌∙◌, ap, subst, arith}
+use Rattle.std.proofs.Common.{◌≡◌, ◌≢◌, ◌≤◌, ◌<◌, ◌⊎◌, ℕ, zero, suc, ◌+◌, List, [], ◌∷◌, ◌++◌, map, length, Bool, true, false, ◌||◌, nat_lt, eqb, Option, None, Some, IsSome, All, inl, inr, refl, sym, ◌∙◌, ap, subst, arith}
 use mathlib.Core.Logic.{dite}
 use native.Mathlib.Decide.{dec_le}
 use Rattle.std.proofs.lemmas.List.{map-append, length-map}
@@ -186,16 +186,6 @@ numbered_length f xs n is = sym (length-map xs f) ∙ ap (λ (l : List ℕ). len
 
 pub numbered_alike : {X : Type 0} (f : X → ℕ) (xs ys : List X) → map f ys ≡ map f xs → length ys ≡ length xs
 numbered_alike f xs ys is = sym (length-map ys f) ∙ ap (λ (l : List ℕ). length l) is ∙ length-map xs f
-
--- how many passes were joined
-pub all_joined : (v0 v1 v2 : BookPass) (ps seats : List ℕ) (lanes workers : ℕ) → v0.numbers ≡ v0.number ∷ ps → ps ≡ numbers_from 0 lanes → v1.numbers ≡ v0.numbers ++ seats → length seats ≡ workers
-    → v2.numbers ≡ v1.numbers → length v2.numbers ≡ (lanes + workers) + 1
-all_joined v0 v1 v2 ps seats lanes workers first are more many same =
-    let own : length v0.numbers ≡ length (v0.number ∷ ps) = ap (λ (l : List ℕ). length l) first in
-    let some : length ps ≡ lanes = ap (λ (l : List ℕ). length l) are ∙ numbers_length 0 lanes in
-    let both : length v1.numbers ≡ length v0.numbers + length seats = ap (λ (l : List ℕ). length l) more ∙ length-append v0.numbers seats in
-    let last : length v2.numbers ≡ length v1.numbers = ap (λ (l : List ℕ). length l) same in
-    omega arith
 
 -- one more, which has the next number
 pub numbers_more : {X : Type 0} (f : X → ℕ) (xs all : List X) (x : X) (n m : ℕ) → all ≡ xs ++ x ∷ [] → m ≡ n + 1 → f x ≡ n → map f xs ≡ numbers_from 0 n → map f all ≡ numbers_from 0 m

@@ -3,5 +3,5 @@ pub mod Chains
 pub mod Links
 pub mod Histories
 pub mod Joining
-pub mod Making
+pub mod LanesMade
 pub mod Closing

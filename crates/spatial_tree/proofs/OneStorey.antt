@@ -7,7 +7,7 @@ use Rattle.p21_reader.proofs.Strict.{trichotomy}
 use Rattle.spatial_tree.specs.Relations.{HasContainer, HasWhole, IsStorey}
 use Rattle.spatial_tree.specs.Climbing.{IsNext, IsFirstStorey}
 use Rattle.spatial_tree.specs.Climbing as climbing
-use Rattle.spatial_tree.specs.Trees.{Next, StoreyOf, StageSeven, IsTree}
+use Rattle.spatial_tree.specs.Trees.{Next, StoreyOf, LeastTreeFault, IsTree}
 
 one_next : (C W : ℕ → ℕ → Type 0) (o a b : ℕ) → IsNext C W o a → IsNext C W o b → a ≡ b
 one_next C W o a b (inl h) (inl k) = k.only a h.has
@@ -33,7 +33,7 @@ one_first N S one _ _ t (climbing.beyond o v s n other f) k = elim (split N S o 
 pub one_storey : (world : List Instance) (o s t : ℕ) → StoreyOf world o s → StoreyOf world o t → s ≡ t
 one_storey world o s t h k = one_first (Next world) (IsStorey world) (one_next (HasContainer world) (HasWhole world)) o s t h k
 
-pub one_tree_fault : (world : List Instance) (f g : UploadFault) → StageSeven world f → StageSeven world g → f ≡ g
+pub one_tree_fault : (world : List Instance) (f g : UploadFault) → LeastTreeFault world f → LeastTreeFault world g → f ≡ g
 one_tree_fault world f g h k = elim (trichotomy h.id k.id) [
   | inl below ↦ absurd (k.least h.id below h.flawed)
   | inr rest ↦ elim rest [
@@ -42,5 +42,5 @@ one_tree_fault world f g h k = elim (trichotomy h.id k.id) [
   ]
 ]
 
-pub tree_apart : (world : List Instance) (f : UploadFault) → IsTree world → StageSeven world f → ⊥
+pub tree_apart : (world : List Instance) (f : UploadFault) → IsTree world → LeastTreeFault world f → ⊥
 tree_apart world f tree h = tree h.id h.flawed

@@ -7,7 +7,7 @@ use Rattle.spatial_tree.specs.declared.step.Step.{Step}
 use Rattle.spatial_tree.specs.declared.mark.Mark.{Mark}
 use Rattle.spatial_tree.specs.declared.storeys.Placed.{Placed}
 use Rattle.spatial_tree.specs.Relations.{HasContainer, HasWhole, IsStorey}
-use Rattle.spatial_tree.specs.Trees.{Next, IsTorn, IsTree, StageSeven, ListsStoreys, ListsStoreyIds, HasTreeFault}
+use Rattle.spatial_tree.specs.Trees.{Next, IsTorn, IsTree, LeastTreeFault, ListsStoreys, ListsStoreyIds, HasTreeFault}
 use Rattle.spatial_tree.specs.Onlys.{Has, ListsLinks}
 use Rattle.spatial_tree.specs.Steps.{NextIn, TornIn, AreWithin, IsTableOf}
 use Rattle.spatial_tree.specs.Marks.{IsSurveyed}
@@ -49,7 +49,7 @@ lists_storeys world objects steps marks list t n p = record {
 }
 
 pub stage_seven : (world : List Instance) (objects : List ℕ) (steps : List Step) (marks : List Mark) (at id : ℕ) → WorldTable world objects steps marks → at < length objects → get_or objects at 0 ≡ id → IsFirstFault steps marks (Some at)
-    → StageSeven world (faults.TreeFault id)
+    → LeastTreeFault world (faults.TreeFault id)
 stage_seven world objects steps marks at id t l is f = record {
   id = id;
   flawed = subst (HasTreeFault world) is (fault_there (Next world) (IsTorn world) (IsStorey world) objects steps marks t at f.0);
@@ -84,7 +84,7 @@ first_fault_is : (steps lent_steps : List Step) (marks lent_marks : List Mark) (
 first_fault_is steps lent_steps marks lent_marks at es em f = subst (λ m. IsFirstFault steps m at) em (subst (λ s. IsFirstFault s lent_marks at) es f)
 
 pub refused_at : (world : List Instance) (objects lent_objects : List ℕ) (steps lent_steps : List Step) (marks lent_marks : List Mark) (at : ℕ) → WorldTable world objects steps marks → lent_objects ≡ objects → lent_steps ≡ steps → lent_marks ≡ marks
-    → IsFirstFault lent_steps lent_marks (Some at) → StageSeven world (faults.TreeFault (get_or lent_objects at 0))
+    → IsFirstFault lent_steps lent_marks (Some at) → LeastTreeFault world (faults.TreeFault (get_or lent_objects at 0))
 refused_at world objects lent_objects steps lent_steps marks lent_marks at t eo es em f =
     let g = first_fault_is steps lent_steps marks lent_marks (Some at) es em f in
     let l : at < length objects = (let w = fault_within steps marks at g.0 in let z = t.steps_are.size in omega arith) in

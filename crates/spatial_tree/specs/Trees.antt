@@ -31,7 +31,7 @@ abbrev pub IsTree : List Instance → Type 0
 IsTree world = (object : ℕ) → HasTreeFault world object → ⊥
 
 -- the least object for which they make none
-pub record StageSeven (world : List Instance) (fault : UploadFault) : Type 0 where
+pub record LeastTreeFault (world : List Instance) (fault : UploadFault) : Type 0 where
   pub id : ℕ
   pub flawed : HasTreeFault world id
   pub told : fault ≡ faults.TreeFault id
@@ -39,7 +39,7 @@ pub record StageSeven (world : List Instance) (fault : UploadFault) : Type 0 whe
 
 -- why there is no tree; want of memory is free
 abbrev pub IsRefused : List Instance → BuildError → Type 0
-IsRefused world (Fault fault) = StageSeven world fault
+IsRefused world (Fault fault) = LeastTreeFault world fault
 IsRefused world Memory = Unit {0}
 
 -- the first storey on the way up, after the object itself

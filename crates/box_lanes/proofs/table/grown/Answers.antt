@@ -5,12 +5,12 @@ use Rattle.box_lanes.proofs.table.grown.Goals as goal
 pub returns : goal.returns
 returns c = λ box fits.
     let p = c.args.probe.now in
-    let low_x = c.saturating_sub_unsigned in
-    let low_y = c.saturating_sub_unsigned-2 in
-    let low_z = c.saturating_sub_unsigned-3 in
-    let high_x = c.saturating_add_unsigned in
-    let high_y = c.saturating_add_unsigned-2 in
-    let high_z = c.saturating_add_unsigned-3 in
+    let low_x = c.lowered in
+    let low_y = c.lowered-2 in
+    let low_z = c.lowered-3 in
+    let high_x = c.raised in
+    let high_y = c.raised-2 in
+    let high_z = c.raised-3 in
     ap₂ (λ a b. a && b)
     (ap₂ (λ a b. a && b)
     (axis box.low.x box.high.x p.low.x p.high.x low_x.result high_x.result c.args.grow fits.low_x fits.high_x (search rules) (search rules) (search rules) (search rules) low_x.ensures high_x.ensures)

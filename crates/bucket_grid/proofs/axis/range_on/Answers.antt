@@ -1,7 +1,7 @@
 use Rattle.std.proofs.Common.{length, ◌≤◌, arith}
 use Rattle.std.proofs.lemmas.Int.{ints}
 use Rattle.box_lanes.specs.Places.{nowhere}
-use Rattle.bucket_grid.proofs.Lying.{above_more, below_more, lie_between}
+use Rattle.bucket_grid.proofs.LyingInCells.{above_more, below_more, lie_between}
 use Rattle.bucket_grid.proofs.axis.range_on.Goals as goal
 
 pub loop-extent-preserved : goal.loop-extent-preserved

@@ -1,6 +1,6 @@
 use Rattle.std.proofs.lemmas.List.Elements.{All-push, All-same}
 use Rattle.bucket_grid.specs.Dealt.{IsSpan}
-use Rattle.bucket_grid.proofs.Lying.{spans_more}
+use Rattle.bucket_grid.proofs.LyingInCells.{spans_more}
 use Rattle.bucket_grid.proofs.axis.spans_on.Goals as goal
 
 pub loop-extent-preserved : goal.loop-extent-preserved

@@ -1,4 +1,4 @@
-use Rattle.bucket_grid.proofs.Alone.{one_number}
+use Rattle.bucket_grid.proofs.OneOwner.{one_number}
 use Rattle.bucket_grid.proofs.laws.memberships_are_one.Goals as goal
 
 pub returns : goal.returns

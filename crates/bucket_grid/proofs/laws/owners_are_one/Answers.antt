@@ -1,4 +1,4 @@
-use Rattle.bucket_grid.proofs.Alone.{one_owner}
+use Rattle.bucket_grid.proofs.OneOwner.{one_owner}
 use Rattle.bucket_grid.proofs.laws.owners_are_one.Goals as goal
 
 pub returns : goal.returns

@@ -5,7 +5,7 @@ use Rattle.book_history.specs.declared.changes.Entry.{Entry}
 use Rattle.book_passes.specs.Lessons.{BookPass}
 use Rattle.check_workers.specs.declared.workers.Worker.{Worker}
 use Rattle.check_workers.specs.Joins.{IsNewWorker, HasEach}
-use Rattle.check_workers.proofs.Making.{new_passes_length, passes_last, new_worker, workers_more}
+use Rattle.check_workers.proofs.WorkersMade.{new_passes_length, passes_last, new_worker, workers_more}
 use Rattle.check_workers.proofs.workers.make_workers.Goals as goal
 
 pub loop-seat-init : goal.loop-seat-init

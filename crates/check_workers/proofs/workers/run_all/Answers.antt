@@ -1,6 +1,6 @@
 use Rattle.std.proofs.Common.{ℕ, slice_index_or}
 use Rattle.check_workers.specs.declared.workers.Worker.{Worker}
-use Rattle.check_workers.proofs.Making.{map_same, same_number}
+use Rattle.check_workers.proofs.WorkersMade.{map_same, same_number}
 use Rattle.check_workers.proofs.workers.run_all.Goals as goal
 
 pub returns-clause-numbers : goal.returns-clause-numbers

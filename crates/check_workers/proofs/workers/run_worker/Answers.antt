@@ -1,4 +1,4 @@
-use Rattle.check_workers.proofs.Making.{worker_over}
+use Rattle.check_workers.proofs.WorkersMade.{worker_over}
 use Rattle.check_workers.proofs.workers.run_worker.Goals as goal
 
 pub returns-clause-over : goal.returns-clause-over

@@ -1,7 +1,7 @@
 use Rattle.std.proofs.Common.{◌≡◌, ◌<◌, ℕ, true, get_or, sym, ◌∙◌, subst}
 use Rattle.ifc_instances.specs.Places.{IsPlaceOf}
 use Rattle.ifc_schema.specs.Marks.{is_seen, rank_at}
-use Rattle.ifc_schema.specs.StageFive.{UsedFlaw, fault_of}
+use Rattle.ifc_schema.specs.Surveys.{UsedFlaw, fault_of}
 use Rattle.ifc_schema.proofs.Listing.{seen_there, fault_there}
 use Rattle.ifc_schema.proofs.checks.fault_at.Goals as goal
 

@@ -1,5 +1,5 @@
 use Rattle.std.proofs.Common.{length, ap, arith}
-use Rattle.ifc_schema.specs.StageFive.{IsModelElement}
+use Rattle.ifc_schema.specs.Surveys.{IsModelElement}
 use Rattle.ifc_schema.proofs.Listing.{lists_all}
 use Rattle.ifc_schema.proofs.checks.list_elements.Goals as goal
 

@@ -1,4 +1,4 @@
-use Rattle.ifc_schema.specs.StageFive.{Lists, IsModelElement}
+use Rattle.ifc_schema.specs.Surveys.{Lists, IsModelElement}
 use Rattle.ifc_schema.specs.Steps.{Below}
 use Rattle.ifc_schema.proofs.checks.list_elements.Given as goal
 

@@ -1,5 +1,5 @@
 use Rattle.ifc_schema.specs.Used.{IsMapped}
-use Rattle.ifc_schema.specs.StageFive.{Lists}
+use Rattle.ifc_schema.specs.Surveys.{Lists}
 use Rattle.ifc_schema.specs.Steps.{Below}
 use Rattle.ifc_schema.proofs.checks.list_mapped.Given as goal
 

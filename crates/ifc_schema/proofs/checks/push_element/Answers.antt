@@ -1,6 +1,6 @@
 use Rattle.std.proofs.Common.{◌≡◌, ◌<◌, ◌++◌, ◌∷◌, [], false, true, get_or, sym, ◌∙◌}
 use Rattle.p21_reader.specs.Uploads.{Rises}
-use Rattle.ifc_schema.specs.StageFive.{IsModelElement, is_model_element}
+use Rattle.ifc_schema.specs.Surveys.{IsModelElement, is_model_element}
 use Rattle.ifc_schema.specs.Marks.{is_seen, rank_at}
 use Rattle.ifc_schema.proofs.Listing.{lists_same, unseen_there, seen_there, push_there, element_used, no_element, element_there}
 use Rattle.ifc_schema.proofs.checks.push_element.Goals as goal

@@ -1,5 +1,5 @@
 use Rattle.std.proofs.Common.{ℕ, List, subst}
-use Rattle.ifc_schema.specs.StageFive.{IsModelElement, element_ids}
+use Rattle.ifc_schema.specs.Surveys.{IsModelElement, element_ids}
 use Rattle.placement.specs.Chains.{IsLoopCause}
 use Rattle.model_build.specs.Named.{ListsNamed}
 use Rattle.model_build.proofs.ChainsEnd.{loop_stage, err_by}

@@ -1,6 +1,6 @@
 use Rattle.std.proofs.Common.{ℕ, List, subst}
 use Rattle.std.specs.List.{Any}
-use Rattle.ifc_schema.specs.StageFive.{used_ids}
+use Rattle.ifc_schema.specs.Surveys.{used_ids}
 use Rattle.ifc_elements.specs.Finding.{Finds}
 use Rattle.model_build.specs.Faces.{HasManyCorners}
 use Rattle.model_build.specs.Outcomes.{HaveFewCorners}

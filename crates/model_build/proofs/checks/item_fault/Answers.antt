@@ -1,5 +1,5 @@
 use Rattle.std.proofs.Common.{Some, None}
-use Rattle.ifc_schema.specs.StageFive.{used_ids, mapped_ids}
+use Rattle.ifc_schema.specs.Surveys.{used_ids, mapped_ids}
 use Rattle.model_build.proofs.UnsupportedLeast.{item_least, item_stage}
 use Rattle.model_build.proofs.checks.item_fault.Goals as goal
 

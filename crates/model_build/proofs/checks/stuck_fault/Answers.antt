@@ -1,5 +1,5 @@
 use Rattle.std.proofs.Common.{ℕ, List, Option, subst}
-use Rattle.ifc_schema.specs.StageFive.{used_ids}
+use Rattle.ifc_schema.specs.Surveys.{used_ids}
 use Rattle.ifc_instances.specs.Least.{IsLeast, LeastOf}
 use Rattle.model_build.specs.Least.{ShownBy}
 use Rattle.model_build.specs.Outcomes.{ShowsStuckSet}

@@ -1,5 +1,5 @@
 use Rattle.std.proofs.Common.{ℕ, ◌<◌, ◌≤◌, List, Option, sum_by, subst}
-use Rattle.ifc_schema.specs.StageFive.{element_ids}
+use Rattle.ifc_schema.specs.Surveys.{element_ids}
 use Rattle.ifc_elements.specs.Items.{count_of}
 use Rattle.model_build.specs.Triangles.{most_triangles, CountsTo}
 use Rattle.model_build.proofs.TrianglesCounted.{triangles_stage, few_triangles}

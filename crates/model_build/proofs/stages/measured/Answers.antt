@@ -1,5 +1,5 @@
 use Rattle.std.proofs.Common.{ℕ, List, Contains, subst}
-use Rattle.ifc_schema.specs.StageFive.{used_ids}
+use Rattle.ifc_schema.specs.Surveys.{used_ids}
 use Rattle.model_build.specs.Faults.{LeastFault}
 use Rattle.model_build.specs.LengthFaults.{LengthFault}
 use Rattle.model_build.specs.Outcomes.{AreMeasured}

@@ -1,7 +1,7 @@
 use Rattle.std.proofs.Common.{ℕ, List, sym, subst}
 use Rattle.std.specs.List.{AllZip}
 use Rattle.bim_model.specs.declared.element.Element.{Element}
-use Rattle.ifc_schema.specs.StageFive.{used_ids, element_ids}
+use Rattle.ifc_schema.specs.Surveys.{used_ids, element_ids}
 use Rattle.placement.specs.Placed.{frame_in}
 use Rattle.ifc_elements.specs.Making.{IsNearElement, IsFirstLacking}
 use Rattle.ifc_elements.proofs.CasesOfAnswers.{of_ok, of_err}

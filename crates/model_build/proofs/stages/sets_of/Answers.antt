@@ -1,5 +1,5 @@
 use Rattle.std.proofs.Common.{ℕ, List, subst}
-use Rattle.ifc_schema.specs.StageFive.{used_ids}
+use Rattle.ifc_schema.specs.Surveys.{used_ids}
 use Rattle.ifc_elements.specs.Sound.{AreSets, IsUncut}
 use Rattle.ifc_elements.proofs.CasesOfAnswers.{of_none, of_some}
 use Rattle.model_build.proofs.ElementsReady.{sets_sound}

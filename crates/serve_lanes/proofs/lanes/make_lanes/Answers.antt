@@ -4,9 +4,9 @@ use Rattle.bim_net.specs.Hosts.{AreNew}
 use Rattle.book_turn.specs.Numbers.{numbers_from}
 use Rattle.book_turn.specs.Passes.{new_passes}
 use Rattle.book_history.specs.declared.changes.Entry.{Entry}
-use Rattle.check_workers.proofs.Making.{new_passes_length}
+use Rattle.check_workers.proofs.WorkersMade.{new_passes_length}
 use Rattle.serve_lanes.specs.Histories.{IsReady, TellsOne}
-use Rattle.serve_lanes.proofs.Making.{passes_first, ready_lane}
+use Rattle.serve_lanes.proofs.LanesMade.{passes_first, ready_lane}
 use Rattle.serve_lanes.proofs.Joining.{numbers_more}
 use Rattle.serve_lanes.proofs.lanes.make_lanes.Goals as goal
 

@@ -1,8 +1,8 @@
 use Rattle.std.proofs.Common.{◌≡◌, ◌+◌, ap, rules}
 use Rattle.book_turn.specs.Passes.{new_passes}
 use Rattle.book_passes.specs.Lessons.{BookPass}
-use Rattle.check_workers.proofs.Making.{new_worker}
-use Rattle.serve_lanes.proofs.Making.{passes_opened}
+use Rattle.check_workers.proofs.WorkersMade.{new_worker}
+use Rattle.serve_lanes.proofs.LanesMade.{passes_opened}
 use Rattle.serve_lanes.proofs.lanes.open_turn.Goals as goal
 
 pub returns-clause-own : goal.returns-clause-own

@@ -1,5 +1,5 @@
 use Rattle.std.proofs.Common.{sym, ap, ◌∙◌}
-use Rattle.check_workers.proofs.Making.{map_same}
+use Rattle.check_workers.proofs.WorkersMade.{map_same}
 use Rattle.serve_lanes.proofs.lanes.run_all.Goals as goal
 
 pub returns-clause-numbers : goal.returns-clause-numbers

@@ -1,6 +1,6 @@
 use Rattle.std.proofs.Common.{rules, ◌≡◌, arith}
 use Rattle.bucket_grid.specs.Grids.{HasMemberships}
-use Rattle.bucket_grid.proofs.Alone.{one_number}
+use Rattle.bucket_grid.proofs.OneOwner.{one_number}
 use Rattle.bucket_grid.proofs.grid.Grid.of.Goals as goal
 
 pub returns-clause-few : goal.returns-clause-few

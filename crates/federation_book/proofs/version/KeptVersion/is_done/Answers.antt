@@ -1,6 +1,6 @@
 use Rattle.std.proofs.Common.{subst, ap, ◌∙◌}
 use Rattle.book_history.specs.Versions.{VersionState, is_done}
-use Rattle.book_history.proofs.Alone.{HasParts}
+use Rattle.book_history.proofs.OneGrid.{HasParts}
 use Rattle.federation_book.proofs.Carrying.{done_is}
 use Rattle.federation_book.proofs.version.KeptVersion.is_done.Goals as goal
 

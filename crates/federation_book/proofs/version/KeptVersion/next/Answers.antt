@@ -4,7 +4,7 @@ use Rattle.bucket_grid.specs.Grids.{GridValue}
 use Rattle.clash_delta.specs.Slots.{IsDone}
 use Rattle.clash_delta.specs.Carried.{IsCarried}
 use Rattle.book_history.specs.Versions.{VersionState, made_after}
-use Rattle.book_history.proofs.Alone.{HasParts}
+use Rattle.book_history.proofs.OneGrid.{HasParts}
 use Rattle.federation_book.proofs.Carrying.{made_is}
 use Rattle.federation_book.proofs.version.KeptVersion.next.Goals as goal
 

@@ -1,7 +1,7 @@
 use Rattle.std.proofs.Common.{subst, sym}
 use Rattle.bucket_grid.specs.Cells.{IsBucket}
 use Rattle.bucket_grid.specs.Grids.{GridValue}
-use Rattle.book_history.proofs.Alone.{HasParts}
+use Rattle.book_history.proofs.OneGrid.{HasParts}
 use Rattle.federation_book.proofs.Carrying.{bucket_from}
 use Rattle.federation_book.proofs.version.KeptVersion.order.Goals as goal
 

@@ -5,7 +5,7 @@ use Rattle.bucket_check.specs.declared.work.BucketWork.{BucketWork}
 use Rattle.bucket_check.specs.Sets.{SetValue}
 use Rattle.clash_delta.specs.Slots.{undone_cells}
 use Rattle.book_history.specs.Versions.{VersionState, with_done}
-use Rattle.book_history.proofs.Alone.{HasParts, one_grid}
+use Rattle.book_history.proofs.OneGrid.{HasParts, one_grid}
 use Rattle.federation_book.proofs.Slots.{filled_left}
 use Rattle.federation_book.proofs.Carrying.{kept_as, bucket_of}
 use Rattle.federation_book.proofs.version.KeptVersion.put.Goals as goal

@@ -5,7 +5,7 @@ use Rattle.std.proofs.lemmas.List.{take-append-drop}
 use Rattle.bim_io.specs.Causes.{Rose, Grows}
 use Rattle.bim_io.specs.Seen.{SinkSeen, SinkTakes}
 use Rattle.bim_io.proofs.Calls.{takes_trans}
-use Rattle.batch_commands.specs.Writes.{WritesLess}
+use Rattle.bim_io.specs.Writes.{WritesLess}
 
 -- a write of the next part of the bytes
 pub takes_more : (a b c : SinkSeen) (bytes : List ℕ) (at n : ℕ) → SinkTakes a b (take at bytes) → Grows b.held c.held (take n (drop at bytes)) → c.faults ≡ b.faults

@@ -1,6 +1,6 @@
 -- A version whose buckets are all done stays so, with what it holds, as a history grows.
-use Rattle.std.proofs.Common.{◌≡◌, ◌+◌, ◌<◌, ◌≤◌, ◌⊎◌, ℕ, Bool, true, false, nat_lt, nat_le, List, [], ◌∷◌, ◌++◌, length, set, filter, fold, not, Some, inl, inr, refl, sym, ◌∙◌, ap, subst, arith, length-append}
-use Rattle.std.proofs.lemmas.Bool.{cases_eq, le-ltb, lt-leb, ltb-false, leb-false}
+use Rattle.std.proofs.Common.{◌≡◌, ◌+◌, ◌<◌, ◌≤◌, ◌⊎◌, ℕ, false, nat_lt, nat_le, List, [], ◌∷◌, ◌++◌, length, set, filter, fold, not, inl, inr, refl, sym, ◌∙◌, ap, subst, arith, length-append}
+use Rattle.std.proofs.lemmas.Bool.{cases_eq, le-ltb, lt-leb}
 use Rattle.std.proofs.lemmas.Bool.Decides.{eqb_tells}
 use Rattle.std.proofs.lemmas.List.{get_or_append_left, get_or-set_same, get_or-set_other, length-set}
 use Rattle.std.proofs.lemmas.List.Sums.{fold-append}
@@ -10,16 +10,13 @@ use Rattle.bucket_check.specs.Clashes.{is_cell}
 use Rattle.book_history.specs.declared.changes.Entry.{Entry}
 use Rattle.book_history.specs.declared.changes.Change.{Change}
 use Rattle.book_history.specs.declared.changes.Change.TheVariants.{Upload, Remove, SetRules, BucketDone}
-use Rattle.book_history.specs.declared.requests.Wanted.{Wanted}
 use Rattle.book_history.specs.declared.requests.Wanted.TheVariants.{Number}
 use Rattle.book_history.specs.declared.replies.ReplyBody.TheVariants as reply
 use Rattle.book_history.specs.Versions.{VersionState, nothing, version_at, with_done}
 use Rattle.book_history.specs.Projects.{ProjectState, untouched, with_change, newest}
 use Rattle.book_history.specs.History.{state_of, newest_of, with_entry}
-use Rattle.book_history.specs.Refusals.{wanted_in, not_yet, dropped, pending}
-use Rattle.book_history.specs.Requests.{Outcome, Answer, unless, clashes_read, body_of}
-use Rattle.book_history.proofs.States.{within}
-use Rattle.bim_session.specs.Notes.{set_told}
+use Rattle.book_history.specs.Refusals.{not_yet, dropped, pending}
+use Rattle.book_history.specs.Requests.{Outcome, Answer, unless, clashes_read}
 
 -- the version is there, holds this, and no bucket of it is to be checked
 pub record Settled (s : ProjectState) (number : ℕ) (content : Version) : Type 0 where
@@ -122,39 +119,3 @@ read_settled h number v first count content s live =
     let none : nat_lt 0 (length version.undone) ≡ false = ap (λ (cs : List Cell). nat_lt 0 (length cs)) s.none in
     not_refused p v version (Answer (reply.Clashes v version.content first count)) made kept none
     ∙ ap (λ (c : Version). Answer (reply.Clashes v c first count)) s.is
-
-some_is : (x y : ℕ × Version) → Some x ≡ Some y → x ≡ y
-some_is x y e = cc
-
--- what is told of a version's clashes, by the tests of its refusals
-told_by_tests : (h : List Entry) (p : ProjectState) (v first count w : ℕ) (content : Version) (a b c : Bool) → nat_lt (newest p) v ≡ a → nat_le (v + 16) (newest p) ≡ b
-    → nat_lt 0 (length (version_at p.versions v).undone) ≡ c
-    → set_told (body_of h (unless (not_yet p v ∷ dropped p v ∷ pending v (version_at p.versions v) ∷ []) (Answer (reply.Clashes v (version_at p.versions v).content first count)))) ≡ Some (w, content)
-    → (v ≡ w) × ((version_at p.versions v).content ≡ content) × (a ≡ false) × (b ≡ false) × (c ≡ false)
-told_by_tests h p v first count w content true b c ea eb ec told = absurd (let none = rw ea at told in cc)
-told_by_tests h p v first count w content false true c ea eb ec told = absurd (let none = rw (ea, eb) at told in cc)
-told_by_tests h p v first count w content false false true ea eb ec told = absurd (let none = rw (ea, eb, ec) at told in cc)
-told_by_tests h p v first count w content false false false ea eb ec told =
-    let is = rw (ea, eb, ec) at told in
-    let same = some_is (v, (version_at p.versions v).content) (w, content) is in
-    (ap (λ (x : ℕ × Version). x.0) same, ap (λ (x : ℕ × Version). x.1) same, refl, refl, refl)
-
--- a version whose clashes are told is live, and checked
-pub read_told : (h : List Entry) (wanted : Wanted) (first count number w : ℕ) (content : Version)
-    → set_told (body_of h (clashes_read h wanted first count number)) ≡ Some (w, content)
-    → Settled (state_of number h) w content × (newest_of number h < w + 16)
-read_told h wanted first count number w content told =
-    let p : ProjectState = state_of number h in
-    let v : ℕ = wanted_in p wanted in
-    let some = within number h in
-    let one : 0 < length p.versions = some.some in
-    let x = told_by_tests h p v first count w content (nat_lt (newest p) v) (nat_le (v + 16) (newest p)) (nat_lt 0 (length (version_at p.versions v).undone)) refl refl refl told in
-    let made : v ≤ newest p = ltb-false (newest p) v x.2 in
-    let live : newest p < v + 16 = leb-false (v + 16) (newest p) x.3 in
-    let none : length (version_at p.versions v).undone ≤ 0 = ltb-false 0 (length (version_at p.versions v).undone) x.4 in
-    subst (λ (n : ℕ). Settled p n content × (newest p < n + 16)) x.0
-    (record { there = omega (arith, made, one); is = x.1; none = empty (version_at p.versions v).undone none }, live)
-  where
-    empty : (cs : List Cell) → length cs ≤ 0 → cs ≡ []
-    empty [] few = refl
-    empty (c ∷ cs) few = absurd (omega (arith, few))

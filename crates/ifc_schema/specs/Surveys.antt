@@ -30,7 +30,7 @@ fault_of id (Dangling to) = fault.Dangling id to
 fault_of id BadShape = fault.BadShape id
 
 -- the fault of the least instance that is used and lacks the form of its row
-pub record StageFive (world : List Instance) (fault : UploadFault) : Type 0 where
+pub record SurveyFault (world : List Instance) (fault : UploadFault) : Type 0 where
   pub id : ℕ
   pub used : Used world id
   pub flaw : Flaw
@@ -81,5 +81,5 @@ pub record Surveyed (world : List Instance) (survey : Survey) : Type 0 where
 
 -- why there is no survey: the file has that fault, or memory is wanting
 abbrev pub IsSurveyError : List Instance → BuildError → Type 0
-IsSurveyError world (Fault fault) = StageFive world fault
+IsSurveyError world (Fault fault) = SurveyFault world fault
 IsSurveyError world Memory = Unit {0}

@@ -6,7 +6,7 @@ use Rattle.book_turn.specs.Passes.{TurnState, new_pass, new_passes}
 use Rattle.book_history.specs.declared.limits.Settings.{Settings}
 use Rattle.book_history.specs.declared.changes.Entry.{Entry}
 use Rattle.book_passes.specs.Lessons.{BookPass}
-use Rattle.check_workers.proofs.Making.{new_passes_length, passes_last, new_worker}
+use Rattle.check_workers.proofs.WorkersMade.{new_passes_length, passes_last, new_worker}
 use Rattle.check_workers.specs.declared.workers.Lack.{Lack}
 use Rattle.serve_lanes.specs.Histories.{Service, IsReady, TellsOne}
 use Rattle.check_workers.specs.Joins.{nothing_lacked}

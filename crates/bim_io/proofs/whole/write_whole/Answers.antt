@@ -1,8 +1,8 @@
 use Rattle.std.proofs.Common.{arith, refl, ◌∙◌}
 use Rattle.std.proofs.lemmas.Grind.{common_steps}
 use Rattle.bim_io.proofs.Calls.{takes_none}
-use Rattle.batch_commands.proofs.Written.{takes_more, wrote_front}
-use Rattle.batch_commands.proofs.block.write_whole.Goals as goal
+use Rattle.bim_io.proofs.Written.{takes_more, wrote_front}
+use Rattle.bim_io.proofs.whole.write_whole.Goals as goal
 
 pub loop-at-init : goal.loop-at-init
 loop-at-init g c = record {

@@ -1,8 +1,8 @@
 //! Writing a whole piece.
 ghost use Rattle.std.specs.Prelude.{◌≡◌, ◌≤◌, length, drop};
-ghost use Rattle.link_session.specs.Writes.{WritesWhole};
+ghost use Rattle.bim_io.specs.Writes.{WritesWhole};
 
-use bim_io::{Failed, Sink};
+use crate::traits::{Failed, Sink};
 
 fn tail(bytes: &[u8], at: usize) -> &[u8]
     requires { at ≤ length bytes.now }

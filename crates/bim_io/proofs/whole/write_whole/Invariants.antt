@@ -1,6 +1,6 @@
 use Rattle.std.proofs.Common.{◌≡◌, length, take, ◌-◌, ◌≤◌}
 use Rattle.bim_io.specs.Seen.{SinkTakes}
-use Rattle.link_session.proofs.sinks.write_whole.Given as goal
+use Rattle.bim_io.proofs.whole.write_whole.Given as goal
 
 abbrev pub invariant-loop-at : goal.invariant-loop-at
 invariant-loop-at g l = record {
