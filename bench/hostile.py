@@ -28,7 +28,7 @@ MIB = 1 << 20
 RULES = RULE_BODIES[1]
 # What a server takes before anything is sent, and for each lane its stack, its buffers and its share of the C library's heap.
 # A lane holds the bytes of one request, in a buffer that doubles, and while that grows the old one beside it.
-IDLE, LANE, BODY = 16 * MIB, MIB, 3
+IDLE, LANE, BODY = 16 * MIB, MIB, 2
 
 
 class Flood:
@@ -97,7 +97,7 @@ def ask_on(client, done, waits):
         client.ask("POST", topics_of(), b'{"title":"beside"}')
         client.ask("GET", "/bcf/3.0/projects")
         waits.append((time.monotonic() - began) / 2)
-        time.sleep(0.01)
+        time.sleep(0.05)
 
 
 def beside(server, clients, flood):
@@ -241,7 +241,7 @@ def lengths(flood, lanes=8):
         last.close()
         stand = [it for it in listed if it["title"] != "beside"]
         want(len(stand) == len(made), f"{len(stand)} topics stand, and {len(made)} were answered")
-        taken = bounded(server, lanes, body=4 * MIB, book=MIB)
+        taken = bounded(server, lanes, book=MIB)
         end(server)
     return f"{count} connections, {len(made)} of which asked for something, {told}, {taken}"
 
@@ -385,7 +385,7 @@ def never_read(flood, lanes=8):
                     except BlockingIOError:
                         time.sleep(0.001)
         logs, told = beside(server, 2, asking)
-        taken = bounded(server, lanes, body=2 * MIB, book=4 * MIB)
+        taken = bounded(server, lanes, body=MIB, book=4 * MIB)
         freed = ""
         if flood.full:
             began = time.monotonic()
@@ -410,37 +410,43 @@ def never_read(flood, lanes=8):
     return f"{len(stuck)} of them, {told}{freed}, {taken}"
 
 
-def bodies(flood, lanes=4):
-    """The longest bodies on all lanes but two at once: one that is no file, and one that never ends. Each lane holds its own
-    alone, and gives it back."""
+def bodies(flood, lanes=5):
+    """The longest bodies on all lanes but two at once, by length and in chunks, which are no files, and one that never ends.
+    Each lane holds its own alone, and gives it back."""
     size = flood.much(8 * MIB, 32 * MIB)
+    head = f"PUT /coord/1/projects/{project_id(1)}/models/a HTTP/1.1\r\nHost: h\r\n"
+    length, chunks = f"Content-Length: {size}\r\n\r\n", "Transfer-Encoding: chunked\r\n\r\n"
     with Server(flood.program, lanes=lanes) as server:
-        head = f"PUT /coord/1/projects/{project_id(1)}/models/a HTTP/1.1\r\nHost: h\r\nContent-Length: {size}\r\n\r\n".encode()
+        server.connect().close()
+
+        def one(kind):
+            it = server.connect()
+            it.sendall((head + (chunks if kind == 1 else length)).encode())
+            block = bytes(MIB) if kind != 1 else b"%x\r\n" % MIB + bytes(MIB) + b"\r\n"
+            for _ in range(size // MIB - (kind == 2)):
+                it.sendall(block)
+            if kind == 1:
+                it.sendall(b"0\r\n\r\n")
+            if kind == 2:
+                time.sleep(0.2)
+            else:
+                got = take_response(it.recv(1 << 16))
+                want(got and got[0] == 422 and b'"U1"' in got[3], f"{got}")
+            cut_off(it)
 
         def large():
-            def one(whole):
-                it = server.connect()
-                it.sendall(head)
-                block = b"\0" * MIB
-                for n in range(size // MIB):
-                    it.sendall(block[: MIB if whole or n < size // MIB - 1 else MIB - 1])
-                if whole:
-                    got = take_response(it.recv(1 << 16))
-                    want(got and got[0] == 422 and b'"U1"' in got[3], f"{got}")
-                else:
-                    time.sleep(0.2)
-                cut_off(it)
             for _ in range(flood.much(2, 5)):
-                in_threads([lambda n=n: one(n % 2 == 0) for n in range(lanes - 2)])
+                in_threads([lambda n=n: one(n % 3) for n in range(lanes - 2)])
         logs, told = beside(server, 2, large)
         check_replies(flood.program, 1, logs)
-        taken = bounded(server, lanes, body=size, book=MIB)
+        taken = bounded(server, lanes - 2, body=size, book=MIB)
         end(server)
     return f"{lanes - 2} bodies of {size / MIB:.0f} MiB at once, {told}, {taken}"
 
 
 class Limited(Server):
-    """A server whose address space has a bound, so that memory is refused beyond it."""
+    """A server whose address space has a bound, so that memory is refused beyond it. (The C library takes one heap, and none for
+    each thread, of which each would take 64 MiB of the space.)"""
 
     def __init__(self, program, space, **how):
         self.space = space
@@ -448,6 +454,7 @@ class Limited(Server):
 
     def begins(self):
         super().begins()
+        os.environ["MALLOC_ARENA_MAX"] = "1"
         resource.setrlimit(resource.RLIMIT_AS, (self.space, self.space))
 
 
@@ -463,34 +470,39 @@ def wanting(flood, lanes=3):
     """A version whose list is longer than memory lasts, and one with more pairs than it lasts: the first is answered 503, the
     second stays to be checked, and all else goes on, on the lanes and at the worker, also of versions made behind them."""
     v = f"/coord/1/projects/{project_id(1)}"
-    with Limited(flood.program, 320 * MIB, lanes=lanes) as server:
+    with Limited(flood.program, 112 * MIB, lanes=lanes) as server:
         client, other = Client(server), Client(server)
-        want(client.ask("PUT", f"{v}/models/a", long_name(100, MIB)).status == 201, "no version")
-        it = client.ask("GET", f"{v}/versions/1")
-        want(it.status == 503 and json.loads(it.reply)["code"] == "M1", f"{it.status} {it.reply[:80]!r}")
-        want(other.ask("POST", topics_of(), b'{"title":"beside"}').status == 201, "no topic beside it")
-        client.ask("DELETE", f"{v}/models/a")
-        client.ask("PUT", f"{v}/rules", RULES)
-        heap = reference.file_of(*((10 + 10 * n, f"{n:022}", "p", (1500, 1500, 1500)) for n in range(5000)))
-        want(client.ask("PUT", f"{v}/models/b", heap).status == 201, "no version")
-        deadline = time.monotonic() + 120
-        while memory(server, "VmRSS") > memory(server) / 2 or memory(server) < 80 * MIB:
-            want(time.monotonic() < deadline, "memory is not refused")
-            want(other.ask("GET", f"{v}/versions/4/clashes").status == 202, "the clashes are there")
-            time.sleep(0.01)
-        most = memory(server)
-        client.ask("DELETE", f"{v}/models/b")
-        client.ask("PUT", f"{v}/models/c", reference.file_of(*reference.BLOCKS[1]))
-        deadline = time.monotonic() + 60
-        while (found := client.ask("GET", f"{v}/versions/6/clashes")).status == 202:
-            want(time.monotonic() < deadline, "the worker that was refused memory works no more")
-            time.sleep(0.02)
-        want(json.loads(found.reply)["total"] == 1, f"{found.reply[:80]!r}")
-        want(json.loads(other.ask("GET", topics_of()).reply)[0]["title"] == "beside", "no topic")
+        want(client.ask("PUT", f"{v}/models/a", long_name(200, MIB)).status == 201, "no version")
+        for _ in range(3):
+            it = client.ask("GET", f"{v}/versions/1")
+            want(it.status == 503 and json.loads(it.reply)["code"] == "M1", f"{it.status} {it.reply[:80]!r}")
+            want(other.ask("POST", topics_of(), b'{"title":"beside"}').status == 201, "no topic beside it")
+        want(client.ask("DELETE", f"{v}/models/a").turn and len(json.loads(client.ask("GET", topics_of()).reply)) == 3, "not three topics")
         client.close()
         other.close()
         end(server)
-    return f"refused at {most / MIB:.0f} MiB"
+    with Limited(flood.program, 112 * MIB, lanes=lanes) as server:
+        client = Client(server)
+        client.ask("PUT", f"{v}/rules", RULES)
+        heap = reference.file_of(*((10 + 10 * n, f"{n:022}", "p", (1500, 1500, 1500)) for n in range(3000)))
+        want(client.ask("PUT", f"{v}/models/b", heap).status == 201, "no version")
+        least, most, deadline = 0, 0, time.monotonic() + 120
+        while most < 32 * MIB or least > most / 2:
+            want(time.monotonic() < deadline, "memory is not refused")
+            least = memory(server, "VmRSS")
+            most = max(least, most)
+            time.sleep(0.002)
+        want(client.ask("GET", f"{v}/versions/2/clashes").status == 202, "the clashes are there")
+        client.ask("DELETE", f"{v}/models/b")
+        client.ask("PUT", f"{v}/models/c", reference.file_of(*reference.BLOCKS[1]))
+        deadline = time.monotonic() + 60
+        while (found := client.ask("GET", f"{v}/versions/4/clashes")).status == 202:
+            want(time.monotonic() < deadline, "the worker that was refused memory works no more")
+            time.sleep(0.02)
+        want(json.loads(found.reply)["total"] == 1, f"{found.reply[:80]!r}")
+        client.close()
+        end(server)
+    return f"a worker was refused more than {most / MIB:.0f} MiB, and went on"
 
 
 ROWS = {it.__name__: it for it in (drip, heads, lengths, cuts, resets, pipelined, never_read, bodies, wanting)}
