@@ -112,7 +112,7 @@ def memberships(program, scale):
     with Server(program, lanes=2, workers=1) as server:
         table = Table(server)
         if scale == 1:
-            table.ask(f"{count:,} elements of 8,700 mm", "PUT", f"{V}/models/m", placed(count, 8700, 3170), 507)
+            table.ask(f"{count:,} elements of 9,000 mm", "PUT", f"{V}/models/m", placed(count, 9000, 3170), 507)
         table.ask(f"{count:,} elements of 8,600 mm", "PUT", f"{V}/models/m", placed(count, 8600, 3170), 201)
         table.checked("that version", 1)
 
