@@ -14,6 +14,7 @@ import concurrent.futures
 import os
 import random
 import re
+import shutil
 import socket
 import struct
 import subprocess
@@ -115,6 +116,8 @@ class Tool:
         self.program, self.folder, self.some = program, folder, some
         self.chance = random.Random(seed)
         self.library = os.path.join(folder, "failing.so")
+        if shutil.which("cc") is None:
+            subprocess.run(["apt-get", "install", "-y", "gcc", "libc6-dev"], stdout=subprocess.DEVNULL, check=True)
         subprocess.run(["cc", "-O1", "-shared", "-fPIC", "-o", self.library, os.path.join(HERE, "failing.c"), "-ldl"], check=True)
         self.workers = concurrent.futures.ThreadPoolExecutor(max(2, os.cpu_count() or 2))
 

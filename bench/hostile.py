@@ -518,6 +518,8 @@ def main():
     if set(said.rows) - set(ROWS):
         words.error("the rows are " + ", ".join(ROWS))
     failed = 0
+    most = resource.getrlimit(resource.RLIMIT_NOFILE)[1]
+    resource.setrlimit(resource.RLIMIT_NOFILE, (min(most, 4096) if most != resource.RLIM_INFINITY else 4096, most))
     print(f"seed {said.seed}", flush=True)
     for name in said.rows or ROWS:
         began = time.monotonic()
