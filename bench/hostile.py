@@ -90,17 +90,17 @@ def send(it, data, pieces=None, chance=None):
         pass
 
 
-def ask_on(client, done, waits):
-    """Asks until the flood is over, each request once the one before is answered."""
+def ask_on(client, done, waits, pause):
+    """Asks until the flood is over, two requests and a pause, each once the one before is answered."""
     while not done.is_set():
         began = time.monotonic()
         client.ask("POST", topics_of(), b'{"title":"beside"}')
         client.ask("GET", "/bcf/3.0/projects")
         waits.append((time.monotonic() - began) / 2)
-        time.sleep(0.05)
+        time.sleep(pause)
 
 
-def beside(server, clients, flood):
+def beside(server, clients, flood, pause=0.05):
     """Runs the flood while so many clients ask over connections that they had before. What they were answered, and how long
     they waited."""
     asking, done, waits = [Client(server) for _ in range(clients)], threading.Event(), []
@@ -110,7 +110,7 @@ def beside(server, clients, flood):
             flood()
         finally:
             done.set()
-    in_threads([run] + [lambda c=c: ask_on(c, done, waits) for c in asking])
+    in_threads([run] + [lambda c=c: ask_on(c, done, waits, pause) for c in asking])
     want(waits, "the others were not answered")
     for it in asking:
         it.close()
@@ -143,7 +143,7 @@ def drip(flood, lanes=32):
                 time.sleep(1)
             for it in them:
                 it.close()
-        logs, told = beside(server, lanes // 2, dripping)
+        logs, told = beside(server, lanes // 2, dripping, flood.much(0.05, 0.4))
         later = Client(server)
         later.ask("GET", topics_of())
         later.close()
@@ -395,9 +395,10 @@ def never_read(flood, lanes=8):
                 it.sendall(request)
             for it in waiting:
                 want(it.recv(1) == b"H", "no reply")
+            for it in waiting:
                 it.close()
             took = time.monotonic() - began
-            want(took < 75, f"the lanes are held for {took:.0f} s")
+            want(50 < took < 75, f"the lanes are held for {took:.0f} s")
             freed = f", their lanes free after {took:.0f} s"
         for it in stuck:
             it.close()
