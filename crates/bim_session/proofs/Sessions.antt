@@ -402,4 +402,3 @@ entry_new settings history step before =
     let own : AreOf step.stamp.turn added = added_of settings history step.stamp step.request in
     of_turn-new step.stamp.turn history added before own
     ∙ ap (λ es. added_by settings es step.stamp step.request) (sym (at_turn-new step.stamp.turn history added before own))
-
