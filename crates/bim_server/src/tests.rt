@@ -2,6 +2,7 @@
 ghost use Rattle.std.specs.Prelude.{◌≤◌};
 
 use crate::commands::{run, run_replay};
+use crate::serve::run_serve;
 use bim_files::MemFiles;
 use bim_io::{ListClock, MemClock, MemSink, MemSource, SureSink, SureSource};
 use bim_model::{Bytes, Items, Moment, Text};
@@ -261,4 +262,23 @@ fn words_outside_the_grammar_print_the_usage(rt: HostRuntime) -> Result<(), Fail
     assert_words(&rt, alloc, &["serve"], 0, b"")?;
     assert_words(&rt, alloc, &["serve", "--lanes", "33"], 2, usage)?;
     assert_words(&rt, alloc, &[], 2, usage)
+}
+
+// The status of a server over this host.
+fn serves<R: Threads + Wait + Sync>(rt: &R, alloc: Global, host: &mut MemHost) -> u8 {
+    let ended = run_serve(rt, alloc, &[], host);
+    let status = ended.status;
+    drop(ended);
+    status
+}
+
+// Where the doors can't be opened the status is 4; where none has a connection it is 0.
+#[test]
+fn a_server_without_doors_ends(rt: HostRuntime) -> Result<(), Fail> {
+    let alloc = rt.alloc();
+    let mut closed = MemHost::new(alloc, Vec::new(alloc), 0, fails_at(alloc, 1)?);
+    assert_eq!(rt; serves(&rt, alloc, &mut closed), 4);
+    let mut idle = MemHost::new(alloc, Vec::new(alloc), 0, Items::new(alloc));
+    assert_eq!(rt; serves(&rt, alloc, &mut idle), 0);
+    Ok(())
 }
