@@ -4,7 +4,7 @@ use Rattle.std.proofs.lemmas.List.{length-append}
 use Rattle.p21_reader.specs.declared.value.Value21.{Value21}
 use Rattle.p21_reader.specs.declared.value.Instance.{Instance}
 use Rattle.bim_model.specs.declared.geometry.Triangle.{Triangle}
-use Rattle.ifc_instances.specs.Attributes.{led_to}
+use Rattle.p21_reader.specs.Attributes.{led_to}
 use Rattle.faceset.specs.Sets.{face_count, Joined}
 use Rattle.faceset.proofs.Anys.{any_left, any_right}
 use Rattle.ifc_instances.proofs.LedTo.{led_more, led_parts}

@@ -6,9 +6,9 @@ use Rattle.std.proofs.lemmas.List.Elements.{filter_map-append, All-append}
 use Rattle.std.proofs.lemmas.List.Sums.{sum_by-append}
 use Rattle.p21_reader.specs.declared.value.Value21.{Value21}
 use Rattle.p21_reader.specs.declared.value.Instance.{Instance}
-use Rattle.ifc_instances.specs.Looking.{look}
-use Rattle.ifc_instances.specs.Values.{reference_of}
-use Rattle.ifc_instances.specs.Attributes.{led_to}
+use Rattle.p21_reader.specs.Looking.{look}
+use Rattle.p21_reader.specs.Values.{reference_of}
+use Rattle.p21_reader.specs.Attributes.{led_to}
 use Rattle.ifc_instances.proofs.LedTo.{led_more, led_parts}
 use Rattle.faceset.proofs.Anys.{any_left, any_right, all_not, not_any}
 

@@ -4,10 +4,10 @@ use Rattle.std.specs.Option.{unwrap_or, MatchOption}
 use Rattle.std.specs.List.{AllZip, Any}
 use Rattle.std.proofs.lemmas.List.{take_more}
 use Rattle.p21_reader.specs.declared.value.Value21.{Value21}
-use Rattle.ifc_instances.specs.Values.{items_of}
+use Rattle.p21_reader.specs.Values.{items_of}
 use Rattle.bim_model.specs.declared.geometry.Point.{Point}
 use Rattle.bim_model.specs.declared.geometry.Triangle.{Triangle}
-use Rattle.ifc_instances.specs.Attributes.{items_in}
+use Rattle.p21_reader.specs.Attributes.{items_in}
 use Rattle.faceset.specs.Sets.{IsCorner, IsMisnamed, IsTriangle, HasThree}
 
 zip_push : {X Y : Type 0} (R : X → Y → Type 0) (xs : List X) (ys : List Y) (x : X) (y : Y) → AllZip R xs ys → R x y → AllZip R (xs ++ x ∷ []) (ys ++ y ∷ [])

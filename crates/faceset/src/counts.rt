@@ -1,6 +1,6 @@
 //! How many triangles sets have.
 ghost use Rattle.std.specs.Prelude.{◌≡◌, ◌<◌, ◌≤◌, ◌+◌, ◌∷◌, [], sum_by, IfSome, IfNone};
-ghost use Rattle.ifc_instances.specs.Attributes.{led_to};
+ghost use Rattle.p21_reader.specs.Attributes.{led_to};
 ghost use Rattle.faceset.specs.Sets.{face_count, triangle_count};
 
 use crate::sets::{is_polygonal, outline};

@@ -1,7 +1,7 @@
 //! The numbers that values refer to.
 ghost use Rattle.std.specs.Prelude.{◌≡◌, ◌++◌, ◌∷◌, [], filter_map, IfOk, OnOk};
 ghost use Rattle.std.specs.List.Sorted.{IsStrictlyIncreasing};
-ghost use Rattle.ifc_instances.specs.Values.{reference_of};
+ghost use Rattle.p21_reader.specs.Values.{reference_of};
 ghost use Rattle.faceset.specs.Numbers.{HaveSame};
 
 use ifc_instances::reference_of;

@@ -1,7 +1,7 @@
 //! The triangles of triangulated sets.
 ghost use Rattle.std.specs.Prelude.{◌∷◌, [], length, All, Any, IfOk, MatchOption, option_copied};
 ghost use Rattle.faceset.specs.Sets.{IsTriangle, AreTriangles, HasThree, IsMisnamed, IsCorner};
-ghost use Rattle.ifc_instances.specs.Attributes.{items_in};
+ghost use Rattle.p21_reader.specs.Attributes.{items_in};
 
 use crate::naming::corner;
 use bim_model::{Point, Triangle};

@@ -2,7 +2,7 @@
 ghost use Rattle.std.specs.Prelude.{◌≡◌, ℕ, List, ◌∷◌, [], length, sum_by, All, Any, IfOk, IfSome, IfNone, MatchOption, option_copied};
 ghost use Rattle.bim_model.specs.declared.geometry.Triangle.{Triangle};
 ghost use Rattle.bim_model.specs.Points.{IsGridPoint};
-ghost use Rattle.ifc_instances.specs.Attributes.{led_to};
+ghost use Rattle.p21_reader.specs.Attributes.{led_to};
 ghost use Rattle.faceset.specs.Sets.{Joined, IsCut, SetTriangles, IsSound, HasStuck, face_count, triangle_count};
 ghost use Rattle.faceset.specs.Cuts.{IsLoose};
 

@@ -4,10 +4,10 @@ use Rattle.std.proofs.lemmas.List.{take_more, map-append}
 use Rattle.std.proofs.lemmas.List.Elements.{filter-append}
 use Rattle.p21_reader.specs.declared.value.Value21.{Value21}
 use Rattle.p21_reader.specs.declared.value.Instance.{Instance}
-use Rattle.ifc_instances.specs.Looking.{look}
+use Rattle.p21_reader.specs.Looking.{look}
 use Rattle.ifc_schema.specs.Bodies.{is_body_representation}
 use Rattle.ifc_instances.proofs.LedTo.{led_append}
-use Rattle.ifc_instances.specs.Attributes.{led_to}
+use Rattle.p21_reader.specs.Attributes.{led_to}
 use Rattle.ifc_elements.specs.Items.{bodies_among}
 use Rattle.ifc_elements.specs.Finding.{Number}
 

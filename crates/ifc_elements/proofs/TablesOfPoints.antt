@@ -9,9 +9,9 @@ use Rattle.bim_model.specs.declared.upload.Mode.{Mode}
 use Rattle.bim_model.specs.declared.geometry.Point.{Point}
 use Rattle.p21_reader.specs.declared.value.Value21.{Value21}
 use Rattle.p21_reader.specs.declared.value.Instance.{Instance}
-use Rattle.ifc_instances.specs.Looking.{look}
-use Rattle.ifc_instances.specs.Places.{IsPlaceOf}
-use Rattle.ifc_instances.proofs.PlaceLemmas.{found_at, some_instance, same_instance}
+use Rattle.p21_reader.specs.Looking.{look}
+use Rattle.p21_reader.specs.Places.{IsPlaceOf}
+use Rattle.p21_reader.proofs.PlaceLemmas.{found_at, some_instance, same_instance}
 use Rattle.ifc_units.specs.declared.scale.Scale.{Scale}
 use Rattle.ifc_units.specs.Lengths.{ArePoints, PointsRefused, Fails}
 use Rattle.ifc_units.specs.declared.fault.LengthError.{LengthError}

@@ -7,7 +7,7 @@ ghost use Rattle.ifc_units.specs.declared.scale.Scale.{Scale};
 ghost use Rattle.p21_reader.specs.declared.value.Instance.{Instance};
 ghost use Rattle.placement.specs.Placed.{AreFrames, frame_in};
 ghost use Rattle.spatial_tree.specs.Trees.{ListsStoreys};
-ghost use Rattle.ifc_instances.specs.Looking.{look};
+ghost use Rattle.p21_reader.specs.Looking.{look};
 ghost use Rattle.ifc_elements.specs.Framed.{Framed, AllFramed};
 ghost use Rattle.ifc_elements.specs.Sound.{AreSets};
 ghost use Rattle.ifc_elements.specs.Shapes.{AreShapes};

@@ -7,7 +7,7 @@ ghost use Rattle.p21_reader.specs.declared.value.Instance.{Instance};
 ghost use Rattle.placement.specs.Frames.{IsFrame, AreWithin, most};
 ghost use Rattle.ifc_units.specs.Lengths.{reach};
 ghost use Rattle.faceset.specs.Sets.{Joined};
-ghost use Rattle.ifc_instances.specs.Attributes.{led_to};
+ghost use Rattle.p21_reader.specs.Attributes.{led_to};
 ghost use Rattle.ifc_elements.specs.Items.{items_of, item_count, body_items, bodies};
 ghost use Rattle.ifc_elements.specs.Finding.{Number};
 ghost use Rattle.ifc_elements.specs.Shapes.{AreShapes};

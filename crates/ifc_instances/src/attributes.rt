@@ -1,9 +1,9 @@
 //! The attributes of instances, and what they refer to. Attributes count from 0.
 ghost use Rattle.std.specs.Prelude.{◌≡◌, option_copied, option_and_then};
 ghost use Rattle.std.specs.List.{slice_get};
-ghost use Rattle.ifc_instances.specs.Looking.{look};
-ghost use Rattle.ifc_instances.specs.Values.{reference_of};
-ghost use Rattle.ifc_instances.specs.Attributes.{items_in, listed, reference_at, target_at, value_at, referred_at};
+ghost use Rattle.p21_reader.specs.Looking.{look};
+ghost use Rattle.p21_reader.specs.Values.{reference_of};
+ghost use Rattle.p21_reader.specs.Attributes.{items_in, listed, reference_at, target_at, value_at, referred_at};
 
 use crate::looking::look;
 use crate::value::{items_of, reference_of};

@@ -1,6 +1,6 @@
 //! What values say, by their kinds.
 ghost use Rattle.std.specs.Prelude.{◌≡◌, option_copied};
-ghost use Rattle.ifc_instances.specs.Values.{number_of, words_of, reference_of, items_of, is_enumeration, is_absent};
+ghost use Rattle.p21_reader.specs.Values.{number_of, words_of, reference_of, items_of, is_enumeration, is_absent};
 
 use p21_reader::Value21;
 

@@ -23,11 +23,12 @@ use Rattle.ifc_schema.specs.declared.work.Mark.TheVariants.{Unseen, Used as Met,
 use Rattle.ifc_schema.specs.declared.work.Work.{Work}
 use Rattle.ifc_schema.specs.Used.{is_root, Used, root, named, mapped, IsMapped, Names, NamesBy, Maps}
 use Rattle.ifc_schema.specs.Table.{row_of, attribute, row_at, row_or_none}
-use Rattle.ifc_instances.specs.Looking.{look, entity_at}
-use Rattle.ifc_instances.specs.Places.{IsPlaceOf}
+use Rattle.p21_reader.specs.Looking.{look}
+use Rattle.ifc_instances.specs.Looking.{entity_at}
+use Rattle.p21_reader.specs.Places.{IsPlaceOf}
 use Rattle.ifc_schema.specs.Bodies.{applies}
 use Rattle.ifc_schema.specs.Marks.{rank, rank_at, mark_at, is_mapped, SoundAt, Grows, IsMarked, IsFollowed, FollowedAt, IsRootAt, Going}
-use Rattle.ifc_instances.proofs.PlaceLemmas.{rising, place_found, found_at, some_instance}
+use Rattle.p21_reader.proofs.PlaceLemmas.{rising, place_found, found_at, some_instance}
 use Rattle.ifc_schema.proofs.Growing.{marked_on}
 
 -- The instance at a place.

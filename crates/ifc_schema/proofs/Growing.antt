@@ -10,11 +10,11 @@ use Rattle.ifc_schema.specs.declared.work.Mark.{Mark}
 use Rattle.ifc_schema.specs.declared.work.Mark.TheVariants.{Unseen, Used as Met, Mapped}
 use Rattle.ifc_schema.specs.declared.work.Work.{Work}
 use Rattle.ifc_schema.specs.Forms.{holds}
-use Rattle.ifc_instances.specs.Looking.{look}
-use Rattle.ifc_instances.specs.Places.{IsPlaceOf}
+use Rattle.p21_reader.specs.Looking.{look}
+use Rattle.p21_reader.specs.Places.{IsPlaceOf}
 use Rattle.ifc_schema.specs.Used.{LeadsTo}
 use Rattle.ifc_schema.specs.Marks.{rank, rank_at, mark_at, SoundAt, Grows, IsMarked}
-use Rattle.ifc_instances.proofs.PlaceLemmas.{found_at, place_once}
+use Rattle.p21_reader.proofs.PlaceLemmas.{found_at, place_once}
 
 pub grows_trans : (world : List Instance) (a b c : Work) → Grows world a b → Grows world b c → Grows world a c
 grows_trans world a b c p q = record {

@@ -8,8 +8,9 @@ use Rattle.ifc_instances.specs.declared.entity.Entity.TheVariants.{ProductShape,
 use Rattle.ifc_schema.specs.declared.form.When.{When}
 use Rattle.ifc_schema.specs.declared.form.When.TheVariants.{Always, WithBody, WithItems}
 use Rattle.ifc_schema.specs.Words.{says_body}
-use Rattle.ifc_instances.specs.Values.{words_of, reference_of, items_of}
-use Rattle.ifc_instances.specs.Looking.{look, is_a, some_passes}
+use Rattle.p21_reader.specs.Values.{words_of, reference_of, items_of}
+use Rattle.p21_reader.specs.Looking.{look}
+use Rattle.ifc_instances.specs.Looking.{is_a, some_passes}
 
 -- the identifier of a representation is `Body`
 unfoldable pub is_body : Instance → Bool

@@ -11,7 +11,8 @@ use Rattle.ifc_schema.specs.declared.views.RepresentationView.{RepresentationVie
 use Rattle.ifc_schema.specs.declared.views.FacesetView.{FacesetView}
 use Rattle.ifc_schema.specs.declared.views.FaceView.{FaceView}
 use Rattle.ifc_schema.specs.declared.views.MappedView.{MappedView}
-use Rattle.ifc_instances.specs.Looking.{look, entity_at}
+use Rattle.p21_reader.specs.Looking.{look}
+use Rattle.ifc_instances.specs.Looking.{entity_at}
 use Rattle.ifc_schema.specs.Flaws.{InstanceFlaw}
 
 -- It is the instance of that number, and has the form of its row. Whether it is mapped is given.

@@ -19,7 +19,7 @@ ghost use Rattle.ifc_schema.specs.Flaws.{
 ghost use Rattle.ifc_schema.specs.Words.{says_guid};
 ghost use Rattle.ifc_instances.specs.Looking.{some_passes};
 ghost use Rattle.ifc_schema.specs.Bodies.{has_body};
-ghost use Rattle.ifc_instances.specs.Values.{words_of, reference_of};
+ghost use Rattle.p21_reader.specs.Values.{words_of, reference_of};
 
 use crate::body::applies;
 use crate::form::{Attribute, Count, Leaf, Shape, Targets};

@@ -1,6 +1,6 @@
 //! Rows are followed: what they name is marked.
 ghost use Rattle.std.specs.Prelude.{◌≡◌, ◌≤◌, ℕ, length, OnOk, Any};
-ghost use Rattle.ifc_instances.specs.Places.{IsPlaceOf};
+ghost use Rattle.p21_reader.specs.Places.{IsPlaceOf};
 ghost use Rattle.ifc_schema.specs.Used.{Used, IsMapped, RefersTo, SomeItem, StandsIn, LeadsTo, NamesBy, Maps};
 ghost use Rattle.ifc_schema.specs.Bodies.{has_body};
 ghost use Rattle.ifc_schema.specs.Marks.{Grows, IsMarked, SoundAt, rank, rank_at};

@@ -4,6 +4,7 @@ ghost use Rattle.ifc_schema.specs.Forms.{is_nothing, holds, fits, followed, allo
 
 use bim_model::Text;
 use ifc_instances::Entity;
+use p21_reader::Keyword;
 
 /// The instances that a reference may lead to, by their entities.
 #[derive(Clone, Copy)]
@@ -98,7 +99,7 @@ impl Targets {
         let Some(keyword) = keyword else {
             return false;
         };
-        let keyword = keyword.as_str();
+        let keyword = &Keyword::of(keyword.as_str());
         match self {
             Targets::Nothing => false,
             Targets::One(entity) => entity.is(keyword),

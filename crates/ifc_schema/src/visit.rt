@@ -3,7 +3,7 @@ ghost use Rattle.std.specs.Prelude.{◌≡◌, ◌<◌, ◌≤◌, ℕ, [], leng
 ghost use Rattle.std.specs.Bool.{OnTrue, OnFalse};
 ghost use Rattle.p21_reader.specs.Uploads.{Rises};
 ghost use Rattle.p21_reader.specs.declared.value.Instance.{Instance};
-ghost use Rattle.ifc_instances.specs.Places.{IsPlaceOf};
+ghost use Rattle.p21_reader.specs.Places.{IsPlaceOf};
 ghost use Rattle.ifc_schema.specs.Used.{Used, IsMapped, Maps, NamesBy, is_root};
 ghost use Rattle.ifc_schema.specs.Bodies.{body_shapes};
 ghost use Rattle.ifc_schema.specs.Marks.{Grows, SoundAt, mark_at, rank_at, is_mapped, IsFollowed, FollowedAt, IsRootAt, Going, Known};

@@ -6,7 +6,8 @@ ghost use Rattle.p21_reader.specs.declared.value.Instance.{Instance};
 ghost use Rattle.ifc_instances.specs.declared.entity.Entity.TheVariants.{Project};
 ghost use Rattle.ifc_instances.specs.Looking.{is_a};
 ghost use Rattle.ifc_units.specs.declared.scale.Scale.{Scale};
-ghost use Rattle.ifc_units.specs.Units.{enumeration_of, says, is_length_unit, prefix_power, power_with, unit_power, projects, assignment_of, RefersToUnit, IsUnitAmong, IsOnly, RefersToOther, AssignsPower, IsLengthUnit, IsLeastNumber, LengthUnitFault};
+ghost use Rattle.p21_reader.specs.Values.{enumeration_of};
+ghost use Rattle.ifc_units.specs.Units.{says, is_length_unit, prefix_power, power_with, unit_power, projects, assignment_of, RefersToUnit, IsUnitAmong, IsOnly, RefersToOther, AssignsPower, IsLengthUnit, IsLeastNumber, LengthUnitFault};
 
 use crate::scale::Scale;
 use bim_model::UploadFault;

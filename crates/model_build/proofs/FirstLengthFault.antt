@@ -6,16 +6,16 @@ use Rattle.bim_model.specs.declared.upload.Mode.{Mode}
 use Rattle.bim_model.specs.declared.geometry.Point.{Point}
 use Rattle.p21_reader.specs.declared.value.Value21.{Value21}
 use Rattle.p21_reader.specs.declared.value.Instance.{Instance}
-use Rattle.ifc_instances.specs.Values.{items_of}
-use Rattle.ifc_instances.specs.Looking.{look}
-use Rattle.ifc_instances.specs.Places.{IsPlaceOf}
-use Rattle.ifc_instances.proofs.PlaceLemmas.{found_at, same_instance}
+use Rattle.p21_reader.specs.Values.{items_of}
+use Rattle.p21_reader.specs.Looking.{look}
+use Rattle.p21_reader.specs.Places.{IsPlaceOf}
+use Rattle.p21_reader.proofs.PlaceLemmas.{found_at, same_instance}
 use Rattle.ifc_units.specs.declared.scale.Scale.{Scale}
 use Rattle.ifc_units.specs.declared.fault.GridFault.{GridFault}
 use Rattle.ifc_units.specs.Lengths.{ArePoints, PointsRefused, ListRefused, InstanceRefused}
 use Rattle.ifc_units.proofs.PointFacts.{points_apart}
 use Rattle.ifc_units.proofs.InstanceFacts.{not_both}
-use Rattle.ifc_instances.specs.Attributes.{listed}
+use Rattle.p21_reader.specs.Attributes.{listed}
 use Rattle.ifc_elements.specs.PointTables.{IsListOf, Tabled, IsTable, kept_at}
 use Rattle.model_build.specs.LengthFaults.{Refuses}
 use Rattle.ifc_elements.proofs.TablesOfPoints.{at_place}

@@ -5,9 +5,9 @@ use Rattle.std.proofs.lemmas.List.Sums.{sum_by-cons, sum_by-append}
 use Rattle.std.proofs.lemmas.List.Concat.{flat_map-cons}
 use Rattle.p21_reader.specs.declared.value.Value21.{Value21}
 use Rattle.p21_reader.specs.declared.value.Instance.{Instance}
-use Rattle.ifc_instances.specs.Looking.{look}
+use Rattle.p21_reader.specs.Looking.{look}
 use Rattle.faceset.proofs.Named.{summed_more, summed_part}
-use Rattle.ifc_instances.specs.Attributes.{led_to}
+use Rattle.p21_reader.specs.Attributes.{led_to}
 use Rattle.ifc_elements.specs.Items.{items_of, bodies, item_count, counted, count_of}
 use Rattle.model_build.specs.Triangles.{most_triangles, body_count, items_count, CountsTo}
 use Rattle.ifc_elements.specs.Finding.{Number}

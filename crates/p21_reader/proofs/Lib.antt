@@ -17,3 +17,5 @@ pub mod Steps
 pub mod Strict
 pub mod Viable
 pub mod SameSaying
+pub mod PlaceLemmas
+pub mod ValueLemmas

@@ -2,7 +2,7 @@
 ghost use Rattle.std.specs.Prelude.{◌≡◌, ℕ, Contains, option_copied, option_and_then, IfOk, OnOk, IsSortedByKey, Any};
 ghost use Rattle.std.specs.List.{slice_get};
 ghost use Rattle.std.specs.Ordering.{nat_cmp};
-ghost use Rattle.ifc_instances.specs.Values.{reference_of, items_of};
+ghost use Rattle.p21_reader.specs.Values.{reference_of, items_of};
 ghost use Rattle.spatial_tree.specs.Relations.{Relates, IsRelated};
 ghost use Rattle.spatial_tree.specs.Onlys.{ListsLinks, Adds, link};
 

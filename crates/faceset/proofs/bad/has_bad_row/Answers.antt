@@ -1,6 +1,6 @@
 use Rattle.std.proofs.Common.{rules, Any}
 use Rattle.faceset.specs.Indexes.{PointsNowhere}
-use Rattle.ifc_instances.specs.Attributes.{items_in}
+use Rattle.p21_reader.specs.Attributes.{items_in}
 use Rattle.faceset.proofs.Anys.{any_unmap}
 use Rattle.ifc_instances.proofs.Scans.{any_never, any_more}
 use Rattle.faceset.proofs.bad.has_bad_row.Goals as goal

@@ -1,5 +1,5 @@
 use Rattle.std.proofs.Common.{◌≡◌, ◌≤◌, take, sum_by}
-use Rattle.ifc_instances.specs.Attributes.{led_to}
+use Rattle.p21_reader.specs.Attributes.{led_to}
 use Rattle.faceset.specs.Sets.{face_count}
 use Rattle.faceset.proofs.counts.count_faces.Given as goal
 

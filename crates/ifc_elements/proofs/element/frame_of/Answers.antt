@@ -1,7 +1,7 @@
 use Rattle.std.proofs.Common.{◌≡◌, Some, false, sym, ap, ◌∙◌}
 use Rattle.std.specs.List.{slice_get}
 use Rattle.std.proofs.lemmas.Option.{slice_get-get_or}
-use Rattle.ifc_instances.specs.Values.{is_absent}
+use Rattle.p21_reader.specs.Values.{is_absent}
 use Rattle.placement.specs.Placed.{frame_in}
 use Rattle.ifc_elements.proofs.ElementsMade.{placed_told}
 use Rattle.ifc_elements.proofs.element.frame_of.Goals as goal

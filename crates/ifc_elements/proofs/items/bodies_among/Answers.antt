@@ -1,5 +1,5 @@
 use Rattle.std.proofs.Common.{map, rules}
-use Rattle.ifc_instances.specs.Looking.{look}
+use Rattle.p21_reader.specs.Looking.{look}
 use Rattle.ifc_elements.proofs.BodiesCollected.{bodies_more, bodies_all}
 use Rattle.ifc_elements.proofs.items.bodies_among.Goals as goal
 

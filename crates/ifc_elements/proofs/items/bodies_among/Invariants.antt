@@ -1,5 +1,5 @@
 use Rattle.std.proofs.Common.{◌≡◌, map, take, Some}
-use Rattle.ifc_instances.specs.Looking.{look}
+use Rattle.p21_reader.specs.Looking.{look}
 use Rattle.ifc_elements.specs.Items.{bodies_among}
 use Rattle.ifc_elements.proofs.items.bodies_among.Given as goal
 

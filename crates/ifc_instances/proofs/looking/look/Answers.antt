@@ -1,6 +1,6 @@
 use Rattle.std.proofs.Common.{Some, ap, ◌∙◌, sym}
-use Rattle.ifc_instances.specs.Places.{IsPlaceOf}
-use Rattle.ifc_instances.proofs.PlaceLemmas.{found_at}
+use Rattle.p21_reader.specs.Places.{IsPlaceOf}
+use Rattle.p21_reader.proofs.PlaceLemmas.{found_at}
 use Rattle.ifc_instances.proofs.looking.look.Goals as goal
 
 pub returns : goal.returns

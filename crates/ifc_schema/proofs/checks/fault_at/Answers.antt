@@ -1,5 +1,5 @@
 use Rattle.std.proofs.Common.{◌≡◌, ◌<◌, ℕ, true, get_or, sym, ◌∙◌, subst}
-use Rattle.ifc_instances.specs.Places.{IsPlaceOf}
+use Rattle.p21_reader.specs.Places.{IsPlaceOf}
 use Rattle.ifc_schema.specs.Marks.{is_seen, rank_at}
 use Rattle.ifc_schema.specs.Surveys.{UsedFlaw, fault_of}
 use Rattle.ifc_schema.proofs.Listing.{seen_there, fault_there}

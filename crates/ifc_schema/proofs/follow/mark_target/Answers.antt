@@ -1,5 +1,5 @@
 use Rattle.std.proofs.Common.{◌≡◌, get_or, sym, ◌∙◌, true, false}
-use Rattle.ifc_instances.specs.Places.{IsPlaceOf}
+use Rattle.p21_reader.specs.Places.{IsPlaceOf}
 use Rattle.ifc_schema.specs.Forms.{holds}
 use Rattle.ifc_schema.specs.Marks.{rank}
 use Rattle.ifc_schema.proofs.Growing.{meant_there, not_meant, reached_there, raise_grows}

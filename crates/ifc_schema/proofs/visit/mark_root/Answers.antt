@@ -4,7 +4,7 @@ use Rattle.p21_reader.specs.declared.value.Instance.{Instance}
 use Rattle.ifc_schema.specs.declared.work.Mark.TheVariants.{Used as Met}
 use Rattle.ifc_schema.specs.Used.{is_root}
 use Rattle.ifc_instances.specs.Looking.{entity_at}
-use Rattle.ifc_instances.specs.Places.{IsPlaceOf}
+use Rattle.p21_reader.specs.Places.{IsPlaceOf}
 use Rattle.ifc_schema.proofs.Results.{on_ok2}
 use Rattle.ifc_schema.proofs.Growing.{raise_grows}
 use Rattle.ifc_schema.proofs.Following.{no_root, root_sound}

@@ -1,5 +1,5 @@
 use Rattle.std.proofs.Common.{◌≡◌, [], ◌∷◌, Some, option_copied, sym, ap, ◌∙◌, rules}
-use Rattle.ifc_instances.specs.Values.{items_of}
+use Rattle.p21_reader.specs.Values.{items_of}
 use Rattle.ifc_units.proofs.PointFacts.{point_match, three_of}
 use Rattle.ifc_units.proofs.lengths.point.Goals as goal
 

@@ -1,6 +1,6 @@
 use Rattle.std.proofs.Common.{◌≡◌, Some, ap, ◌∙◌, sym}
-use Rattle.ifc_instances.specs.Looking.{look}
-use Rattle.ifc_instances.proofs.PlaceLemmas.{found_at}
+use Rattle.p21_reader.specs.Looking.{look}
+use Rattle.p21_reader.proofs.PlaceLemmas.{found_at}
 use Rattle.placement.proofs.Walking.{parent_is, unparented}
 use Rattle.placement.proofs.walk.standing_of.Goals as goal
 

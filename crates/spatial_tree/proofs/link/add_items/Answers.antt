@@ -2,7 +2,7 @@ use Rattle.std.proofs.Common.{◌≡◌, ℕ, Some, ◌++◌, ◌∷◌, [], ref
 use Rattle.std.proofs.lemmas.Grind.{common_steps}
 use Rattle.std.proofs.lemmas.Option.{same_Some}
 use Rattle.p21_reader.specs.declared.value.Value21.{Value21}
-use Rattle.ifc_instances.specs.Values.{reference_of}
+use Rattle.p21_reader.specs.Values.{reference_of}
 use Rattle.spatial_tree.specs.Onlys.{link}
 use Rattle.spatial_tree.proofs.Adding.{one_added, nothing_added, then_added, all_added}
 use Rattle.spatial_tree.proofs.link.add_items.Goals as goal

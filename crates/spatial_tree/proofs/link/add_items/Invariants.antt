@@ -1,5 +1,5 @@
 use Rattle.std.proofs.Common.{◌≡◌, Some}
-use Rattle.ifc_instances.specs.Values.{reference_of}
+use Rattle.p21_reader.specs.Values.{reference_of}
 use Rattle.spatial_tree.specs.Onlys.{Adds}
 use Rattle.spatial_tree.proofs.Adding.{AnyBefore}
 use Rattle.spatial_tree.proofs.link.add_items.Given as goal

@@ -5,7 +5,7 @@ use Rattle.p21_reader.specs.declared.value.Value21.{Value21}
 use Rattle.p21_reader.specs.declared.value.Value21.TheOpen.{Value21-F}
 use Rattle.p21_reader.specs.declared.value.Value21.TheOpen as layer
 use Rattle.p21_reader.specs.declared.value.Value21.TheViews.{out-Value21}
-use Rattle.ifc_instances.specs.Values.{reference_in, absent_in, reference_of, is_absent}
+use Rattle.p21_reader.specs.Values.{reference_in, absent_in, reference_of, is_absent}
 
 -- what is there is one thing
 pub one : {X : Type 0} (o : Option X) (a b : X) → o ≡ Some a → o ≡ Some b → a ≡ b

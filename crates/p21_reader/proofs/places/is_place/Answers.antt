@@ -1,8 +1,8 @@
 use Rattle.std.proofs.Common.{ap, ◌∙◌}
 use Rattle.std.proofs.lemmas.List.{get_or_default}
 use Rattle.p21_reader.specs.declared.value.Instance.{Instance}
-use Rattle.ifc_instances.proofs.PlaceLemmas.{risen_place, some_instance}
-use Rattle.ifc_instances.proofs.places.is_place.Goals as goal
+use Rattle.p21_reader.proofs.PlaceLemmas.{risen_place, some_instance}
+use Rattle.p21_reader.proofs.places.is_place.Goals as goal
 
 pub returns-then-instances-at : goal.returns-then-instances-at
 returns-then-instances-at c =

@@ -2,8 +2,8 @@ use Rattle.std.proofs.Common.{rules, nat_lt, arith, get_or, ap, ◌∙◌, ◌�
 use Rattle.std.proofs.lemmas.List.{get_or_default}
 use Rattle.std.proofs.lemmas.List.Sorted.{IsPartitionedBy-ltb, IsPartitionPoint-from_clause}
 use Rattle.p21_reader.specs.declared.value.Instance.{Instance}
-use Rattle.ifc_instances.proofs.PlaceLemmas.{rising, halved_place, halved_none, some_instance}
-use Rattle.ifc_instances.proofs.places.halved_place.Goals as goal
+use Rattle.p21_reader.proofs.PlaceLemmas.{rising, halved_place, halved_none, some_instance}
+use Rattle.p21_reader.proofs.places.halved_place.Goals as goal
 
 pub returns-then-instances-at : goal.returns-then-instances-at
 returns-then-instances-at c =

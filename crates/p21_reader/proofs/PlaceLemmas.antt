@@ -9,8 +9,8 @@ use Rattle.std.specs.List.Sorted.{IsNonDecreasingBy}
 use Rattle.std.proofs.lemmas.Map.Keys.{non_decreasing_from_sorted, IsStrictlyIncreasing-from_sorted}
 use Rattle.p21_reader.specs.declared.value.Instance.{Instance}
 use Rattle.p21_reader.specs.Uploads.{Rises}
-use Rattle.ifc_instances.specs.Looking.{look}
-use Rattle.ifc_instances.specs.Places.{IsPlaceOf}
+use Rattle.p21_reader.specs.Looking.{look}
+use Rattle.p21_reader.specs.Places.{IsPlaceOf}
 
 pub some_instance : Instance
 some_instance = record { id = 0; keyword = None; values = [] }

@@ -4,8 +4,8 @@ use Rattle.std.specs.List.{slice_get}
 use Rattle.std.specs.Option.{unwrap_or}
 use Rattle.p21_reader.specs.declared.value.Value21.{Value21}
 use Rattle.p21_reader.specs.declared.value.Instance.{Instance}
-use Rattle.ifc_instances.specs.Values.{reference_of, items_of}
-use Rattle.ifc_instances.specs.Looking.{look}
+use Rattle.p21_reader.specs.Values.{reference_of, items_of}
+use Rattle.p21_reader.specs.Looking.{look}
 
 -- the items of a value, or none
 abbrev pub items_in : Value21 → List Value21

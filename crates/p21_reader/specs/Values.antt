@@ -25,6 +25,11 @@ abbrev pub items_in : Value21-F Value21 → Option (List Value21)
 items_in (layer.List vs) = Some vs
 items_in _ = None
 
+-- the letters of an enumeration
+abbrev pub letters_in : Value21-F Value21 → Option (List ℕ)
+letters_in (layer.Enumeration bs) = Some bs
+letters_in _ = None
+
 -- a value of an enumeration
 abbrev pub enumeration_in : Value21-F Value21 → Bool
 enumeration_in (layer.Enumeration bs) = true
@@ -51,6 +56,10 @@ reference_of v = reference_in (out-Value21 v)
 -- the items of a list
 abbrev pub items_of : Value21 → Option (List Value21)
 items_of v = items_in (out-Value21 v)
+
+-- the letters of an enumeration, without its points
+abbrev pub enumeration_of : Value21 → Option (List ℕ)
+enumeration_of v = letters_in (out-Value21 v)
 
 -- it is an enumeration
 abbrev pub is_enumeration : Value21 → Bool
