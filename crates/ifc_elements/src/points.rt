@@ -8,7 +8,7 @@ ghost use Rattle.ifc_elements.specs.PointTables.{kept_at, Tabled, IsTable, Lists
 use bim_model::{Items, Mode, Point};
 use ifc_instances::{Entity, is_a, listed, place_of};
 use ifc_units::{Scale, points};
-use p21_reader::{Exchange, Instance};
+use p21_reader::{Exchange, Instance, Values};
 use std::alloc::{AllocError, Global};
 
 /// The points of an instance that is a list of points on the grid.
@@ -23,7 +23,7 @@ fn points_of(
     if !is_a(Entity::PointList, instance) {
         return Ok(None);
     }
-    match points(alloc, listed(instance, 0), scale, mode)? {
+    match points(alloc, &Values::of(listed(instance, 0)), scale, mode)? {
         Ok(points) => Ok(Some(Items::from_vec(points))),
         Err(_error) => Ok(None),
     }

@@ -12,7 +12,7 @@ use bim_model::{Items, Mode, Point, UploadFault};
 use ifc_elements::kept_at;
 use ifc_instances::place_of;
 use ifc_units::{GridFault, Scale, fault_of_points};
-use p21_reader::{Exchange, Instance};
+use p21_reader::{Exchange, Instance, InstanceRef};
 
 /// Which fault the lengths of an instance have, whose points are kept where it is a list of points on the grid.
 fn fault_of(
@@ -27,7 +27,7 @@ fn fault_of(
 {
     match kept {
         Some(_points) => None,
-        None => fault_of_points(instance, scale, mode),
+        None => fault_of_points(&InstanceRef::of(instance), scale, mode),
     }
 }
 

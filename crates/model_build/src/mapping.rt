@@ -12,7 +12,7 @@ use faceset::place_of;
 use ifc_elements::is_mapped_item;
 use ifc_instances::{Entity, is_a, items_of, look, number_of, reference_at, referred_at, value_at};
 use ifc_units::{GridFault, LengthError, Scale, length};
-use p21_reader::{Exchange, Instance, Value21};
+use p21_reader::{Exchange, Instance, Value21, ValueRef};
 use placement::{Axes, Axis, axes_of};
 
 /// The axes of the grid.
@@ -72,7 +72,7 @@ fn other_target(exchange: &Exchange, item: &Instance) -> Option<u64>
 fn where_it_lies(value: &Value21, scale: Scale, mode: Mode) -> Lies
     ensures { HasPlace scale mode value.now result }
 {
-    match length(value, scale, mode) {
+    match length(&ValueRef::of(value), scale, mode) {
         Ok(length) => {
             if length == 0 {
                 Lies::AtZero

@@ -16,7 +16,7 @@ use crate::frame::{Frame, lengths_of};
 use bim_model::{Mode, Point};
 use ifc_instances::{attribute, look, referred_at, value_at};
 use ifc_units::{Scale, point};
-use p21_reader::{Exchange, Instance};
+use p21_reader::{Exchange, Instance, ValueRef};
 
 /// The three directions of an operator, each of which may be absent.
 #[derive(Clone, Copy)]
@@ -52,7 +52,7 @@ fn origin_of(exchange: &Exchange, id: u64, scale: Scale, mode: Mode) -> Option<P
 {
     let to = referred_at(exchange, id, 2)?;
     let value = value_at(exchange, to, 0)?;
-    match point(value, scale, mode) {
+    match point(&ValueRef::of(value), scale, mode) {
         Ok(origin) => Some(origin),
         Err(_) => None,
     }

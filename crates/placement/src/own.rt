@@ -11,7 +11,7 @@ use crate::frame::{Frame, lengths_of};
 use bim_model::{Mode, Point};
 use ifc_instances::{referred_at, value_at};
 use ifc_units::{Scale, point};
-use p21_reader::{Exchange, Value21};
+use p21_reader::{Exchange, ValueRef};
 
 /// The location of the axis placement of that number (IFC4 ADD2 TC1, IfcPlacement), in grid numbers. None where its three numbers have
 /// none within 800 metres, and where it can't be read. Takes no memory.
@@ -21,7 +21,7 @@ pub fn location_of(exchange: &Exchange, id: u64, scale: Scale, mode: Mode) -> Op
 {
     let to = referred_at(exchange, id, 0)?;
     let value = value_at(exchange, to, 0)?;
-    match point(value, scale, mode) {
+    match point(&ValueRef::of(value), scale, mode) {
         Ok(location) => Some(location),
         Err(_) => None,
     }
