@@ -8,7 +8,7 @@ ghost use Rattle.ifc_elements.specs.Finding.{Number};
 use faceset::is_set;
 use ifc_instances::{Entity, is_a, listed, look, reference_of, target_at};
 use ifc_schema::is_body;
-use p21_reader::{Exchange, Instance, Value21};
+use p21_reader::{Exchange, Instance, InstanceRef, Value21};
 use std::alloc::{AllocError, Global};
 
 /// Whether it is a shape representation whose identifier is `Body`.
@@ -36,7 +36,7 @@ pub fn is_mapped_item(instance: &Instance) -> bool
 pub fn is_item(instance: &Instance) -> bool
     ensures { result ≡ is_item instance.now }
 {
-    is_set(instance) || is_mapped_item(instance)
+    is_set(&InstanceRef::of(instance)) || is_mapped_item(instance)
 }
 
 /// The items that a mapped item maps, as they are spelled.

@@ -11,7 +11,7 @@ use bim_model::{Items, Mode, Point, Triangle};
 use faceset::{is_set, set_triangles};
 use ifc_instances::{look, reference_at};
 use ifc_units::Scale;
-use p21_reader::{Exchange, Instance};
+use p21_reader::{Exchange, Instance, InstanceRef};
 use std::alloc::{AllocError, Global};
 use std::collections::BTreeMap;
 use std::marker::Model;
@@ -54,7 +54,7 @@ fn triangles_of(
     let Some(points) = points_at(exchange, table, list) else {
         return Ok(None);
     };
-    set_triangles(alloc, exchange, points, set)
+    set_triangles(alloc, exchange, points, &InstanceRef::of(set))
 }
 
 fn put(
@@ -120,7 +120,7 @@ impl Sets {
         let Some(set) = look(exchange, id) else {
             return Ok(true);
         };
-        if !is_set(set) {
+        if !is_set(&InstanceRef::of(set)) {
             return Ok(true);
         }
         let Some(made) = triangles_of(alloc, exchange, table, set, scale, mode)? else {

@@ -37,25 +37,25 @@ fn is_length_unit(instance: &InstanceRef<'_>) -> bool
 fn prefix_power(prefix: &[u8]) -> Option<i32>
     ensures { result ≡ prefix_power prefix.now }
 {
-    if prefix == b"KILO" {
+    if prefix == "KILO".as_bytes() {
         return Some(6);
     }
-    if prefix == b"HECTO" {
+    if prefix == "HECTO".as_bytes() {
         return Some(5);
     }
-    if prefix == b"DECA" {
+    if prefix == "DECA".as_bytes() {
         return Some(4);
     }
-    if prefix == b"DECI" {
+    if prefix == "DECI".as_bytes() {
         return Some(2);
     }
-    if prefix == b"CENTI" {
+    if prefix == "CENTI".as_bytes() {
         return Some(1);
     }
-    if prefix == b"MILLI" {
+    if prefix == "MILLI".as_bytes() {
         return Some(0);
     }
-    if prefix == b"MICRO" {
+    if prefix == "MICRO".as_bytes() {
         return Some(-3);
     }
     None

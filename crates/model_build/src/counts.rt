@@ -10,7 +10,7 @@ use bim_model::MOST_TRIANGLES;
 use faceset::triangle_count;
 use ifc_elements::{Shapes, bodies, is_mapped_item, spelled_items, spelled_sets};
 use ifc_instances::{look, target};
-use p21_reader::{Exchange, Instance, Value21};
+use p21_reader::{Exchange, Instance, InstanceRef, Value21};
 use std::alloc::{AllocError, Global};
 
 /// The number of triangles so far and of a set. None where it is more than a model may have, as in all that follows.
@@ -18,7 +18,7 @@ fn count_set(exchange: &Exchange, set: &Instance, so_far: u64) -> Option<u64>
     requires { so_far ≤ most_triangles }
     ensures { CountsTo (so_far + triangle_count exchange.now set.now) result }
 {
-    let more = triangle_count(exchange, set, MOST_TRIANGLES - so_far)?;
+    let more = triangle_count(exchange, &InstanceRef::of(set), MOST_TRIANGLES - so_far)?;
     Some(so_far + more)
 }
 

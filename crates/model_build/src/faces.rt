@@ -10,7 +10,7 @@ ghost use Rattle.model_build.specs.Least.{IsLeastOf, NoneOf, IsVoided};
 
 use faceset::{MOST_CORNERS, outline};
 use ifc_instances::{Entity, is_a, look};
-use p21_reader::{Exchange, Instance};
+use p21_reader::{Exchange, Instance, InstanceRef};
 
 fn is_voided(exchange: &Exchange, id: u64) -> bool
     ensures { MatchBool result (IsVoided exchange.now id) (IsVoided exchange.now id → ⊥) }
@@ -40,7 +40,7 @@ fn has_many(instance: &Instance) -> bool
     ensures { MatchBool result (HasManyCorners instance.now) (HasManyCorners instance.now → ⊥) }
 {
     (is_a(Entity::Face, instance) || is_a(Entity::FaceWithVoids, instance))
-        && outline(instance).len() > MOST_CORNERS
+        && outline(&InstanceRef::of(instance)).len() > MOST_CORNERS
 }
 
 fn has_many_corners(exchange: &Exchange, id: u64) -> bool

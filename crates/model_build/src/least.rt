@@ -9,7 +9,7 @@ ghost use Rattle.model_build.specs.Least.{IsLeastOf, NoneOf, IsBadSet, IsAxisPla
 
 use faceset::{FaceReaches, has_bad_index, is_set};
 use ifc_instances::{Entity, is_a, look};
-use p21_reader::Exchange;
+use p21_reader::{Exchange, InstanceRef};
 use placement::{axes_of, operator_axes};
 use std::alloc::{AllocError, Global};
 
@@ -22,10 +22,10 @@ fn is_bad_set(exchange: &Exchange, reaches: &mut FaceReaches, id: u64) -> Result
     let Some(set) = look(exchange, id) else {
         return Ok(false);
     };
-    if !is_set(set) {
+    if !is_set(&InstanceRef::of(set)) {
         return Ok(false);
     }
-    has_bad_index(exchange, reaches, set)
+    has_bad_index(exchange, reaches, &InstanceRef::of(set))
 }
 
 /// The least of these instances that is a face set with an index that counts nothing (IFC4 ADD2 TC1, IfcTriangulatedFaceSet,

@@ -43,7 +43,7 @@ pub enum Lies {
 fn is_not_one(value: &Value21) -> bool
     ensures { MatchBool result (IsNotOne value.now) (IsNotOne value.now → ⊥) }
 {
-    number_of(value).is_some() && place_of(value, 1).is_none()
+    number_of(value).is_some() && place_of(&ValueRef::of(value), 1).is_none()
 }
 
 /// Whether it is no operator, or one with a scale other than 1.

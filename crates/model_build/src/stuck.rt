@@ -11,7 +11,7 @@ use faceset::{is_set, least_stuck};
 use ifc_elements::points_at;
 use ifc_instances::{look, reference_at};
 use ifc_units::Scale;
-use p21_reader::Exchange;
+use p21_reader::{Exchange, InstanceRef};
 use std::alloc::{AllocError, Global};
 
 /// The least number of a face that can't be cut, of the set of that number. None where it is no set or refers to no points on the grid.
@@ -29,7 +29,7 @@ fn stuck_in(
     let Some(set) = look(exchange, id) else {
         return Ok(None);
     };
-    if !is_set(set) {
+    if !is_set(&InstanceRef::of(set)) {
         return Ok(None);
     }
     let Some(list) = reference_at(set, 0) else {
@@ -38,7 +38,7 @@ fn stuck_in(
     let Some(points) = points_at(exchange, table, list) else {
         return Ok(None);
     };
-    least_stuck(alloc, exchange, points, set)
+    least_stuck(alloc, exchange, points, &InstanceRef::of(set))
 }
 
 /// The least number of a face that can't be cut, of the sets among the instances of these numbers.

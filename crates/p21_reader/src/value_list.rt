@@ -1,6 +1,7 @@
 //! Values one behind another, as they stand in a list or an instance of a file.
 use crate::value::Value21;
 use crate::value_ref::ValueRef;
+use std::alloc::{AllocError, Global};
 use std::marker::Model;
 
 /// Values in their order, as they stand in a file: an iterator that takes no memory. Contracts see it as the list of what is left.
@@ -47,7 +48,7 @@ impl<'a> Iterator for Values<'a> {
 }
 
 impl<'a> Values<'a> {
-    ghost use Rattle.std.specs.Prelude.{◌≡◌, ◌∷◌, [], length, MatchOption};
+    ghost use Rattle.std.specs.Prelude.{◌≡◌, ◌∷◌, [], length, IfOk, MatchOption};
     ghost use Rattle.p21_reader.specs.declared.value.Value21.{Value21};
 
     /// Values of the tree.
@@ -76,6 +77,17 @@ impl<'a> Values<'a> {
         ensures { result ≡ self.now }
     {
         Values { left: self.left }
+    }
+
+    /// The values that are left, each at its place, for those who seek in them again and again.
+    pub fn to_vec(&self, alloc: Global) -> Result<Vec<ValueRef<'a>>, AllocError>
+        ensures { IfOk result (λ made. made.items ≡ self.now) }
+    {
+        let mut made = Vec::with_capacity(alloc, self.len())?;
+        for value in self.iter() {
+            made.push(value)?;
+        }
+        Ok(made)
     }
 
     /// The values that are left, where they are exactly three.
