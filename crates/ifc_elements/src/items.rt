@@ -15,7 +15,7 @@ use std::alloc::{AllocError, Global};
 pub fn is_body_representation(instance: &Instance) -> bool
     ensures { result ≡ is_body_representation instance.now }
 {
-    is_a(Entity::Representation, instance) && is_body(instance)
+    is_a(Entity::Representation, instance) && is_body(&InstanceRef::of(instance))
 }
 
 /// The items of a representation, as they are spelled.

@@ -13,8 +13,8 @@ use crate::outcome::Survey;
 use crate::visit::mark_used;
 use crate::work::Work;
 use bim_model::{BuildError, UploadFault};
-use ifc_instances::{Entity, entity_at};
-use p21_reader::{Exchange, Instance};
+use ifc_instances::Entity;
+use p21_reader::{Exchange, InstanceRef};
 use std::alloc::{AllocError, Global};
 
 /// The fault of an instance that has this flaw.
@@ -35,9 +35,9 @@ fn flaw_at(exchange: &Exchange, bodied: &[bool], work: &Work, at: usize) -> Opti
     ensures { (id : ℕ) → IsPlaceOf exchange.now id at → UsedFlaw exchange.now id result }
 {
     let mapped = work.marks[at].is_mapped();
-    let instance = &exchange.instances()[at];
-    let bodied = has_body(exchange, bodied, instance);
-    instance_flaw(exchange, bodied, mapped, instance)
+    let instance = exchange.instance(at);
+    let bodied = has_body(exchange, bodied, &instance);
+    instance_flaw(exchange, bodied, mapped, &instance)
 }
 
 /// The fault of the instance at a place, where it is used.
@@ -53,7 +53,7 @@ fn fault_at(exchange: &Exchange, bodied: &[bool], work: &Work, at: usize) -> Opt
     let flaw = flaw_at(exchange, bodied, work, at);
     match flaw {
         Some(flaw) => {
-            let fault = fault_of(exchange.instances()[at].id, flaw);
+            let fault = fault_of(exchange.instance(at).id(), flaw);
             Some(fault)
         }
         None => None,
@@ -66,7 +66,7 @@ fn least_fault(exchange: &Exchange, bodied: &[bool], work: &Work) -> Option<Uplo
     requires bodied { bodied.now ≡ body_shapes exchange.now }
     ensures { Checked exchange.now result }
 {
-    for at in 0..exchange.instances().len() {
+    for at in 0..exchange.len() {
         let fault = fault_at(exchange, bodied, work, at);
         if fault.is_some() {
             return fault;
@@ -90,7 +90,7 @@ fn push_used(
     if !work.marks[at].is_seen() {
         return Ok(());
     }
-    let id = exchange.instances()[at].id;
+    let id = exchange.instance(at).id();
     ids.push(id)?;
     Ok(())
 }
@@ -101,7 +101,7 @@ fn list_used(alloc: Global, exchange: &Exchange, work: &Work) -> Result<Vec<u64>
     ensures { IfOk result (λ ids. Lists (Used exchange.now) ids.items) }
 {
     let mut ids = Vec::new(alloc);
-    for at in 0..exchange.instances().len() {
+    for at in 0..exchange.len() {
         push_used(exchange, work, at, &mut ids)?;
     }
     Ok(ids)
@@ -122,7 +122,7 @@ fn push_mapped(
     if !work.marks[at].is_mapped() {
         return Ok(());
     }
-    let id = exchange.instances()[at].id;
+    let id = exchange.instance(at).id();
     ids.push(id)?;
     Ok(())
 }
@@ -133,18 +133,18 @@ fn list_mapped(alloc: Global, exchange: &Exchange, work: &Work) -> Result<Vec<u6
     ensures { IfOk result (λ ids. Lists (IsMapped exchange.now) ids.items) }
 {
     let mut ids = Vec::new(alloc);
-    for at in 0..exchange.instances().len() {
+    for at in 0..exchange.len() {
         push_mapped(exchange, work, at, &mut ids)?;
     }
     Ok(ids)
 }
 
 /// Whether it is an element that has a body.
-fn is_model_element(exchange: &Exchange, bodied: &[bool], instance: &Instance) -> bool
+fn is_model_element(exchange: &Exchange, bodied: &[bool], instance: &InstanceRef<'_>) -> bool
     requires bodied { bodied.now ≡ body_shapes exchange.now }
     ensures { result ≡ is_model_element exchange.now instance.now }
 {
-    match entity_at(instance) {
+    match Entity::at(instance) {
         Some(Entity::Subject) => has_body(exchange, bodied, instance),
         _ => false,
     }
@@ -167,10 +167,10 @@ fn push_element(
     if !work.marks[at].is_seen() {
         return Ok(());
     }
-    if !is_model_element(exchange, bodied, &exchange.instances()[at]) {
+    if !is_model_element(exchange, bodied, &exchange.instance(at)) {
         return Ok(());
     }
-    let id = exchange.instances()[at].id;
+    let id = exchange.instance(at).id();
     ids.push(id)?;
     Ok(())
 }
@@ -187,7 +187,7 @@ fn list_elements(
     ensures { IfOk result (λ ids. Lists (IsModelElement exchange.now) ids.items) }
 {
     let mut ids = Vec::new(alloc);
-    for at in 0..exchange.instances().len() {
+    for at in 0..exchange.len() {
         push_element(exchange, bodied, work, at, &mut ids)?;
     }
     Ok(ids)
