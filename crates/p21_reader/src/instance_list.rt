@@ -42,7 +42,7 @@ impl<'a> Instances<'a> {
     ghost use Rattle.std.specs.Prelude.{◌≡◌, length};
 
     /// Instances of the tree.
-    pub fn of(left: &'a [Instance]) -> Instances<'a>
+    pub(crate) fn of(left: &'a [Instance]) -> Instances<'a>
         ensures { result ≡ left.now }
     {
         Instances { left }

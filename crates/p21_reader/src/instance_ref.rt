@@ -71,7 +71,7 @@ impl<'a> InstanceRef<'a> {
     ghost use Rattle.p21_reader.specs.Attributes.{listed, reference_at};
 
     /// An instance of the tree.
-    pub fn of(tree: &'a Instance) -> InstanceRef<'a>
+    pub(crate) fn of(tree: &'a Instance) -> InstanceRef<'a>
         ensures { result ≡ tree.now }
     {
         InstanceRef { tree }

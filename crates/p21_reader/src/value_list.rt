@@ -52,7 +52,7 @@ impl<'a> Values<'a> {
     ghost use Rattle.p21_reader.specs.declared.value.Value21.{Value21};
 
     /// Values of the tree.
-    pub fn of(left: &'a [Value21]) -> Values<'a>
+    pub(crate) fn of(left: &'a [Value21]) -> Values<'a>
         ensures { result ≡ left.now }
     {
         Values { left }

@@ -27,7 +27,7 @@ impl<'a> ValueRef<'a> {
     ghost use Rattle.p21_reader.specs.Attributes.{items_in};
 
     /// A value of the tree.
-    pub fn of(tree: &'a Value21) -> ValueRef<'a>
+    pub(crate) fn of(tree: &'a Value21) -> ValueRef<'a>
         ensures { result ≡ tree.now }
     {
         ValueRef { tree }
