@@ -8,11 +8,7 @@ use bim_model::Point;
 use p21_reader::ValueRef;
 
 /// Which of so many points, counted from 0, an index names by the numbers of the points.
-fn place_numbered(
-    value: &ValueRef<'_>,
-    numbers: &[ValueRef<'_>],
-    count: usize,
-) -> Option<usize>
+fn place_numbered(value: &ValueRef<'_>, numbers: &[ValueRef<'_>], count: usize) -> Option<usize>
     requires { count < 2 ^ 63 }
     ensures { MatchOption result (IsMisnamed (Some numbers.now) count value.now)
         (NamesPoint (Some numbers.now) count value.now) }

@@ -135,10 +135,7 @@ fn least_project(exchange: &Exchange) -> u64
 }
 
 // The assignment of units of a project.
-fn assignment_of<'a>(
-    exchange: &'a Exchange,
-    project: &InstanceRef<'_>,
-) -> Option<InstanceRef<'a>>
+fn assignment_of<'a>(exchange: &'a Exchange, project: &InstanceRef<'_>) -> Option<InstanceRef<'a>>
     ensures { result ≡ assignment_of exchange.now project.now }
 {
     let assignment = exchange.target_at(project, 8)?;
@@ -160,7 +157,11 @@ fn unit_named(exchange: &Exchange, value: &ValueRef<'_>) -> Option<u64>
     let Some(unit) = exchange.look(id) else {
         return None;
     };
-    if is_length_unit(&unit) { Some(id) } else { None }
+    if is_length_unit(&unit) {
+        Some(id)
+    } else {
+        None
+    }
 }
 
 // The number of the first unit of length among the items.

@@ -66,7 +66,11 @@ fn other_target(exchange: &Exchange, item: &InstanceRef<'_>) -> Option<u64>
 {
     let id = item.reference_at(1)?;
     let target = exchange.look(id)?;
-    if is_no_target(&target) { Some(id) } else { None }
+    if is_no_target(&target) {
+        Some(id)
+    } else {
+        None
+    }
 }
 
 fn where_it_lies(value: &ValueRef<'_>, scale: Scale, mode: Mode) -> Lies

@@ -46,7 +46,11 @@ fn inner_item(exchange: &Exchange, value: &ValueRef<'_>) -> Option<u64>
 {
     let id = value.reference()?;
     let item = exchange.look(id)?;
-    if is_mapped_item(&item) { Some(id) } else { None }
+    if is_mapped_item(&item) {
+        Some(id)
+    } else {
+        None
+    }
 }
 
 /// The least of those.
@@ -91,10 +95,7 @@ fn other_in_mapped(exchange: &Exchange, id: u64) -> Option<u64>
 {
     let representation = exchange.look(id)?;
     let items = spelled_items(&representation);
-    lesser(
-        least_other(exchange, &items),
-        least_inner(exchange, &items),
-    )
+    lesser(least_other(exchange, &items), least_inner(exchange, &items))
 }
 
 /// The least of those, of the mapped representations of these numbers.

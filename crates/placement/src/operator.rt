@@ -83,11 +83,7 @@ fn given_by(exchange: &Exchange, id: u64) -> Option<Given>
 }
 
 /// The direction that an attribute names; none where it is missing or absent. None where it names none that can be read.
-fn named_at(
-    exchange: &Exchange,
-    operator: &InstanceRef<'_>,
-    at: usize,
-) -> Option<Option<Direction>>
+fn named_at(exchange: &Exchange, operator: &InstanceRef<'_>, at: usize) -> Option<Option<Direction>>
     ensures some { IfSome result (MayDirect exchange.now (slice_get operator.now.values at)) }
     ensures none { IfNone result ((d : Option Direction)
         → MayDirect exchange.now (slice_get operator.now.values at) d → ⊥) }

@@ -274,7 +274,11 @@ fn bad_indexes_and_counts_are_found(rt: HostRuntime) -> Result<(), Fail> {
         assert_eq!(rt; found, bad, "at {text}");
         let again = has_bad_index(&exchange, &mut reaches, &set)?;
         assert_eq!(rt; again, bad, "again at {text}");
-        assert_eq!(rt; triangle_count(&exchange, &set, 7), Some(count), "at {text}");
+        assert_eq!(rt;
+            triangle_count(&exchange, &set, 7),
+            Some(count),
+            "at {text}"
+        );
         assert_eq!(rt;
             triangle_count(&exchange, &set, count),
             Some(count),
