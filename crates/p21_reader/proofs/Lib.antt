@@ -15,6 +15,7 @@ pub mod Sizes
 pub mod Statements
 pub mod Steps
 pub mod Strict
+pub mod Turns
 pub mod Viable
 pub mod SameSaying
 pub mod PlaceLemmas
