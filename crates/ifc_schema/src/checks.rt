@@ -1,6 +1,7 @@
 //! The survey of a file: whether all that is used has the form of its row.
 ghost use Rattle.std.specs.Prelude.{◌≡◌, ◌+◌, ◌<◌, ℕ, length, IfOk, IfErr, OnOk};
 ghost use Rattle.p21_reader.specs.Places.{IsPlaceOf};
+ghost use Rattle.p21_reader.specs.Uploads.{Rises};
 ghost use Rattle.ifc_schema.specs.Used.{Used, IsMapped};
 ghost use Rattle.ifc_schema.specs.Bodies.{body_shapes};
 ghost use Rattle.ifc_schema.specs.Marks.{Known, rank_at};
@@ -84,6 +85,7 @@ fn push_used(
 ) -> Result<(), AllocError>
     requires known { Known exchange.now work.now }
     requires within { at < length exchange.now }
+    requires rises { Rises exchange.now }
     requires ids { Lists (Below exchange.now at (Used exchange.now)) ids.old.items }
     ensures { OnOk result (Lists (Below exchange.now (at + 1) (Used exchange.now)) ids.new.items) }
 {
@@ -116,6 +118,7 @@ fn push_mapped(
 ) -> Result<(), AllocError>
     requires known { Known exchange.now work.now }
     requires within { at < length exchange.now }
+    requires rises { Rises exchange.now }
     requires ids { Lists (Below exchange.now at (IsMapped exchange.now)) ids.old.items }
     ensures { OnOk result (Lists (Below exchange.now (at + 1) (IsMapped exchange.now)) ids.new.items) }
 {
@@ -160,6 +163,7 @@ fn push_element(
 ) -> Result<(), AllocError>
     requires known { Known exchange.now work.now }
     requires within { at < length exchange.now }
+    requires rises { Rises exchange.now }
     requires bodied { bodied.now ≡ body_shapes exchange.now }
     requires ids { Lists (Below exchange.now at (IsModelElement exchange.now)) ids.old.items }
     ensures { OnOk result (Lists (Below exchange.now (at + 1) (IsModelElement exchange.now)) ids.new.items) }

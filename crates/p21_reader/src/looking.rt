@@ -19,6 +19,7 @@ impl Exchange {
     pub fn len(&self) -> usize
         ensures count { result ≡ length self.now }
         ensures few { result ≤ MOST_INSTANCES }
+        ensures rises { Rises self.now }
     {
         self.instances().len()
     }
