@@ -67,7 +67,8 @@ fn least_fault(exchange: &Exchange, bodied: &[bool], work: &Work) -> Option<Uplo
     requires bodied { bodied.now ≡ body_shapes exchange.now }
     ensures { Checked exchange.now result }
 {
-    for at in 0..exchange.len() {
+    let instances = exchange.iter();
+    for at in 0..instances.len() {
         let fault = fault_at(exchange, bodied, work, at);
         if fault.is_some() {
             return fault;
@@ -103,7 +104,8 @@ fn list_used(alloc: Global, exchange: &Exchange, work: &Work) -> Result<Vec<u64>
     ensures { IfOk result (λ ids. Lists (Used exchange.now) ids.items) }
 {
     let mut ids = Vec::new(alloc);
-    for at in 0..exchange.len() {
+    let instances = exchange.iter();
+    for at in 0..instances.len() {
         push_used(exchange, work, at, &mut ids)?;
     }
     Ok(ids)
@@ -136,7 +138,8 @@ fn list_mapped(alloc: Global, exchange: &Exchange, work: &Work) -> Result<Vec<u6
     ensures { IfOk result (λ ids. Lists (IsMapped exchange.now) ids.items) }
 {
     let mut ids = Vec::new(alloc);
-    for at in 0..exchange.len() {
+    let instances = exchange.iter();
+    for at in 0..instances.len() {
         push_mapped(exchange, work, at, &mut ids)?;
     }
     Ok(ids)
@@ -191,7 +194,8 @@ fn list_elements(
     ensures { IfOk result (λ ids. Lists (IsModelElement exchange.now) ids.items) }
 {
     let mut ids = Vec::new(alloc);
-    for at in 0..exchange.len() {
+    let instances = exchange.iter();
+    for at in 0..instances.len() {
         push_element(exchange, bodied, work, at, &mut ids)?;
     }
     Ok(ids)

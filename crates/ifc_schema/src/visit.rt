@@ -89,7 +89,8 @@ fn mark_roots(exchange: &Exchange, work: &mut Work) -> Result<(), AllocError>
     ensures grows { OnOk result (Grows exchange.now work.old work.new) }
     ensures roots { OnOk result ((at : ℕ) → IsRootAt exchange.now at → 0 < rank_at work.new at) }
 {
-    for at in 0..exchange.len() {
+    let instances = exchange.iter();
+    for at in 0..instances.len() {
         mark_root(exchange, at, work)?;
     }
     Ok(())

@@ -19,7 +19,6 @@ impl Exchange {
     pub fn len(&self) -> usize
         ensures count { result ≡ length self.now }
         ensures few { result ≤ MOST_INSTANCES }
-        ensures rises { Rises self.now }
     {
         self.instances().len()
     }
