@@ -27,6 +27,7 @@ impl Exchange {
     pub fn iter(&self) -> Instances<'_>
         ensures same { result ≡ self.now }
         ensures rises { Rises self.now }
+        ensures few { length self.now ≤ MOST_INSTANCES }
     {
         Instances::of(self.instances())
     }

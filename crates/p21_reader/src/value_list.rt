@@ -48,7 +48,7 @@ impl<'a> Iterator for Values<'a> {
 }
 
 impl<'a> Values<'a> {
-    ghost use Rattle.std.specs.Prelude.{◌≡◌, ◌∷◌, [], length, IfOk, MatchOption};
+    ghost use Rattle.std.specs.Prelude.{◌≡◌, ◌<◌, ◌^◌, ◌∷◌, [], length, IfOk, MatchOption};
     ghost use Rattle.p21_reader.specs.declared.value.Value21.{Value21};
 
     /// Values of the tree.
@@ -67,7 +67,8 @@ impl<'a> Values<'a> {
 
     /// How many values are left. It goes over them.
     pub fn len(&self) -> usize
-        ensures { result ≡ length self.now }
+        ensures count { result ≡ length self.now }
+        ensures few { result < 2 ^ 63 }
     {
         self.left.len()
     }
