@@ -1,5 +1,5 @@
 -- The projects of a file, and its length unit.
-use Rattle.std.proofs.Common.{◌≡◌, ◌⊎◌, inl, inr, ℕ, zero, suc, ◌<◌, ◌≤◌, Bool, true, false, ℤ, List, [], ◌∷◌, length, get_or, Some, None, Option, IfSome, IfNone, option_copied, Bor, All, Any, refl, sym, ap, ◌∙◌, subst, arith, if◌then◌else◌}
+use Rattle.std.proofs.Common.{◌≡◌, ◌⊎◌, inl, inr, ℕ, zero, suc, ◌<◌, ◌≤◌, Bool, true, false, ℤ, List, [], ◌∷◌, length, get_or, Some, None, Option, IfSome, IfNone, All, Any, refl, sym, ap, ◌∙◌, subst, arith, if◌then◌else◌}
 use Rattle.std.specs.List.{filter, find}
 use Rattle.std.proofs.lemmas.List.Elements.{All-filter}
 use Rattle.bim_model.specs.declared.upload.UploadFault.{UploadFault}
@@ -42,13 +42,13 @@ module _ {X : Type 0} (test : X → Bool) where
   pub none_passes : (xs : List X) → length (filter test xs) ≡ 1 → find test xs ≡ None → ⊥
   none_passes xs n e = let g : filter test xs ≡ [] = subst (λ o. Heads o (filter test xs)) e (heads xs) in let l : length (filter test xs) ≡ 0 = ap length g in omega (arith, n, l)
 
--- the instance that is lent
+-- the first, and that there is one
 
-pub first_alone : (test : Instance → Bool) (xs : List Instance) (r : Option (Bor Instance)) → option_copied r ≡ find test xs → length (filter test xs) ≡ 1 → IfSome r (λ x. filter test xs ≡ x.now ∷ [])
+pub first_alone : (test : Instance → Bool) (xs : List Instance) (r : Option Instance) → r ≡ find test xs → length (filter test xs) ≡ 1 → IfSome r (λ x. filter test xs ≡ x ∷ [])
 first_alone test xs None e n = tt
-first_alone test xs (Some x) e n = one_passes test xs x.now n (sym e)
+first_alone test xs (Some x) e n = one_passes test xs x n (sym e)
 
-pub first_there : (test : Instance → Bool) (xs : List Instance) (r : Option (Bor Instance)) (P : Type 0) → option_copied r ≡ find test xs → length (filter test xs) ≡ 1 → IfNone r P
+pub first_there : (test : Instance → Bool) (xs : List Instance) (r : Option Instance) (P : Type 0) → r ≡ find test xs → length (filter test xs) ≡ 1 → IfNone r P
 first_there test xs None P e n = absurd (none_passes test xs n (sym e))
 first_there test xs (Some x) P e n = tt
 

@@ -89,11 +89,11 @@ fn unit_power(unit: &InstanceRef<'_>) -> Option<i32>
 }
 
 // How many projects there are.
-fn count_projects(instances: &Instances<'_>) -> usize
-    ensures { result ≡ length (projects instances.now) }
+fn count_projects(exchange: &Exchange) -> usize
+    ensures { result ≡ length (projects exchange.now) }
 {
     let mut count = 0;
-    for instance in instances.iter() {
+    for instance in exchange.iter() {
         if Entity::Project.includes(&instance) {
             count += 1;
         }
@@ -114,14 +114,14 @@ fn first_project<'a>(instances: &Instances<'a>) -> Option<InstanceRef<'a>>
 }
 
 // The project, where there is exactly one.
-fn only_project<'a>(instances: &Instances<'a>) -> Option<InstanceRef<'a>>
-    ensures some { IfSome result (λ project. projects instances.now ≡ project ∷ []) }
-    ensures none { IfNone result ((project : Instance) → projects instances.now ≡ project ∷ [] → ⊥) }
+fn only_project(exchange: &Exchange) -> Option<InstanceRef<'_>>
+    ensures some { IfSome result (λ project. projects exchange.now ≡ project ∷ []) }
+    ensures none { IfNone result ((project : Instance) → projects exchange.now ≡ project ∷ [] → ⊥) }
 {
-    if count_projects(instances) != 1 {
+    if count_projects(exchange) != 1 {
         return None;
     }
-    first_project(instances)
+    first_project(&exchange.iter())
 }
 
 // The least number of a project; 0 where there is none.
@@ -189,7 +189,6 @@ fn names_other(exchange: &Exchange, value: &ValueRef<'_>, id: u64) -> bool
 }
 
 // Whether a unit of length of another number is among the items.
-#[tactic(auto, using(ifc_instances::proofs::Scans::scans))]
 fn has_other(exchange: &Exchange, items: &Values<'_>, id: u64) -> bool
     ensures { MatchBool result (Any (RefersToOther exchange.now id) items.now)
         (Any (RefersToOther exchange.now id) items.now → ⊥) }
@@ -235,7 +234,7 @@ fn scale_of(exchange: &Exchange) -> Option<Scale>
     ensures some { IfSome result (IsLengthUnit exchange.now) }
     ensures none { IfNone result ((scale : Scale) → IsLengthUnit exchange.now scale → ⊥) }
 {
-    let Some(project) = only_project(&exchange.iter()) else {
+    let Some(project) = only_project(exchange) else {
         return None;
     };
     let Some(assignment) = assignment_of(exchange, &project) else {
