@@ -10,13 +10,13 @@ pub returns-then-target_passes : goal.returns-then-target_passes
 returns-then-target_passes c =
     let passes = target_passes c.args.exchange.now is_body_representation in
     let t = turn c.args.items.now c.loop-item.yielded (cc) _ c.loop-item.yielded_by _ c.in-Some.is c.next.ensures.steps in
-    let here = ap passes (sym t.1) ∙ (sym (c.target_passes.ensures is_body_representation c.requires) ∙ c.if-target_passes.true) in
+    let here = ap passes (sym t.1) ∙ (sym (c.target_passes.ensures is_body_representation c.requires.bodies) ∙ c.if-target_passes.true) in
     sym (list_any_at passes c.args.items.now (length c.loop-item.yielded) c.in-Some.item t.0 here)
 
 pub loop-item-preserved : goal.loop-item-preserved
 loop-item-preserved c =
     All-push (λ (v : Value21). target_passes c.args.exchange.now is_body_representation v ≡ false) c.loop-item.yielded c.in-Some.item c.loop-item.invariant
-    (sym (c.target_passes.ensures is_body_representation c.requires) ∙ c.if-target_passes.false)
+    (sym (c.target_passes.ensures is_body_representation c.requires.bodies) ∙ c.if-target_passes.false)
 
 pub returns : goal.returns
 returns c =
