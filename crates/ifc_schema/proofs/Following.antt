@@ -29,7 +29,6 @@ use Rattle.p21_reader.specs.Places.{IsPlaceOf}
 use Rattle.ifc_schema.specs.Bodies.{applies}
 use Rattle.ifc_schema.specs.Marks.{rank, rank_at, mark_at, is_mapped, SoundAt, Grows, IsMarked, IsFollowed, FollowedAt, IsRootAt, Going}
 use Rattle.p21_reader.proofs.PlaceLemmas.{rising, place_found, found_at, some_instance}
-use Rattle.ifc_schema.proofs.Growing.{marked_on}
 
 -- The instance at a place.
 
