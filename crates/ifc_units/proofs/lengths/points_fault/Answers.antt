@@ -18,7 +18,7 @@ loop-value-preserved c =
       points_more c.args.scale c.args.mode c.loop-value.yielded old (old ++ c.in-Ok._point ∷ []) c.in-Some.value c.in-Ok._point c.loop-value.invariant.1 c.in-Ok.ensures refl,
     )
 
-pub returns-in-None : goal.returns-in-None
-returns-in-None c =
+pub returns : goal.returns
+returns c =
     never_told c.args.scale c.args.mode c.args.values.now c.loop-value.yielded c.loop-value.invariant.0
     (ended c.args.values.now c.loop-value.yielded (cc) _ c.loop-value.yielded_by _ c.in-None.is c.next.ensures.steps) c.loop-value.invariant.1

@@ -9,7 +9,7 @@ loop-item-preserved c = λ id.
     any_next (RefersToUnit c.args.exchange.now id) c.loop-item.yielded c.in-Some.item
     (none_told c.unit_named.result (λ n. RefersToUnit c.args.exchange.now n c.in-Some.item) c.unit_named.ensures.none c.in_default.not-Some id) (c.loop-item.invariant id)
 
-pub returns-in-None-clause-none : goal.returns-in-None-clause-none
-returns-in-None-clause-none c = λ id h.
+pub returns-clause-none : goal.returns-clause-none
+returns-clause-none c = λ id h.
     any_past (RefersToUnit c.args.exchange.now id) c.args.items.now c.loop-item.yielded
     (ended c.args.items.now c.loop-item.yielded (cc) _ c.loop-item.yielded_by _ c.in-None.is c.next.ensures.steps) (c.loop-item.invariant id) h

@@ -11,7 +11,7 @@ returns-then-names_other c =
 pub loop-item-preserved : goal.loop-item-preserved
 loop-item-preserved c = any_next (RefersToOther c.args.exchange.now c.args.id) c.loop-item.yielded c.in-Some.item c.if-names_other.ensures c.loop-item.invariant
 
-pub returns-in-None : goal.returns-in-None
-returns-in-None c =
+pub returns : goal.returns
+returns c =
     any_past (RefersToOther c.args.exchange.now c.args.id) c.args.items.now c.loop-item.yielded
     (ended c.args.items.now c.loop-item.yielded (cc) _ c.loop-item.yielded_by _ c.in-None.is c.next.ensures.steps) c.loop-item.invariant
