@@ -5,16 +5,16 @@ use Rattle.faceset.proofs.faces.cut_face.Goals as goal
 pub cut_corners-requires-clause-three : goal.cut_corners-requires-clause-three
 cut_corners-requires-clause-three c =
     let are = rw c.in-Some.is at c.in_ok-corners.ensures in
-    corners_long (option_copied c.args.numbers) c.args.points.now c.outline-indexes.result.now c.in-Some.corners.items are.0 c.deref.result.now c.deref.ensures.value c.if-indexes-lt3.false
+    corners_long (option_copied c.args.numbers) c.args.points.now c.outline-indexes.result c.in-Some.corners.items are.0 c.deref.result.now c.deref.ensures.value c.if-indexes-lt3.false
 
 pub cut_corners-requires-clause-few : goal.cut_corners-requires-clause-few
 cut_corners-requires-clause-few c =
     let are = rw c.in-Some.is at c.in_ok-corners.ensures in
-    corners_few (option_copied c.args.numbers) c.args.points.now c.outline-indexes.result.now c.in-Some.corners.items are.0 c.deref.result.now c.deref.ensures.value c.if-indexes-gt-MOST_CORNERS.false
+    corners_few (option_copied c.args.numbers) c.args.points.now c.outline-indexes.result c.in-Some.corners.items are.0 c.deref.result.now c.deref.ensures.value c.if-indexes-gt-MOST_CORNERS.false
 
 pub returns-in-Some-2-clause-count : goal.returns-in-Some-2-clause-count
 returns-in-Some-2-clause-count c =
     let are = rw c.in-Some.is at c.in_ok-corners.ensures in
     let two = rw c.in-Some-2.is at c.in_ok-triangles.ensures.count in
-    corners_count (option_copied c.args.numbers) c.args.points.now c.outline-indexes.result.now c.in-Some.corners.items are.0 c.deref.result.now c.deref.ensures.value
+    corners_count (option_copied c.args.numbers) c.args.points.now c.outline-indexes.result c.in-Some.corners.items are.0 c.deref.result.now c.deref.ensures.value
     c.args.face.now c.outline-indexes.ensures (length c.in-Some-2.triangles.items) two
