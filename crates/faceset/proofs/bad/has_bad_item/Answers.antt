@@ -1,14 +1,13 @@
-use Rattle.std.proofs.Common.{rules, All, subst}
-use Rattle.std.proofs.lemmas.List.Elements.{All-push}
-use Rattle.faceset.specs.Indexes.{PointsNowhere}
+use Rattle.std.proofs.Common.{rules}
 use Rattle.p21_reader.proofs.Turns.{ended}
-use Rattle.faceset.proofs.Anys.{not_any}
+use Rattle.ifc_instances.proofs.Scans.{any_past, any_next}
+use Rattle.faceset.specs.Indexes.{PointsNowhere}
 use Rattle.faceset.proofs.bad.has_bad_item.Goals as goal
 
 pub loop-value-preserved : goal.loop-value-preserved
-loop-value-preserved c = All-push (λ v. PointsNowhere c.args.count v → ⊥) c.loop-value.yielded c.in-Some.value c.loop-value.invariant (search rules)
+loop-value-preserved c = any_next (PointsNowhere c.args.count) c.loop-value.yielded c.in-Some.value (search rules) c.loop-value.invariant
 
 pub returns : goal.returns
 returns c =
     let all = ended c.args.values.now c.loop-value.yielded (cc) _ c.loop-value.yielded_by _ c.in-None.is c.next.ensures.steps in
-    not_any (PointsNowhere c.args.count) c.args.values.now (subst (All (λ v. PointsNowhere c.args.count v → ⊥)) all c.loop-value.invariant)
+    any_past (PointsNowhere c.args.count) c.args.values.now c.loop-value.yielded all c.loop-value.invariant

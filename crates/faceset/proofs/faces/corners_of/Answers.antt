@@ -9,7 +9,7 @@ use Rattle.faceset.proofs.faces.corners_of.Goals as goal
 pub loop-value-preserved : goal.loop-value-preserved
 loop-value-preserved c =
     corners_more IsGridPoint (option_copied c.args.numbers) c.args.points.now c.loop-value.yielded c.loop-value.made.items c.push.new.self.items c.in-Some.value c.in-Some-corner.point
-    c.requires c.in-Some-corner.ensures c.push.ensures.items c.loop-value.invariant
+    c.requires c.in-Some-corner.ensures c.in_ok-push-in-Some-corner.ensures.items c.loop-value.invariant
 
 pub returns : goal.returns
 returns c =

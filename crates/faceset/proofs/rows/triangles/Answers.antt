@@ -7,7 +7,7 @@ use Rattle.faceset.proofs.rows.triangles.Goals as goal
 
 pub loop-row-preserved : goal.loop-row-preserved
 loop-row-preserved c =
-    rw c.push.ensures.items (zip_push (IsTriangle (option_copied c.args.numbers) c.args.points.now) c.loop-row.yielded c.loop-row.made.items c.in-Some.row c.in-Some-triangle.triangle
+    rw c.in_ok-push-in-Some-triangle.ensures.items (zip_push (IsTriangle (option_copied c.args.numbers) c.args.points.now) c.loop-row.yielded c.loop-row.made.items c.in-Some.row c.in-Some-triangle.triangle
     c.loop-row.invariant c.in-Some-triangle.ensures)
 
 pub returns : goal.returns

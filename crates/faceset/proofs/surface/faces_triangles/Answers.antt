@@ -15,11 +15,11 @@ returns-in_default-clause-triangles c =
 
 pub loop-value-preserved : goal.loop-value-preserved
 loop-value-preserved c =
-    let part = rw c.in-Some-more.is at c.in_ok-more.ensures.triangles in
-    let count = rw c.in-Some-more.is at c.in_ok-more.ensures.count in (
-      joined_more (IsCut (option_copied c.args.numbers) c.args.points.now) c.args.exchange.now c.loop-value.yielded c.in-Some.value c.loop-value.made.items c.in-Some-more.more.items c.append.new.self.items
+    let part = rw c.in-Some-2.is at c.in_ok-more.ensures.triangles in
+    let count = rw c.in-Some-2.is at c.in_ok-more.ensures.count in (
+      joined_more (IsCut (option_copied c.args.numbers) c.args.points.now) c.args.exchange.now c.loop-value.yielded c.in-Some.value c.loop-value.made.items c.in-Some-2.more.items c.append.new.self.items
           (search rules) c.loop-value.invariant.0 part,
-      count_more c.args.exchange.now c.loop-value.yielded c.in-Some.value c.loop-value.made.items c.in-Some-more.more.items c.append.new.self.items
+      count_more c.args.exchange.now c.loop-value.yielded c.in-Some.value c.loop-value.made.items c.in-Some-2.more.items c.append.new.self.items
           (search rules) c.loop-value.invariant.1 count,
     )
 
