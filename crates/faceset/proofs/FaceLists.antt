@@ -1,5 +1,5 @@
 -- The triangles of the faces that references lead to, value by value.
-use Rattle.std.proofs.Common.{◌≡◌, ℕ, ◌+◌, ◌<◌, ◌≤◌, List, [], ◌∷◌, ◌++◌, length, take, drop, get_or, take_all, sum_by, Any, refl, ◌∙◌, ap, subst, arith}
+use Rattle.std.proofs.Common.{◌≡◌, ℕ, ◌+◌, ◌<◌, List, [], ◌∷◌, ◌++◌, length, take, drop, get_or, sum_by, Any, ◌∙◌, ap, arith}
 use Rattle.std.proofs.lemmas.List.{length-append}
 use Rattle.p21_reader.specs.declared.value.Value21.{Value21}
 use Rattle.p21_reader.specs.declared.value.Instance.{Instance}
@@ -9,7 +9,7 @@ use Rattle.faceset.specs.Sets.{face_count, Joined}
 use Rattle.faceset.proofs.Anys.{any_left, any_right}
 use Rattle.ifc_instances.proofs.LedTo.{led_append, led_more, led_parts}
 use Rattle.faceset.proofs.Named.{summed_more}
-use Rattle.faceset.proofs.Joins.{joined_one, joined_append}
+use Rattle.faceset.proofs.Joins.{joined_append}
 
 -- One more value.
 

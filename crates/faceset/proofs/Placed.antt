@@ -1,5 +1,5 @@
 -- The numbers of a set, each at its place.
-use Rattle.std.proofs.Common.{◌≡◌, ◌×◌, List, length, Option, Some, None, MatchOption, option_map, option_copied, Vec, Global, Bor, ◌∙◌, ap}
+use Rattle.std.proofs.Common.{◌≡◌, List, length, Option, Some, None, MatchOption, option_map, option_copied, Vec, Global, Bor, ◌∙◌, ap}
 use Rattle.std.specs.Option.{IsSomeAnd}
 use Rattle.std.specs.Vec.{vec_len}
 use Rattle.p21_reader.specs.declared.value.Value21.{Value21}
