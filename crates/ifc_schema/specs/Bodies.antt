@@ -1,6 +1,6 @@
 -- Which elements have a body: one of the shape representations of their shape has the identifier `Body`. Only values are looked at, also of
 -- instances that lack their own form (IFC4 ADD2 TC1, IfcProduct, IfcProductDefinitionShape, IfcShapeRepresentation).
-use Rattle.std.specs.Prelude.{◌&&◌, ◌||◌, Bool, true, false, List, map, Option, Some, None, option_and_then}
+use Rattle.std.specs.Prelude.{◌&&◌, ◌||◌, Bool, true, List, map, option_and_then}
 use Rattle.std.specs.List.{list_any, slice_get}
 use Rattle.p21_reader.specs.declared.value.Value21.{Value21}
 use Rattle.p21_reader.specs.declared.value.Instance.{Instance}

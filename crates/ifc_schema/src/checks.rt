@@ -1,6 +1,7 @@
 //! The survey of a file: whether all that is used has the form of its row.
 ghost use Rattle.std.specs.Prelude.{◌≡◌, ◌+◌, ◌<◌, ℕ, length, IfOk, IfErr, OnOk};
 ghost use Rattle.p21_reader.specs.Places.{IsPlaceOf};
+ghost use Rattle.p21_reader.specs.Uploads.{Rises};
 ghost use Rattle.ifc_schema.specs.Used.{Used, IsMapped};
 ghost use Rattle.ifc_schema.specs.Bodies.{body_shapes};
 ghost use Rattle.ifc_schema.specs.Marks.{Known, rank_at};
@@ -66,7 +67,8 @@ fn least_fault(exchange: &Exchange, bodied: &[bool], work: &Work) -> Option<Uplo
     requires bodied { bodied.now ≡ body_shapes exchange.now }
     ensures { Checked exchange.now result }
 {
-    for at in 0..exchange.len() {
+    let instances = exchange.iter();
+    for at in 0..instances.len() {
         let fault = fault_at(exchange, bodied, work, at);
         if fault.is_some() {
             return fault;
@@ -84,6 +86,7 @@ fn push_used(
 ) -> Result<(), AllocError>
     requires known { Known exchange.now work.now }
     requires within { at < length exchange.now }
+    requires rises { Rises exchange.now }
     requires ids { Lists (Below exchange.now at (Used exchange.now)) ids.old.items }
     ensures { OnOk result (Lists (Below exchange.now (at + 1) (Used exchange.now)) ids.new.items) }
 {
@@ -101,7 +104,8 @@ fn list_used(alloc: Global, exchange: &Exchange, work: &Work) -> Result<Vec<u64>
     ensures { IfOk result (λ ids. Lists (Used exchange.now) ids.items) }
 {
     let mut ids = Vec::new(alloc);
-    for at in 0..exchange.len() {
+    let instances = exchange.iter();
+    for at in 0..instances.len() {
         push_used(exchange, work, at, &mut ids)?;
     }
     Ok(ids)
@@ -116,6 +120,7 @@ fn push_mapped(
 ) -> Result<(), AllocError>
     requires known { Known exchange.now work.now }
     requires within { at < length exchange.now }
+    requires rises { Rises exchange.now }
     requires ids { Lists (Below exchange.now at (IsMapped exchange.now)) ids.old.items }
     ensures { OnOk result (Lists (Below exchange.now (at + 1) (IsMapped exchange.now)) ids.new.items) }
 {
@@ -133,7 +138,8 @@ fn list_mapped(alloc: Global, exchange: &Exchange, work: &Work) -> Result<Vec<u6
     ensures { IfOk result (λ ids. Lists (IsMapped exchange.now) ids.items) }
 {
     let mut ids = Vec::new(alloc);
-    for at in 0..exchange.len() {
+    let instances = exchange.iter();
+    for at in 0..instances.len() {
         push_mapped(exchange, work, at, &mut ids)?;
     }
     Ok(ids)
@@ -160,6 +166,7 @@ fn push_element(
 ) -> Result<(), AllocError>
     requires known { Known exchange.now work.now }
     requires within { at < length exchange.now }
+    requires rises { Rises exchange.now }
     requires bodied { bodied.now ≡ body_shapes exchange.now }
     requires ids { Lists (Below exchange.now at (IsModelElement exchange.now)) ids.old.items }
     ensures { OnOk result (Lists (Below exchange.now (at + 1) (IsModelElement exchange.now)) ids.new.items) }
@@ -187,7 +194,8 @@ fn list_elements(
     ensures { IfOk result (λ ids. Lists (IsModelElement exchange.now) ids.items) }
 {
     let mut ids = Vec::new(alloc);
-    for at in 0..exchange.len() {
+    let instances = exchange.iter();
+    for at in 0..instances.len() {
         push_element(exchange, bodied, work, at, &mut ids)?;
     }
     Ok(ids)

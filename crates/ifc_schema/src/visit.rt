@@ -3,6 +3,7 @@ ghost use Rattle.std.specs.Prelude.{◌≡◌, ◌<◌, ◌≤◌, ℕ, [], leng
 ghost use Rattle.std.specs.Bool.{OnTrue, OnFalse};
 ghost use Rattle.p21_reader.specs.declared.value.Instance.{Instance};
 ghost use Rattle.p21_reader.specs.Places.{IsPlaceOf};
+ghost use Rattle.p21_reader.specs.Uploads.{Rises};
 ghost use Rattle.ifc_schema.specs.Used.{Used, IsMapped, Maps, NamesBy, is_root};
 ghost use Rattle.ifc_schema.specs.Bodies.{body_shapes};
 ghost use Rattle.ifc_schema.specs.Marks.{Grows, SoundAt, mark_at, rank_at, is_mapped, IsFollowed, FollowedAt, IsRootAt, Going, Known};
@@ -69,6 +70,7 @@ fn is_root(entity: Option<Entity>) -> bool
 fn mark_root(exchange: &Exchange, at: usize, work: &mut Work) -> Result<(), AllocError>
     requires size { length work.old.marks.items ≡ length exchange.now }
     requires within { at < length exchange.now }
+    requires rises { Rises exchange.now }
     ensures grows { OnOk result (Grows exchange.now work.old work.new) }
     ensures root { OnOk result (IsRootAt exchange.now at → 0 < rank_at work.new at) }
 {
@@ -87,7 +89,8 @@ fn mark_roots(exchange: &Exchange, work: &mut Work) -> Result<(), AllocError>
     ensures grows { OnOk result (Grows exchange.now work.old work.new) }
     ensures roots { OnOk result ((at : ℕ) → IsRootAt exchange.now at → 0 < rank_at work.new at) }
 {
-    for at in 0..exchange.len() {
+    let instances = exchange.iter();
+    for at in 0..instances.len() {
         mark_root(exchange, at, work)?;
     }
     Ok(())
@@ -96,6 +99,7 @@ fn mark_roots(exchange: &Exchange, work: &mut Work) -> Result<(), AllocError>
 /// Whether the instance at a place is the first of its number.
 fn is_first(exchange: &Exchange, at: usize) -> bool
     requires within { at < length exchange.now }
+    requires rises { Rises exchange.now }
     ensures first { OnTrue result ((i : Instance)
         → IsPlaceOf exchange.now (slice_index_or exchange.now at i).id at) }
     ensures other { OnFalse result ((id : ℕ) → IsPlaceOf exchange.now id at → ⊥) }

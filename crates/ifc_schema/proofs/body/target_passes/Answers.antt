@@ -18,4 +18,4 @@ passes_there world test answers v id at e r p =
     a ∙ sym (ap (some_passes test) b)
 
 pub returns-in-Some-place_of : goal.returns-in-Some-place_of
-returns-in-Some-place_of c = λ test e. passes_there c.args.exchange.now test c.args.answers.now c.args.value.now c.in-Some.id c.in-Some-place_of.at e (sym c.reference_of.ensures ∙ c.in-Some.is) c.in-Some-place_of.ensures
+returns-in-Some-place_of c = λ test e. passes_there c.args.exchange.now test c.args.answers.now c.args.value.now c.in-Some.id c.in-Some-place_of.at e (sym c.reference.ensures ∙ c.in-Some.is) c.in-Some-place_of.ensures
