@@ -1,4 +1,4 @@
-use Rattle.std.proofs.Common.{take, map, All, Any}
+use Rattle.std.proofs.Common.{map, All, Any}
 use Rattle.faceset.specs.Indexes.{PointsNowhere}
 use Rattle.faceset.specs.Sets.{outline}
 use Rattle.p21_reader.specs.Attributes.{led_to}
@@ -7,6 +7,6 @@ use Rattle.faceset.proofs.bad.has_bad_face.Given as goal
 
 abbrev pub invariant-loop-value : goal.invariant-loop-value
 invariant-loop-value l = record {
-  well : All (λ row. Any (PointsNowhere l.count) row → ⊥) (map outline (led_to l.exchange (take l.value-index l.values)));
+  well : All (λ row. Any (PointsNowhere l.count) row → ⊥) (map outline (led_to l.exchange l.yielded));
   kept : AreReaches l.exchange l.reaches;
 }

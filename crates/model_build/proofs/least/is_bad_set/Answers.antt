@@ -13,4 +13,4 @@ told world id set (Ok false) e is h = λ f. h (let same : f.instance ≡ set = (
 told world id set (Err x) e is h = h
 
 pub returns-clause-bad : goal.returns-clause-bad
-returns-clause-bad c = told c.args.exchange.now c.args.id c.in-Some.set.now c.has_bad_index.result c.in-Some.ensures (sym c.is_set.ensures ∙ c.if-not-is_set.false) c.has_bad_index.ensures.bad
+returns-clause-bad c = told c.args.exchange.now c.args.id c.in-Some.set c.has_bad_index.result c.in-Some.ensures (sym c.is_set.ensures ∙ c.if-not-is_set.false) c.has_bad_index.ensures.bad
