@@ -27,4 +27,4 @@ loop-value-preserved c =
 pub returns : goal.returns
 returns c =
     let all = ended c.args.values.now c.loop-value.yielded (cc) _ c.loop-value.yielded_by _ c.in-None.is c.next.ensures.steps in
-    (sym (ap (λ (vs : List Value21). c.args.so_far + sum_by (triangle_count c.args.exchange.now) (led_to c.args.exchange.now vs)) all) ∙ c.loop-value.invariant.0, c.loop-value.invariant.1)
+    (sym c.loop-value.invariant.0 ∙ ap (λ (vs : List Value21). c.args.so_far + sum_by (triangle_count c.args.exchange.now) (led_to c.args.exchange.now vs)) all, c.loop-value.invariant.1)
