@@ -7,6 +7,6 @@ pub mod Settles
 pub mod Stepping
 pub mod Trees
 pub mod World
-pub mod Making
+pub mod StepsMade
 pub mod Listing
 pub mod OneStorey
