@@ -48,9 +48,9 @@ lists_storeys world objects steps marks list t n p = record {
   all = λ o s f. p.all o s (told_storey (Next world) (IsTorn world) (IsStorey world) objects steps marks t n o s f);
 }
 
-pub stage_seven : (world : List Instance) (objects : List ℕ) (steps : List Step) (marks : List Mark) (at id : ℕ) → WorldTable world objects steps marks → at < length objects → get_or objects at 0 ≡ id → IsFirstFault steps marks (Some at)
+pub least_fault_told : (world : List Instance) (objects : List ℕ) (steps : List Step) (marks : List Mark) (at id : ℕ) → WorldTable world objects steps marks → at < length objects → get_or objects at 0 ≡ id → IsFirstFault steps marks (Some at)
     → LeastTreeFault world (faults.TreeFault id)
-stage_seven world objects steps marks at id t l is f = record {
+least_fault_told world objects steps marks at id t l is f = record {
   id = id;
   flawed = subst (HasTreeFault world) is (fault_there (Next world) (IsTorn world) (IsStorey world) objects steps marks t at f.0);
   told = refl;
@@ -88,7 +88,7 @@ pub refused_at : (world : List Instance) (objects lent_objects : List ℕ) (step
 refused_at world objects lent_objects steps lent_steps marks lent_marks at t eo es em f =
     let g = first_fault_is steps lent_steps marks lent_marks (Some at) es em f in
     let l : at < length objects = (let w = fault_within steps marks at g.0 in let z = t.steps_are.size in omega arith) in
-    stage_seven world objects steps marks at (get_or lent_objects at 0) t l (ap (λ l. get_or l at 0) (sym eo)) g
+    least_fault_told world objects steps marks at (get_or lent_objects at 0) t l (ap (λ l. get_or l at 0) (sym eo)) g
 
 pub tree_of : (world : List Instance) (objects : List ℕ) (steps lent_steps : List Step) (marks lent_marks : List Mark) → WorldTable world objects steps marks → lent_steps ≡ steps → lent_marks ≡ marks → IsFirstFault lent_steps lent_marks None → IsTree world
 tree_of world objects steps lent_steps marks lent_marks t es em f = is_tree world objects steps marks t (first_fault_is steps lent_steps marks lent_marks None es em f)
