@@ -152,12 +152,7 @@ fn are_different(turns: &[u64]) -> bool {
 }
 
 // So many replies were written, each with a turn of its own.
-fn assert_turns(
-    rt: &impl Abort,
-    alloc: Global,
-    host: &HoldHost,
-    count: usize,
-) -> Result<(), Fail> {
+fn assert_turns(rt: &impl Abort, alloc: Global, host: &HoldHost, count: usize) -> Result<(), Fail> {
     let turns = all_turns(alloc, host)?;
     assert_eq!(rt; turns.len(), count);
     assert!(rt; are_different(turns.as_slice()));
