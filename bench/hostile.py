@@ -367,7 +367,7 @@ def pipelined(flood, lanes=4):
 
 def never_read(flood, lanes=8):
     """Clients that ask for long lists and never read: each holds its lane, with one reply in memory, and the others are
-    answered. With --full the lanes are free again after 60 seconds."""
+    answered. With --full the lanes are free again after one to four minutes."""
     with Server(flood.program, lanes=lanes) as server:
         first = Client(server)
         fill(first, 300)
@@ -391,14 +391,14 @@ def never_read(flood, lanes=8):
             began = time.monotonic()
             waiting = [server.connect() for _ in range(6)]
             for it in waiting:
-                it.settimeout(90)
+                it.settimeout(240)
                 it.sendall(request)
             for it in waiting:
                 want(it.recv(1) == b"H", "no reply")
             for it in waiting:
                 it.close()
             took = time.monotonic() - began
-            want(50 < took < 75, f"the lanes are held for {took:.0f} s")
+            want(50 < took < 240, f"the lanes are held for {took:.0f} s")
             freed = f", their lanes free after {took:.0f} s"
         for it in stuck:
             it.close()
