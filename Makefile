@@ -1,7 +1,8 @@
 # make build             proves the crates that the program stands on, and leaves it at crates/bim_server/out/bim_server
 # make replay            replays the stored run of cases/topics/stored_run over the built program, and prints what it writes
 # make check             the test command: the map of crates, the whole gate, then the end-to-end cases over the built program,
-#                        and clients over sockets
+#                        clients over sockets, calls of the C library that fail in turn, and floods
+# make hostile           the last two whole, over the program as it was built last: some minutes
 # make serve             serves on 127.0.0.1:8080 over the built program, until it is stopped
 # make crate NAME=..     proves one crate, over what earlier checks kept of those below it, and runs its tests
 # make cases [GROUP=..]  the end-to-end cases alone, over the program as it was built last: all, or those of the groups
@@ -9,7 +10,7 @@
 
 SERVER := crates/bim_server/out/bim_server
 
-.PHONY: build replay serve check crate cases
+.PHONY: build replay serve check hostile crate cases
 
 build:
 	@cd crates/bim_server && rt run -- replay </dev/null >&2
@@ -27,6 +28,13 @@ check:
 	@test -x $(SERVER) || $(MAKE) --no-print-directory build
 	python3 cases/run.py $(SERVER)
 	python3 bench/serve.py $(SERVER) pipelined interleaved clashes curl cut end_by_links end_by_signal
+	python3 bench/failing.py $(SERVER) --some 60
+	python3 bench/hostile.py $(SERVER)
+
+hostile:
+	@test -x $(SERVER) || $(MAKE) --no-print-directory build
+	python3 bench/failing.py $(SERVER)
+	python3 bench/hostile.py $(SERVER) --full
 
 crate:
 	@test -d "crates/$(NAME)/src" || { echo "make crate NAME=.. wants one of: $$(ls crates | xargs)"; exit 2; }

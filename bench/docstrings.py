@@ -1,7 +1,7 @@
 #!/usr/bin/env python3
 """Lists, crate by crate, the modules whose first line is no `//!` and the public items without a `///`: bench/docstrings.py [CRATE ..]. Reads src/*.rt;
-in tests only the first line of the file is asked for. An item is a function, a type, a trait with its calls, or a constant, also one that is public
-within its crate alone. Exit status 1 if there is any."""
+in tests only the first line of the file is asked for. An item is a function, a type, a trait with its calls, or a constant; one that is public within
+its crate alone (`pub(crate)`) isn't asked for. Exit status 1 if there is any."""
 import os
 import re
 import sys

@@ -54,9 +54,12 @@ class Server:
         self.port = free_port()
         self.words = [program, "serve", "--addr", f"{HOST}:{self.port}", "--lanes", str(lanes), "--workers",
                       str(workers), "--links", str(links), "--projects", str(projects)]
-        # (a job in the background begins with this signal shut out)
         self.run = subprocess.Popen(self.words, stdin=subprocess.DEVNULL, stdout=subprocess.PIPE, stderr=subprocess.PIPE,
-                                    preexec_fn=lambda: signal.signal(signal.SIGINT, signal.SIG_DFL))
+                                    preexec_fn=self.begins)
+
+    def begins(self):
+        """What the process does before the program begins in it. (A job in the background begins with this signal shut out.)"""
+        signal.signal(signal.SIGINT, signal.SIG_DFL)
 
     def __enter__(self):
         return self

@@ -1,8 +1,7 @@
 #!/usr/bin/env python3
 """What `replay --at N` must write for the bytes of one connection: the HTTP profile read anew, in plain Python, from its
 own text (docs/API.md) and not from the program. Cases of heads, chunks, clients and bodies are worked out with it. It knows
-topics, comments and viewpoints, empty versions, and uploads of one small file; where a stream asks for more it stops
-(Beyond).
+topics, comments and viewpoints, versions, and uploads of four small files; where a stream asks for more it stops (Beyond).
 
     python3 cases/http_reference.py --at N [--projects N] <input >output      ends with the status of the run
     python3 cases/http_reference.py --cases FOLDER     compares with the cases KKK.json, KKK.in, KKK.out of a folder
@@ -27,26 +26,39 @@ PHRASES = {200: "OK", 201: "Created", 202: "Accepted", 410: "Gone", 400: "Bad Re
 FRAME = {"BadHead": ("H1", 400), "HeadTooLong": ("H2", 431), "BadLength": ("H3", 400), "BodyTooLong": ("H4", 413),
          "BadChunk": ("H5", 400), "Version": ("H6", 505)}
 
-SMALL_FILE = b"""ISO-10303-21;
-HEADER;
-FILE_DESCRIPTION((''),'2;1');
-FILE_NAME('a.ifc','2024-05-01T12:00:00',(''),(''),'','','');
-FILE_SCHEMA(('IFC4'));
-ENDSEC;
-DATA;
-#1=IFCPROJECT('0000000000000000000001',$,'P',$,$,$,$,(),#2);
-#2=IFCUNITASSIGNMENT((#3));
-#3=IFCSIUNIT(*,.LENGTHUNIT.,.MILLI.,.METRE.);
-#4=IFCCARTESIANPOINTLIST3D(((0.,0.,0.),(100.,0.,0.),(0.,100.,0.)));
-#5=IFCTRIANGULATEDFACESET(#4,$,$,((1,2,3)),$);
-#6=IFCSHAPEREPRESENTATION($,'Body','Tessellation',(#5));
-#7=IFCPRODUCTDEFINITIONSHAPE($,$,(#6));
-#8=IFCPIPESEGMENT('0000000000000000000002',$,'Pipe 1',$,$,$,#7,$,$);
-ENDSEC;
-END-ISO-10303-21;
-"""
-SMALL_MODEL = [{"box": [0, 0, 0, 100, 100, 0], "class": "IFCPIPESEGMENT", "guid": "0000000000000000000002",
-                "name": "Pipe 1", "storey": None, "triangles": 1}]
+
+def file_of(*blocks):
+    """A file of pipe segments of one small triangle each: number, identifier, name, and the corner at the right angle."""
+    lines = ["ISO-10303-21;", "HEADER;", "FILE_DESCRIPTION((''),'2;1');",
+             "FILE_NAME('a.ifc','2024-05-01T12:00:00',(''),(''),'','','');", "FILE_SCHEMA(('IFC4'));", "ENDSEC;", "DATA;",
+             "#1=IFCPROJECT('0000000000000000000001',$,'P',$,$,$,$,(),#2);", "#2=IFCUNITASSIGNMENT((#3));",
+             "#3=IFCSIUNIT(*,.LENGTHUNIT.,.MILLI.,.METRE.);"]
+    for k, guid, name, (x, y, z) in blocks:
+        corners = ",".join(f"({a}.,{b}.,{z}.)" for a, b in ((x, y), (x + 100, y), (x, y + 100)))
+        lines += [f"#{k}=IFCCARTESIANPOINTLIST3D(({corners}));", f"#{k + 1}=IFCTRIANGULATEDFACESET(#{k},$,$,((1,2,3)),$);",
+                  f"#{k + 2}=IFCSHAPEREPRESENTATION($,'Body','Tessellation',(#{k + 1}));",
+                  f"#{k + 3}=IFCPRODUCTDEFINITIONSHAPE($,$,(#{k + 2}));",
+                  f"#{k + 4}=IFCPIPESEGMENT('{guid}',$,'{name}',$,$,$,#{k + 3},$,$);"]
+    return "".join(line + "\n" for line in lines + ["ENDSEC;", "END-ISO-10303-21;"]).encode()
+
+
+def elements_of(*blocks):
+    """The elements of such a file, as a version lists them."""
+    return [{"box": [x, y, z, x + 100, y + 100, z], "class": "IFCPIPESEGMENT", "guid": guid, "name": name, "storey": None,
+             "triangles": 1} for _, guid, name, (x, y, z) in blocks]
+
+
+def pipes(*corners):
+    return [(10 * n, f"{10 + n:022}", f"{10 + n:022}", corner) for n, corner in enumerate(corners, 1)]
+
+
+# one pipe; two pairs of pipes, of which the second pair is 200 or 140 mm apart; two pipes at an edge of four cells
+BLOCKS = [[(4, "0000000000000000000002", "Pipe 1", (0, 0, 0))],
+          pipes((1500, 1500, 1500), (1500, 1500, 1550), (9500, 1500, 1500), (9500, 1500, 1700)),
+          pipes((1500, 1500, 1500), (1500, 1500, 1550), (9500, 1500, 1500), (9500, 1500, 1640)),
+          pipes((3950, 3950, 1500), (3950, 3950, 1510))]
+FILES = {file_of(*blocks): elements_of(*blocks) for blocks in BLOCKS}
+SMALL_FILE = file_of(*BLOCKS[0])
 
 
 class Beyond(Exception):
@@ -206,35 +218,52 @@ def refused(code, word, status, **fields):
     return status, error(code, word, **fields), None, []
 
 
-class Version:
-    """What a version holds: the names of its models, each of which has the one small element, and its rules."""
+def cells_of(box):
+    """The cells of four metres that hold a box which is a metre larger on each side."""
+    spans = [range((low - 1000) // 4000, (high + 1000) // 4000 + 1) for low, high in zip(box[:3], box[3:])]
+    return [(x, y, z) for x in spans[0] for y in spans[1] for z in spans[2]]
 
-    def __init__(self, names, rules, before=None):
-        self.names, self.rules = sorted(names), rules
-        low, high = SMALL_MODEL[0]["box"][:3], SMALL_MODEL[0]["box"][3:]
-        spans = [range((a - 1000) // 4000, (b + 1000) // 4000 + 1) for a, b in zip(low, high)]
-        cells = [(x, y, z) for x in spans[0] for y in spans[1] for z in spans[2]] if len(self.names) > 1 else []
-        same = before is not None and before.names == self.names and before.rules == self.rules
-        self.undone = [cell for cell in cells if not same or cell in before.undone]
+
+def gap(a, b):
+    """How far apart two elements of the known files are: one above the other, or so far that no rule reaches."""
+    along = max(abs(a["box"][0] - b["box"][0]), abs(a["box"][1] - b["box"][1]))
+    if along > 1100:
+        return along - 100
+    if along:
+        raise Beyond("how far apart these are")
+    return abs(a["box"][2] - b["box"][2])
+
+
+class Version:
+    """What a version holds: its models, each with the elements of a known file, and its rules."""
+
+    def __init__(self, models, rules, before=None):
+        self.models, self.rules = dict(sorted(models.items())), rules
+        self.elements = [(name, element) for name in self.models for element in self.models[name]]
+        members = {}
+        for key in self.elements:
+            for cell in cells_of(key[1]["box"]):
+                members.setdefault(cell, []).append(key)
+        self.buckets = {cell: members[cell] for cell in sorted(members) if len(members[cell]) > 1}
+        done = {} if before is None or before.rules != rules else before.buckets
+        self.undone = [cell for cell in self.buckets
+                       if cell not in done or cell in before.undone or done[cell] != self.buckets[cell]]
 
     def clashes(self):
         pairs = []
-        for i, a in enumerate(self.names):
-            for b in self.names[i + 1:]:
-                for number, rule in enumerate(self.rules):
-                    if fits(rule):
-                        if rule["kind"] == "clash":
-                            pairs.append({"a": {"guid": SMALL_MODEL[0]["guid"], "model": a},
-                                          "b": {"guid": SMALL_MODEL[0]["guid"], "model": b},
-                                          "distance": rule["distance"], "rule": number})
-                        break
+        for i, (m, a) in enumerate(self.elements):
+            for n, b in self.elements[i + 1:]:
+                number, rule = next(((k, it) for k, it in enumerate(self.rules) if fits(it, m == n)), (None, None))
+                if rule and rule["kind"] == "clash" and gap(a, b) <= rule["distance"]:
+                    pairs.append({"a": {"guid": a["guid"], "model": m}, "b": {"guid": b["guid"], "model": n},
+                                  "distance": rule["distance"], "rule": number})
         return pairs
 
 
-def fits(rule):
-    """Whether a rule fits the small elements of two models, which are in no storey."""
-    return all(rule[side] in ("*", SMALL_MODEL[0]["class"]) for side in "ab") and rule["storey"] == "any" \
-        and rule["level"] is None and rule["models"] in ("any", "other")
+def fits(rule, same):
+    """Whether a rule fits two pipe segments in no storey, of the same model or not."""
+    return all(rule[side] in ("*", "IFCPIPESEGMENT") for side in "ab") and rule["storey"] == "any" \
+        and rule["level"] is None and rule["models"] in ("any", "same" if same else "other")
 
 
 def rules_in(tree):
@@ -275,7 +304,7 @@ class Book:
         self.projects, self.moment, self.turn = projects, moment, 0
         self.printed, self.shelf = 0, set()  # the turn printed last, and the versions whose clashes were answered
         self.boards = {n: Board(n, moment) for n in range(1, projects + 1)}
-        self.versions = {n: [Version([], [])] for n in range(1, projects + 1)}
+        self.versions = {n: [Version({}, [])] for n in range(1, projects + 1)}
 
     def project(self, identifier):
         for n in self.boards:
@@ -288,11 +317,11 @@ class Book:
         self.printed = self.turn
         return status, tree, self.turn, []
 
-    def changed(self, status, number, names, rules, uploaded):
-        """The reply to a change that makes a version."""
+    def changed(self, status, number, models, rules, uploaded=None):
+        """The reply to a change that makes a version: it counts the model that was uploaded, or the version."""
         versions = self.versions[number]
-        versions.append(Version(names, rules, versions[-1]))
-        elements = 1 if uploaded else len(versions[-1].names)
+        versions.append(Version(models, rules, versions[-1]))
+        elements = len(versions[-1].elements if uploaded is None else uploaded)
         return self.booked(status, {"elements": elements, "left": len(versions[-1].undone), "triangles": elements,
                                     "version": len(versions) - 1})
 
@@ -674,7 +703,7 @@ def answer(book, request):
         rules, fault = rules_in(tree)
         if fault:
             return refused(fault[0], fault[1], 422, **fault[2])
-    if kind == "model" and method == "PUT" and request.body != SMALL_FILE:
+    if kind == "model" and method == "PUT" and request.body not in FILES:
         raise Beyond("another file")
     if kind == "projects":
         return book.booked(200, [project_tree(n) for n in sorted(book.boards)])
@@ -692,13 +721,15 @@ def answer(book, request):
     versions = book.versions[number]
     newest, last = len(versions) - 1, versions[-1]
     if kind == "rules":
-        return book.changed(200, number, last.names, rules, False)
+        return book.changed(200, number, last.models, rules)
     if kind == "model" and method == "PUT":
-        return book.changed(201, number, set(last.names) | {found.group(2)}, last.rules, True)
+        model = FILES[request.body]
+        return book.changed(201, number, dict(last.models, **{found.group(2): model}), last.rules, model)
     if kind == "model":
-        if found.group(2) not in last.names:
+        if found.group(2) not in last.models:
             return book.booked(404, error("K2", "NoModel"))
-        return book.changed(200, number, set(last.names) - {found.group(2)}, last.rules, False)
+        left = {name: model for name, model in last.models.items() if name != found.group(2)}
+        return book.changed(200, number, left, last.rules)
     asked = newest if found.group(2) == "newest" else int(found.group(2))
     if asked > newest:
         return book.booked(404, error("K3", "NoVersion", newest=newest))
@@ -706,7 +737,7 @@ def answer(book, request):
         return book.booked(410, error("K4", "VersionDropped", newest=newest, version=asked))
     version = versions[asked]
     if kind == "version":
-        models = [{"elements": SMALL_MODEL, "name": name} for name in version.names]
+        models = [{"elements": model, "name": name} for name, model in version.models.items()]
         return book.booked(200, {"models": models, "newest": newest, "rules": version.rules, "version": asked})
     if version.undone:
         return book.booked(202, {"left": len(version.undone), "version": asked})

@@ -5,6 +5,8 @@ mod alone;
 mod commands;
 mod one_thread;
 mod serve;
+#[cfg(test)]
+mod serve_tests;
 mod serve_words;
 mod session;
 #[cfg(test)]

@@ -2,6 +2,7 @@
 ghost use Rattle.std.specs.Prelude.{◌≤◌};
 
 use crate::commands::{run, run_replay};
+use crate::serve::run_serve;
 use bim_files::MemFiles;
 use bim_io::{ListClock, MemClock, MemSink, MemSource, SureSink, SureSource};
 use bim_model::{Bytes, Items, Moment, Text};
@@ -100,7 +101,7 @@ fn a_session_goes_on_and_closes(rt: HostRuntime) -> Result<(), Fail> {
 }
 
 // A rule, two pipes ten millimetres apart at an edge of four cells, and the clashes of that version.
-const FOUND: &[u8] =
+pub(crate) const FOUND: &[u8] =
     b"PUT /coord/1/projects/00000001-0000-8000-8000-000000000000/rules HTTP/1.1\r\nHost: h\r\nContent-Length: 43\r\n\r\n{\"rules\":[{\"a\":\"*\",\"b\":\"*\",\"distance\":50}]}PUT /coord/1/projects/00000001-0000-8000-8000-000000000000/models/m HTTP/1.1\r\nHost: h\r\nContent-Length: 969\r\n\r\nISO-10303-21;\nHEADER;\nFILE_DESCRIPTION((''),'2;1');\nFILE_NAME('a.ifc','2024-05-01T12:00:00',(''),(''),'','','');\nFILE_SCHEMA(('IFC4'));\nENDSEC;\nDATA;\n#1=IFCPROJECT('0000000000000000000001',$,'P',$,$,$,$,(),#2);\n#2=IFCUNITASSIGNMENT((#3));\n#3=IFCSIUNIT(*,.LENGTHUNIT.,.MILLI.,.METRE.);\n#10=IFCCARTESIANPOINTLIST3D(((3950.,3950.,1500.),(4050.,3950.,1500.),(3950.,4050.,1500.)));\n#11=IFCTRIANGULATEDFACESET(#10,$,$,((1,2,3)),$);\n#12=IFCSHAPEREPRESENTATION($,'Body','Tessellation',(#11));\n#13=IFCPRODUCTDEFINITIONSHAPE($,$,(#12));\n#14=IFCPIPESEGMENT('0000000000000000000011',$,'0000000000000000000011',$,$,$,#13,$,$);\n#20=IFCCARTESIANPOINTLIST3D(((3950.,3950.,1510.),(4050.,3950.,1510.),(3950.,4050.,1510.)));\n#21=IFCTRIANGULATEDFACESET(#20,$,$,((1,2,3)),$);\n#22=IFCSHAPEREPRESENTATION($,'Body','Tessellation',(#21));\n#23=IFCPRODUCTDEFINITIONSHAPE($,$,(#22));\n#24=IFCPIPESEGMENT('0000000000000000000012',$,'0000000000000000000012',$,$,$,#23,$,$);\nENDSEC;\nEND-ISO-10303-21;\nGET /coord/1/projects/00000001-0000-8000-8000-000000000000/versions/2/clashes HTTP/1.1\r\nHost: h\r\n\r\n";
 
 const FOUND_ANSWERS: &[u8] =
@@ -196,7 +197,7 @@ fn each_fault_of_the_outside_has_its_status(rt: HostRuntime) -> Result<(), Fail>
     assert_each_fails(&rt, alloc, 1_000_000, 2, 2)
 }
 
-fn words_of(alloc: Global, words: &[&str]) -> Result<Vec<Text>, Fail> {
+pub(crate) fn words_of(alloc: Global, words: &[&str]) -> Result<Vec<Text>, Fail> {
     let mut made = Vec::new(alloc);
     for word in words {
         made.push(Text::of(alloc, word)?)?;
@@ -261,4 +262,23 @@ fn words_outside_the_grammar_print_the_usage(rt: HostRuntime) -> Result<(), Fail
     assert_words(&rt, alloc, &["serve"], 0, b"")?;
     assert_words(&rt, alloc, &["serve", "--lanes", "33"], 2, usage)?;
     assert_words(&rt, alloc, &[], 2, usage)
+}
+
+// The status of a server over this host.
+fn serves<R: Threads + Wait + Sync>(rt: &R, alloc: Global, host: &mut MemHost) -> u8 {
+    let ended = run_serve(rt, alloc, &[], host);
+    let status = ended.status;
+    drop(ended);
+    status
+}
+
+// Where the doors can't be opened the status is 4; where none has a connection it is 0.
+#[test]
+fn a_server_without_doors_ends(rt: HostRuntime) -> Result<(), Fail> {
+    let alloc = rt.alloc();
+    let mut closed = MemHost::new(alloc, Vec::new(alloc), 0, fails_at(alloc, 1)?);
+    assert_eq!(rt; serves(&rt, alloc, &mut closed), 4);
+    let mut idle = MemHost::new(alloc, Vec::new(alloc), 0, Items::new(alloc));
+    assert_eq!(rt; serves(&rt, alloc, &mut idle), 0);
+    Ok(())
 }

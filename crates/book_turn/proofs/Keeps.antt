@@ -1,5 +1,5 @@
 -- Each step keeps the rule of a turn.
-use Rattle.std.proofs.Common.{◌≡◌, ◌≢◌, ℕ, zero, suc, ◌+◌, ◌-◌, ◌*◌, ◌%◌, ◌^◌, ◌<◌, ◌≤◌, List, [], ◌∷◌, ◌++◌, length, get_or, set, Option, Some, true, refl, sym, ap, ◌∙◌, subst, inl, inr, ⊎_elim, arith, length-append}
+use Rattle.std.proofs.Common.{◌≡◌, ◌≢◌, ℕ, zero, suc, ◌+◌, ◌*◌, ◌%◌, ◌^◌, ◌<◌, ◌≤◌, List, [], ◌∷◌, ◌++◌, length, get_or, set, Option, Some, true, refl, sym, ap, ◌∙◌, subst, inl, inr, ⊎_elim, arith, length-append}
 use mathlib.Core.Option.{some, none, some-ne-none, some-injective}
 use Rattle.std.specs.Option.{unwrap_or}
 use mathlib.Core.Logic.{dite}
@@ -13,7 +13,7 @@ use Rattle.book_turn.specs.declared.rule.Stage.TheVariants.{Free, Waiting, Calle
 use Rattle.book_turn.specs.Entries.{AllBefore, AllAfter, up_to, calls_by, IsOneOf, OwnUpTo, Rises}
 use Rattle.book_turn.specs.Numbers.{same, times, has}
 use Rattle.book_turn.specs.Views.{staged, IsInTurn, IsCalled, first_view, drawn_view, called_view, done_view, kept_view, given_view, both_views, spent_view, compared_view, awaited}
-use Rattle.book_turn.specs.Steps.{stays, AreBeginnings, Glued, drew, looked, passed, compared, journal_in, Comes, Adds}
+use Rattle.book_turn.specs.Steps.{AreBeginnings, Glued, drew, looked, passed, compared, journal_in, Comes, Adds}
 use Rattle.book_turn.specs.Rule.{total, Fits, NobodyIsCalled, Placed, Kept}
 use Rattle.book_turn.proofs.Totals.{total_set, total_snoc, times_append, cut_times, cut_length, in_first, in_others, total_only, times_empty, numbers_length, numbers_in, numbers_out, has_first, has_last, total_at, total_two, total_bounded, same_one, same_none, has_times, times_has}
 use Rattle.book_turn.proofs.Prefixes.{before_append, before_later, up_to_all, up_to_later, up_to_splits, own_append, own_drop, own_all, own_none, one_up_to, one_since, one_rises, one_known, one_other, own_fewer, own_later, own_both, begins_later, begins_of, picked, own_whole}
@@ -99,7 +99,7 @@ module _ {O E S : Type 0} (journal : O → List E) (settings : O → S) (turn pa
         let c = r.counted in let d = r.numbered in let m = r.most in omega arith
 
     draws_at : (id : ℕ) (cs : List (ℕ × Option O)) (v : V) → get_elem? s.views id ≡ some v → v.stage ≡ Free → 0 < length v.passes → length v.turns < 2 ^ 40 * length v.passes
-        → Rule record { words = (r.ticket + 1) % 2 ^ 64 ∷ r.serving ∷ r.bells; homes = s.homes; views = set s.views id (drawn_view v r.ticket) }
+        → Rule record { words = (r.ticket + 1) % 2 ^ 64 ∷ r.serving ∷ []; homes = s.homes; views = set s.views id (drawn_view v r.ticket) }
     draws_at id cs v at free some_pass few =
         let t : ℕ = r.ticket in let w : V = drawn_view v t in let vs = s.views in let small = small_ticket in
         let fit = r.each id v at in let stands = fit.stands some_pass in
@@ -108,8 +108,7 @@ module _ {O E S : Type 0} (journal : O → List E) (settings : O → S) (turn pa
           history = r.history;
           ticket = t + 1;
           serving = r.serving;
-          bells = r.bells;
-          words = ap (λ (x : ℕ). x ∷ r.serving ∷ r.bells) (omega arith);
+          words = ap (λ (x : ℕ). x ∷ r.serving ∷ []) (omega arith);
           starts = r.starts;
           in_order = let o = r.in_order in omega arith;
           most = r.most;
@@ -151,46 +150,9 @@ module _ {O E S : Type 0} (journal : O → List E) (settings : O → S) (turn pa
   unmoved : (s : St) (r : Rule s) (i id : ℕ) (v : V) → get_elem? s.views id ≡ some v → Rule record { words = set s.words i (get_or s.words i 0); homes = s.homes; views = set s.views id v }
   unmoved s r i id v at = subst (λ (z : List ℕ × List V). Rule record { words = z.0; homes = s.homes; views = z.1 }) (λ k. (sym (set-get_or s.words i 0) k, sym (set_again s.views id v at) k)) r
 
-  rung : (s : St) (r : Rule s) (bells : List ℕ) → Rule record { words = r.ticket ∷ r.serving ∷ bells; homes = s.homes; views = s.views }
-  rung s r bells = record {
-    history = r.history;
-    ticket = r.ticket;
-    serving = r.serving;
-    bells = bells;
-    words = refl;
-    starts = r.starts;
-    in_order = r.in_order;
-    most = r.most;
-    counted = r.counted;
-    numbered = r.numbered;
-    numbers = r.numbers;
-    no_numbers = r.no_numbers;
-    turns = r.turns;
-    no_turns = r.no_turns;
-    stages = r.stages;
-    no_stages = r.no_stages;
-    each = r.each;
-    placed = r.placed;
-    rises = r.rises;
-    before = r.before;
-    known = r.known;
-  }
-
-  -- the words after the first two are free
-  pub rings : (slots id i x : ℕ) (me : Me (Option O) V) → 2 ≤ i → Allows Rule slots id me i (λ _. x) (λ _. stays (step slots i x 0 none) me x)
-  rings slots id i x me le s r _ at _ =
-      let k : ℕ = i - 2 in
-      let e : i ≡ suc (suc k) = omega arith in (
-        me.0,
-        keeps,
-        tt,
-        subst (λ (z : List ℕ × ℕ × List V). Rule record { words = set z.0 z.1 x; homes = s.homes; views = z.2 }) (λ j. (sym r.words j, sym e j, sym (set_again s.views id me.0 at) j)) (rung s r (set r.bells k x)),
-        refl,
-      )
-
   called_at : (s : St) (r : Rule s) (id : ℕ) (v : V) → get_elem? s.views id ≡ some v → (t : ℕ) → v.stage ≡ Waiting t → r.serving ≡ t → 0 < length v.passes
       → (o : O) × (news : List E) × (s.homes ≡ some (Some o) ∷ []) × (journal o ≡ v.seen ++ news) × (v.settings ≡ Some (settings o)) × AllAfter turn v.last news × AllBefore turn r.serving (v.seen ++ news) × (calls_by pass v.passes news ≡ []) × Rises turn (v.seen ++ news)
-      × Rule record { words = r.ticket ∷ r.serving ∷ r.bells; homes = none ∷ []; views = set s.views id (called_view v r.serving (v.seen ++ news)) }
+      × Rule record { words = r.ticket ∷ r.serving ∷ []; homes = none ∷ []; views = set s.views id (called_view v r.serving (v.seen ++ news)) }
   called_at s r id v at t is hit some_pass =
       let h = r.history in let vs = s.views in let stands = (r.each id v at).stands some_pass in
       let k = up_to_splits turn v.last h r.rises in let news : List E = k.0 in
@@ -202,11 +164,10 @@ module _ {O E S : Type 0} (journal : O → List E) (settings : O → S) (turn pa
       let nobody : NobodyIsCalled journal settings turn pass n chosen vs = λ j u e c. dite (ℕ_discrete j id)
       (λ same_seat. off (subst (λ (x : V). IsCalled x.stage) (some-injective u v (sym e ∙ ap (get_elem? vs) same_seat ∙ at)) c))
       (λ other. apart j u other e c) in
-      let rule : Rule record { words = r.ticket ∷ r.serving ∷ r.bells; homes = none ∷ []; views = set vs id w } = record {
+      let rule : Rule record { words = r.ticket ∷ r.serving ∷ []; homes = none ∷ []; views = set vs id w } = record {
         history = h;
         ticket = r.ticket;
         serving = r.serving;
-        bells = r.bells;
         words = refl;
         starts = r.starts;
         in_order = r.in_order;
@@ -274,7 +235,7 @@ module _ {O E S : Type 0} (journal : O → List E) (settings : O → S) (turn pa
 
   done_at : (s : St) (r : Rule s) (id : ℕ) (v : V) → get_elem? s.views id ≡ some v → (t : ℕ) (o : O) → v.stage ≡ Called t → 0 < length v.passes
       → (news : List E) → journal o ≡ v.seen ++ news → IsOneOf turn pass t v.passes news → v.settings ≡ Some (settings o)
-      → (s.homes ≡ none ∷ []) × Rule record { words = r.ticket ∷ (r.serving + 1) % 2 ^ 64 ∷ r.bells; homes = some (Some o) ∷ []; views = set s.views id (done_view v (journal o)) }
+      → (s.homes ≡ none ∷ []) × Rule record { words = r.ticket ∷ (r.serving + 1) % 2 ^ 64 ∷ []; homes = some (Some o) ∷ []; views = set s.views id (done_view v (journal o)) }
   done_at s r id v at t o is some_pass news whole one chosen_is =
       let h = r.history in let vs = s.views in let stands = (r.each id v at).stands some_pass in
       let w : V = done_view v (journal o) in
@@ -312,12 +273,11 @@ module _ {O E S : Type 0} (journal : O → List E) (settings : O → S) (turn pa
           begins = begins_later turn pass u.passes u.begins u.last h news (one_since turn pass u.last r.serving v.passes news one' l.0) (λ qs b sub. one_other turn pass r.serving v.passes qs b news one' (λ x mine theirs. number_once s r id j v u other at e x mine (sub x theirs))) st.begins;
         };
       } in
-      let rule : Rule record { words = r.ticket ∷ (r.serving + 1) % 2 ^ 64 ∷ r.bells; homes = some (Some o) ∷ []; views = set vs id w } = record {
+      let rule : Rule record { words = r.ticket ∷ (r.serving + 1) % 2 ^ 64 ∷ []; homes = some (Some o) ∷ []; views = set vs id w } = record {
         history = h ++ news;
         ticket = r.ticket;
         serving = r.serving + 1;
-        bells = r.bells;
-        words = ap (λ (x : ℕ). r.ticket ∷ x ∷ r.bells) (omega arith);
+        words = ap (λ (x : ℕ). r.ticket ∷ x ∷ []) (omega arith);
         starts = omega arith;
         in_order = room;
         most = r.most;
@@ -364,7 +324,6 @@ module _ {O E S : Type 0} (journal : O → List E) (settings : O → S) (turn pa
         history = r.history;
         ticket = r.ticket;
         serving = r.serving;
-        bells = r.bells;
         words = r.words;
         starts = r.starts;
         in_order = r.in_order;
@@ -402,7 +361,6 @@ module _ {O E S : Type 0} (journal : O → List E) (settings : O → S) (turn pa
         history = r.history;
         ticket = r.ticket;
         serving = r.serving;
-        bells = r.bells;
         words = r.words;
         starts = r.starts;
         in_order = r.in_order;
@@ -448,7 +406,6 @@ module _ {O E S : Type 0} (journal : O → List E) (settings : O → S) (turn pa
           history = r.history;
           ticket = r.ticket;
           serving = r.serving;
-          bells = r.bells;
           words = r.words;
           starts = r.starts;
           in_order = r.in_order;
@@ -493,12 +450,11 @@ module _ {O E S : Type 0} (journal : O → List E) (settings : O → S) (turn pa
       r.placed
 
   -- the table at the start
-  pub opens : (o : O) → journal o ≡ [] → settings o ≡ chosen → 0 < n → n ≤ 64 → (bells : List ℕ) → Rule (opening (1 ∷ 1 ∷ bells) (Some o ∷ []) (first_view chosen n))
-  opens o empty known some_pass most bells = record {
+  pub opens : (o : O) → journal o ≡ [] → settings o ≡ chosen → 0 < n → n ≤ 64 → Rule (opening (1 ∷ 1 ∷ []) (Some o ∷ []) (first_view chosen n))
+  opens o empty known some_pass most = record {
     history = [];
     ticket = 1;
     serving = 1;
-    bells = bells;
     words = refl;
     starts = omega arith;
     in_order = omega arith;

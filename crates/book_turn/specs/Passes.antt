@@ -1,5 +1,5 @@
 -- What a caller sees of a turn and of its passes.
-use Rattle.std.specs.Prelude.{ℕ, zero, suc, if◌then◌else◌, ltb, max, ◌≡◌, ◌<◌, ◌≤◌, ◌+◌, ◌*◌, ◌^◌, List, [], ◌∷◌, ◌++◌, length, true, Option, Some}
+use Rattle.std.specs.Prelude.{ℕ, zero, suc, if◌then◌else◌, ltb, max, ◌≡◌, ◌<◌, ◌≤◌, ◌+◌, ◌*◌, List, [], ◌∷◌, ◌++◌, length, true, Option, Some}
 use Rattle.atomic_table.specs.Seated.{TableId}
 use Rattle.atomic_table.specs.declared.shared.Seat.{Seat}
 use Rattle.book_turn.specs.declared.rule.View.{View}

@@ -46,11 +46,10 @@ module _ {O E S : Type 0} (journal : O → List E) (settings : O → S) (turn pa
   pub record Kept (s : State (Option O) (View E S)) : Type 0 where
     -- all entries that were ever added
     pub history : List E
-    -- the words are the turn that is drawn next, the one that is served, and the bells
+    -- the words are the turn that is drawn next and the one that is served
     pub ticket : ℕ
     pub serving : ℕ
-    pub bells : List ℕ
-    pub words : s.words ≡ ticket ∷ serving ∷ bells
+    pub words : s.words ≡ ticket ∷ serving ∷ []
     pub starts : 0 < serving
     pub in_order : serving ≤ ticket
     pub most : n ≤ MOST_PASSES

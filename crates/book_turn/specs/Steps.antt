@@ -10,10 +10,6 @@ use Rattle.book_turn.specs.Entries.{AllBefore, AllAfter, Rises, up_to, calls_by,
 use Rattle.book_turn.specs.Views.{awaited, drawn_view, called_view, done_view, compared_view, both_views}
 
 module _ {O E S : Type 0} where
-  -- nothing is told
-  abbrev pub stays : Step (Option O) → Me (Option O) (View E S) → ℕ → Me (Option O) (View E S) → Type 0
-  stays st m r m' = m' ≡ m
-
   -- a turn was drawn, which comes after all that the pass has taken
   abbrev pub drew : Step (Option O) → Me (Option O) (View E S) → ℕ → Me (Option O) (View E S) → Type 0
   drew st m t m' = (m' ≡ (drawn_view m.0 t, m.1)) × (m.0.last < t) × (t < 2 ^ 47)

@@ -1,5 +1,5 @@
 //! The table that the passes of a turn share, and a seat's steps on it.
-ghost use Rattle.std.specs.Prelude.{ℕ, ◌≡◌, ◌<◌, ◌≤◌, ◌^◌, ◌+◌, ◌*◌, [], ◌∷◌, ◌++◌, Some, length, true, replicate, IfSome, IfOk};
+ghost use Rattle.std.specs.Prelude.{ℕ, ◌≡◌, ◌<◌, ◌≤◌, ◌^◌, ◌+◌, ◌*◌, [], ◌∷◌, ◌++◌, Some, length, true, IfSome, IfOk};
 ghost use Rattle.book_turn.specs.Views.{kept_view, given_view, first_view};
 ghost use Rattle.book_turn.specs.Steps.{drew, looked, passed, Adds, Glued, Comes, Serves, TakesTurn};
 ghost use Rattle.book_turn.specs.Entries.{AllBefore};
@@ -23,16 +23,15 @@ const TICKET: usize = 0;
 // The turn that is served.
 const SERVING: usize = 1;
 
-// The words of the table. Behind the first two there are bells (`wait`).
-const WORDS: usize = 72;
+const WORDS: usize = 2;
 
 pub(crate) type Place<O: SeqObject> = Seat<Option<O>, View<O::Entry, O::Settings>>;
 
-/// The table, with two counters, the bells and the place of the object.
+/// The table, with two counters and the place of the object.
 #[derive(Drop)]
 pub struct Board<O: SeqObject> {
     pub(crate) table: Table<Option<O>, View<O::Entry, O::Settings>, Key<O>, InTurn<O>, Global>,
-    ghost sized: { (table.shared.table_id.words ≡ 72) × (table.shared.table_id.slots ≡ 1) },
+    ghost sized: { (table.shared.table_id.words ≡ 2) × (table.shared.table_id.slots ≡ 1) },
 }
 
 impl<O: SeqObject> Board<O> {
@@ -60,7 +59,7 @@ impl<O: SeqObject> Board<O> {
     }
 
     // Puts the object back, with what it has become, and lets the next turn come.
-    pub(crate) fn pass_on(&self, seat: &mut Place<O>)
+    fn pass_on(&self, seat: &mut Place<O>)
         requires own { seat.old.table_id ≡ self.now.table.shared.table_id }
         requires called { (t : ℕ) × (o : O) × (seat.old.me.0.stage ≡ Called t)
             × (0 < length seat.old.me.0.passes) × (seat.old.me.1 ≡ (0, Some o) ∷ [])
@@ -126,7 +125,7 @@ impl<O: SeqObject> Board<O> {
         let answer = object.act(stamp, request);
         let empty = self.table.shared.exchange(seat, 0, Some(object));
         let None = empty else { unreachable!() };
-        self.hand_on(seat, stamp.turn);
+        self.pass_on(seat);
         answer
     }
 
@@ -180,9 +179,9 @@ impl<O: SeqObject> Board<O> {
     }
 }
 
-// Turn 1 is served, and no turn was drawn. The bells are off.
+// Turn 1 is served, and no turn was drawn.
 fn first_words() -> [u64; WORDS]
-    ensures { result ≡ 1 ∷ 1 ∷ replicate 70 0 }
+    ensures { result ≡ 1 ∷ 1 ∷ [] }
 {
     let mut words = [0; WORDS];
     words[TICKET] = 1;

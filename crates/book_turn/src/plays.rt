@@ -1,17 +1,10 @@
 //! What each step tells.
 ghost use Rattle.book_turn.specs.Views.{kept_view, given_view, both_views, spent_view};
-ghost use Rattle.book_turn.specs.Steps.{stays, drew, looked, passed, compared};
+ghost use Rattle.book_turn.specs.Steps.{drew, looked, passed, compared};
 
 use crate::object::SeqObject;
 use crate::rule::View;
 use atomic_table::{Join, Play, Split};
-
-// A bell is hung out or taken in.
-pub(crate) struct Ring;
-
-impl<O: SeqObject> Play<Option<O>, View<O::Entry, O::Settings>> for Ring {
-    ghost then = { stays };
-}
 
 // A turn is drawn.
 pub(crate) struct Draw;

@@ -12,7 +12,7 @@ use crate::object::SeqObject;
 use crate::pass::Pass;
 use std::alloc::{AllocError, Global};
 use std::marker::Model;
-use std::sync::Wait;
+use std::sync::{Mutex, Wait};
 
 /// What a call was answered, and in which turn.
 #[derive(Drop)]
@@ -26,6 +26,8 @@ pub struct Receipt<O: SeqObject> {
 #[derive(Drop)]
 pub struct Turn<O: SeqObject> {
     board: Board<O>,
+    // Who has it draws the next turn, so that no turn waits for a thread that doesn't run.
+    row: Mutex<()>,
 }
 
 impl<O: SeqObject> Model for Turn<O> {
@@ -57,7 +59,8 @@ impl<O: SeqObject> Turn<O> {
     {
         let (board, seat) = board_of(alloc, object, passes)?;
         let all = deal(alloc, &board, seat, passes)?;
-        Ok((Turn { board }, all))
+        let row = Mutex::new(());
+        Ok((Turn { board, row }, all))
     }
 
     /// Takes the next turn, waits until it comes, and has the object answer the request at the entries with
@@ -80,9 +83,11 @@ impl<O: SeqObject> Turn<O> {
             let spent = SpentPass::new(pass.number, pass.made);
             return Err(CallFault::PassSpent(spent));
         }
+        let first = self.row.lock(rt);
         let (turn, answer) = self
             .board
             .take_turn(rt, &mut pass.seat, pass.number, pass.made + 1, request);
+        drop(first);
         pass.made += 1;
         pass.last = turn;
         match answer {
@@ -112,7 +117,7 @@ impl<O: SeqObject> Turn<O> {
         ensures settings { O.settings result ≡ self.settings }
         ensures passes { AllBefore (λ e. (O.stamp_of e).pass) self.passes (O.journal result) }
     {
-        let Turn { board } = self;
+        let Turn { board, row: _ } = self;
         let (seat, _) = pass.into_parts();
         board.close(seat)
     }

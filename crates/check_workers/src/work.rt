@@ -96,8 +96,17 @@ pub fn work_one<R: Wait, G: Gate>(
     Ok(told_by(receipt.reply.body))
 }
 
+// Whether memory was wanting.
+fn is_memory(fault: &CallFault) -> bool {
+    match fault {
+        CallFault::Memory => true,
+        CallFault::PassSpent(_) => false,
+    }
+}
+
 /// Works bucket after bucket until, after the gate was closed, none is to be checked: then no bucket of a live version
-/// is undone in what the pass has seen.
+/// is undone in what the pass has seen. Where memory is wanting before the gate is closed, it goes on with the next bucket
+/// after a while: that one may take less, and what took the memory may be gone when it comes to this one again.
 pub fn work_loop<R: Wait, G: Gate>(
     rt: &R,
     alloc: Global,
@@ -112,17 +121,25 @@ pub fn work_loop<R: Wait, G: Gate>(
     ensures teaches { Teaches (caller_of pass.old) (caller_of pass.new) }
     ensures done { OnOk result (left_all turn.now.settings.projects pass.new.seen ≡ 0) }
 {
+    let mut seat = seat;
     let mut idle = false;
     for _ in rt.forever() {
         let closed = gate.closed();
-        match work_one(rt, alloc, turn, pass, room, seat, idle, gate)? {
-            Worked::Nothing => {
+        match work_one(rt, alloc, turn, pass, room, seat, idle, gate) {
+            Ok(Worked::Nothing) => {
                 if closed {
                     return Ok(());
                 }
                 idle = true;
             }
-            _ => idle = false,
+            Ok(_) => idle = false,
+            Err(fault) => {
+                if closed || !is_memory(&fault) {
+                    return Err(fault);
+                }
+                seat = seat.wrapping_add(1);
+                idle = true;
+            }
         }
     }
     unreachable!()

@@ -65,6 +65,9 @@ fn is_bucket(rt: &impl Abort, grid: &Grid, place: usize, cell: [i32; 3], members
     assert!(rt; place < grid.buckets().len());
     assert_eq!(rt; grid.buckets()[place].cell, cell);
     assert_eq!(rt; grid.members(cell), members);
+    let mut next = 3;
+    assert_eq!(rt; grid.members_in_turn(cell, &mut next), members);
+    assert_eq!(rt; next, place + 1);
 }
 
 /// Four boxes of two models with sides a millimetre beside the faces of cells.

@@ -27,3 +27,8 @@ any_unmap f P xs any = from f P xs any.0 any.1 any.2 any.3 any.4
     from f P [] k y lt e h = absurd (omega (arith, lt))
     from f P (x ∷ xs) zero y lt e h = (0, x, omega arith, refl, subst P (sym e) h)
     from f P (x ∷ xs) (suc k) y lt e h = let r = from f P xs k y (omega (arith, lt)) e h in (suc r.0, r.1, (let l = r.2 in omega (arith, l)), r.3, r.4)
+
+pub any_mapped : {X Y : Type 0} (f : X → Y) (P : Y → Type 0) (xs : List X) (i : ℕ) (x : X) → i < length xs → x ≡ get_or xs i x → P (f x) → Any P (map f xs)
+any_mapped f P [] i x lt at h = absurd (omega (arith, lt))
+any_mapped f P (y ∷ xs) zero x lt at h = (0, f y, omega arith, refl, subst (λ z. P (f z)) at h)
+any_mapped f P (y ∷ xs) (suc i) x lt at h = let r = any_mapped f P xs i x (omega (arith, lt)) at h in (suc r.0, r.1, (let l = r.2 in omega (arith, l)), r.3, r.4)

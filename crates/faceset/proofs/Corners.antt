@@ -1,5 +1,5 @@
 -- The corners of a face, one more.
-use Rattle.std.proofs.Common.{◌≡◌, ℕ, ◌+◌, ◌<◌, ◌≤◌, List, [], ◌∷◌, ◌++◌, length, take, get_or, Option, subst, ap, arith}
+use Rattle.std.proofs.Common.{◌≡◌, ℕ, ◌+◌, ◌<◌, ◌≤◌, List, [], ◌∷◌, ◌++◌, length, Option, subst, ap, arith}
 use Rattle.std.specs.List.{All}
 use Rattle.std.proofs.lemmas.List.Elements.{All-push, All-get_or}
 use Rattle.std.proofs.lemmas.Option.{slice_get_within, get_or_from_slice_get}
@@ -7,18 +7,18 @@ use Rattle.p21_reader.specs.declared.value.Value21.{Value21}
 use Rattle.p21_reader.specs.declared.value.Instance.{Instance}
 use Rattle.bim_model.specs.declared.geometry.Point.{Point}
 use Rattle.faceset.specs.Sets.{IsCorner, AreCorners, most_corners, outline, face_count}
-use Rattle.faceset.proofs.Zips.{zip_more, zip_length}
+use Rattle.faceset.proofs.Zips.{zip_push, zip_length}
 
 -- what holds of all points holds of a corner
 pub corner_has : (P : Point → Type 0) (numbers : Option (List Value21)) (points : List Point) → All P points → (v : Value21) (p : Point) → IsCorner numbers points v p → P p
 corner_has P numbers points all v p is =
     subst P (get_or_from_slice_get points is.place p p is.there) (All-get_or P points is.place p (slice_get_within points is.place p is.there) all)
 
-pub corners_more : (P : Point → Type 0) (numbers : Option (List Value21)) (points : List Point) (indexes : List Value21) (i : ℕ) (old new : List Point) (v : Value21) (p : Point)
-    → All P points → i < length indexes → v ≡ get_or indexes i v → IsCorner numbers points v p → new ≡ old ++ p ∷ []
-    → AreCorners numbers points (take i indexes) old × All P old → AreCorners numbers points (take (i + 1) indexes) new × All P new
-corners_more P numbers points indexes i old new v p all lt at is grown are =
-    rw grown (zip_more (IsCorner numbers points) indexes i old v p lt at are.0 is, All-push P old p are.1 (corner_has P numbers points all v p is))
+pub corners_more : (P : Point → Type 0) (numbers : Option (List Value21)) (points : List Point) (indexes : List Value21) (old new : List Point) (v : Value21) (p : Point)
+    → All P points → IsCorner numbers points v p → new ≡ old ++ p ∷ []
+    → AreCorners numbers points indexes old × All P old → AreCorners numbers points (indexes ++ v ∷ []) new × All P new
+corners_more P numbers points indexes old new v p all is grown are =
+    rw grown (zip_push (IsCorner numbers points) indexes old v p are.0 is, All-push P old p are.1 (corner_has P numbers points all v p is))
 
 pub corners_long : (numbers : Option (List Value21)) (points : List Point) (indexes : List Value21) (corners : List Point) → AreCorners numbers points indexes corners → (same : List Point) → same ≡ corners → 3 ≤ length indexes → 2 < length same
 corners_long numbers points indexes corners are same is long = let e = zip_length (IsCorner numbers points) indexes corners are in let f = ap length is in omega (arith, e, f)

@@ -1,28 +1,28 @@
 -- The triangles of the faces that references lead to, value by value.
-use Rattle.std.proofs.Common.{◌≡◌, ℕ, ◌+◌, ◌<◌, ◌≤◌, List, [], ◌∷◌, ◌++◌, length, take, drop, get_or, take_all, sum_by, Any, refl, ◌∙◌, ap, subst, arith}
+use Rattle.std.proofs.Common.{◌≡◌, ℕ, ◌+◌, ◌<◌, List, [], ◌∷◌, ◌++◌, length, take, drop, get_or, sum_by, Any, ◌∙◌, ap, arith}
 use Rattle.std.proofs.lemmas.List.{length-append}
 use Rattle.p21_reader.specs.declared.value.Value21.{Value21}
 use Rattle.p21_reader.specs.declared.value.Instance.{Instance}
 use Rattle.bim_model.specs.declared.geometry.Triangle.{Triangle}
-use Rattle.ifc_instances.specs.Attributes.{led_to}
+use Rattle.p21_reader.specs.Attributes.{led_to}
 use Rattle.faceset.specs.Sets.{face_count, Joined}
 use Rattle.faceset.proofs.Anys.{any_left, any_right}
-use Rattle.ifc_instances.proofs.LedTo.{led_more, led_parts}
+use Rattle.ifc_instances.proofs.LedTo.{led_append, led_more, led_parts}
 use Rattle.faceset.proofs.Named.{summed_more}
-use Rattle.faceset.proofs.Joins.{joined_one, joined_append}
+use Rattle.faceset.proofs.Joins.{joined_append}
 
 -- One more value.
 
-pub joined_more : (Gives : Instance → List Triangle → Type 0) (world : List Instance) (vs : List Value21) (i : ℕ) (v : Value21) (old part new : List Triangle) → i < length vs → v ≡ get_or vs i v
-    → new ≡ old ++ part → Joined Gives (led_to world (take i vs)) old → Joined Gives (led_to world (v ∷ [])) part → Joined Gives (led_to world (take (i + 1) vs)) new
-joined_more Gives world vs i v old part new lt at grown before more =
-    rw (led_more world vs i v lt at, grown) (joined_append Gives (led_to world (take i vs)) (led_to world (v ∷ [])) old part before more)
+pub joined_more : (Gives : Instance → List Triangle → Type 0) (world : List Instance) (vs : List Value21) (v : Value21) (old part new : List Triangle)
+    → new ≡ old ++ part → Joined Gives (led_to world vs) old → Joined Gives (led_to world (v ∷ [])) part → Joined Gives (led_to world (vs ++ v ∷ [])) new
+joined_more Gives world vs v old part new grown before more =
+    rw (led_append world vs (v ∷ []), grown) (joined_append Gives (led_to world vs) (led_to world (v ∷ [])) old part before more)
 
-pub count_more : (world : List Instance) (vs : List Value21) (i : ℕ) (v : Value21) (old part new : List Triangle) → i < length vs → v ≡ get_or vs i v
-    → new ≡ old ++ part → length old ≡ sum_by face_count (led_to world (take i vs)) → length part ≡ sum_by face_count (led_to world (v ∷ []))
-    → length new ≡ sum_by face_count (led_to world (take (i + 1) vs))
-count_more world vs i v old part new lt at grown before more =
-    let sum = summed_more face_count world vs i v lt at in
+pub count_more : (world : List Instance) (vs : List Value21) (v : Value21) (old part new : List Triangle)
+    → new ≡ old ++ part → length old ≡ sum_by face_count (led_to world vs) → length part ≡ sum_by face_count (led_to world (v ∷ []))
+    → length new ≡ sum_by face_count (led_to world (vs ++ v ∷ []))
+count_more world vs v old part new grown before more =
+    let sum = summed_more face_count world vs v in
     let long = ap length grown ∙ length-append old part in
     omega (arith, sum, long, before, more)
 

@@ -12,5 +12,5 @@ pub mod Anys
 pub mod Named
 pub mod Numbered
 pub mod Reaching
-pub mod RowLemmas
 pub mod Badness
+pub mod Placed

@@ -1,27 +1,20 @@
 -- Numbers that values refer to, each once.
-use Rattle.std.proofs.Common.{◌≡◌, ℕ, ◌+◌, ◌<◌, ◌≤◌, List, [], ◌∷◌, ◌++◌, length, take, get_or, take_all, filter_map, nat_eq, Contains, sym, ◌∙◌, ap, subst}
+use Rattle.std.proofs.Common.{◌≡◌, ℕ, List, [], ◌∷◌, ◌++◌, filter_map, nat_eq, Contains, sym, ◌∙◌, ap, subst}
 use Rattle.std.specs.List.Retain.{IsFiltered, DiffersFromLast}
 use Rattle.std.specs.List.Sorted.{IsStrictlyIncreasing, IsSorted, IsPermutation}
 use Rattle.std.specs.Ordering.{nat_cmp}
-use Rattle.std.proofs.lemmas.List.{take_more}
 use Rattle.std.proofs.lemmas.List.Elements.{filter_map-append}
 use Rattle.std.proofs.lemmas.List.Filters.{dedup_is}
 use Rattle.std.proofs.lemmas.List.Kept.{Contains-dedup_nat, Contains-from_dedup}
 use Rattle.std.proofs.lemmas.List.Sorted.{Contains-permutation, IsPermutation-sym}
 use Rattle.std.proofs.lemmas.Map.Keys.{IsStrictlyIncreasing-dedup}
 use Rattle.p21_reader.specs.declared.value.Value21.{Value21}
-use Rattle.ifc_instances.specs.Values.{reference_of}
+use Rattle.p21_reader.specs.Values.{reference_of}
 use Rattle.faceset.specs.Numbers.{HaveSame}
 
 -- one more value
-pub numbers_more : (vs : List Value21) (i : ℕ) (v : Value21) (old new : List ℕ) → i < length vs → v ≡ get_or vs i v → old ≡ filter_map reference_of (take i vs) → new ≡ old ++ filter_map reference_of (v ∷ [])
-    → new ≡ filter_map reference_of (take (i + 1) vs)
-numbers_more vs i v old new lt at e n =
-    let t : take (i + 1) vs ≡ take i vs ++ v ∷ [] = take_more vs i v lt ∙ ap (λ x. take i vs ++ x ∷ []) (sym at) in
-    n ∙ ap (λ xs. xs ++ filter_map reference_of (v ∷ [])) e ∙ sym (ap (filter_map reference_of) t ∙ filter_map-append reference_of (take i vs) (v ∷ []))
-
-pub numbers_all : (vs : List Value21) (i : ℕ) (ids : List ℕ) → length vs ≤ i → ids ≡ filter_map reference_of (take i vs) → ids ≡ filter_map reference_of vs
-numbers_all vs i ids le e = e ∙ ap (filter_map reference_of) (take_all i vs le)
+pub numbers_more : (vs : List Value21) (v : Value21) (old new : List ℕ) → old ≡ filter_map reference_of vs → new ≡ old ++ filter_map reference_of (v ∷ []) → new ≡ filter_map reference_of (vs ++ v ∷ [])
+numbers_more vs v old new e n = n ∙ ap (λ xs. xs ++ filter_map reference_of (v ∷ [])) e ∙ sym (filter_map-append reference_of vs (v ∷ []))
 
 -- numbers that were sorted, and of which each was kept once
 

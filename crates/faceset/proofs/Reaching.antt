@@ -1,34 +1,28 @@
 -- From which count on indexes count something.
-use Rattle.std.proofs.Common.{◌≡◌, ◌≢◌, ℕ, zero, suc, ◌+◌, ◌<◌, ◌≤◌, Bool, true, List, [], ◌∷◌, length, map, take, get_or, take_all, if◌then◌else◌, ◌⊎◌, inl, inr, Some, Result, IfOk, refl, sym, ◌∙◌, ap, subst, arith}
+use Rattle.std.proofs.Common.{◌≡◌, ◌≢◌, ℕ, zero, suc, ◌+◌, ◌<◌, ◌≤◌, Bool, true, List, [], ◌∷◌, ◌++◌, map, get_or, if◌then◌else◌, ◌⊎◌, inl, inr, Some, Result, IfOk, refl, sym, ◌∙◌, ap, subst, arith}
 use Rattle.std.specs.Bool.{MatchBool}
 use Rattle.std.specs.List.{All, Any}
-use Rattle.std.proofs.lemmas.List.{take_more}
 use Rattle.std.proofs.lemmas.List.Elements.{All-push}
 use Rattle.std.proofs.lemmas.Option.{same_Some}
 use Rattle.p21_reader.specs.declared.value.Value21.{Value21}
 use Rattle.p21_reader.specs.declared.value.Instance.{Instance}
-use Rattle.ifc_instances.specs.Looking.{look}
-use Rattle.ifc_instances.specs.Values.{reference_of}
+use Rattle.p21_reader.specs.Looking.{look}
+use Rattle.p21_reader.specs.Values.{reference_of}
 use Rattle.faceset.specs.Indexes.{PointsAt, PointsNowhere}
 use Rattle.faceset.specs.Sets.{outline, faces_of, spelled_triangles, is_polygonal, rows_of}
-use Rattle.ifc_instances.specs.Attributes.{led_to, items_in, listed}
+use Rattle.p21_reader.specs.Attributes.{led_to, items_in, listed}
 use Rattle.faceset.specs.Reaches.{CountsFrom, AreReaches, IsWithin, PutsReach, reach_in}
 use Rattle.ifc_instances.proofs.LedTo.{led_one}
 
 -- one value more
-pub reach_more : (vs : List Value21) (i : ℕ) (v : Value21) (count place old new : ℕ) → i < length vs → v ≡ get_or vs i v → PointsAt count v place → old ≤ new → place + 1 ≤ new
-    → All (CountsFrom old) (take i vs) → All (CountsFrom new) (take (i + 1) vs)
-reach_more vs i v count place old new lt at p first second all =
-    rw (take_more vs i v lt) (All-push (CountsFrom new) (take i vs) (get_or vs i v) higher (subst (CountsFrom new) at here))
+pub reach_more : (vs : List Value21) (v : Value21) (count place old new : ℕ) → PointsAt count v place → old ≤ new → place + 1 ≤ new → All (CountsFrom old) vs → All (CountsFrom new) (vs ++ v ∷ [])
+reach_more vs v count place old new p first second all = All-push (CountsFrom new) vs v higher here
   where
-    higher : All (CountsFrom new) (take i vs)
+    higher : All (CountsFrom new) vs
     higher = λ k d l n le. all k d l n (omega (arith, first, le))
 
     here : CountsFrom new v
     here = λ n le nowhere. nowhere place (record { bytes = p.bytes; number = p.number; within = omega (arith, second, le); written = p.written })
-
-pub reach_all : (vs : List Value21) (i reach : ℕ) → length vs ≤ i → All (CountsFrom reach) (take i vs) → All (CountsFrom reach) vs
-reach_all vs i reach le all = subst (All (CountsFrom reach)) (take_all i vs le) all
 
 -- One face.
 

@@ -1,18 +1,17 @@
 -- The first of faces by rising number that can't be cut is the least.
-use Rattle.std.proofs.Common.{◌≡◌, ℕ, ◌<◌, ◌≤◌, ◌⊎◌, inl, inr, Bool, true, false, List, length, take, get_or, take_all, filter_map, Option, Some, None, Contains, Result, Ok, Err, IfOk, MatchOption, sym, ◌∙◌, ap, subst, arith}
-use Rattle.std.specs.Bool.{MatchBool}
+use Rattle.std.proofs.Common.{◌≡◌, ℕ, ◌<◌, ◌≤◌, true, List, length, take, get_or, take_all, filter_map, Option, Some, None, Contains, Result, Ok, Err, IfOk, MatchOption, sym, ◌∙◌, subst, arith}
 use Rattle.std.specs.List.{All}
 use Rattle.std.specs.List.Sorted.{IsStrictlyIncreasing}
-use Rattle.std.proofs.lemmas.List.{get_or-take, length-take, get_or_default}
+use Rattle.std.proofs.lemmas.List.{get_or-take, length-take}
 use Rattle.std.proofs.lemmas.List.Elements.{All-contains, Contains-get_or}
 use Rattle.std.proofs.lemmas.Option.{same_Some}
 use Rattle.p21_reader.specs.declared.value.Value21.{Value21}
 use Rattle.p21_reader.specs.declared.value.Instance.{Instance}
 use Rattle.bim_model.specs.declared.geometry.Point.{Point}
-use Rattle.ifc_instances.specs.Looking.{look}
-use Rattle.ifc_instances.specs.Values.{reference_of}
+use Rattle.p21_reader.specs.Looking.{look}
+use Rattle.p21_reader.specs.Values.{reference_of}
 use Rattle.faceset.specs.Sets.{IsStuck, IsOutlined, IsCorner, outline, face_ids, is_polygonal, numbering, HasStuck}
-use Rattle.ifc_instances.specs.Attributes.{listed}
+use Rattle.p21_reader.specs.Attributes.{listed}
 use Rattle.ifc_instances.specs.Least.{IsLeast, LeastOf}
 use Rattle.ifc_instances.proofs.Rising.{before}
 use Rattle.faceset.specs.Cuts.{HasMisnamed}

@@ -8,7 +8,7 @@ use Rattle.p21_reader.specs.declared.value.Value21.{Value21}
 use Rattle.p21_reader.specs.declared.value.Instance.{Instance}
 use Rattle.bim_model.specs.declared.geometry.Point.{Point}
 use Rattle.bim_model.specs.declared.geometry.Triangle.{Triangle}
-use Rattle.ifc_instances.specs.Looking.{look}
+use Rattle.p21_reader.specs.Looking.{look}
 use Rattle.ear_cut.specs.Removal.{cut_of}
 use Rattle.bim_text.specs.Decimals.{WritesWhole}
 use Rattle.faceset.specs.Indexes.{PointsAt}

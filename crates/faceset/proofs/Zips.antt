@@ -1,7 +1,6 @@
 -- Lists of one length whose items go with each other, pair by pair.
-use Rattle.std.proofs.Common.{◌≡◌, ℕ, zero, suc, ◌+◌, ◌<◌, List, [], ◌∷◌, ◌++◌, length, take, get_or, refl, sym, ◌∙◌, ap, subst, arith}
+use Rattle.std.proofs.Common.{◌≡◌, ℕ, zero, suc, ◌<◌, List, [], ◌∷◌, ◌++◌, length, get_or, refl, ap, subst, arith}
 use Rattle.std.specs.List.{AllZip, All}
-use Rattle.std.proofs.lemmas.List.{take_more}
 use Rattle.std.proofs.lemmas.List.Elements.{All-nil, All-cons}
 
 pub zip_push : {A B : Type 0} (R : A → B → Type 0) (xs : List A) (ys : List B) (x : A) (y : B) → AllZip R xs ys → R x y → AllZip R (xs ++ x ∷ []) (ys ++ y ∷ [])
@@ -9,12 +8,6 @@ zip_push R [] [] x y are is = (is, tt)
 zip_push R [] (v ∷ ys) x y are is = absurd are
 zip_push R (u ∷ xs) [] x y are is = absurd are
 zip_push R (u ∷ xs) (v ∷ ys) x y are is = (are.0, zip_push R xs ys x y are.1 is)
-
-pub zip_more : {A B : Type 0} (R : A → B → Type 0) (xs : List A) (i : ℕ) (old : List B) (x : A) (y : B) → i < length xs → x ≡ get_or xs i x
-    → AllZip R (take i xs) old → R x y → AllZip R (take (i + 1) xs) (old ++ y ∷ [])
-zip_more R xs i old x y lt at are is =
-    let more : take (i + 1) xs ≡ take i xs ++ x ∷ [] = take_more xs i x lt ∙ ap (λ z. take i xs ++ z ∷ []) (sym at) in
-    rw more (zip_push R (take i xs) old x y are is)
 
 pub zip_length : {A B : Type 0} (R : A → B → Type 0) (xs : List A) (ys : List B) → AllZip R xs ys → length xs ≡ length ys
 zip_length R [] [] are = refl

@@ -7,9 +7,10 @@ use Rattle.p21_reader.specs.declared.value.Instance.{Instance}
 use Rattle.bim_model.specs.declared.geometry.Point.{Point}
 use Rattle.bim_model.specs.declared.geometry.Triangle.{Triangle}
 use Rattle.ifc_instances.specs.declared.entity.Entity.TheVariants.{TriangulatedFaceSet, PolygonalFaceSet}
-use Rattle.ifc_instances.specs.Looking.{look, is_a}
-use Rattle.ifc_instances.specs.Values.{reference_of, items_of}
-use Rattle.ifc_instances.specs.Attributes.{items_in, listed, target_at, led_to}
+use Rattle.p21_reader.specs.Looking.{look}
+use Rattle.ifc_instances.specs.Looking.{is_a}
+use Rattle.p21_reader.specs.Values.{reference_of, items_of}
+use Rattle.p21_reader.specs.Attributes.{items_in, listed, target_at, led_to}
 use Rattle.ear_cut.specs.declared.ears.Ear.{Ear}
 use Rattle.ear_cut.specs.Areas.{point_at}
 use Rattle.ear_cut.specs.Removal.{cut_of}

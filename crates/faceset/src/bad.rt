@@ -1,26 +1,25 @@
 //! Indexes that name nothing.
-ghost use Rattle.std.specs.Prelude.{◌≡◌, ◌<◌, ◌^◌, ◌∷◌, [], map, Any, IfOk, OnOk, option_copied};
+ghost use Rattle.std.specs.Prelude.{◌≡◌, ◌<◌, ◌^◌, ◌∷◌, [], map, Any, IfOk, OnOk};
 ghost use Rattle.std.specs.Bool.{MatchBool};
 ghost use Rattle.faceset.specs.Indexes.{PointsNowhere};
-ghost use Rattle.ifc_instances.specs.Attributes.{items_in, led_to};
+ghost use Rattle.p21_reader.specs.Attributes.{items_in, led_to};
 ghost use Rattle.faceset.specs.Sets.{outline, rows_of, HasBadNumber, HasBadIndex, counted_by};
 ghost use Rattle.faceset.specs.Reaches.{AreReaches};
 
 use crate::indexes::place_of;
 use crate::reaches::{FaceReaches, reach_of};
 use crate::sets::{is_polygonal, numbering, outline, spelled_points};
-use ifc_instances::{items_in, listed, look, reference_of};
-use p21_reader::{Exchange, Instance, Value21};
+use p21_reader::{Exchange, InstanceRef, ValueRef, Values};
 use std::alloc::AllocError;
 
 /// Whether one of the values counts none of so many things.
-fn has_bad_item(values: &[Value21], count: usize) -> bool
+fn has_bad_item(values: &Values<'_>, count: usize) -> bool
     requires { count < 2 ^ 63 }
     ensures { MatchBool result (Any (PointsNowhere count) values.now)
         (Any (PointsNowhere count) values.now → ⊥) }
 {
-    for value in values {
-        if place_of(value, count).is_none() {
+    for value in values.iter() {
+        if place_of(&value, count).is_none() {
             return true;
         }
     }
@@ -28,13 +27,13 @@ fn has_bad_item(values: &[Value21], count: usize) -> bool
 }
 
 /// Whether an index of the rows counts none of so many things.
-fn has_bad_row(rows: &[Value21], count: usize) -> bool
+fn has_bad_row(rows: &Values<'_>, count: usize) -> bool
     requires { count < 2 ^ 63 }
     ensures { MatchBool result (Any (Any (PointsNowhere count)) (map items_in rows.now))
         (Any (Any (PointsNowhere count)) (map items_in rows.now) → ⊥) }
 {
-    for row in rows {
-        if has_bad_item(items_in(row), count) {
+    for row in rows.iter() {
+        if has_bad_item(&row.items_in(), count) {
             return true;
         }
     }
@@ -47,7 +46,7 @@ fn has_bad_row(rows: &[Value21], count: usize) -> bool
 fn is_bad_face(
     exchange: &Exchange,
     reaches: &mut FaceReaches,
-    value: &Value21,
+    value: &ValueRef<'_>,
     count: usize,
 ) -> Result<bool, AllocError>
     requires few { count < 2 ^ 63 }
@@ -57,16 +56,16 @@ fn is_bad_face(
         (Any (Any (PointsNowhere count)) (map outline (led_to exchange.now (value.now ∷ []))) → ⊥)) }
     ensures kept { OnOk result (AreReaches exchange.now reaches.new) }
 {
-    let Some(id) = reference_of(value) else {
+    let Some(id) = value.reference() else {
         return Ok(false);
     };
-    let Some(face) = look(exchange, id) else {
+    let Some(face) = exchange.look(id) else {
         return Ok(false);
     };
     if reaches.is_within(id, count) {
         return Ok(false);
     }
-    let Some(reach) = reach_of(outline(face), count) else {
+    let Some(reach) = reach_of(&outline(&face), count) else {
         return Ok(true);
     };
     reaches.put(id, reach)?;
@@ -77,7 +76,7 @@ fn is_bad_face(
 fn has_bad_face(
     exchange: &Exchange,
     reaches: &mut FaceReaches,
-    values: &[Value21],
+    values: &Values<'_>,
     count: usize,
 ) -> Result<bool, AllocError>
     requires few { count < 2 ^ 63 }
@@ -87,8 +86,8 @@ fn has_bad_face(
         (Any (Any (PointsNowhere count)) (map outline (led_to exchange.now values.now)) → ⊥)) }
     ensures kept { OnOk result (AreReaches exchange.now reaches.new) }
 {
-    for value in values {
-        let bad = is_bad_face(exchange, reaches, value, count)?;
+    for value in values.iter() {
+        let bad = is_bad_face(exchange, reaches, &value, count)?;
         if bad {
             return Ok(true);
         }
@@ -100,7 +99,7 @@ fn has_bad_face(
 fn has_bad_rows(
     exchange: &Exchange,
     reaches: &mut FaceReaches,
-    set: &Instance,
+    set: &InstanceRef<'_>,
     count: usize,
 ) -> Result<bool, AllocError>
     requires few { count < 2 ^ 63 }
@@ -111,16 +110,16 @@ fn has_bad_rows(
     ensures kept { OnOk result (AreReaches exchange.now reaches.new) }
 {
     if !is_polygonal(set) {
-        return Ok(has_bad_row(listed(set, 3), count));
+        return Ok(has_bad_row(&set.listed(3), count));
     }
-    has_bad_face(exchange, reaches, listed(set, 2), count)
+    has_bad_face(exchange, reaches, &set.listed(2), count)
 }
 
 /// Whether a number of the set's PnIndex, where it has one, names none of so many points.
-fn has_bad_number(numbers: Option<&[Value21]>, count: usize) -> bool
+fn has_bad_number(numbers: &Option<Values<'_>>, count: usize) -> bool
     requires { count < 2 ^ 63 }
-    ensures { MatchBool result (HasBadNumber (option_copied numbers.entry) count)
-        (HasBadNumber (option_copied numbers.entry) count → ⊥) }
+    ensures { MatchBool result (HasBadNumber numbers.now count)
+        (HasBadNumber numbers.now count → ⊥) }
 {
     match numbers {
         Some(numbers) => has_bad_item(numbers, count),
@@ -129,9 +128,9 @@ fn has_bad_number(numbers: Option<&[Value21]>, count: usize) -> bool
 }
 
 /// How many things the indexes of a set count.
-fn counted_by(numbers: Option<&[Value21]>, count: usize) -> usize
+fn counted_by(numbers: &Option<Values<'_>>, count: usize) -> usize
     requires { count < 2 ^ 63 }
-    ensures value { result ≡ counted_by (option_copied numbers.entry) count }
+    ensures value { result ≡ counted_by numbers.now count }
     ensures small { result < 2 ^ 63 }
 {
     match numbers {
@@ -146,7 +145,7 @@ fn counted_by(numbers: Option<&[Value21]>, count: usize) -> usize
 pub fn has_bad_index(
     exchange: &Exchange,
     reaches: &mut FaceReaches,
-    set: &Instance,
+    set: &InstanceRef<'_>,
 ) -> Result<bool, AllocError>
     requires { AreReaches exchange.now reaches.old }
     ensures bad { IfOk result (λ bad. MatchBool bad (HasBadIndex exchange.now set.now)
@@ -155,8 +154,8 @@ pub fn has_bad_index(
 {
     let numbers = numbering(set);
     let count = spelled_points(exchange, set).len();
-    if has_bad_number(numbers, count) {
+    if has_bad_number(&numbers, count) {
         return Ok(true);
     }
-    has_bad_rows(exchange, reaches, set, counted_by(numbers, count))
+    has_bad_rows(exchange, reaches, set, counted_by(&numbers, count))
 }

@@ -1,35 +1,34 @@
 //! How many triangles sets have.
 ghost use Rattle.std.specs.Prelude.{◌≡◌, ◌<◌, ◌≤◌, ◌+◌, ◌∷◌, [], sum_by, IfSome, IfNone};
-ghost use Rattle.ifc_instances.specs.Attributes.{led_to};
+ghost use Rattle.p21_reader.specs.Attributes.{led_to};
 ghost use Rattle.faceset.specs.Sets.{face_count, triangle_count};
 
 use crate::sets::{is_polygonal, outline};
-use ifc_instances::{listed, look, reference_of};
-use p21_reader::{Exchange, Instance, Value21};
+use p21_reader::{Exchange, InstanceRef, ValueRef, Values};
 
 /// How many triangles the face has that a value refers to.
 #[tactic(auto, using(ifc_instances::proofs::LedTo::led_none, ifc_instances::proofs::LedTo::led_nowhere, ifc_instances::proofs::LedTo::led_one))]
-fn count_face(exchange: &Exchange, value: &Value21) -> u64
+fn count_face(exchange: &Exchange, value: &ValueRef<'_>) -> u64
     ensures { result ≡ sum_by face_count (led_to exchange.now (value.now ∷ [])) }
 {
-    let Some(id) = reference_of(value) else {
+    let Some(id) = value.reference() else {
         return 0;
     };
-    match look(exchange, id) {
-        Some(face) => (outline(face).len() as u64).saturating_sub(2),
+    match exchange.look(id) {
+        Some(face) => (outline(&face).len() as u64).saturating_sub(2),
         None => 0,
     }
 }
 
 /// How many triangles the faces have that values refer to. None where they are more than `most`.
-fn count_faces(exchange: &Exchange, values: &[Value21], most: u64) -> Option<u64>
+fn count_faces(exchange: &Exchange, values: &Values<'_>, most: u64) -> Option<u64>
     ensures some { IfSome result (λ n. (n ≡ sum_by face_count (led_to exchange.now values.now))
         × (n ≤ most)) }
     ensures none { IfNone result (most < sum_by face_count (led_to exchange.now values.now)) }
 {
     let mut count = 0;
-    for value in values {
-        let more = count_face(exchange, value);
+    for value in values.iter() {
+        let more = count_face(exchange, &value);
         if more > most - count {
             return None;
         }
@@ -41,13 +40,13 @@ fn count_faces(exchange: &Exchange, values: &[Value21], most: u64) -> Option<u64
 /// How many triangles the set has: one for each row, and n - 2 for a face of n corners. None where they are more than `most`. Takes no
 /// memory, and cuts no face.
 #[tactic(auto, unfolding(crate::specs::Sets::faces_of))]
-pub fn triangle_count(exchange: &Exchange, set: &Instance, most: u64) -> Option<u64>
+pub fn triangle_count(exchange: &Exchange, set: &InstanceRef<'_>, most: u64) -> Option<u64>
     ensures some { IfSome result (λ n. (n ≡ triangle_count exchange.now set.now) × (n ≤ most)) }
     ensures none { IfNone result (most < triangle_count exchange.now set.now) }
 {
     if is_polygonal(set) {
-        return count_faces(exchange, listed(set, 2), most);
+        return count_faces(exchange, &set.listed(2), most);
     }
-    let rows = listed(set, 3).len() as u64;
+    let rows = set.listed(3).len() as u64;
     if rows > most { None } else { Some(rows) }
 }

@@ -10,7 +10,7 @@ use crate::naming::corner;
 use crate::sets::outline;
 use bim_model::{Point, Triangle};
 use ear_cut::{CutFault, Ear, cut};
-use p21_reader::{Instance, Value21};
+use p21_reader::{InstanceRef, ValueRef, Values};
 use std::alloc::{AllocError, Global};
 
 /// The most corners that a face may have.
@@ -30,8 +30,8 @@ pub enum Outcome {
 /// The corners that indexes name, in their order. None where one names no point.
 fn corners_of(
     alloc: Global,
-    numbers: Option<&[Value21]>,
-    indexes: &[Value21],
+    numbers: Option<&[ValueRef<'_>]>,
+    indexes: &Values<'_>,
     points: &[Point],
 ) -> Result<Option<Vec<Point>>, AllocError>
     requires { All IsGridPoint points.now }
@@ -41,8 +41,8 @@ fn corners_of(
         × All IsGridPoint made.items)) }
 {
     let mut made = Vec::with_capacity(alloc, indexes.len())?;
-    for value in indexes {
-        match corner(value, numbers, points) {
+    for value in indexes.iter() {
+        match corner(&value, numbers, points) {
             Some(point) => made.push(point)?,
             None => return Ok(None),
         }
@@ -99,19 +99,20 @@ fn cut_corners(alloc: Global, corners: &[Point]) -> Result<Option<Vec<Triangle>>
 /// What comes of a face of a set with these numbers of points and these points.
 pub fn cut_face(
     alloc: Global,
-    numbers: Option<&[Value21]>,
+    numbers: Option<&[ValueRef<'_>]>,
     points: &[Point],
-    face: &Instance,
+    face: &InstanceRef<'_>,
 ) -> Result<Outcome, AllocError>
     requires { All IsGridPoint points.now }
     ensures outcome { IfOk result (IsOutcome (option_copied numbers.entry) points.now face.now) }
     ensures count { IfOk result (IsCounted face.now) }
 {
     let indexes = outline(face);
-    if indexes.len() < 3 || indexes.len() > MOST_CORNERS {
+    let count = indexes.len();
+    if count < 3 || count > MOST_CORNERS {
         return Ok(Outcome::Unready);
     }
-    let Some(corners) = corners_of(alloc, numbers, indexes, points)? else {
+    let Some(corners) = corners_of(alloc, numbers, &indexes, points)? else {
         return Ok(Outcome::Unready);
     };
     match cut_corners(alloc, &corners)? {

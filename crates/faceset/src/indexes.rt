@@ -5,8 +5,7 @@ ghost use Rattle.bim_text.specs.Decimals.{value_of, WritesWhole};
 ghost use Rattle.faceset.specs.Indexes.{PointsAt, PointsNowhere};
 
 use bim_text::{Decimal, small_whole};
-use ifc_instances::number_of;
-use p21_reader::Value21;
+use p21_reader::ValueRef;
 
 const LIMIT: u128 = 10_000_000_000_000_000_000;
 
@@ -77,12 +76,12 @@ fn place_among(bytes: &[u8], count: usize) -> Option<usize>
 }
 
 /// Which of so many points, counted from 0, the value is the index of.
-pub fn place_of(value: &Value21, count: usize) -> Option<usize>
+pub fn place_of(value: &ValueRef<'_>, count: usize) -> Option<usize>
     requires { count < 2 ^ 63 }
     ensures some { IfSome result (PointsAt count value.now) }
     ensures none { IfNone result (PointsNowhere count value.now) }
 {
-    match number_of(value) {
+    match value.number() {
         Some(bytes) => place_among(bytes, count),
         None => None,
     }

@@ -5,10 +5,10 @@ ghost use Rattle.faceset.specs.Sets.{NamesPoint, IsCorner, IsMisnamed};
 
 use crate::indexes::place_of;
 use bim_model::Point;
-use p21_reader::Value21;
+use p21_reader::ValueRef;
 
 /// Which of so many points, counted from 0, an index names by the numbers of the points.
-fn place_numbered(value: &Value21, numbers: &[Value21], count: usize) -> Option<usize>
+fn place_numbered(value: &ValueRef<'_>, numbers: &[ValueRef<'_>], count: usize) -> Option<usize>
     requires { count < 2 ^ 63 }
     ensures { MatchOption result (IsMisnamed (Some numbers.now) count value.now)
         (NamesPoint (Some numbers.now) count value.now) }
@@ -20,7 +20,11 @@ fn place_numbered(value: &Value21, numbers: &[Value21], count: usize) -> Option<
 }
 
 /// Which of so many points, counted from 0, an index names, directly or by the numbers of the points.
-pub fn place_named(value: &Value21, numbers: Option<&[Value21]>, count: usize) -> Option<usize>
+pub fn place_named(
+    value: &ValueRef<'_>,
+    numbers: Option<&[ValueRef<'_>]>,
+    count: usize,
+) -> Option<usize>
     requires { count < 2 ^ 63 }
     ensures { MatchOption result (IsMisnamed (option_copied numbers.entry) count value.now)
         (NamesPoint (option_copied numbers.entry) count value.now) }
@@ -32,7 +36,11 @@ pub fn place_named(value: &Value21, numbers: Option<&[Value21]>, count: usize) -
 }
 
 /// The corner that an index names.
-pub fn corner(value: &Value21, numbers: Option<&[Value21]>, points: &[Point]) -> Option<Point>
+pub fn corner(
+    value: &ValueRef<'_>,
+    numbers: Option<&[ValueRef<'_>]>,
+    points: &[Point],
+) -> Option<Point>
     ensures { MatchOption result (IsMisnamed (option_copied numbers.entry) (length points.now) value.now)
         (IsCorner (option_copied numbers.entry) points.now value.now) }
 {

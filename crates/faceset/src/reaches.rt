@@ -5,7 +5,7 @@ ghost use Rattle.faceset.specs.Indexes.{PointsNowhere};
 ghost use Rattle.faceset.specs.Reaches.{CountsFrom, PutsReach, IsWithin, reach_in};
 
 use crate::indexes::place_of;
-use p21_reader::Value21;
+use p21_reader::Values;
 use std::alloc::{AllocError, Global};
 use std::collections::BTreeMap;
 use std::marker::Model;
@@ -20,14 +20,14 @@ fn greater(a: usize, b: usize) -> usize
 }
 
 /// A count from which on each of the values counts something. None where one of them counts none of so many things.
-pub fn reach_of(values: &[Value21], count: usize) -> Option<usize>
+pub fn reach_of(values: &Values<'_>, count: usize) -> Option<usize>
     requires { count < 2 ^ 63 }
     ensures { MatchOption result (Any (PointsNowhere count) values.now)
         (λ reach. All (CountsFrom reach) values.now × (reach ≤ count)) }
 {
     let mut reach = 0;
-    for value in values {
-        let Some(place) = place_of(value, count) else {
+    for value in values.iter() {
+        let Some(place) = place_of(&value, count) else {
             return None;
         };
         reach = greater(reach, place + 1);

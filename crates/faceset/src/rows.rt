@@ -1,20 +1,19 @@
 //! The triangles of triangulated sets.
 ghost use Rattle.std.specs.Prelude.{◌∷◌, [], length, All, Any, IfOk, MatchOption, option_copied};
 ghost use Rattle.faceset.specs.Sets.{IsTriangle, AreTriangles, HasThree, IsMisnamed, IsCorner};
-ghost use Rattle.ifc_instances.specs.Attributes.{items_in};
+ghost use Rattle.p21_reader.specs.Attributes.{items_in};
 
 use crate::naming::corner;
 use bim_model::{Point, Triangle};
-use ifc_instances::items_in;
-use p21_reader::Value21;
+use p21_reader::{ValueRef, Values};
 use std::alloc::{AllocError, Global};
 
 /// The triangle of three indexes.
 fn triangle_of(
-    a: &Value21,
-    b: &Value21,
-    c: &Value21,
-    numbers: Option<&[Value21]>,
+    a: &ValueRef<'_>,
+    b: &ValueRef<'_>,
+    c: &ValueRef<'_>,
+    numbers: Option<&[ValueRef<'_>]>,
     points: &[Point],
 ) -> Option<Triangle>
     ensures { MatchOption result (Any (IsMisnamed (option_copied numbers.entry) (length points.now))
@@ -35,22 +34,26 @@ fn triangle_of(
 }
 
 /// The triangle of a row. None of one that isn't three indexes of points.
-fn triangle(row: &Value21, numbers: Option<&[Value21]>, points: &[Point]) -> Option<Triangle>
+fn triangle(
+    row: &ValueRef<'_>,
+    numbers: Option<&[ValueRef<'_>]>,
+    points: &[Point],
+) -> Option<Triangle>
     ensures { MatchOption result (HasThree row.now
         → Any (IsMisnamed (option_copied numbers.entry) (length points.now)) (items_in row.now))
         (IsTriangle (option_copied numbers.entry) points.now row.now) }
 {
-    match items_in(row) {
-        [a, b, c] => triangle_of(a, b, c, numbers, points),
-        _ => None,
+    match row.items_in().three() {
+        Some(found) => triangle_of(&found.x, &found.y, &found.z, numbers, points),
+        None => None,
     }
 }
 
 /// The triangles of rows of three indexes, in their order. None where a row isn't three indexes, or an index names none of the points.
 pub fn triangles(
     alloc: Global,
-    numbers: Option<&[Value21]>,
-    rows: &[Value21],
+    numbers: Option<&[ValueRef<'_>]>,
+    rows: &Values<'_>,
     points: &[Point],
 ) -> Result<Option<Vec<Triangle>>, AllocError>
     ensures { IfOk result (λ found. MatchOption found
@@ -59,8 +62,8 @@ pub fn triangles(
         (option_copied numbers.entry) points.now rows.now made.items)) }
 {
     let mut made = Vec::with_capacity(alloc, rows.len())?;
-    for row in rows {
-        match triangle(row, numbers, points) {
+    for row in rows.iter() {
+        match triangle(&row, numbers, points) {
             Some(triangle) => made.push(triangle)?,
             None => return Ok(None),
         }

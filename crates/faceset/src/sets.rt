@@ -1,47 +1,64 @@
 //! What face sets say.
-ghost use Rattle.std.specs.Prelude.{◌≡◌, option_copied};
+ghost use Rattle.std.specs.Prelude.{◌≡◌, IfOk, option_map};
 ghost use Rattle.faceset.specs.Sets.{spelled_points, is_polygonal, is_set, numbering, outline};
 
-use ifc_instances::{Entity, attribute, is_a, items_of, listed, target_at};
-use p21_reader::{Exchange, Instance, Value21};
+use ifc_instances::Entity;
+use p21_reader::{Exchange, InstanceRef, ValueRef, Values};
+use std::alloc::{AllocError, Global};
 
 /// Whether it is a polygonal face set (IFC4 ADD2 TC1, IfcPolygonalFaceSet).
-pub fn is_polygonal(instance: &Instance) -> bool
+pub fn is_polygonal(instance: &InstanceRef<'_>) -> bool
     ensures { result ≡ is_polygonal instance.now }
 {
-    is_a(Entity::PolygonalFaceSet, instance)
+    Entity::PolygonalFaceSet.includes(instance)
 }
 
 /// Whether it is a face set, triangulated or polygonal.
-pub fn is_set(instance: &Instance) -> bool
+pub fn is_set(instance: &InstanceRef<'_>) -> bool
     ensures { result ≡ is_set instance.now }
 {
-    is_a(Entity::TriangulatedFaceSet, instance) || is_polygonal(instance)
+    Entity::TriangulatedFaceSet.includes(instance) || is_polygonal(instance)
 }
 
 /// The indexes of the corners of a face (IFC4 ADD2 TC1, IfcIndexedPolygonalFace, CoordIndex).
-pub fn outline(face: &Instance) -> &[Value21]
-    ensures { result.now ≡ outline face.now }
+pub fn outline<'a>(face: &InstanceRef<'a>) -> Values<'a>
+    ensures { result ≡ outline face.now }
 {
-    listed(face, 0)
+    face.listed(0)
 }
 
 /// The points of a set, as they are spelled.
 #[tactic(auto, unfolding(crate::specs::Sets::points_of))]
-pub(crate) fn spelled_points<'a>(exchange: &'a Exchange, set: &Instance) -> &'a [Value21]
-    ensures { result.now ≡ spelled_points exchange.now set.now }
+pub(crate) fn spelled_points<'a>(exchange: &'a Exchange, set: &InstanceRef<'_>) -> Values<'a>
+    ensures { result ≡ spelled_points exchange.now set.now }
 {
-    match target_at(exchange, set, 0) {
-        Some(points) => listed(points, 0),
-        None => &[],
+    match exchange.target_at(set, 0) {
+        Some(points) => points.listed(0),
+        None => Values::none(),
     }
 }
 
 /// The numbers of the points that the set's indexes name, where it has them (PnIndex).
 #[tactic(auto, unfolding(crate::specs::Sets::numbering))]
-pub(crate) fn numbering(set: &Instance) -> Option<&[Value21]>
-    ensures { option_copied result ≡ numbering set.now }
+pub(crate) fn numbering<'a>(set: &InstanceRef<'a>) -> Option<Values<'a>>
+    ensures { result ≡ numbering set.now }
 {
     let at = if is_polygonal(set) { 3 } else { 4 };
-    items_of(attribute(set, at)?)
+    match set.attribute(at) {
+        Some(value) => value.items(),
+        None => None,
+    }
+}
+
+/// The same, each number at its place, since indexes name them in any order.
+pub(crate) fn placed_numbering<'a>(
+    alloc: Global,
+    set: &InstanceRef<'a>,
+) -> Result<Option<Vec<ValueRef<'a>>>, AllocError>
+    ensures { IfOk result (λ found. option_map (λ placed. placed.items) found ≡ numbering set.now) }
+{
+    match numbering(set) {
+        Some(numbers) => Ok(Some(numbers.to_vec(alloc)?)),
+        None => Ok(None),
+    }
 }

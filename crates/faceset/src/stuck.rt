@@ -9,17 +9,16 @@ ghost use Rattle.faceset.specs.Numbers.{IsStuckFace, IsStuckIn};
 
 use crate::faces::{Outcome, cut_face};
 use crate::numbers::distinct_numbers;
-use crate::sets::{is_polygonal, numbering};
+use crate::sets::{is_polygonal, placed_numbering};
 use bim_model::Point;
-use ifc_instances::{listed, look};
-use p21_reader::{Exchange, Instance, Value21};
+use p21_reader::{Exchange, InstanceRef, ValueRef};
 use std::alloc::{AllocError, Global};
 
 /// Whether the face of that number can't be cut.
 fn is_stuck(
     alloc: Global,
     exchange: &Exchange,
-    numbers: Option<&[Value21]>,
+    numbers: Option<&[ValueRef<'_>]>,
     points: &[Point],
     id: u64,
 ) -> Result<bool, AllocError>
@@ -28,10 +27,10 @@ fn is_stuck(
         (IsStuckFace exchange.now (option_copied numbers.entry) points.now id)
         (IsStuckFace exchange.now (option_copied numbers.entry) points.now id → ⊥)) }
 {
-    let Some(face) = look(exchange, id) else {
+    let Some(face) = exchange.look(id) else {
         return Ok(false);
     };
-    match cut_face(alloc, numbers, points, face)? {
+    match cut_face(alloc, numbers, points, &face)? {
         Outcome::Cut(_triangles) => Ok(false),
         Outcome::Stuck => Ok(true),
         Outcome::Unready => Ok(false),
@@ -42,7 +41,7 @@ fn is_stuck(
 fn first_in(
     alloc: Global,
     exchange: &Exchange,
-    numbers: Option<&[Value21]>,
+    numbers: Option<&[ValueRef<'_>]>,
     points: &[Point],
     ids: &[u64],
 ) -> Result<Option<u64>, AllocError>
@@ -66,7 +65,7 @@ pub fn least_stuck(
     alloc: Global,
     exchange: &Exchange,
     points: &[Point],
-    set: &Instance,
+    set: &InstanceRef<'_>,
 ) -> Result<Option<u64>, AllocError>
     requires { All IsGridPoint points.now }
     ensures { IfOk result (λ found. MatchOption found
@@ -77,6 +76,7 @@ pub fn least_stuck(
     if !is_polygonal(set) {
         return Ok(None);
     }
-    let ids = distinct_numbers(alloc, listed(set, 2))?;
-    first_in(alloc, exchange, numbering(set), points, &ids)
+    let ids = distinct_numbers(alloc, &set.listed(2))?;
+    let numbers = placed_numbering(alloc, set)?;
+    first_in(alloc, exchange, numbers.as_deref(), points, &ids)
 }

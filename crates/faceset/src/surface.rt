@@ -2,25 +2,24 @@
 ghost use Rattle.std.specs.Prelude.{◌≡◌, ℕ, List, ◌∷◌, [], length, sum_by, All, Any, IfOk, IfSome, IfNone, MatchOption, option_copied};
 ghost use Rattle.bim_model.specs.declared.geometry.Triangle.{Triangle};
 ghost use Rattle.bim_model.specs.Points.{IsGridPoint};
-ghost use Rattle.ifc_instances.specs.Attributes.{led_to};
+ghost use Rattle.p21_reader.specs.Attributes.{led_to};
 ghost use Rattle.faceset.specs.Sets.{Joined, IsCut, SetTriangles, IsSound, HasStuck, face_count, triangle_count};
 ghost use Rattle.faceset.specs.Cuts.{IsLoose};
 
 use crate::faces::{Outcome, cut_face};
 use crate::rows::triangles;
-use crate::sets::{is_polygonal, numbering};
+use crate::sets::{is_polygonal, placed_numbering};
 use bim_model::{Point, Triangle};
-use ifc_instances::{listed, look, reference_of};
-use p21_reader::{Exchange, Instance, Value21};
+use p21_reader::{Exchange, InstanceRef, ValueRef, Values};
 use std::alloc::{AllocError, Global};
 
 /// The triangles of the face that a value refers to; none where it refers to none. None where it isn't cut.
 fn face_triangles(
     alloc: Global,
     exchange: &Exchange,
-    numbers: Option<&[Value21]>,
+    numbers: Option<&[ValueRef<'_>]>,
     points: &[Point],
-    value: &Value21,
+    value: &ValueRef<'_>,
 ) -> Result<Option<Vec<Triangle>>, AllocError>
     requires { All IsGridPoint points.now }
     ensures triangles { IfOk result
@@ -31,13 +30,13 @@ fn face_triangles(
     ensures count { IfOk result (λ made. IfSome made
         (λ triangles. length triangles.items ≡ sum_by face_count (led_to exchange.now (value.now ∷ [])))) }
 {
-    let Some(id) = reference_of(value) else {
+    let Some(id) = value.reference() else {
         return Ok(Some(Vec::new(alloc)));
     };
-    let Some(face) = look(exchange, id) else {
+    let Some(face) = exchange.look(id) else {
         return Ok(Some(Vec::new(alloc)));
     };
-    match cut_face(alloc, numbers, points, face)? {
+    match cut_face(alloc, numbers, points, &face)? {
         Outcome::Cut(triangles) => Ok(Some(triangles)),
         Outcome::Stuck => Ok(None),
         Outcome::Unready => Ok(None),
@@ -48,9 +47,9 @@ fn face_triangles(
 fn faces_triangles(
     alloc: Global,
     exchange: &Exchange,
-    numbers: Option<&[Value21]>,
+    numbers: Option<&[ValueRef<'_>]>,
     points: &[Point],
-    values: &[Value21],
+    values: &Values<'_>,
 ) -> Result<Option<Vec<Triangle>>, AllocError>
     requires { All IsGridPoint points.now }
     ensures triangles { IfOk result
@@ -62,8 +61,8 @@ fn faces_triangles(
         (λ triangles. length triangles.items ≡ sum_by face_count (led_to exchange.now values.now))) }
 {
     let mut made = Vec::new(alloc);
-    for value in values {
-        let Some(mut more) = face_triangles(alloc, exchange, numbers, points, value)? else {
+    for value in values.iter() {
+        let Some(mut more) = face_triangles(alloc, exchange, numbers, points, &value)? else {
             return Ok(None);
         };
         made.append(&mut more)?;
@@ -79,7 +78,7 @@ pub fn set_triangles(
     alloc: Global,
     exchange: &Exchange,
     points: &[Point],
-    set: &Instance,
+    set: &InstanceRef<'_>,
 ) -> Result<Option<Vec<Triangle>>, AllocError>
     requires { All IsGridPoint points.now }
     ensures triangles { IfOk result
@@ -91,10 +90,11 @@ pub fn set_triangles(
     ensures count { IfOk result (λ made. IfSome made
         (λ triangles. length triangles.items ≡ triangle_count exchange.now set.now)) }
 {
-    let numbers = numbering(set);
+    let found = placed_numbering(alloc, set)?;
+    let numbers = found.as_deref();
     if is_polygonal(set) {
-        faces_triangles(alloc, exchange, numbers, points, listed(set, 2))
+        faces_triangles(alloc, exchange, numbers, points, &set.listed(2))
     } else {
-        triangles(alloc, numbers, listed(set, 3), points)
+        triangles(alloc, numbers, &set.listed(3), points)
     }
 }

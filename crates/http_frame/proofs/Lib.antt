@@ -10,7 +10,7 @@ pub mod StepLaws
 pub mod SizeLaws
 pub mod OpenLaws
 pub mod Versions
-pub mod Told
+pub mod HeadFacts
 pub mod Digits
 pub mod Seeing
 pub mod TrailerLaws

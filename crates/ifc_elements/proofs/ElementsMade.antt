@@ -19,8 +19,8 @@ use Rattle.bim_model.specs.declared.geometry.Triangle.{Triangle}
 use Rattle.bim_model.specs.declared.upload.Mode.{Mode}
 use Rattle.p21_reader.specs.declared.value.Value21.{Value21}
 use Rattle.p21_reader.specs.declared.value.Instance.{Instance}
-use Rattle.ifc_instances.specs.Values.{reference_of, is_absent}
-use Rattle.ifc_instances.specs.Looking.{look}
+use Rattle.p21_reader.specs.Values.{reference_of, is_absent}
+use Rattle.p21_reader.specs.Looking.{look}
 use Rattle.ifc_units.specs.declared.scale.Scale.{Scale}
 use Rattle.placement.specs.declared.frame.Frame.{Frame}
 use Rattle.placement.specs.Placed.{AreFrames}
@@ -32,7 +32,7 @@ use Rattle.ifc_elements.specs.Framed.{AllFramed}
 use Rattle.ifc_elements.specs.Making.{IsStanding, IsReady, IsFrameOf, IsNearSurface, IsNearElement, Lacks, LacksAt, IsFirstLacking}
 use Rattle.ifc_elements.specs.declared.lack.Lack.{Lack}
 use Rattle.ifc_elements.specs.declared.lack.Lack.TheVariants.{Beyond, Unready}
-use Rattle.ifc_instances.proofs.ValueLemmas.{one}
+use Rattle.p21_reader.proofs.ValueLemmas.{one}
 use Rattle.ifc_elements.proofs.OneSet.{same_triangle}
 use Rattle.ifc_elements.proofs.OneSurface.{same_map}
 use Rattle.ifc_instances.proofs.Rising.{earlier}

@@ -1,17 +1,16 @@
 -- Tables of points: how they grow, and that the points of a number stand at its place.
-use Rattle.std.proofs.Common.{◌≡◌, ℕ, ◌+◌, ◌<◌, ◌≤◌, List, [], ◌∷◌, ◌++◌, length, get_or, take, take_all, Option, Some, None, sym, ap, ◌∙◌, subst}
+use Rattle.std.proofs.Common.{◌≡◌, ℕ, List, [], ◌∷◌, ◌++◌, get_or, Option, Some, None, subst}
 use Rattle.std.specs.Option.{MatchOption, IsSomeAnd}
 use Rattle.std.specs.List.{AllZip, slice_get}
 use Rattle.std.proofs.lemmas.Option.{slice_get-get_or}
-use Rattle.std.proofs.lemmas.List.{take_more}
 use Rattle.std.proofs.lemmas.Slice.Zip.{AllZip-left, AllZip-long, all_zipped_more}
 use Rattle.bim_model.specs.declared.upload.Mode.{Mode}
 use Rattle.bim_model.specs.declared.geometry.Point.{Point}
 use Rattle.p21_reader.specs.declared.value.Value21.{Value21}
 use Rattle.p21_reader.specs.declared.value.Instance.{Instance}
-use Rattle.ifc_instances.specs.Looking.{look}
-use Rattle.ifc_instances.specs.Places.{IsPlaceOf}
-use Rattle.ifc_instances.proofs.PlaceLemmas.{found_at, some_instance, same_instance}
+use Rattle.p21_reader.specs.Looking.{look}
+use Rattle.p21_reader.specs.Places.{IsPlaceOf}
+use Rattle.p21_reader.proofs.PlaceLemmas.{found_at, some_instance, same_instance}
 use Rattle.ifc_units.specs.declared.scale.Scale.{Scale}
 use Rattle.ifc_units.specs.Lengths.{ArePoints, PointsRefused, Fails}
 use Rattle.ifc_units.specs.declared.fault.LengthError.{LengthError}
@@ -54,11 +53,6 @@ failed_none scale mode vs error.Unread points h k = h.none points k
 failed_none scale mode vs (error.Refused f) points h k = points_apart scale mode vs points f k h
 
 -- one more of a table
-pub tabled_more : (scale : Scale) (mode : Mode) (world : List Instance) (at : ℕ) (old new : List (Option (List Point))) (i : Instance) (kept : Option (List Point)) → at < length world → i ≡ get_or world at i
-    → Tabled scale mode i kept → new ≡ old ++ kept ∷ [] → IsTable (take at world) scale mode old → IsTable (take (at + 1) world) scale mode new
-tabled_more scale mode world at old new i kept lt is h grown are =
-    let step : take (at + 1) world ≡ take at world ++ i ∷ [] = take_more world at i lt ∙ ap (λ z. take at world ++ z ∷ []) (sym is) in
-    rw (step, grown) (all_zipped_more (Tabled scale mode) (take at world) old i kept are h)
-
-pub tabled_whole : (scale : Scale) (mode : Mode) (world : List Instance) (at : ℕ) (table : List (Option (List Point))) → length world ≤ at → IsTable (take at world) scale mode table → IsTable world scale mode table
-tabled_whole scale mode world at table le are = subst (λ z. IsTable z scale mode table) (take_all at world le) are
+pub tabled_more : (scale : Scale) (mode : Mode) (given : List Instance) (old new : List (Option (List Point))) (i : Instance) (kept : Option (List Point)) → Tabled scale mode i kept → new ≡ old ++ kept ∷ []
+    → IsTable given scale mode old → IsTable (given ++ i ∷ []) scale mode new
+tabled_more scale mode given old new i kept h grown are = rw grown (all_zipped_more (Tabled scale mode) given old i kept are h)

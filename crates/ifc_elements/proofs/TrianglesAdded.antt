@@ -16,16 +16,16 @@ use Rattle.bim_model.specs.declared.upload.Mode.{Mode}
 use Rattle.bim_model.specs.declared.geometry.Triangle.{Triangle}
 use Rattle.p21_reader.specs.declared.value.Value21.{Value21}
 use Rattle.p21_reader.specs.declared.value.Instance.{Instance}
-use Rattle.ifc_instances.specs.Looking.{look}
-use Rattle.ifc_instances.specs.Values.{reference_of}
-use Rattle.ifc_instances.proofs.PlaceLemmas.{some_instance}
+use Rattle.p21_reader.specs.Looking.{look}
+use Rattle.p21_reader.specs.Values.{reference_of}
+use Rattle.p21_reader.proofs.PlaceLemmas.{some_instance}
 use Rattle.ifc_units.specs.declared.scale.Scale.{Scale}
 use Rattle.placement.specs.declared.frame.Frame.{Frame}
 use Rattle.placement.specs.Operators.{OperatorFrame}
 use Rattle.faceset.specs.Sets.{Joined, triangle_count}
-use Rattle.ifc_instances.proofs.LedTo.{led_more, led_one}
+use Rattle.ifc_instances.proofs.LedTo.{led_append, led_one}
 use Rattle.faceset.proofs.Joins.{joined_one, joined_append}
-use Rattle.ifc_instances.specs.Attributes.{reference_at, led_to}
+use Rattle.p21_reader.specs.Attributes.{reference_at, led_to}
 use Rattle.ifc_elements.specs.Items.{is_mapped_item, item_count, items_of, mapped_sets, spelled_items, spelled_sets, bodies, body_items}
 use Rattle.ifc_elements.specs.Finding.{Number}
 use Rattle.ifc_elements.specs.Surfaces.{SetSurface, MappedSurface, ItemSurface, moved}
@@ -52,11 +52,11 @@ adds_one G world v id i old new refers found h =
     (h.0, subst (λ is. Joined G is h.0) (sym (led_one world v id i refers found)) (joined_one G i h.0 h.1), h.2)
 
 -- .. by all values up to one
-pub adds_more : (G : Instance → List Triangle → Type 0) (world : List Instance) (vs : List Value21) (k : ℕ) (v : Value21) (start old new : List Triangle) → k < length vs → v ≡ get_or vs k v
-    → Adds (Joined G (led_to world (take k vs))) start old → Adds (Joined G (led_to world (v ∷ []))) old new → Adds (Joined G (led_to world (take (k + 1) vs))) start new
-adds_more G world vs k v start old new lt at h one = (
+pub adds_more : (G : Instance → List Triangle → Type 0) (world : List Instance) (given : List Value21) (v : Value21) (start old new : List Triangle) → Adds (Joined G (led_to world given)) start old
+    → Adds (Joined G (led_to world (v ∷ []))) old new → Adds (Joined G (led_to world (given ++ v ∷ []))) start new
+adds_more G world given v start old new h one = (
   h.0 ++ one.0,
-  subst (λ is. Joined G is (h.0 ++ one.0)) (sym (led_more world vs k v lt at)) (joined_append G (led_to world (take k vs)) (led_to world (v ∷ [])) h.0 one.0 h.1 one.1),
+  subst (λ is. Joined G is (h.0 ++ one.0)) (sym (led_append world given (v ∷ []))) (joined_append G (led_to world given) (led_to world (v ∷ [])) h.0 one.0 h.1 one.1),
   one.2 ∙ ap (λ z. z ++ one.0) h.2 ∙ append_assoc start h.0 one.0,
 )
 

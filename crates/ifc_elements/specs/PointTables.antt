@@ -8,7 +8,7 @@ use Rattle.ifc_instances.specs.declared.entity.Entity.TheVariants.{PointList}
 use Rattle.ifc_instances.specs.Looking.{is_a}
 use Rattle.ifc_units.specs.declared.scale.Scale.{Scale}
 use Rattle.ifc_units.specs.Lengths.{ArePoints}
-use Rattle.ifc_instances.specs.Attributes.{listed}
+use Rattle.p21_reader.specs.Attributes.{listed}
 use Rattle.ifc_elements.specs.Finding.{Finds}
 
 -- an instance is a list of points, and these are they

@@ -5,8 +5,8 @@ use Rattle.bim_model.specs.declared.guid.Guid.{Guid}
 use Rattle.bim_model.specs.Guids.{IsGuid}
 use Rattle.bim_text.specs.Texts.{text_of_spelling}
 use Rattle.p21_reader.specs.declared.value.Instance.{Instance}
-use Rattle.ifc_instances.specs.Looking.{look}
-use Rattle.ifc_instances.specs.Values.{words_of}
+use Rattle.p21_reader.specs.Looking.{look}
+use Rattle.p21_reader.specs.Values.{words_of}
 
 -- the text that is the attribute of that number, if there is one
 abbrev pub text_at : Instance → ℕ → Option (List ℕ)

@@ -7,7 +7,7 @@ ghost use Rattle.ifc_units.specs.declared.scale.Scale.{Scale};
 ghost use Rattle.p21_reader.specs.declared.value.Instance.{Instance};
 ghost use Rattle.placement.specs.Placed.{AreFrames, frame_in};
 ghost use Rattle.spatial_tree.specs.Trees.{ListsStoreys};
-ghost use Rattle.ifc_instances.specs.Looking.{look};
+ghost use Rattle.p21_reader.specs.Looking.{look};
 ghost use Rattle.ifc_elements.specs.Framed.{Framed, AllFramed};
 ghost use Rattle.ifc_elements.specs.Sound.{AreSets};
 ghost use Rattle.ifc_elements.specs.Shapes.{AreShapes};
@@ -21,16 +21,15 @@ use crate::shapes::Shapes;
 use crate::storeys::storey_name;
 use crate::surface::{all_moved, own_triangles};
 use crate::texts::{guid_of, name_of};
-use bim_model::{Duplicate, Element, Items, Mode, Triangle};
-use ifc_instances::{is_absent, look, reference_of};
+use bim_model::{Element, Items, Mode, Triangle};
 use ifc_units::Scale;
-use p21_reader::{Exchange, Instance};
+use p21_reader::{Exchange, InstanceRef};
 use placement::{Frame, Frames};
 use spatial_tree::Tree;
 use std::alloc::{AllocError, Global};
 
 /// The frame of an element. None where it names a placement that has none.
-fn frame_of(frames: &Frames, instance: &Instance) -> Option<Frame>
+fn frame_of(frames: &Frames, instance: &InstanceRef<'_>) -> Option<Frame>
     requires { AllFramed (frame_in frames.now) }
     ensures framed { IfSome result Framed }
     ensures placed { (world : List Instance) (scale : Scale) (mode : Mode) (placements : List ℕ)
@@ -38,11 +37,11 @@ fn frame_of(frames: &Frames, instance: &Instance) -> Option<Frame>
         → MatchOption result (IsStanding placements instance.now → ⊥)
         (IsFrameOf world scale mode instance.now) }
 {
-    let value = instance.values.as_slice().get(5)?;
-    if is_absent(value) {
+    let value = instance.attribute(5)?;
+    if value.is_absent() {
         return Some(Frame::identity());
     }
-    let id = reference_of(value)?;
+    let id = value.reference()?;
     frames.get(id)
 }
 
@@ -53,7 +52,7 @@ fn surface_of(
     frames: &Frames,
     shapes: &Shapes,
     sets: &Sets,
-    instance: &Instance,
+    instance: &InstanceRef<'_>,
     scale: Scale,
     mode: Mode,
 ) -> Result<Result<Vec<Triangle>, Lack>, AllocError>
@@ -87,7 +86,7 @@ fn element_of(
     frames: &Frames,
     shapes: &Shapes,
     sets: &Sets,
-    instance: &Instance,
+    instance: &InstanceRef<'_>,
     scale: Scale,
     mode: Mode,
 ) -> Result<Result<Element, Lack>, AllocError>
@@ -104,15 +103,15 @@ fn element_of(
     let Some(guid) = guid_of(alloc, instance)? else {
         return Ok(Err(Lack::Unready));
     };
-    let Some(keyword) = &instance.keyword else {
+    let Some(keyword) = instance.keyword() else {
         return Ok(Err(Lack::Unready));
     };
     match surface_of(alloc, exchange, frames, shapes, sets, instance, scale, mode)? {
         Ok(triangles) => Ok(Ok(Element {
             guid,
-            class: keyword.copy(alloc)?,
+            class: keyword.text(alloc)?,
             name: name_of(alloc, instance)?,
-            storey: storey_name(alloc, exchange, tree, names, instance.id)?,
+            storey: storey_name(alloc, exchange, tree, names, instance.id())?,
             triangles: Items::from_vec(triangles),
         })),
         Err(lack) => Ok(Err(lack)),
@@ -142,9 +141,9 @@ fn element_at(
         → IfOk result (λ made. MatchResult made (IsNearElement exchange.now scale mode id)
         (LacksAt exchange.now scale mode placements listed id)) }
 {
-    match look(exchange, id) {
+    match exchange.look(id) {
         Some(instance) => element_of(
-            alloc, exchange, tree, names, frames, shapes, sets, instance, scale, mode,
+            alloc, exchange, tree, names, frames, shapes, sets, &instance, scale, mode,
         ),
         None => Ok(Err(Lack::Unready)),
     }

@@ -1,69 +1,73 @@
 //! The items of bodies.
 ghost use Rattle.std.specs.Prelude.{◌≡◌, ◌++◌, ◌∷◌, [], map, Some, IfOk, OnOk};
-ghost use Rattle.ifc_instances.specs.Looking.{look};
+ghost use Rattle.p21_reader.specs.Looking.{look};
 ghost use Rattle.ifc_schema.specs.Bodies.{is_body_representation};
 ghost use Rattle.ifc_elements.specs.Items.{spelled_items, is_mapped_item, is_item, spelled_sets, bodies_among, bodies_of};
 ghost use Rattle.ifc_elements.specs.Finding.{Number};
 
 use faceset::is_set;
-use ifc_instances::{Entity, is_a, listed, look, reference_of, target_at};
+use ifc_instances::Entity;
 use ifc_schema::is_body;
-use p21_reader::{Exchange, Instance, Value21};
+use p21_reader::{Exchange, InstanceRef, ValueRef, Values};
 use std::alloc::{AllocError, Global};
 
 /// Whether it is a shape representation whose identifier is `Body`.
-pub fn is_body_representation(instance: &Instance) -> bool
+pub fn is_body_representation(instance: &InstanceRef<'_>) -> bool
     ensures { result ≡ is_body_representation instance.now }
 {
-    is_a(Entity::Representation, instance) && is_body(instance)
+    Entity::Representation.includes(instance) && is_body(instance)
 }
 
 /// The items of a representation, as they are spelled.
-pub fn spelled_items(representation: &Instance) -> &[Value21]
-    ensures { result.now ≡ spelled_items representation.now }
+pub fn spelled_items<'a>(representation: &InstanceRef<'a>) -> Values<'a>
+    ensures { result ≡ spelled_items representation.now }
 {
-    listed(representation, 3)
+    representation.listed(3)
 }
 
 /// Whether it is a mapped item.
-pub fn is_mapped_item(instance: &Instance) -> bool
+pub fn is_mapped_item(instance: &InstanceRef<'_>) -> bool
     ensures { result ≡ is_mapped_item instance.now }
 {
-    is_a(Entity::MappedItem, instance)
+    Entity::MappedItem.includes(instance)
 }
 
 /// Whether it is an item of a kind that is read: a face set or a mapped item.
-pub fn is_item(instance: &Instance) -> bool
+pub fn is_item(instance: &InstanceRef<'_>) -> bool
     ensures { result ≡ is_item instance.now }
 {
     is_set(instance) || is_mapped_item(instance)
 }
 
 /// The items that a mapped item maps, as they are spelled.
-pub fn spelled_sets<'a>(exchange: &'a Exchange, item: &Instance) -> &'a [Value21]
-    ensures { result.now ≡ spelled_sets exchange.now item.now }
+pub fn spelled_sets<'a>(exchange: &'a Exchange, item: &InstanceRef<'_>) -> Values<'a>
+    ensures { result ≡ spelled_sets exchange.now item.now }
 {
-    let Some(map) = target_at(exchange, item, 0) else {
-        return &[];
+    let Some(map) = exchange.target_at(item, 0) else {
+        return Values::none();
     };
-    match target_at(exchange, map, 1) {
-        Some(representation) => spelled_items(representation),
-        None => &[],
+    match exchange.target_at(&map, 1) {
+        Some(representation) => spelled_items(&representation),
+        None => Values::none(),
     }
 }
 
 /// Adds the number of the representation that a value refers to, where it is a body.
-fn add_body(exchange: &Exchange, value: &Value21, found: &mut Vec<u64>) -> Result<(), AllocError>
+fn add_body(
+    exchange: &Exchange,
+    value: &ValueRef<'_>,
+    found: &mut Vec<u64>,
+) -> Result<(), AllocError>
     ensures { OnOk result (map (look exchange.now) found.new.items
         ≡ map (look exchange.now) found.old.items ++ map Some (bodies_among exchange.now (value.now ∷ []))) }
 {
-    let Some(id) = reference_of(value) else {
+    let Some(id) = value.reference() else {
         return Ok(());
     };
-    let Some(instance) = look(exchange, id) else {
+    let Some(instance) = exchange.look(id) else {
         return Ok(());
     };
-    if !is_body_representation(instance) {
+    if !is_body_representation(&instance) {
         return Ok(());
     }
     found.push(id)?;
@@ -74,13 +78,13 @@ fn add_body(exchange: &Exchange, value: &Value21, found: &mut Vec<u64>) -> Resul
 fn bodies_among(
     alloc: Global,
     exchange: &Exchange,
-    values: &[Value21],
+    values: &Values<'_>,
 ) -> Result<Vec<u64>, AllocError>
     ensures { IfOk result (λ ids. Number exchange.now ids.items (bodies_among exchange.now values.now)) }
 {
     let mut found = Vec::new(alloc);
-    for value in values {
-        add_body(exchange, value, &mut found)?;
+    for value in values.iter() {
+        add_body(exchange, &value, &mut found)?;
     }
     Ok(found)
 }
@@ -89,9 +93,9 @@ fn bodies_among(
 pub fn bodies_of(
     alloc: Global,
     exchange: &Exchange,
-    shape: &Instance,
+    shape: &InstanceRef<'_>,
 ) -> Result<Vec<u64>, AllocError>
     ensures { IfOk result (λ ids. Number exchange.now ids.items (bodies_of exchange.now shape.now)) }
 {
-    bodies_among(alloc, exchange, listed(shape, 2))
+    bodies_among(alloc, exchange, &shape.listed(2))
 }

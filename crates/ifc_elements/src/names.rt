@@ -4,7 +4,7 @@ ghost use Rattle.ifc_elements.specs.Names.{AreNames, PutsName, name_in};
 
 use crate::texts::name_of;
 use bim_model::Text;
-use ifc_instances::{Entity, is_a, look};
+use ifc_instances::Entity;
 use p21_reader::Exchange;
 use std::alloc::{AllocError, Global};
 use std::collections::BTreeMap;
@@ -48,13 +48,13 @@ impl Names {
     fn add(&mut self, alloc: Global, exchange: &Exchange, id: u64) -> Result<(), AllocError>
         ensures { AreNames exchange.now self.old → OnOk result (AreNames exchange.now self.new) }
     {
-        let Some(storey) = look(exchange, id) else {
+        let Some(storey) = exchange.look(id) else {
             return Ok(());
         };
-        if !is_a(Entity::Storey, storey) {
+        if !Entity::Storey.includes(&storey) {
             return Ok(());
         }
-        let name = name_of(alloc, storey)?;
+        let name = name_of(alloc, &storey)?;
         self.put(id, name)
     }
 

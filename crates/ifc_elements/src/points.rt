@@ -6,24 +6,24 @@ ghost use Rattle.ifc_units.specs.declared.scale.Scale.{Scale};
 ghost use Rattle.ifc_elements.specs.PointTables.{kept_at, Tabled, IsTable, ListsPoints};
 
 use bim_model::{Items, Mode, Point};
-use ifc_instances::{Entity, is_a, listed, place_of};
+use ifc_instances::Entity;
 use ifc_units::{Scale, points};
-use p21_reader::{Exchange, Instance};
+use p21_reader::{Exchange, InstanceRef, Instances};
 use std::alloc::{AllocError, Global};
 
 /// The points of an instance that is a list of points on the grid.
 fn points_of(
     alloc: Global,
-    instance: &Instance,
+    instance: &InstanceRef<'_>,
     scale: Scale,
     mode: Mode,
 ) -> Result<Option<Items<Point>>, AllocError>
     ensures { IfOk result (Tabled scale mode instance.now) }
 {
-    if !is_a(Entity::PointList, instance) {
+    if !Entity::PointList.includes(instance) {
         return Ok(None);
     }
-    match points(alloc, listed(instance, 0), scale, mode)? {
+    match points(alloc, &instance.listed(0), scale, mode)? {
         Ok(points) => Ok(Some(Items::from_vec(points))),
         Err(_error) => Ok(None),
     }
@@ -32,15 +32,15 @@ fn points_of(
 /// The points of each instance that is a list of points on the grid, place by place.
 pub fn table_of(
     alloc: Global,
-    instances: &[Instance],
+    instances: &Instances<'_>,
     scale: Scale,
     mode: Mode,
 ) -> Result<Vec<Option<Items<Point>>>, AllocError>
     ensures { IfOk result (λ table. IsTable instances.now scale mode table.items) }
 {
     let mut table = Vec::with_capacity(alloc, instances.len())?;
-    for instance in instances {
-        let points = points_of(alloc, instance, scale, mode)?;
+    for instance in instances.iter() {
+        let points = points_of(alloc, &instance, scale, mode)?;
         table.push(points)?;
     }
     Ok(table)
@@ -67,6 +67,6 @@ pub fn points_at<'a>(
         ((points : List Point) → ListsPoints exchange.now scale mode id points → ⊥)
         (ListsPoints exchange.now scale mode id) }
 {
-    let at = place_of(exchange, id)?;
+    let at = exchange.place_of(id)?;
     kept_at(table, at)
 }

@@ -9,9 +9,8 @@ ghost use Rattle.ifc_elements.specs.Sound.{AreSets, IsKept, IsUncut, IsUncutAt, 
 use crate::points::points_at;
 use bim_model::{Items, Mode, Point, Triangle};
 use faceset::{is_set, set_triangles};
-use ifc_instances::{look, reference_at};
 use ifc_units::Scale;
-use p21_reader::{Exchange, Instance};
+use p21_reader::{Exchange, InstanceRef};
 use std::alloc::{AllocError, Global};
 use std::collections::BTreeMap;
 use std::marker::Model;
@@ -40,7 +39,7 @@ fn triangles_of(
     alloc: Global,
     exchange: &Exchange,
     table: &[Option<Items<Point>>],
-    set: &Instance,
+    set: &InstanceRef<'_>,
     scale: Scale,
     mode: Mode,
 ) -> Result<Option<Vec<Triangle>>, AllocError>
@@ -48,7 +47,7 @@ fn triangles_of(
     ensures { IfOk result (λ made. MatchOption made (IsUncutSet exchange.now scale mode set.now)
         (λ triangles. IsKept exchange.now scale mode triangles.items set.now)) }
 {
-    let Some(list) = reference_at(set, 0) else {
+    let Some(list) = set.reference_at(0) else {
         return Ok(None);
     };
     let Some(points) = points_at(exchange, table, list) else {
@@ -117,13 +116,13 @@ impl Sets {
             → AreSets exchange.now scale mode (listed ++ id ∷ []) self.new)
             (IsUncutAt exchange.now scale mode id)) }
     {
-        let Some(set) = look(exchange, id) else {
+        let Some(set) = exchange.look(id) else {
             return Ok(true);
         };
-        if !is_set(set) {
+        if !is_set(&set) {
             return Ok(true);
         }
-        let Some(made) = triangles_of(alloc, exchange, table, set, scale, mode)? else {
+        let Some(made) = triangles_of(alloc, exchange, table, &set, scale, mode)? else {
             return Ok(false);
         };
         self.put(id, Items::from_vec(made))?;

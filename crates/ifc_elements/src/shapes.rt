@@ -6,8 +6,8 @@ ghost use Rattle.ifc_elements.specs.Shapes.{AreShapes, PutsBodies, bodies_in};
 
 use crate::items::bodies_of;
 use bim_model::Items;
-use ifc_instances::{Entity, is_a, look, reference_at};
-use p21_reader::{Exchange, Instance};
+use ifc_instances::Entity;
+use p21_reader::{Exchange, InstanceRef};
 use std::alloc::{AllocError, Global};
 use std::collections::BTreeMap;
 use std::marker::Model;
@@ -51,13 +51,13 @@ impl Shapes {
     fn add(&mut self, alloc: Global, exchange: &Exchange, id: u64) -> Result<(), AllocError>
         ensures { AreShapes exchange.now self.old → OnOk result (AreShapes exchange.now self.new) }
     {
-        let Some(shape) = look(exchange, id) else {
+        let Some(shape) = exchange.look(id) else {
             return Ok(());
         };
-        if !is_a(Entity::ProductShape, shape) {
+        if !Entity::ProductShape.includes(&shape) {
             return Ok(());
         }
-        let found = bodies_of(alloc, exchange, shape)?;
+        let found = bodies_of(alloc, exchange, &shape)?;
         self.put(id, Items::from_vec(found))
     }
 
@@ -84,20 +84,20 @@ pub fn bodies(
     alloc: Global,
     exchange: &Exchange,
     shapes: &Shapes,
-    element: &Instance,
+    element: &InstanceRef<'_>,
 ) -> Result<Vec<u64>, AllocError>
     requires { AreShapes exchange.now shapes.now }
     ensures { IfOk result (λ ids. Number exchange.now ids.items (bodies exchange.now element.now)) }
 {
-    let Some(id) = reference_at(element, 6) else {
+    let Some(id) = element.reference_at(6) else {
         return Ok(Vec::new(alloc));
     };
     if let Some(ids) = shapes.get(id) {
         let copied = ids.to_vec(alloc)?;
         return Ok(copied);
     }
-    match look(exchange, id) {
-        Some(shape) => bodies_of(alloc, exchange, shape),
+    match exchange.look(id) {
+        Some(shape) => bodies_of(alloc, exchange, &shape),
         None => Ok(Vec::new(alloc)),
     }
 }

@@ -7,7 +7,6 @@ ghost use Rattle.ifc_elements.specs.Storeys.{IsStoreyName};
 use crate::names::Names;
 use crate::texts::name_of;
 use bim_model::{Duplicate, Text};
-use ifc_instances::look;
 use p21_reader::Exchange;
 use spatial_tree::Tree;
 use std::alloc::{AllocError, Global};
@@ -30,8 +29,8 @@ pub fn storey_name(
     if let Some(name) = names.get(storey) {
         return Ok(Some(name.copy(alloc)?));
     }
-    match look(exchange, storey) {
-        Some(instance) => Ok(Some(name_of(alloc, instance)?)),
+    match exchange.look(storey) {
+        Some(instance) => Ok(Some(name_of(alloc, &instance)?)),
         None => Ok(None),
     }
 }

@@ -7,7 +7,7 @@ ghost use Rattle.p21_reader.specs.declared.value.Instance.{Instance};
 ghost use Rattle.placement.specs.Frames.{IsFrame, AreWithin, most};
 ghost use Rattle.ifc_units.specs.Lengths.{reach};
 ghost use Rattle.faceset.specs.Sets.{Joined};
-ghost use Rattle.ifc_instances.specs.Attributes.{led_to};
+ghost use Rattle.p21_reader.specs.Attributes.{led_to};
 ghost use Rattle.ifc_elements.specs.Items.{items_of, item_count, body_items, bodies};
 ghost use Rattle.ifc_elements.specs.Finding.{Number};
 ghost use Rattle.ifc_elements.specs.Shapes.{AreShapes};
@@ -18,9 +18,8 @@ use crate::items::{is_mapped_item, spelled_items, spelled_sets};
 use crate::sets::Sets;
 use crate::shapes::{Shapes, bodies};
 use bim_model::{Mode, Triangle};
-use ifc_instances::{look, reference_at, reference_of};
 use ifc_units::Scale;
-use p21_reader::{Exchange, Instance, Value21};
+use p21_reader::{Exchange, InstanceRef, ValueRef, Values};
 use placement::{Frame, operator_frame};
 use std::alloc::{AllocError, Global};
 
@@ -28,7 +27,7 @@ use std::alloc::{AllocError, Global};
 fn add_set(
     exchange: &Exchange,
     sets: &Sets,
-    value: &Value21,
+    value: &ValueRef<'_>,
     out: &mut Vec<Triangle>,
 ) -> Result<bool, AllocError>
     ensures near { All IsInReach (corners_of out.old.items)
@@ -40,10 +39,10 @@ fn add_set(
         (led_to exchange.now (value.now ∷ []))) out.old.items out.new.items)
         (ReadySet exchange.now listed value.now → ⊥)) }
 {
-    let Some(id) = reference_of(value) else {
+    let Some(id) = value.reference() else {
         return Ok(true);
     };
-    let Some(_set) = look(exchange, id) else {
+    let Some(_set) = exchange.look(id) else {
         return Ok(true);
     };
     match sets.get(id) {
@@ -59,7 +58,7 @@ fn add_set(
 fn add_sets(
     exchange: &Exchange,
     sets: &Sets,
-    values: &[Value21],
+    values: &Values<'_>,
     out: &mut Vec<Triangle>,
 ) -> Result<bool, AllocError>
     ensures near { All IsInReach (corners_of out.old.items)
@@ -71,8 +70,8 @@ fn add_sets(
         (led_to exchange.now values.now)) out.old.items out.new.items)
         (All (ReadySet exchange.now listed) values.now → ⊥)) }
 {
-    for value in values {
-        let added = add_set(exchange, sets, value, out)?;
+    for value in values.iter() {
+        let added = add_set(exchange, sets, &value, out)?;
         if !added {
             return Ok(false);
         }
@@ -112,7 +111,7 @@ fn add_mapped(
     alloc: Global,
     exchange: &Exchange,
     sets: &Sets,
-    item: &Instance,
+    item: &InstanceRef<'_>,
     scale: Scale,
     mode: Mode,
     out: &mut Vec<Triangle>,
@@ -122,14 +121,14 @@ fn add_mapped(
         (Adds (KeptMapped exchange.now scale mode item.now) out.old.items out.new.items)
         (ReadyMapped exchange.now scale mode listed item.now → ⊥)) }
 {
-    let Some(operator) = reference_at(item, 1) else {
+    let Some(operator) = item.reference_at(1) else {
         return Ok(false);
     };
     let Some(frame) = operator_frame(exchange, operator, scale, mode) else {
         return Ok(false);
     };
     let mut own = Vec::new(alloc);
-    let added = add_sets(exchange, sets, spelled_sets(exchange, item), &mut own)?;
+    let added = add_sets(exchange, sets, &spelled_sets(exchange, item), &mut own)?;
     if !added {
         return Ok(false);
     }
@@ -142,7 +141,7 @@ fn add_item(
     alloc: Global,
     exchange: &Exchange,
     sets: &Sets,
-    value: &Value21,
+    value: &ValueRef<'_>,
     scale: Scale,
     mode: Mode,
     out: &mut Vec<Triangle>,
@@ -153,14 +152,14 @@ fn add_item(
         (led_to exchange.now (value.now ∷ []))) out.old.items out.new.items)
         (ReadyItem exchange.now scale mode listed value.now → ⊥)) }
 {
-    let Some(id) = reference_of(value) else {
+    let Some(id) = value.reference() else {
         return Ok(true);
     };
-    let Some(item) = look(exchange, id) else {
+    let Some(item) = exchange.look(id) else {
         return Ok(true);
     };
-    if is_mapped_item(item) {
-        let mapped = add_mapped(alloc, exchange, sets, item, scale, mode, out)?;
+    if is_mapped_item(&item) {
+        let mapped = add_mapped(alloc, exchange, sets, &item, scale, mode, out)?;
         return Ok(mapped);
     }
     let added = add_set(exchange, sets, value, out)?;
@@ -172,7 +171,7 @@ fn add_items(
     alloc: Global,
     exchange: &Exchange,
     sets: &Sets,
-    values: &[Value21],
+    values: &Values<'_>,
     scale: Scale,
     mode: Mode,
     out: &mut Vec<Triangle>,
@@ -183,8 +182,8 @@ fn add_items(
         (led_to exchange.now values.now)) out.old.items out.new.items)
         (All (ReadyItem exchange.now scale mode listed) values.now → ⊥)) }
 {
-    for value in values {
-        let added = add_item(alloc, exchange, sets, value, scale, mode, out)?;
+    for value in values.iter() {
+        let added = add_item(alloc, exchange, sets, &value, scale, mode, out)?;
         if !added {
             return Ok(false);
         }
@@ -208,14 +207,14 @@ fn bodies_triangles(
 {
     let mut own = Vec::new(alloc);
     for id in ids {
-        let Some(body) = look(exchange, *id) else {
+        let Some(body) = exchange.look(*id) else {
             return Ok(None);
         };
         let added = add_items(
             alloc,
             exchange,
             sets,
-            spelled_items(body),
+            &spelled_items(&body),
             scale,
             mode,
             &mut own,
@@ -233,7 +232,7 @@ pub fn own_triangles(
     exchange: &Exchange,
     shapes: &Shapes,
     sets: &Sets,
-    element: &Instance,
+    element: &InstanceRef<'_>,
     scale: Scale,
     mode: Mode,
 ) -> Result<Option<Vec<Triangle>>, AllocError>

@@ -4,16 +4,19 @@ ghost use Rattle.ifc_elements.specs.Texts.{text_at, name_of, IsRead, IsUnread};
 
 use bim_model::{Guid, Text};
 use bim_text::text_of;
-use ifc_instances::words_of;
-use p21_reader::Instance;
+use p21_reader::InstanceRef;
 use std::alloc::{AllocError, Global};
 
 /// The text that is the attribute of that number, from 0; none where there is no text.
-pub fn text_at(alloc: Global, instance: &Instance, at: usize) -> Result<Option<Text>, AllocError>
+pub fn text_at(
+    alloc: Global,
+    instance: &InstanceRef<'_>,
+    at: usize,
+) -> Result<Option<Text>, AllocError>
     ensures { IfOk result (λ text. text ≡ text_at instance.now at) }
 {
-    match instance.values.as_slice().get(at) {
-        Some(value) => match words_of(value) {
+    match instance.attribute(at) {
+        Some(value) => match value.words() {
             Some(spelled) => Ok(Some(text_of(alloc, spelled)?)),
             None => Ok(None),
         },
@@ -22,7 +25,7 @@ pub fn text_at(alloc: Global, instance: &Instance, at: usize) -> Result<Option<T
 }
 
 /// The name of an instance; empty where none is given.
-pub fn name_of(alloc: Global, instance: &Instance) -> Result<Text, AllocError>
+pub fn name_of(alloc: Global, instance: &InstanceRef<'_>) -> Result<Text, AllocError>
     ensures { IfOk result (λ name. name ≡ name_of instance.now) }
 {
     match text_at(alloc, instance, 2)? {
@@ -32,7 +35,7 @@ pub fn name_of(alloc: Global, instance: &Instance) -> Result<Text, AllocError>
 }
 
 /// The global identifier of an instance; none where there is no text, or one that isn't an identifier.
-pub fn guid_of(alloc: Global, instance: &Instance) -> Result<Option<Guid>, AllocError>
+pub fn guid_of(alloc: Global, instance: &InstanceRef<'_>) -> Result<Option<Guid>, AllocError>
     ensures { IfOk result (λ found. MatchOption found (IsUnread instance.now) (IsRead instance.now)) }
 {
     match text_at(alloc, instance, 0)? {

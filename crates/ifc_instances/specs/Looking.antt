@@ -1,13 +1,8 @@
--- What a reference leads to. A world is the list of a file's instances.
-use Rattle.std.specs.Prelude.{ℕ, ◌==◌, Bool, false, List, Option, Some, None, option_and_then}
-use Rattle.std.specs.List.{find}
+-- Of which entity an instance is.
+use Rattle.std.specs.Prelude.{ℕ, Bool, false, List, Option, Some, None, option_and_then}
 use Rattle.p21_reader.specs.declared.value.Instance.{Instance}
 use Rattle.ifc_instances.specs.declared.entity.Entity.{Entity}
 use Rattle.ifc_instances.specs.Entities.{entity_of, is_of}
-
--- the instance of that number
-unfoldable pub look : List Instance → ℕ → Option Instance
-look world id = find (λ (i : Instance). i.id == id) world
 
 -- the entity of an instance
 abbrev pub entity_at : Instance → Option Entity

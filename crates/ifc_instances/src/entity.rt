@@ -4,6 +4,8 @@ ghost use Rattle.std.specs.List.{list_any};
 ghost use Rattle.std.specs.Str.{bytes_eq};
 ghost use Rattle.ifc_instances.specs.Entities.{is_of, entity_of, subjects};
 
+use p21_reader::{InstanceRef, Keyword};
+
 /// The entities whose attributes are followed (IFC4 ADD2 TC1).
 #[derive(Clone, Copy)]
 pub enum Entity {
@@ -109,14 +111,14 @@ const SUBJECTS: [&str; 55] = [
     "IFCSANITARYTERMINAL",
 ];
 
-fn is_any(keyword: &str, words: &[&str]) -> bool
+fn is_any(keyword: &Keyword<'_>, words: &[&str]) -> bool
     ensures { result ≡ list_any (λ w. bytes_eq keyword.now w.now) words.now }
 {
-    words.iter().any(|word| keyword == *word)
+    words.iter().any(|word| keyword.is(word))
 }
 
 #[tactic(auto, unfolding(crate::specs::Entities::subjects))]
-fn is_subject(keyword: &str) -> bool
+fn is_subject(keyword: &Keyword<'_>) -> bool
     ensures { result ≡ list_any (bytes_eq keyword.now) subjects }
 {
     is_any(keyword, &SUBJECTS)
@@ -147,41 +149,64 @@ const ALL: [Entity; 21] = [
 ];
 
 impl Entity {
-    /// Whether a keyword, in upper case, is one of this entity's.
+    ghost use Rattle.std.specs.Prelude.{◌≡◌};
+    ghost use Rattle.ifc_instances.specs.Looking.{entity_at, is_a};
+
+    /// Whether a keyword is one of this entity's.
     #[tactic(auto, unfolding(crate::specs::Entities::is_of))]
-    pub fn is(self, keyword: &str) -> bool
+    pub fn is(self, keyword: &Keyword<'_>) -> bool
         ensures { result ≡ is_of self keyword.now }
     {
         match self {
-            Entity::Project => keyword == "IFCPROJECT",
-            Entity::UnitAssignment => keyword == "IFCUNITASSIGNMENT",
-            Entity::SiUnit => keyword == "IFCSIUNIT",
-            Entity::Storey => keyword == "IFCBUILDINGSTOREY",
-            Entity::Aggregates => keyword == "IFCRELAGGREGATES",
-            Entity::Containment => keyword == "IFCRELCONTAINEDINSPATIALSTRUCTURE",
-            Entity::ProductShape => keyword == "IFCPRODUCTDEFINITIONSHAPE",
-            Entity::Representation => keyword == "IFCSHAPEREPRESENTATION",
-            Entity::Placement => keyword == "IFCLOCALPLACEMENT",
-            Entity::AxisPlacement => keyword == "IFCAXIS2PLACEMENT3D",
-            Entity::Point => keyword == "IFCCARTESIANPOINT",
-            Entity::Direction => keyword == "IFCDIRECTION",
-            Entity::PointList => keyword == "IFCCARTESIANPOINTLIST3D",
-            Entity::TriangulatedFaceSet => keyword == "IFCTRIANGULATEDFACESET",
-            Entity::PolygonalFaceSet => keyword == "IFCPOLYGONALFACESET",
-            Entity::Face => keyword == "IFCINDEXEDPOLYGONALFACE",
-            Entity::FaceWithVoids => keyword == "IFCINDEXEDPOLYGONALFACEWITHVOIDS",
-            Entity::MappedItem => keyword == "IFCMAPPEDITEM",
-            Entity::RepresentationMap => keyword == "IFCREPRESENTATIONMAP",
-            Entity::Operator => keyword == "IFCCARTESIANTRANSFORMATIONOPERATOR3D",
+            Entity::Project => keyword.is("IFCPROJECT"),
+            Entity::UnitAssignment => keyword.is("IFCUNITASSIGNMENT"),
+            Entity::SiUnit => keyword.is("IFCSIUNIT"),
+            Entity::Storey => keyword.is("IFCBUILDINGSTOREY"),
+            Entity::Aggregates => keyword.is("IFCRELAGGREGATES"),
+            Entity::Containment => keyword.is("IFCRELCONTAINEDINSPATIALSTRUCTURE"),
+            Entity::ProductShape => keyword.is("IFCPRODUCTDEFINITIONSHAPE"),
+            Entity::Representation => keyword.is("IFCSHAPEREPRESENTATION"),
+            Entity::Placement => keyword.is("IFCLOCALPLACEMENT"),
+            Entity::AxisPlacement => keyword.is("IFCAXIS2PLACEMENT3D"),
+            Entity::Point => keyword.is("IFCCARTESIANPOINT"),
+            Entity::Direction => keyword.is("IFCDIRECTION"),
+            Entity::PointList => keyword.is("IFCCARTESIANPOINTLIST3D"),
+            Entity::TriangulatedFaceSet => keyword.is("IFCTRIANGULATEDFACESET"),
+            Entity::PolygonalFaceSet => keyword.is("IFCPOLYGONALFACESET"),
+            Entity::Face => keyword.is("IFCINDEXEDPOLYGONALFACE"),
+            Entity::FaceWithVoids => keyword.is("IFCINDEXEDPOLYGONALFACEWITHVOIDS"),
+            Entity::MappedItem => keyword.is("IFCMAPPEDITEM"),
+            Entity::RepresentationMap => keyword.is("IFCREPRESENTATIONMAP"),
+            Entity::Operator => keyword.is("IFCCARTESIANTRANSFORMATIONOPERATOR3D"),
             Entity::Subject => is_subject(keyword),
         }
     }
 
-    /// The entity of a keyword in upper case.
+    /// The entity of a keyword.
     #[tactic(auto, unfolding(crate::specs::Entities::entity_of))]
-    pub fn of(keyword: &str) -> Option<Entity>
+    pub fn of(keyword: &Keyword<'_>) -> Option<Entity>
         ensures { result ≡ entity_of keyword.now }
     {
         ALL.iter().copied().find(|entity| entity.is(keyword))
+    }
+
+    /// Whether an instance is of this entity.
+    pub fn includes(self, instance: &InstanceRef<'_>) -> bool
+        ensures { result ≡ is_a self instance.now }
+    {
+        match instance.keyword() {
+            Some(keyword) => self.is(&keyword),
+            None => false,
+        }
+    }
+
+    /// The entity of an instance.
+    pub fn at(instance: &InstanceRef<'_>) -> Option<Entity>
+        ensures { result ≡ entity_at instance.now }
+    {
+        match instance.keyword() {
+            Some(keyword) => Entity::of(&keyword),
+            None => None,
+        }
     }
 }

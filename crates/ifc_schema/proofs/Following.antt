@@ -4,7 +4,7 @@ use Rattle.std.specs.Bool.{OnTrue}
 use Rattle.std.specs.List.{slice_get}
 use Rattle.std.specs.List.Sorted.{IsNonDecreasingBy}
 use Rattle.std.proofs.lemmas.Bool.{eqb-false}
-use Rattle.std.proofs.lemmas.Option.{slice_get-get_or}
+use Rattle.std.proofs.lemmas.Option.{slice_get-get_or, get_or_from_slice_get}
 use Rattle.std.proofs.lemmas.List.{get_or_default, get_or_past, get_or-replicate, length-replicate}
 use Rattle.std.proofs.lemmas.List.Elements.{Contains-append_left, Contains-push_cases}
 use Rattle.p21_reader.specs.declared.value.Instance.{Instance}
@@ -23,12 +23,12 @@ use Rattle.ifc_schema.specs.declared.work.Mark.TheVariants.{Unseen, Used as Met,
 use Rattle.ifc_schema.specs.declared.work.Work.{Work}
 use Rattle.ifc_schema.specs.Used.{is_root, Used, root, named, mapped, IsMapped, Names, NamesBy, Maps}
 use Rattle.ifc_schema.specs.Table.{row_of, attribute, row_at, row_or_none}
-use Rattle.ifc_instances.specs.Looking.{look, entity_at}
-use Rattle.ifc_instances.specs.Places.{IsPlaceOf}
+use Rattle.p21_reader.specs.Looking.{look}
+use Rattle.ifc_instances.specs.Looking.{entity_at}
+use Rattle.p21_reader.specs.Places.{IsPlaceOf}
 use Rattle.ifc_schema.specs.Bodies.{applies}
 use Rattle.ifc_schema.specs.Marks.{rank, rank_at, mark_at, is_mapped, SoundAt, Grows, IsMarked, IsFollowed, FollowedAt, IsRootAt, Going}
-use Rattle.ifc_instances.proofs.PlaceLemmas.{rising, place_found, found_at, some_instance}
-use Rattle.ifc_schema.proofs.Growing.{marked_on}
+use Rattle.p21_reader.proofs.PlaceLemmas.{rising, place_found, found_at, some_instance}
 
 -- The instance at a place.
 
@@ -190,14 +190,14 @@ all_mapped world w g s r id h =
 
 -- The first of its number.
 
-pub first_there : (xs : List Instance) (at : ℕ) (d e : Instance) → 0 < at → at < length xs → Rises xs
-    → OnTrue (not (nat_eq (get_or xs (at - 1) d).id (get_or xs at e).id)) ((i : Instance) → IsPlaceOf xs (get_or xs at i).id at)
-first_there xs at d e some lt rises = by (nat_eq (get_or xs (at - 1) d).id (get_or xs at e).id) refl
+pub first_there : (xs : List Instance) (at : ℕ) (d e : Instance) (a b : ℕ) → 0 < at → at < length xs → Rises xs → slice_get xs (at - 1) ≡ Some d → slice_get xs at ≡ Some e → a ≡ d.id → b ≡ e.id
+    → OnTrue (not (nat_eq a b)) ((i : Instance) → IsPlaceOf xs (get_or xs at i).id at)
+first_there xs at d e a b some lt rises before here is_a is_b = by (nat_eq a b) refl
   where
     up : IsNonDecreasingBy (λ (i : Instance). i.id) xs
     up = rising xs rises
 
-    by : (b : Bool) → nat_eq (get_or xs (at - 1) d).id (get_or xs at e).id ≡ b → OnTrue (not b) ((i : Instance) → IsPlaceOf xs (get_or xs at i).id at)
+    by : (c : Bool) → nat_eq a b ≡ c → OnTrue (not c) ((i : Instance) → IsPlaceOf xs (get_or xs at i).id at)
     by true h = tt
     by false h = λ i. record {
       within = lt;
@@ -205,10 +205,11 @@ first_there xs at d e some lt rises = by (nat_eq (get_or xs (at - 1) d).id (get_
       first = λ k l c same.
           let x = up k (at - 1) c (omega arith) (omega arith) in
           let y = up (at - 1) at d (omega arith) lt in
-          let f1 = ap (λ (j : Instance). j.id) (get_or_default xs (at - 1) c d (omega arith)) in
-          let f2 = ap (λ (j : Instance). j.id) (get_or_default xs at i e lt) in
-          let f3 = ap (λ (j : Instance). j.id) (get_or_default xs at d e lt) in
-          eqb-false _ _ h (omega arith);
+          let f1 = ap (λ (j : Instance). j.id) (get_or_from_slice_get xs (at - 1) d c before) in
+          let f2 = ap (λ (j : Instance). j.id) (get_or_from_slice_get xs at e i here) in
+          let f3 = ap (λ (j : Instance). j.id) (get_or_from_slice_get xs at e d here) in
+          let f4 = ap (λ (j : Instance). j.id) (get_or_from_slice_get xs (at - 1) d d before) in
+          eqb-false a b h (omega arith);
     }
 
 -- the flag of a mark that is read at a place that has one

@@ -1,7 +1,7 @@
 -- How marks grow.
-use Rattle.std.proofs.Common.{◌≡◌, ◌≢◌, ℕ, ◌+◌, ◌-◌, ◌*◌, ◌<◌, ◌≤◌, ◌⊎◌, inl, inr, true, false, nat_lt, if◌then◌else◌, List, [], ◌∷◌, ◌++◌, length, get_or, set, Some, None, Contains, Any, refl, sym, ap, ◌∙◌, subst, arith, length-append}
+use Rattle.std.proofs.Common.{◌≡◌, ◌≢◌, ℕ, ◌+◌, ◌-◌, ◌*◌, ◌<◌, ◌≤◌, ◌⊎◌, inl, inr, true, false, nat_lt, if◌then◌else◌, List, [], ◌∷◌, ◌++◌, length, get_or, set, Some, Contains, Any, sym, ap, ◌∙◌, subst, arith, length-append}
 use Rattle.std.proofs.lemmas.Bool.Decides.{nat_tests}
-use Rattle.std.proofs.lemmas.List.{get_or-set_same, get_or-set_other, get_or_default, length-set}
+use Rattle.std.proofs.lemmas.List.{get_or-set_same, get_or-set_other, get_or_default, length-set, length_push}
 use Rattle.std.proofs.lemmas.List.Sums.{sum_by-set}
 use Rattle.std.proofs.lemmas.List.Elements.{Contains-append_left, Contains-push, Contains-push_cases}
 use Rattle.p21_reader.specs.declared.value.Instance.{Instance}
@@ -10,11 +10,10 @@ use Rattle.ifc_schema.specs.declared.work.Mark.{Mark}
 use Rattle.ifc_schema.specs.declared.work.Mark.TheVariants.{Unseen, Used as Met, Mapped}
 use Rattle.ifc_schema.specs.declared.work.Work.{Work}
 use Rattle.ifc_schema.specs.Forms.{holds}
-use Rattle.ifc_instances.specs.Looking.{look}
-use Rattle.ifc_instances.specs.Places.{IsPlaceOf}
+use Rattle.p21_reader.specs.Places.{IsPlaceOf}
 use Rattle.ifc_schema.specs.Used.{LeadsTo}
 use Rattle.ifc_schema.specs.Marks.{rank, rank_at, mark_at, SoundAt, Grows, IsMarked}
-use Rattle.ifc_instances.proofs.PlaceLemmas.{found_at, place_once}
+use Rattle.p21_reader.proofs.PlaceLemmas.{found_at, place_once}
 
 pub grows_trans : (world : List Instance) (a b c : Work) → Grows world a b → Grows world b c → Grows world a c
 grows_trans world a b c p q = record {
@@ -137,6 +136,11 @@ one_more D xs old new i x lt e on before here k l d = elim (last k i l) [
   where
     last : (k i : ℕ) → k < i + 1 → (k < i) ⊎ (k ≡ i)
     last k i l = grind arith
+
+-- one more element of a list whose first elements were given
+pub one_given : {X : Type 0} (D : Work → X → Type 0) (xs given : List X) (old new : Work) (x : X) → (length given < length xs) × (x ≡ get_or xs (length given) x) → ((y : X) → D old y → D new y)
+    → ((k : ℕ) → k < length given → (d : X) → D old (get_or xs k d)) → D new x → (k : ℕ) → k < length (given ++ x ∷ []) → (d : X) → D new (get_or xs k d)
+one_given D xs given old new x t on before here k l d = one_more D xs old new (length given) x t.0 t.1 on before here k (omega (arith, length_push given x)) d
 
 -- what holds of each element, where it holds of one that is meant
 pub any_of : {X : Type 0} (P : X → Type 0) (Q : Type 0) (xs : List X) (i : ℕ) → length xs ≤ i → ((k : ℕ) → k < i → (d : X) → P (get_or xs k d) → Q) → Any P xs → Q

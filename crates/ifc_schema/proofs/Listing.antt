@@ -10,15 +10,16 @@ use Rattle.ifc_schema.specs.declared.flaw.Flaw.{Flaw}
 use Rattle.ifc_schema.specs.declared.work.Mark.{Mark}
 use Rattle.ifc_schema.specs.declared.work.Mark.TheVariants.{Unseen, Used as Met, Mapped}
 use Rattle.ifc_schema.specs.declared.work.Work.{Work}
-use Rattle.ifc_instances.specs.Looking.{look, entity_at}
-use Rattle.ifc_instances.specs.Places.{IsPlaceOf}
+use Rattle.p21_reader.specs.Looking.{look}
+use Rattle.ifc_instances.specs.Looking.{entity_at}
+use Rattle.p21_reader.specs.Places.{IsPlaceOf}
 use Rattle.ifc_schema.specs.Used.{Used, root, named, mapped, IsMapped, is_root}
 use Rattle.ifc_schema.specs.Marks.{rank, rank_at, mark_at, is_seen, is_mapped, Known}
 use Rattle.ifc_schema.specs.Flaws.{InstanceFlaw}
 use Rattle.ifc_schema.specs.Surveys.{UsedFlaw, SurveyFault, IsModelElement, is_model_element, is_subject, Lists, fault_of}
 use Rattle.ifc_schema.specs.Steps.{FaultAt, CheckedAt, Checked, Below}
 use Rattle.ifc_schema.specs.Bodies.{has_body}
-use Rattle.ifc_instances.proofs.PlaceLemmas.{rising, place_found, some_instance}
+use Rattle.p21_reader.proofs.PlaceLemmas.{rising, place_found, some_instance}
 use Rattle.ifc_schema.proofs.Following.{look_there, number_once, mapped_rank, rank_mapped}
 use Rattle.bim_model.specs.declared.upload.UploadFault.{UploadFault}
 use Rattle.ifc_instances.specs.declared.entity.Entity.{Entity}

@@ -7,7 +7,7 @@ use Rattle.bim_model.specs.declared.upload.UploadFault.{UploadFault}
 use Rattle.p21_reader.specs.declared.value.Value21.{Value21}
 use Rattle.p21_reader.specs.declared.value.Instance.{Instance}
 use Rattle.p21_reader.proofs.Strict.{trichotomy}
-use Rattle.ifc_instances.specs.Values.{number_of, words_of, reference_of, items_of, is_enumeration}
+use Rattle.p21_reader.specs.Values.{number_of, words_of, reference_of, items_of, is_enumeration}
 use Rattle.ifc_instances.specs.Looking.{some_passes}
 use Rattle.ifc_schema.specs.declared.flaw.Flaw.{Flaw}
 use Rattle.ifc_schema.specs.declared.flaw.Flaw.TheVariants.{Dangling, BadShape}

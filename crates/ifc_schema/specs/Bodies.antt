@@ -1,6 +1,6 @@
 -- Which elements have a body: one of the shape representations of their shape has the identifier `Body`. Only values are looked at, also of
 -- instances that lack their own form (IFC4 ADD2 TC1, IfcProduct, IfcProductDefinitionShape, IfcShapeRepresentation).
-use Rattle.std.specs.Prelude.{◌&&◌, ◌||◌, Bool, true, false, List, map, Option, Some, None, option_and_then}
+use Rattle.std.specs.Prelude.{◌&&◌, ◌||◌, Bool, true, List, map, option_and_then}
 use Rattle.std.specs.List.{list_any, slice_get}
 use Rattle.p21_reader.specs.declared.value.Value21.{Value21}
 use Rattle.p21_reader.specs.declared.value.Instance.{Instance}
@@ -8,8 +8,9 @@ use Rattle.ifc_instances.specs.declared.entity.Entity.TheVariants.{ProductShape,
 use Rattle.ifc_schema.specs.declared.form.When.{When}
 use Rattle.ifc_schema.specs.declared.form.When.TheVariants.{Always, WithBody, WithItems}
 use Rattle.ifc_schema.specs.Words.{says_body}
-use Rattle.ifc_instances.specs.Values.{words_of, reference_of, items_of}
-use Rattle.ifc_instances.specs.Looking.{look, is_a, some_passes}
+use Rattle.p21_reader.specs.Values.{words_of, reference_of, items_of}
+use Rattle.p21_reader.specs.Looking.{look}
+use Rattle.ifc_instances.specs.Looking.{is_a, some_passes}
 
 -- the identifier of a representation is `Body`
 unfoldable pub is_body : Instance → Bool

@@ -16,8 +16,9 @@ use Rattle.ifc_schema.specs.declared.form.Shape.TheVariants as shape
 use Rattle.ifc_schema.specs.declared.form.Need.{Need}
 use Rattle.ifc_schema.specs.Words.{IsNumber, IsNoNumber, IsWhole, IsNotWhole, says_guid}
 use Rattle.ifc_schema.specs.Forms.{fits, holds, allows_absent, allows_missing}
-use Rattle.ifc_instances.specs.Values.{number_of, words_of, reference_of, items_of, is_enumeration, is_absent}
-use Rattle.ifc_instances.specs.Looking.{look, some_passes}
+use Rattle.p21_reader.specs.Values.{number_of, words_of, reference_of, items_of, is_enumeration, is_absent}
+use Rattle.p21_reader.specs.Looking.{look}
+use Rattle.ifc_instances.specs.Looking.{some_passes}
 use Rattle.ifc_schema.specs.Table.{row_at}
 use Rattle.ifc_schema.specs.Bodies.{applies}
 

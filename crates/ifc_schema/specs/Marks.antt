@@ -6,8 +6,9 @@ use Rattle.ifc_schema.specs.declared.work.Mark.{Mark}
 use Rattle.ifc_schema.specs.declared.work.Mark.TheVariants.{Unseen, Used as Met, Mapped}
 use Rattle.ifc_schema.specs.declared.work.Work.{Work}
 use Rattle.ifc_schema.specs.Used.{is_root, Used, IsMapped, Names, Maps}
-use Rattle.ifc_instances.specs.Looking.{look, entity_at}
-use Rattle.ifc_instances.specs.Places.{IsPlaceOf}
+use Rattle.p21_reader.specs.Looking.{look}
+use Rattle.ifc_instances.specs.Looking.{entity_at}
+use Rattle.p21_reader.specs.Places.{IsPlaceOf}
 
 -- how far an instance has been followed
 abbrev pub rank : Mark → ℕ

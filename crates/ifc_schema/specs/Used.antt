@@ -11,8 +11,9 @@ use Rattle.ifc_schema.specs.declared.form.Targets.TheVariants as targets
 use Rattle.ifc_schema.specs.declared.form.Shape.{Shape}
 use Rattle.ifc_schema.specs.declared.form.Shape.TheVariants as shape
 use Rattle.ifc_schema.specs.Forms.{holds, followed}
-use Rattle.ifc_instances.specs.Values.{reference_of, items_of}
-use Rattle.ifc_instances.specs.Looking.{look, entity_at}
+use Rattle.p21_reader.specs.Values.{reference_of, items_of}
+use Rattle.p21_reader.specs.Looking.{look}
+use Rattle.ifc_instances.specs.Looking.{entity_at}
 use Rattle.ifc_schema.specs.Table.{row_at}
 use Rattle.ifc_schema.specs.Bodies.{applies}
 

@@ -5,17 +5,17 @@ ghost use Rattle.ifc_schema.specs.Bodies.{is_body, is_body_representation, targe
 
 use crate::form::When;
 use crate::words::says_body;
-use ifc_instances::{Entity, is_a, items_of, place_of, reference_of, words_of};
-use p21_reader::{Exchange, Instance, Value21};
+use ifc_instances::Entity;
+use p21_reader::{Exchange, InstanceRef, ValueRef, Values};
 use std::alloc::{AllocError, Global};
 
 /// Whether the identifier of a representation is `Body`.
 #[tactic(auto, unfolding(crate::specs::Bodies::is_body))]
-pub fn is_body(instance: &Instance) -> bool
+pub fn is_body(instance: &InstanceRef<'_>) -> bool
     ensures { result ≡ is_body instance.now }
 {
-    match instance.values.as_slice().get(1) {
-        Some(value) => match words_of(value) {
+    match instance.attribute(1) {
+        Some(value) => match value.words() {
             Some(spelled) => says_body(spelled),
             None => false,
         },
@@ -24,31 +24,31 @@ pub fn is_body(instance: &Instance) -> bool
 }
 
 /// Whether it is a shape representation whose identifier is `Body`.
-pub fn is_body_representation(instance: &Instance) -> bool
+pub fn is_body_representation(instance: &InstanceRef<'_>) -> bool
     ensures { result ≡ is_body_representation instance.now }
 {
-    is_a(Entity::Representation, instance) && is_body(instance)
+    Entity::Representation.includes(instance) && is_body(instance)
 }
 
 /// Which instances are representations that are bodies, place by place.
 fn body_representations(alloc: Global, exchange: &Exchange) -> Result<Vec<bool>, AllocError>
     ensures { IfOk result (λ bits. bits.items ≡ map is_body_representation exchange.now) }
 {
-    let mut bits = Vec::with_capacity(alloc, exchange.instances().len())?;
-    for instance in exchange.instances() {
-        bits.push(is_body_representation(instance))?;
+    let mut bits = Vec::with_capacity(alloc, exchange.len())?;
+    for instance in exchange.iter() {
+        bits.push(is_body_representation(&instance))?;
     }
     Ok(bits)
 }
 
 /// Whether the instance that a value refers to passes a test. The test's answers are given, place by place.
-fn target_passes(exchange: &Exchange, answers: &[bool], value: &Value21) -> bool
+fn target_passes(exchange: &Exchange, answers: &[bool], value: &ValueRef<'_>) -> bool
     requires size { length answers.now ≡ length exchange.now }
     ensures { (test : Instance → Bool) → answers.now ≡ map test exchange.now
         → result ≡ target_passes exchange.now test value.now }
 {
-    match reference_of(value) {
-        Some(id) => match place_of(exchange, id) {
+    match value.reference() {
+        Some(id) => match exchange.place_of(id) {
             Some(at) => answers[at],
             None => false,
         },
@@ -56,12 +56,12 @@ fn target_passes(exchange: &Exchange, answers: &[bool], value: &Value21) -> bool
     }
 }
 
-fn lists_body(exchange: &Exchange, bodies: &[bool], items: &[Value21]) -> bool
+fn lists_body(exchange: &Exchange, bodies: &[bool], items: &Values<'_>) -> bool
     requires bodies { bodies.now ≡ map is_body_representation exchange.now }
     ensures { result ≡ lists_body exchange.now items.now }
 {
-    for item in items {
-        if target_passes(exchange, bodies, item) {
+    for item in items.iter() {
+        if target_passes(exchange, bodies, &item) {
             return true;
         }
     }
@@ -69,16 +69,16 @@ fn lists_body(exchange: &Exchange, bodies: &[bool], items: &[Value21]) -> bool
 }
 
 #[tactic(auto, unfolding(crate::specs::Bodies::is_body_shape))]
-fn is_body_shape(exchange: &Exchange, bodies: &[bool], shape: &Instance) -> bool
+fn is_body_shape(exchange: &Exchange, bodies: &[bool], shape: &InstanceRef<'_>) -> bool
     requires bodies { bodies.now ≡ map is_body_representation exchange.now }
     ensures { result ≡ is_body_shape exchange.now shape.now }
 {
-    if !is_a(Entity::ProductShape, shape) {
+    if !Entity::ProductShape.includes(shape) {
         return false;
     }
-    match shape.values.as_slice().get(2) {
-        Some(value) => match items_of(value) {
-            Some(items) => lists_body(exchange, bodies, items),
+    match shape.attribute(2) {
+        Some(value) => match value.items() {
+            Some(items) => lists_body(exchange, bodies, &items),
             None => false,
         },
         None => false,
@@ -90,27 +90,27 @@ pub fn body_shapes(alloc: Global, exchange: &Exchange) -> Result<Vec<bool>, Allo
     ensures { IfOk result (λ bits. bits.items ≡ body_shapes exchange.now) }
 {
     let bodies = body_representations(alloc, exchange)?;
-    let mut bits = Vec::with_capacity(alloc, exchange.instances().len())?;
-    for instance in exchange.instances() {
-        bits.push(is_body_shape(exchange, &bodies, instance))?;
+    let mut bits = Vec::with_capacity(alloc, exchange.len())?;
+    for instance in exchange.iter() {
+        bits.push(is_body_shape(exchange, &bodies, &instance))?;
     }
     Ok(bits)
 }
 
 /// Whether an element has a body: one of the representations of its shape has the identifier `Body`.
 #[tactic(auto, unfolding(crate::specs::Bodies::has_body))]
-pub fn has_body(exchange: &Exchange, bodied: &[bool], element: &Instance) -> bool
+pub fn has_body(exchange: &Exchange, bodied: &[bool], element: &InstanceRef<'_>) -> bool
     requires bodied { bodied.now ≡ body_shapes exchange.now }
     ensures { result ≡ has_body exchange.now element.now }
 {
-    match element.values.as_slice().get(6) {
-        Some(value) => target_passes(exchange, bodied, value),
+    match element.attribute(6) {
+        Some(value) => target_passes(exchange, bodied, &value),
         None => false,
     }
 }
 
 /// Whether an attribute is followed in this instance; whether it has a body and is mapped is given.
-pub fn applies(bodied: bool, mapped: bool, instance: &Instance, when: When) -> bool
+pub fn applies(bodied: bool, mapped: bool, instance: &InstanceRef<'_>, when: When) -> bool
     ensures { (world : List Instance) → bodied ≡ has_body world instance.now
         → result ≡ applies world mapped instance.now when }
 {

@@ -1,6 +1,7 @@
 //! The survey of a file: whether all that is used has the form of its row.
 ghost use Rattle.std.specs.Prelude.{◌≡◌, ◌+◌, ◌<◌, ℕ, length, IfOk, IfErr, OnOk};
-ghost use Rattle.ifc_instances.specs.Places.{IsPlaceOf};
+ghost use Rattle.p21_reader.specs.Places.{IsPlaceOf};
+ghost use Rattle.p21_reader.specs.Uploads.{Rises};
 ghost use Rattle.ifc_schema.specs.Used.{Used, IsMapped};
 ghost use Rattle.ifc_schema.specs.Bodies.{body_shapes};
 ghost use Rattle.ifc_schema.specs.Marks.{Known, rank_at};
@@ -13,8 +14,8 @@ use crate::outcome::Survey;
 use crate::visit::mark_used;
 use crate::work::Work;
 use bim_model::{BuildError, UploadFault};
-use ifc_instances::{Entity, entity_at};
-use p21_reader::{Exchange, Instance};
+use ifc_instances::Entity;
+use p21_reader::{Exchange, InstanceRef};
 use std::alloc::{AllocError, Global};
 
 /// The fault of an instance that has this flaw.
@@ -35,9 +36,9 @@ fn flaw_at(exchange: &Exchange, bodied: &[bool], work: &Work, at: usize) -> Opti
     ensures { (id : ℕ) → IsPlaceOf exchange.now id at → UsedFlaw exchange.now id result }
 {
     let mapped = work.marks[at].is_mapped();
-    let instance = &exchange.instances()[at];
-    let bodied = has_body(exchange, bodied, instance);
-    instance_flaw(exchange, bodied, mapped, instance)
+    let instance = exchange.instance(at);
+    let bodied = has_body(exchange, bodied, &instance);
+    instance_flaw(exchange, bodied, mapped, &instance)
 }
 
 /// The fault of the instance at a place, where it is used.
@@ -53,7 +54,7 @@ fn fault_at(exchange: &Exchange, bodied: &[bool], work: &Work, at: usize) -> Opt
     let flaw = flaw_at(exchange, bodied, work, at);
     match flaw {
         Some(flaw) => {
-            let fault = fault_of(exchange.instances()[at].id, flaw);
+            let fault = fault_of(exchange.instance(at).id(), flaw);
             Some(fault)
         }
         None => None,
@@ -66,7 +67,8 @@ fn least_fault(exchange: &Exchange, bodied: &[bool], work: &Work) -> Option<Uplo
     requires bodied { bodied.now ≡ body_shapes exchange.now }
     ensures { Checked exchange.now result }
 {
-    for at in 0..exchange.instances().len() {
+    let instances = exchange.iter();
+    for at in 0..instances.len() {
         let fault = fault_at(exchange, bodied, work, at);
         if fault.is_some() {
             return fault;
@@ -84,13 +86,14 @@ fn push_used(
 ) -> Result<(), AllocError>
     requires known { Known exchange.now work.now }
     requires within { at < length exchange.now }
+    requires rises { Rises exchange.now }
     requires ids { Lists (Below exchange.now at (Used exchange.now)) ids.old.items }
     ensures { OnOk result (Lists (Below exchange.now (at + 1) (Used exchange.now)) ids.new.items) }
 {
     if !work.marks[at].is_seen() {
         return Ok(());
     }
-    let id = exchange.instances()[at].id;
+    let id = exchange.instance(at).id();
     ids.push(id)?;
     Ok(())
 }
@@ -101,7 +104,8 @@ fn list_used(alloc: Global, exchange: &Exchange, work: &Work) -> Result<Vec<u64>
     ensures { IfOk result (λ ids. Lists (Used exchange.now) ids.items) }
 {
     let mut ids = Vec::new(alloc);
-    for at in 0..exchange.instances().len() {
+    let instances = exchange.iter();
+    for at in 0..instances.len() {
         push_used(exchange, work, at, &mut ids)?;
     }
     Ok(ids)
@@ -116,13 +120,14 @@ fn push_mapped(
 ) -> Result<(), AllocError>
     requires known { Known exchange.now work.now }
     requires within { at < length exchange.now }
+    requires rises { Rises exchange.now }
     requires ids { Lists (Below exchange.now at (IsMapped exchange.now)) ids.old.items }
     ensures { OnOk result (Lists (Below exchange.now (at + 1) (IsMapped exchange.now)) ids.new.items) }
 {
     if !work.marks[at].is_mapped() {
         return Ok(());
     }
-    let id = exchange.instances()[at].id;
+    let id = exchange.instance(at).id();
     ids.push(id)?;
     Ok(())
 }
@@ -133,18 +138,19 @@ fn list_mapped(alloc: Global, exchange: &Exchange, work: &Work) -> Result<Vec<u6
     ensures { IfOk result (λ ids. Lists (IsMapped exchange.now) ids.items) }
 {
     let mut ids = Vec::new(alloc);
-    for at in 0..exchange.instances().len() {
+    let instances = exchange.iter();
+    for at in 0..instances.len() {
         push_mapped(exchange, work, at, &mut ids)?;
     }
     Ok(ids)
 }
 
 /// Whether it is an element that has a body.
-fn is_model_element(exchange: &Exchange, bodied: &[bool], instance: &Instance) -> bool
+fn is_model_element(exchange: &Exchange, bodied: &[bool], instance: &InstanceRef<'_>) -> bool
     requires bodied { bodied.now ≡ body_shapes exchange.now }
     ensures { result ≡ is_model_element exchange.now instance.now }
 {
-    match entity_at(instance) {
+    match Entity::at(instance) {
         Some(Entity::Subject) => has_body(exchange, bodied, instance),
         _ => false,
     }
@@ -160,6 +166,7 @@ fn push_element(
 ) -> Result<(), AllocError>
     requires known { Known exchange.now work.now }
     requires within { at < length exchange.now }
+    requires rises { Rises exchange.now }
     requires bodied { bodied.now ≡ body_shapes exchange.now }
     requires ids { Lists (Below exchange.now at (IsModelElement exchange.now)) ids.old.items }
     ensures { OnOk result (Lists (Below exchange.now (at + 1) (IsModelElement exchange.now)) ids.new.items) }
@@ -167,10 +174,10 @@ fn push_element(
     if !work.marks[at].is_seen() {
         return Ok(());
     }
-    if !is_model_element(exchange, bodied, &exchange.instances()[at]) {
+    if !is_model_element(exchange, bodied, &exchange.instance(at)) {
         return Ok(());
     }
-    let id = exchange.instances()[at].id;
+    let id = exchange.instance(at).id();
     ids.push(id)?;
     Ok(())
 }
@@ -187,7 +194,8 @@ fn list_elements(
     ensures { IfOk result (λ ids. Lists (IsModelElement exchange.now) ids.items) }
 {
     let mut ids = Vec::new(alloc);
-    for at in 0..exchange.instances().len() {
+    let instances = exchange.iter();
+    for at in 0..instances.len() {
         push_element(exchange, bodied, work, at, &mut ids)?;
     }
     Ok(ids)

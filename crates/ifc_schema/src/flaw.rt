@@ -19,14 +19,13 @@ ghost use Rattle.ifc_schema.specs.Flaws.{
 ghost use Rattle.ifc_schema.specs.Words.{says_guid};
 ghost use Rattle.ifc_instances.specs.Looking.{some_passes};
 ghost use Rattle.ifc_schema.specs.Bodies.{has_body};
-ghost use Rattle.ifc_instances.specs.Values.{words_of, reference_of};
+ghost use Rattle.p21_reader.specs.Values.{words_of, reference_of};
 
 use crate::body::applies;
 use crate::form::{Attribute, Count, Leaf, Shape, Targets};
 use crate::table::row_at;
 use crate::words::{is_number, is_whole, says_guid};
-use ifc_instances::{is_absent, is_enumeration, items_of, look, number_of, reference_of, words_of};
-use p21_reader::{Exchange, Instance, Value21};
+use p21_reader::{Exchange, InstanceRef, ValueRef, Values};
 
 /// What is wrong with an instance that lacks the form of its row.
 #[derive(Clone, Copy)]
@@ -43,50 +42,50 @@ fn bad_unless(good: bool) -> Option<Flaw>
     if good { None } else { Some(Flaw::BadShape) }
 }
 
-fn number_flaw(exchange: &Exchange, value: &Value21) -> Option<Flaw>
+fn number_flaw(exchange: &Exchange, value: &ValueRef<'_>) -> Option<Flaw>
     ensures { LeafFlaw exchange.now Leaf.Number value.now result }
 {
-    match number_of(value) {
+    match value.number() {
         Some(bytes) => bad_unless(is_number(bytes)),
         None => Some(Flaw::BadShape),
     }
 }
 
-fn whole_flaw(exchange: &Exchange, value: &Value21) -> Option<Flaw>
+fn whole_flaw(exchange: &Exchange, value: &ValueRef<'_>) -> Option<Flaw>
     ensures { LeafFlaw exchange.now Leaf.Whole value.now result }
 {
-    match number_of(value) {
+    match value.number() {
         Some(bytes) => bad_unless(is_whole(bytes)),
         None => Some(Flaw::BadShape),
     }
 }
 
-fn identifier_flaw(value: &Value21) -> Option<Flaw>
+fn identifier_flaw(value: &ValueRef<'_>) -> Option<Flaw>
     ensures { result ≡ bad_unless (some_passes says_guid (words_of value.now)) }
 {
-    match words_of(value) {
+    match value.words() {
         Some(spelled) => bad_unless(says_guid(spelled)),
         None => Some(Flaw::BadShape),
     }
 }
 
-fn wanted_flaw(exchange: &Exchange, wanted: Targets, value: &Value21) -> Option<Flaw>
+fn wanted_flaw(exchange: &Exchange, wanted: Targets, value: &ValueRef<'_>) -> Option<Flaw>
     ensures { result ≡ reference_flaw (wanted_flaw wanted exchange.now) (reference_of value.now) }
 {
-    match reference_of(value) {
-        Some(to) => match look(exchange, to) {
-            Some(instance) => bad_unless(wanted.holds(&instance.keyword)),
+    match value.reference() {
+        Some(to) => match exchange.look(to) {
+            Some(instance) => bad_unless(wanted.holds(&instance.keyword())),
             None => Some(Flaw::Dangling(to)),
         },
         None => Some(Flaw::BadShape),
     }
 }
 
-fn any_flaw(exchange: &Exchange, value: &Value21) -> Option<Flaw>
+fn any_flaw(exchange: &Exchange, value: &ValueRef<'_>) -> Option<Flaw>
     ensures { result ≡ reference_flaw (any_flaw exchange.now) (reference_of value.now) }
 {
-    match reference_of(value) {
-        Some(to) => match look(exchange, to) {
+    match value.reference() {
+        Some(to) => match exchange.look(to) {
             Some(_) => None,
             None => Some(Flaw::Dangling(to)),
         },
@@ -95,25 +94,25 @@ fn any_flaw(exchange: &Exchange, value: &Value21) -> Option<Flaw>
 }
 
 /// What is wrong with a value where this leaf is wanted.
-fn leaf_flaw(exchange: &Exchange, leaf: Leaf, value: &Value21) -> Option<Flaw>
+fn leaf_flaw(exchange: &Exchange, leaf: Leaf, value: &ValueRef<'_>) -> Option<Flaw>
     ensures { LeafFlaw exchange.now leaf value.now result }
 {
     match leaf {
         Leaf::Number => number_flaw(exchange, value),
         Leaf::Whole => whole_flaw(exchange, value),
-        Leaf::Text => bad_unless(words_of(value).is_some()),
-        Leaf::Enumeration => bad_unless(is_enumeration(value)),
+        Leaf::Text => bad_unless(value.words().is_some()),
+        Leaf::Enumeration => bad_unless(value.is_enumeration()),
         Leaf::Reference(wanted) => wanted_flaw(exchange, wanted, value),
         Leaf::AnyReference(_) => any_flaw(exchange, value),
         Leaf::Anything => None,
     }
 }
 
-fn leaves_flaw(exchange: &Exchange, leaf: Leaf, items: &[Value21]) -> Option<Flaw>
+fn leaves_flaw(exchange: &Exchange, leaf: Leaf, items: &Values<'_>) -> Option<Flaw>
     ensures { FirstFlaw (LeafFlaw exchange.now leaf) items.now result }
 {
-    for item in items {
-        let flaw = leaf_flaw(exchange, leaf, item);
+    for item in items.iter() {
+        let flaw = leaf_flaw(exchange, leaf, &item);
         if flaw.is_some() {
             return flaw;
         }
@@ -122,13 +121,13 @@ fn leaves_flaw(exchange: &Exchange, leaf: Leaf, items: &[Value21]) -> Option<Fla
 }
 
 /// What is wrong with a list of leaves.
-fn list_flaw(exchange: &Exchange, leaf: Leaf, count: Count, value: &Value21) -> Option<Flaw>
+fn list_flaw(exchange: &Exchange, leaf: Leaf, count: Count, value: &ValueRef<'_>) -> Option<Flaw>
     ensures { ListFlaw count (LeafFlaw exchange.now leaf) value.now result }
 {
-    match items_of(value) {
+    match value.items() {
         Some(items) => {
             if count.fits(items.len()) {
-                leaves_flaw(exchange, leaf, items)
+                leaves_flaw(exchange, leaf, &items)
             } else {
                 Some(Flaw::BadShape)
             }
@@ -137,11 +136,11 @@ fn list_flaw(exchange: &Exchange, leaf: Leaf, count: Count, value: &Value21) -> 
     }
 }
 
-fn lists_flaw(exchange: &Exchange, leaf: Leaf, inner: Count, rows: &[Value21]) -> Option<Flaw>
+fn lists_flaw(exchange: &Exchange, leaf: Leaf, inner: Count, rows: &Values<'_>) -> Option<Flaw>
     ensures { FirstFlaw (ListFlaw inner (LeafFlaw exchange.now leaf)) rows.now result }
 {
-    for row in rows {
-        let flaw = list_flaw(exchange, leaf, inner, row);
+    for row in rows.iter() {
+        let flaw = list_flaw(exchange, leaf, inner, &row);
         if flaw.is_some() {
             return flaw;
         }
@@ -155,14 +154,14 @@ fn table_flaw(
     leaf: Leaf,
     outer: Count,
     inner: Count,
-    value: &Value21,
+    value: &ValueRef<'_>,
 ) -> Option<Flaw>
     ensures { ListFlaw outer (ListFlaw inner (LeafFlaw exchange.now leaf)) value.now result }
 {
-    match items_of(value) {
+    match value.items() {
         Some(rows) => {
             if outer.fits(rows.len()) {
-                lists_flaw(exchange, leaf, inner, rows)
+                lists_flaw(exchange, leaf, inner, &rows)
             } else {
                 Some(Flaw::BadShape)
             }
@@ -171,7 +170,7 @@ fn table_flaw(
     }
 }
 
-fn shape_flaw(exchange: &Exchange, leaf: Leaf, shape: Shape, value: &Value21) -> Option<Flaw>
+fn shape_flaw(exchange: &Exchange, leaf: Leaf, shape: Shape, value: &ValueRef<'_>) -> Option<Flaw>
     ensures { ShapeFlaw exchange.now leaf shape value.now result }
 {
     match shape {
@@ -182,10 +181,10 @@ fn shape_flaw(exchange: &Exchange, leaf: Leaf, shape: Shape, value: &Value21) ->
     }
 }
 
-fn value_flaw(exchange: &Exchange, attribute: Attribute, value: &Value21) -> Option<Flaw>
+fn value_flaw(exchange: &Exchange, attribute: Attribute, value: &ValueRef<'_>) -> Option<Flaw>
     ensures { ValueFlaw exchange.now attribute value.now result }
 {
-    if attribute.need.allows_absent() && is_absent(value) {
+    if attribute.need.allows_absent() && value.is_absent() {
         None
     } else {
         shape_flaw(exchange, attribute.leaf, attribute.shape, value)
@@ -197,7 +196,7 @@ fn attribute_flaw(
     exchange: &Exchange,
     bodied: bool,
     mapped: bool,
-    instance: &Instance,
+    instance: &InstanceRef<'_>,
     attribute: Attribute,
 ) -> Option<Flaw>
     requires bodied { bodied ≡ has_body exchange.now instance.now }
@@ -206,8 +205,8 @@ fn attribute_flaw(
     if !applies(bodied, mapped, instance, attribute.when) {
         return None;
     }
-    match instance.values.as_slice().get(attribute.at) {
-        Some(value) => value_flaw(exchange, attribute, value),
+    match instance.attribute(attribute.at) {
+        Some(value) => value_flaw(exchange, attribute, &value),
         None => bad_unless(attribute.need.allows_missing()),
     }
 }
@@ -217,7 +216,7 @@ pub fn instance_flaw(
     exchange: &Exchange,
     bodied: bool,
     mapped: bool,
-    instance: &Instance,
+    instance: &InstanceRef<'_>,
 ) -> Option<Flaw>
     requires bodied { bodied ≡ has_body exchange.now instance.now }
     ensures { InstanceFlaw exchange.now mapped instance.now result }

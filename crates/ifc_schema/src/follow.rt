@@ -1,6 +1,6 @@
 //! Rows are followed: what they name is marked.
 ghost use Rattle.std.specs.Prelude.{◌≡◌, ◌≤◌, ℕ, length, OnOk, Any};
-ghost use Rattle.ifc_instances.specs.Places.{IsPlaceOf};
+ghost use Rattle.p21_reader.specs.Places.{IsPlaceOf};
 ghost use Rattle.ifc_schema.specs.Used.{Used, IsMapped, RefersTo, SomeItem, StandsIn, LeadsTo, NamesBy, Maps};
 ghost use Rattle.ifc_schema.specs.Bodies.{has_body};
 ghost use Rattle.ifc_schema.specs.Marks.{Grows, IsMarked, SoundAt, rank, rank_at};
@@ -8,8 +8,8 @@ ghost use Rattle.ifc_schema.specs.Marks.{Grows, IsMarked, SoundAt, rank, rank_at
 use crate::body::applies;
 use crate::form::{Attribute, Shape, Targets};
 use crate::work::{Mark, Work};
-use ifc_instances::{Entity, entity_at, items_of, place_of, reference_of};
-use p21_reader::{Exchange, Instance, Value21};
+use ifc_instances::Entity;
+use p21_reader::{Exchange, InstanceRef, ValueRef, Values};
 use std::alloc::AllocError;
 
 /// Gives an instance this mark, or leaves it a higher one, where it is of one of these entities.
@@ -27,9 +27,9 @@ fn mark_target(
     ensures marked { OnOk result (LeadsTo exchange.now targets to → (at : ℕ) → IsPlaceOf exchange.now to at
         → rank mark ≤ rank_at work.new at) }
 {
-    match place_of(exchange, to) {
+    match exchange.place_of(to) {
         Some(at) => {
-            if targets.holds(&exchange.instances()[at].keyword) {
+            if targets.holds(&exchange.instance(at).keyword()) {
                 work.raise(at, mark)
             } else {
                 Ok(())
@@ -42,7 +42,7 @@ fn mark_target(
 fn follow_value(
     exchange: &Exchange,
     targets: Targets,
-    value: &Value21,
+    value: &ValueRef<'_>,
     work: &mut Work,
 ) -> Result<(), AllocError>
     requires size { length work.old.marks.items ≡ length exchange.now }
@@ -52,7 +52,7 @@ fn follow_value(
     ensures marked { OnOk result ((to : ℕ) → RefersTo to value.now → LeadsTo exchange.now targets to
         → IsMarked exchange.now work.new 0 to) }
 {
-    match reference_of(value) {
+    match value.reference() {
         Some(to) => mark_target(exchange, targets, to, Mark::Used, work),
         None => Ok(()),
     }
@@ -61,7 +61,7 @@ fn follow_value(
 fn follow_items(
     exchange: &Exchange,
     targets: Targets,
-    items: &[Value21],
+    items: &Values<'_>,
     work: &mut Work,
 ) -> Result<(), AllocError>
     requires size { length work.old.marks.items ≡ length exchange.now }
@@ -71,8 +71,8 @@ fn follow_items(
     ensures marked { OnOk result ((to : ℕ) → Any (RefersTo to) items.now → LeadsTo exchange.now targets to
         → IsMarked exchange.now work.new 0 to) }
 {
-    for item in items {
-        follow_value(exchange, targets, item, work)?;
+    for item in items.iter() {
+        follow_value(exchange, targets, &item, work)?;
     }
     Ok(())
 }
@@ -80,7 +80,7 @@ fn follow_items(
 fn follow_list(
     exchange: &Exchange,
     targets: Targets,
-    value: &Value21,
+    value: &ValueRef<'_>,
     work: &mut Work,
 ) -> Result<(), AllocError>
     requires size { length work.old.marks.items ≡ length exchange.now }
@@ -90,8 +90,8 @@ fn follow_list(
     ensures marked { OnOk result ((to : ℕ) → SomeItem (RefersTo to) value.now
         → LeadsTo exchange.now targets to → IsMarked exchange.now work.new 0 to) }
 {
-    match items_of(value) {
-        Some(items) => follow_items(exchange, targets, items, work),
+    match value.items() {
+        Some(items) => follow_items(exchange, targets, &items, work),
         None => Ok(()),
     }
 }
@@ -99,7 +99,7 @@ fn follow_list(
 fn follow_rows(
     exchange: &Exchange,
     targets: Targets,
-    rows: &[Value21],
+    rows: &Values<'_>,
     work: &mut Work,
 ) -> Result<(), AllocError>
     requires size { length work.old.marks.items ≡ length exchange.now }
@@ -109,8 +109,8 @@ fn follow_rows(
     ensures marked { OnOk result ((to : ℕ) → Any (SomeItem (RefersTo to)) rows.now
         → LeadsTo exchange.now targets to → IsMarked exchange.now work.new 0 to) }
 {
-    for row in rows {
-        follow_list(exchange, targets, row, work)?;
+    for row in rows.iter() {
+        follow_list(exchange, targets, &row, work)?;
     }
     Ok(())
 }
@@ -118,7 +118,7 @@ fn follow_rows(
 fn follow_table(
     exchange: &Exchange,
     targets: Targets,
-    value: &Value21,
+    value: &ValueRef<'_>,
     work: &mut Work,
 ) -> Result<(), AllocError>
     requires size { length work.old.marks.items ≡ length exchange.now }
@@ -128,8 +128,8 @@ fn follow_table(
     ensures marked { OnOk result ((to : ℕ) → SomeItem (SomeItem (RefersTo to)) value.now
         → LeadsTo exchange.now targets to → IsMarked exchange.now work.new 0 to) }
 {
-    match items_of(value) {
-        Some(rows) => follow_rows(exchange, targets, rows, work),
+    match value.items() {
+        Some(rows) => follow_rows(exchange, targets, &rows, work),
         None => Ok(()),
     }
 }
@@ -139,7 +139,7 @@ fn follow_shape(
     exchange: &Exchange,
     targets: Targets,
     shape: Shape,
-    value: &Value21,
+    value: &ValueRef<'_>,
     work: &mut Work,
 ) -> Result<(), AllocError>
     requires size { length work.old.marks.items ≡ length exchange.now }
@@ -162,7 +162,7 @@ fn follow_attribute(
     exchange: &Exchange,
     bodied: bool,
     mapped: bool,
-    instance: &Instance,
+    instance: &InstanceRef<'_>,
     attribute: Attribute,
     work: &mut Work,
 ) -> Result<(), AllocError>
@@ -180,8 +180,8 @@ fn follow_attribute(
     if !applies(bodied, mapped, instance, attribute.when) {
         return Ok(());
     }
-    match instance.values.as_slice().get(attribute.at) {
-        Some(value) => follow_shape(exchange, targets, attribute.shape, value, work),
+    match instance.attribute(attribute.at) {
+        Some(value) => follow_shape(exchange, targets, attribute.shape, &value, work),
         None => Ok(()),
     }
 }
@@ -191,7 +191,7 @@ pub fn follow_attributes(
     exchange: &Exchange,
     bodied: bool,
     mapped: bool,
-    instance: &Instance,
+    instance: &InstanceRef<'_>,
     row: &[Attribute],
     work: &mut Work,
 ) -> Result<(), AllocError>
@@ -212,7 +212,7 @@ pub fn follow_attributes(
 /// Marks the representation that a representation map maps.
 pub fn follow_map(
     exchange: &Exchange,
-    instance: &Instance,
+    instance: &InstanceRef<'_>,
     work: &mut Work,
 ) -> Result<(), AllocError>
     requires size { length work.old.marks.items ≡ length exchange.now }
@@ -222,13 +222,13 @@ pub fn follow_map(
     ensures marked { OnOk result ((to : ℕ) → Maps exchange.now instance.now to
         → IsMarked exchange.now work.new 1 to) }
 {
-    let Some(Entity::RepresentationMap) = entity_at(instance) else {
+    let Some(Entity::RepresentationMap) = Entity::at(instance) else {
         return Ok(());
     };
-    let Some(value) = instance.values.as_slice().get(1) else {
+    let Some(value) = instance.attribute(1) else {
         return Ok(());
     };
-    let Some(to) = reference_of(value) else {
+    let Some(to) = value.reference() else {
         return Ok(());
     };
     mark_target(

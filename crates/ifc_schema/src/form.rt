@@ -2,8 +2,8 @@
 ghost use Rattle.std.specs.Prelude.{◌≡◌};
 ghost use Rattle.ifc_schema.specs.Forms.{is_nothing, holds, fits, followed, allows_absent, allows_missing};
 
-use bim_model::Text;
 use ifc_instances::Entity;
+use p21_reader::Keyword;
 
 /// The instances that a reference may lead to, by their entities.
 #[derive(Clone, Copy)]
@@ -92,13 +92,12 @@ impl Targets {
     }
 
     /// Whether an instance with this keyword is meant.
-    pub fn holds(self, keyword: &Option<Text>) -> bool
+    pub fn holds(self, keyword: &Option<Keyword<'_>>) -> bool
         ensures { result ≡ holds self keyword.now }
     {
         let Some(keyword) = keyword else {
             return false;
         };
-        let keyword = keyword.as_str();
         match self {
             Targets::Nothing => false,
             Targets::One(entity) => entity.is(keyword),

@@ -3,8 +3,8 @@ ghost use Rattle.std.specs.Prelude.{◌≡◌};
 ghost use Rattle.ifc_schema.specs.Table.{row_of, row_at};
 
 use crate::form::{Attribute, Count, Leaf, Need, Shape, Targets, When};
-use ifc_instances::{Entity, entity_at};
-use p21_reader::Instance;
+use ifc_instances::Entity;
+use p21_reader::InstanceRef;
 
 const PROJECT: [Attribute; 1] = [Attribute {
     at: 8,
@@ -392,10 +392,10 @@ pub fn row_of(entity: Entity) -> &'static [Attribute]
 }
 
 /// The attributes of an instance that are followed.
-pub fn row_at(instance: &Instance) -> &'static [Attribute]
+pub fn row_at(instance: &InstanceRef<'_>) -> &'static [Attribute]
     ensures { result.now ≡ row_at instance.now }
 {
-    match entity_at(instance) {
+    match Entity::at(instance) {
         Some(entity) => row_of(entity),
         None => &[],
     }

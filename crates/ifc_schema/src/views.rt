@@ -1,6 +1,6 @@
 //! Entities' attributes as the fields of views. A view is there exactly where the instance is of the entity and has the form of its row, and
 //! none takes memory.
-ghost use Rattle.std.specs.Prelude.{◌≡◌, ◌<◌, ◌⊎◌, false, Some, None, MatchOption, option_copied, length};
+ghost use Rattle.std.specs.Prelude.{◌≡◌, ◌<◌, ◌⊎◌, false, Some, None, MatchOption, length};
 ghost use Rattle.std.specs.List.{slice_get};
 ghost use Rattle.std.specs.Bool.{MatchBool};
 ghost use Rattle.p21_reader.specs.declared.value.Instance.{Instance};
@@ -25,137 +25,142 @@ ghost use Rattle.ifc_schema.specs.Views.{
 
 use crate::body::is_body_representation;
 use crate::flaw::instance_flaw;
-use ifc_instances::{Entity, attribute, entity_at, is_a, items_of, look, reference_of};
-use p21_reader::{Exchange, Instance, Value21};
+use ifc_instances::Entity;
+use p21_reader::{Exchange, InstanceRef, ValueRef, Values};
 
 /// An element.
-#[derive(Clone, Copy)]
+#[derive(Drop)]
 pub struct ElementView<'a> {
     /// `GlobalId`.
-    pub guid: &'a Value21,
+    pub guid: ValueRef<'a>,
     /// `Name`.
-    pub name: &'a Value21,
+    pub name: ValueRef<'a>,
     /// `ObjectPlacement`.
-    pub placement: &'a Value21,
+    pub placement: ValueRef<'a>,
     /// `Representation`.
-    pub shape: &'a Value21,
+    pub shape: ValueRef<'a>,
 }
 
 /// A placement.
-#[derive(Clone, Copy)]
+#[derive(Drop)]
 pub struct PlacementView<'a> {
     /// `PlacementRelTo`.
-    pub parent: &'a Value21,
+    pub parent: ValueRef<'a>,
     /// `RelativePlacement`.
-    pub relative: &'a Value21,
+    pub relative: ValueRef<'a>,
 }
 
 /// A point with axes.
-#[derive(Clone, Copy)]
+#[derive(Drop)]
 pub struct AxisView<'a> {
     /// `Location`.
-    pub location: &'a Value21,
+    pub location: ValueRef<'a>,
     /// `Axis`.
-    pub axis: &'a Value21,
+    pub axis: ValueRef<'a>,
     /// `RefDirection`.
-    pub ref_direction: &'a Value21,
+    pub ref_direction: ValueRef<'a>,
 }
 
 /// A transformation. What the instance has not is None.
-#[derive(Clone, Copy)]
+#[derive(Drop)]
 pub struct OperatorView<'a> {
     /// `Axis1`.
-    pub axis1: Option<&'a Value21>,
+    pub axis1: Option<ValueRef<'a>>,
     /// `Axis2`.
-    pub axis2: Option<&'a Value21>,
+    pub axis2: Option<ValueRef<'a>>,
     /// `LocalOrigin`.
-    pub origin: &'a Value21,
+    pub origin: ValueRef<'a>,
     /// `Scale`.
-    pub scale: Option<&'a Value21>,
+    pub scale: Option<ValueRef<'a>>,
     /// `Axis3`.
-    pub axis3: Option<&'a Value21>,
+    pub axis3: Option<ValueRef<'a>>,
 }
 
 /// A representation. What the instance has not is None.
-#[derive(Clone, Copy)]
+#[derive(Drop)]
 pub struct RepresentationView<'a> {
     /// `RepresentationIdentifier`.
-    pub identifier: &'a Value21,
+    pub identifier: ValueRef<'a>,
     /// `Items`.
-    pub items: Option<&'a Value21>,
+    pub items: Option<ValueRef<'a>>,
 }
 
 /// A face set of triangles or of polygons. What the instance has not is None.
-#[derive(Clone, Copy)]
+#[derive(Drop)]
 pub struct FacesetView<'a> {
     /// Whether its faces are polygons.
     pub polygonal: bool,
     /// `Coordinates`.
-    pub points: &'a Value21,
+    pub points: ValueRef<'a>,
     /// `CoordIndex`, or `Faces` where it is polygonal.
-    pub faces: &'a Value21,
+    pub faces: ValueRef<'a>,
     /// `PnIndex`.
-    pub pn_index: Option<&'a Value21>,
+    pub pn_index: Option<ValueRef<'a>>,
 }
 
 /// A polygonal face, with voids or without.
-#[derive(Clone, Copy)]
+#[derive(Drop)]
 pub struct FaceView<'a> {
     /// `CoordIndex`.
-    pub corners: &'a Value21,
+    pub corners: ValueRef<'a>,
     /// `InnerCoordIndices`, of a face with voids.
-    pub voids: Option<&'a Value21>,
+    pub voids: Option<ValueRef<'a>>,
 }
 
 /// A mapped item.
-#[derive(Clone, Copy)]
+#[derive(Drop)]
 pub struct MappedView<'a> {
     /// `MappingSource`.
-    pub source: &'a Value21,
+    pub source: ValueRef<'a>,
     /// `MappingTarget`.
-    pub target: &'a Value21,
+    pub target: ValueRef<'a>,
 }
 
-fn refers_to_body(exchange: &Exchange, value: &Value21) -> bool
+fn refers_to_body(exchange: &Exchange, value: &ValueRef<'_>) -> bool
     ensures { result ≡ target_passes exchange.now is_body_representation value.now }
 {
-    match reference_of(value) {
-        Some(id) => match look(exchange, id) {
-            Some(instance) => is_body_representation(instance),
+    match value.reference() {
+        Some(id) => match exchange.look(id) {
+            Some(instance) => is_body_representation(&instance),
             None => false,
         },
         None => false,
     }
 }
 
-fn lists_body(exchange: &Exchange, items: &[Value21]) -> bool
+fn lists_body(exchange: &Exchange, items: &Values<'_>) -> bool
     ensures { result ≡ lists_body exchange.now items.now }
 {
-    items.iter().any(|item| refers_to_body(exchange, item))
+    for item in items.iter() {
+        if refers_to_body(exchange, &item) {
+            return true;
+        }
+    }
+    false
 }
 
 #[tactic(auto, unfolding(crate::specs::Bodies::is_body_shape))]
-fn is_body_shape(exchange: &Exchange, shape: &Instance) -> bool
+fn is_body_shape(exchange: &Exchange, shape: &InstanceRef<'_>) -> bool
     ensures { result ≡ is_body_shape exchange.now shape.now }
 {
-    if !is_a(Entity::ProductShape, shape) {
+    if !Entity::ProductShape.includes(shape) {
         return false;
     }
-    match shape.values.as_slice().get(2) {
-        Some(value) => match items_of(value) {
-            Some(items) => lists_body(exchange, items),
+    match shape.attribute(2) {
+        Some(value) => match value.items() {
+            Some(items) => lists_body(exchange, &items),
             None => false,
         },
         None => false,
     }
 }
 
-fn refers_to_body_shape(exchange: &Exchange, value: &Value21) -> bool
+fn refers_to_body_shape(exchange: &Exchange, value: &ValueRef<'_>) -> bool
     ensures { result ≡ target_passes exchange.now (is_body_shape exchange.now) value.now }
 {
-    match reference_of(value) {
-        Some(id) => match look(exchange, id) {
-            Some(shape) => is_body_shape(exchange, shape),
+    match value.reference() {
+        Some(id) => match exchange.look(id) {
+            Some(shape) => is_body_shape(exchange, &shape),
             None => false,
         },
         None => false,
@@ -164,18 +169,18 @@ fn refers_to_body_shape(exchange: &Exchange, value: &Value21) -> bool
 
 /// Whether an element has a body: its shape's representations are gone through.
 #[tactic(auto, unfolding(crate::specs::Bodies::has_body))]
-fn has_body(exchange: &Exchange, element: &Instance) -> bool
+fn has_body(exchange: &Exchange, element: &InstanceRef<'_>) -> bool
     ensures { result ≡ has_body exchange.now element.now }
 {
-    match element.values.as_slice().get(6) {
-        Some(value) => refers_to_body_shape(exchange, value),
+    match element.attribute(6) {
+        Some(value) => refers_to_body_shape(exchange, &value),
         None => false,
     }
 }
 
 /// Whether an instance has the form of its row; whether it is mapped is given.
 #[tactic(auto, using(crate::proofs::Apart::some_flaw))]
-fn has_form(exchange: &Exchange, mapped: bool, instance: &Instance) -> bool
+fn has_form(exchange: &Exchange, mapped: bool, instance: &InstanceRef<'_>) -> bool
     ensures { MatchBool result (InstanceFlaw exchange.now mapped instance.now None)
         (InstanceFlaw exchange.now mapped instance.now None → ⊥) }
 {
@@ -187,13 +192,13 @@ fn has_form(exchange: &Exchange, mapped: bool, instance: &Instance) -> bool
 }
 
 /// The instance of that number, where it has the form of its row.
-fn formed(exchange: &Exchange, mapped: bool, id: u64) -> Option<&Instance>
+fn formed(exchange: &Exchange, mapped: bool, id: u64) -> Option<InstanceRef<'_>>
     ensures { MatchOption result ((i : Instance) → HasForm exchange.now mapped id i → ⊥)
-        (λ i. HasForm exchange.now mapped id i.now) }
+        (HasForm exchange.now mapped id) }
 {
-    match look(exchange, id) {
+    match exchange.look(id) {
         Some(instance) => {
-            if has_form(exchange, mapped, instance) {
+            if has_form(exchange, mapped, &instance) {
                 Some(instance)
             } else {
                 None
@@ -204,12 +209,11 @@ fn formed(exchange: &Exchange, mapped: bool, id: u64) -> Option<&Instance>
 }
 
 /// An attribute that an instance has.
-fn present(instance: &Instance, at: usize) -> &Value21
+fn present<'a>(instance: &InstanceRef<'a>, at: usize) -> ValueRef<'a>
     requires { at < length instance.now.values }
-    ensures { slice_get instance.now.values at ≡ Some result.now }
+    ensures { slice_get instance.now.values at ≡ Some result }
 {
-    let values = instance.values.as_slice();
-    &values[at]
+    instance.attribute(at).unwrap()
 }
 
 /// An element, by its number.
@@ -218,13 +222,13 @@ pub fn element(exchange: &Exchange, id: u64) -> Option<ElementView<'_>>
         (λ v. Views exchange.now false Subject id (ElementFields v)) }
 {
     let instance = formed(exchange, false, id)?;
-    let Some(Entity::Subject) = entity_at(instance) else {
+    let Some(Entity::Subject) = Entity::at(&instance) else {
         return None;
     };
-    let guid = present(instance, 0);
-    let name = present(instance, 2);
-    let placement = present(instance, 5);
-    let shape = present(instance, 6);
+    let guid = present(&instance, 0);
+    let name = present(&instance, 2);
+    let placement = present(&instance, 5);
+    let shape = present(&instance, 6);
     Some(ElementView {
         guid,
         name,
@@ -239,11 +243,11 @@ pub fn placement(exchange: &Exchange, id: u64) -> Option<PlacementView<'_>>
         (λ v. Views exchange.now false Placement id (PlacementFields v)) }
 {
     let instance = formed(exchange, false, id)?;
-    let Some(Entity::Placement) = entity_at(instance) else {
+    let Some(Entity::Placement) = Entity::at(&instance) else {
         return None;
     };
-    let parent = present(instance, 0);
-    let relative = present(instance, 1);
+    let parent = present(&instance, 0);
+    let relative = present(&instance, 1);
     Some(PlacementView { parent, relative })
 }
 
@@ -253,12 +257,12 @@ pub fn axis_placement(exchange: &Exchange, id: u64) -> Option<AxisView<'_>>
         (λ v. Views exchange.now false AxisPlacement id (AxisFields v)) }
 {
     let instance = formed(exchange, false, id)?;
-    let Some(Entity::AxisPlacement) = entity_at(instance) else {
+    let Some(Entity::AxisPlacement) = Entity::at(&instance) else {
         return None;
     };
-    let location = present(instance, 0);
-    let axis = present(instance, 1);
-    let ref_direction = present(instance, 2);
+    let location = present(&instance, 0);
+    let axis = present(&instance, 1);
+    let ref_direction = present(&instance, 2);
     Some(AxisView {
         location,
         axis,
@@ -272,14 +276,14 @@ pub fn operator(exchange: &Exchange, id: u64) -> Option<OperatorView<'_>>
         (λ v. Views exchange.now false Operator id (OperatorFields v)) }
 {
     let instance = formed(exchange, false, id)?;
-    let Some(Entity::Operator) = entity_at(instance) else {
+    let Some(Entity::Operator) = Entity::at(&instance) else {
         return None;
     };
-    let axis1 = attribute(instance, 0);
-    let axis2 = attribute(instance, 1);
-    let origin = present(instance, 2);
-    let scale = attribute(instance, 3);
-    let axis3 = attribute(instance, 4);
+    let axis1 = instance.attribute(0);
+    let axis2 = instance.attribute(1);
+    let origin = present(&instance, 2);
+    let scale = instance.attribute(3);
+    let axis3 = instance.attribute(4);
     Some(OperatorView {
         axis1,
         axis2,
@@ -295,11 +299,11 @@ pub fn representation(exchange: &Exchange, mapped: bool, id: u64) -> Option<Repr
         (λ v. Views exchange.now mapped Representation id (RepresentationFields v)) }
 {
     let instance = formed(exchange, mapped, id)?;
-    let Some(Entity::Representation) = entity_at(instance) else {
+    let Some(Entity::Representation) = Entity::at(&instance) else {
         return None;
     };
-    let identifier = present(instance, 1);
-    let items = attribute(instance, 3);
+    let identifier = present(&instance, 1);
+    let items = instance.attribute(3);
     Some(RepresentationView { identifier, items })
 }
 
@@ -309,12 +313,12 @@ fn triangulated(exchange: &Exchange, id: u64) -> Option<FacesetView<'_>>
         (λ v. Views exchange.now false TriangulatedFaceSet id (TriangulatedFields v)) }
 {
     let instance = formed(exchange, false, id)?;
-    let Some(Entity::TriangulatedFaceSet) = entity_at(instance) else {
+    let Some(Entity::TriangulatedFaceSet) = Entity::at(&instance) else {
         return None;
     };
-    let points = present(instance, 0);
-    let faces = present(instance, 3);
-    let pn_index = attribute(instance, 4);
+    let points = present(&instance, 0);
+    let faces = present(&instance, 3);
+    let pn_index = instance.attribute(4);
     Some(FacesetView {
         polygonal: false,
         points,
@@ -329,12 +333,12 @@ fn polygonal(exchange: &Exchange, id: u64) -> Option<FacesetView<'_>>
         (λ v. Views exchange.now false PolygonalFaceSet id (PolygonalFields v)) }
 {
     let instance = formed(exchange, false, id)?;
-    let Some(Entity::PolygonalFaceSet) = entity_at(instance) else {
+    let Some(Entity::PolygonalFaceSet) = Entity::at(&instance) else {
         return None;
     };
-    let points = present(instance, 0);
-    let faces = present(instance, 2);
-    let pn_index = attribute(instance, 3);
+    let points = present(&instance, 0);
+    let faces = present(&instance, 2);
+    let pn_index = instance.attribute(3);
     Some(FacesetView {
         polygonal: true,
         points,
@@ -362,10 +366,10 @@ fn face(exchange: &Exchange, id: u64) -> Option<FaceView<'_>>
         (λ v. Views exchange.now false Face id (FaceFields v)) }
 {
     let instance = formed(exchange, false, id)?;
-    let Some(Entity::Face) = entity_at(instance) else {
+    let Some(Entity::Face) = Entity::at(&instance) else {
         return None;
     };
-    let corners = present(instance, 0);
+    let corners = present(&instance, 0);
     Some(FaceView {
         corners,
         voids: None,
@@ -378,11 +382,11 @@ fn voided_face(exchange: &Exchange, id: u64) -> Option<FaceView<'_>>
         (λ v. Views exchange.now false FaceWithVoids id (VoidedFields v)) }
 {
     let instance = formed(exchange, false, id)?;
-    let Some(Entity::FaceWithVoids) = entity_at(instance) else {
+    let Some(Entity::FaceWithVoids) = Entity::at(&instance) else {
         return None;
     };
-    let corners = present(instance, 0);
-    let voids = attribute(instance, 1);
+    let corners = present(&instance, 0);
+    let voids = instance.attribute(1);
     Some(FaceView { corners, voids })
 }
 
@@ -405,10 +409,10 @@ pub fn mapped_item(exchange: &Exchange, id: u64) -> Option<MappedView<'_>>
         (λ v. Views exchange.now false MappedItem id (MappedFields v)) }
 {
     let instance = formed(exchange, false, id)?;
-    let Some(Entity::MappedItem) = entity_at(instance) else {
+    let Some(Entity::MappedItem) = Entity::at(&instance) else {
         return None;
     };
-    let source = present(instance, 0);
-    let target = present(instance, 1);
+    let source = present(&instance, 0);
+    let target = present(&instance, 1);
     Some(MappedView { source, target })
 }

@@ -1,9 +1,9 @@
 //! The instances that are used are met, one after another.
 ghost use Rattle.std.specs.Prelude.{◌≡◌, ◌<◌, ◌≤◌, ℕ, [], length, OnOk, IfOk, Any, slice_index_or};
 ghost use Rattle.std.specs.Bool.{OnTrue, OnFalse};
-ghost use Rattle.p21_reader.specs.Uploads.{Rises};
 ghost use Rattle.p21_reader.specs.declared.value.Instance.{Instance};
-ghost use Rattle.ifc_instances.specs.Places.{IsPlaceOf};
+ghost use Rattle.p21_reader.specs.Places.{IsPlaceOf};
+ghost use Rattle.p21_reader.specs.Uploads.{Rises};
 ghost use Rattle.ifc_schema.specs.Used.{Used, IsMapped, Maps, NamesBy, is_root};
 ghost use Rattle.ifc_schema.specs.Bodies.{body_shapes};
 ghost use Rattle.ifc_schema.specs.Marks.{Grows, SoundAt, mark_at, rank_at, is_mapped, IsFollowed, FollowedAt, IsRootAt, Going, Known};
@@ -13,8 +13,8 @@ use crate::body::has_body;
 use crate::follow::{follow_attributes, follow_map};
 use crate::table::row_at;
 use crate::work::{Mark, Work};
-use ifc_instances::{Entity, entity_at};
-use p21_reader::{Exchange, Instance};
+use ifc_instances::Entity;
+use p21_reader::{Exchange, InstanceRef};
 use std::alloc::{AllocError, Global};
 
 /// Marks what an instance names.
@@ -22,7 +22,7 @@ fn follow(
     exchange: &Exchange,
     bodied: &[bool],
     mapped: bool,
-    instance: &Instance,
+    instance: &InstanceRef<'_>,
     work: &mut Work,
 ) -> Result<(), AllocError>
     requires size { length work.old.marks.items ≡ length exchange.now }
@@ -49,7 +49,7 @@ fn visit(exchange: &Exchange, bodied: &[bool], at: usize, work: &mut Work) -> Re
     ensures followed { OnOk result (FollowedAt exchange.now work.new (is_mapped (mark_at work.old at)) at) }
 {
     let mapped = work.marks[at].is_mapped();
-    follow(exchange, bodied, mapped, &exchange.instances()[at], work)
+    follow(exchange, bodied, mapped, &exchange.instance(at), work)
 }
 
 /// Whether the instances of an entity are used wherever they stand.
@@ -70,14 +70,14 @@ fn is_root(entity: Option<Entity>) -> bool
 fn mark_root(exchange: &Exchange, at: usize, work: &mut Work) -> Result<(), AllocError>
     requires size { length work.old.marks.items ≡ length exchange.now }
     requires within { at < length exchange.now }
+    requires rises { Rises exchange.now }
     ensures grows { OnOk result (Grows exchange.now work.old work.new) }
     ensures root { OnOk result (IsRootAt exchange.now at → 0 < rank_at work.new at) }
 {
-    let instances = exchange.instances();
-    if !is_root(entity_at(&instances[at])) {
+    if !is_root(Entity::at(&exchange.instance(at))) {
         return Ok(());
     }
-    if !is_first(instances, at) {
+    if !is_first(exchange, at) {
         return Ok(());
     }
     work.raise(at, Mark::Used)
@@ -89,21 +89,22 @@ fn mark_roots(exchange: &Exchange, work: &mut Work) -> Result<(), AllocError>
     ensures grows { OnOk result (Grows exchange.now work.old work.new) }
     ensures roots { OnOk result ((at : ℕ) → IsRootAt exchange.now at → 0 < rank_at work.new at) }
 {
-    for at in 0..exchange.instances().len() {
+    let instances = exchange.iter();
+    for at in 0..instances.len() {
         mark_root(exchange, at, work)?;
     }
     Ok(())
 }
 
 /// Whether the instance at a place is the first of its number.
-fn is_first(instances: &[Instance], at: usize) -> bool
-    requires within { at < length instances.now }
-    requires rises { Rises instances.now }
+fn is_first(exchange: &Exchange, at: usize) -> bool
+    requires within { at < length exchange.now }
+    requires rises { Rises exchange.now }
     ensures first { OnTrue result ((i : Instance)
-        → IsPlaceOf instances.now (slice_index_or instances.now at i).id at) }
-    ensures other { OnFalse result ((id : ℕ) → IsPlaceOf instances.now id at → ⊥) }
+        → IsPlaceOf exchange.now (slice_index_or exchange.now at i).id at) }
+    ensures other { OnFalse result ((id : ℕ) → IsPlaceOf exchange.now id at → ⊥) }
 {
-    at == 0 || instances[at - 1].id != instances[at].id
+    at == 0 || exchange.instance(at - 1).id() != exchange.instance(at).id()
 }
 
 /// Follows rows until none is left to follow.
@@ -125,7 +126,7 @@ pub fn mark_used(alloc: Global, exchange: &Exchange, bodied: &[bool]) -> Result<
     requires bodied { bodied.now ≡ body_shapes exchange.now }
     ensures { IfOk result (Known exchange.now) }
 {
-    let mut work = Work::new(alloc, exchange.instances().len())?;
+    let mut work = Work::new(alloc, exchange.len())?;
     mark_roots(exchange, &mut work)?;
     follow_all(exchange, bodied, &mut work)?;
     Ok(work)

@@ -1,10 +1,9 @@
 //! Length units and points of small files.
 use bim_model::{Mode, Point, UploadFault};
-use ifc_instances::items_of;
 use ifc_units::{
     GridFault, LengthError, Scale, fault_of_points, length, length_unit, point, points,
 };
-use p21_reader::{Exchange, Value21, read};
+use p21_reader::{Exchange, read};
 use std::alloc::Global;
 use std::test::Fail;
 
@@ -173,8 +172,8 @@ const POINTS: [(&[u8], Option<GridFault>); 11] = [
 fn faults_of_points_are_found(rt: HostRuntime) -> Result<(), Fail> {
     for (text, wanted) in POINTS {
         let exchange = file(rt.alloc(), text)?;
-        let instance = exchange.instances().first().ok_or("no instance")?;
-        let told = fault_of_points(instance, Scale { power: 0 }, Mode::Exact);
+        let instance = exchange.iter().next().ok_or("no instance")?;
+        let told = fault_of_points(&instance, Scale { power: 0 }, Mode::Exact);
         assert_eq!(rt; told, wanted);
     }
     Ok(())
@@ -184,13 +183,14 @@ fn faults_of_points_are_found(rt: HostRuntime) -> Result<(), Fail> {
 fn points_of_a_list_are_read(rt: HostRuntime) -> Result<(), Fail> {
     let exchange = file(
         rt.alloc(),
-        b"#1=IFCCARTESIANPOINTLIST3D(((0.,1.,2.),(-3.0004,4.,5.E-3)));",
+        b"#1=IFCCARTESIANPOINTLIST3D(((0.,1.,2.),(-3.0004,4.,5.E-3)),$);",
     )?;
     let scale = Scale { power: 3 };
-    let instance = exchange.instances().first().ok_or("no instance")?;
-    let list = instance.values.as_slice().first().ok_or("no list")?;
-    let items = items_of(list).ok_or("no items")?;
-    let item = items.first().ok_or("no item")?;
+    let instance = exchange.iter().next().ok_or("no instance")?;
+    let list = instance.attribute(0).ok_or("no list")?;
+    let absent = instance.attribute(1).ok_or("nothing behind it")?;
+    let items = list.items().ok_or("no items")?;
+    let item = items.iter().next().ok_or("no item")?;
     let wanted = [
         Point {
             x: 0,
@@ -203,18 +203,18 @@ fn points_of_a_list_are_read(rt: HostRuntime) -> Result<(), Fail> {
             z: 5,
         },
     ];
-    match points(rt.alloc(), items, scale, Mode::Snap)? {
+    match points(rt.alloc(), &items, scale, Mode::Snap)? {
         Ok(made) => assert_eq!(rt; made.as_slice(), wanted.as_slice()),
         Err(_) => assert!(rt; false),
     }
-    match points(rt.alloc(), items, scale, Mode::Exact)? {
+    match points(rt.alloc(), &items, scale, Mode::Exact)? {
         Ok(_) => assert!(rt; false),
         Err(error) => assert_eq!(rt; error, LengthError::Refused(GridFault::OffGrid)),
     }
-    assert_eq!(rt; point(item, scale, Mode::Exact), Ok(wanted[0]));
-    assert_eq!(rt; point(list, scale, Mode::Exact), Err(LengthError::Unread));
+    assert_eq!(rt; point(&item, scale, Mode::Exact), Ok(wanted[0]));
+    assert_eq!(rt; point(&list, scale, Mode::Exact), Err(LengthError::Unread));
     assert_eq!(rt;
-        length(&Value21::Absent, scale, Mode::Exact),
+        length(&absent, scale, Mode::Exact),
         Err(LengthError::Unread)
     );
     Ok(())

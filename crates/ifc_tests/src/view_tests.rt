@@ -4,7 +4,7 @@ use ifc_schema::{
     RepresentationView, axis_placement, element, faceset, mapped_item, operator, placement,
     polygon_face, representation,
 };
-use p21_reader::{Exchange, Value21, read};
+use p21_reader::{Exchange, ValueRef, read};
 use std::alloc::{AllocError, Global};
 use std::test::Fail;
 
@@ -94,17 +94,19 @@ const CASES: [(Call, u64, [u64; 6]); 30] = [
 ];
 
 /// The number of a reference, how long a number, a text or a list is, or 0 for another value.
-fn code(value: &Value21) -> u64 {
-    match value {
-        Value21::Reference(id) => *id,
-        Value21::Number(bytes) => bytes.as_slice().len() as u64,
-        Value21::Words(bytes) => bytes.as_slice().len() as u64,
-        Value21::List(items) => items.get().len() as u64,
-        _ => 0,
+fn code(value: &ValueRef<'_>) -> u64 {
+    if let Some(id) = value.reference() {
+        id
+    } else if let Some(bytes) = value.number() {
+        bytes.len() as u64
+    } else if let Some(bytes) = value.words() {
+        bytes.len() as u64
+    } else {
+        value.items_in().len() as u64
     }
 }
 
-fn code_if_any(value: Option<&Value21>) -> u64 {
+fn code_if_any(value: &Option<ValueRef<'_>>) -> u64 {
     match value {
         Some(value) => code(value),
         None => MISSING,
@@ -114,24 +116,24 @@ fn code_if_any(value: Option<&Value21>) -> u64 {
 fn of_element(view: ElementView<'_>) -> [u64; 6] {
     [
         1,
-        code(view.guid),
-        code(view.name),
-        code(view.placement),
-        code(view.shape),
+        code(&view.guid),
+        code(&view.name),
+        code(&view.placement),
+        code(&view.shape),
         0,
     ]
 }
 
 fn of_placement(view: PlacementView<'_>) -> [u64; 6] {
-    [1, code(view.parent), code(view.relative), 0, 0, 0]
+    [1, code(&view.parent), code(&view.relative), 0, 0, 0]
 }
 
 fn of_axes(view: AxisView<'_>) -> [u64; 6] {
     [
         1,
-        code(view.location),
-        code(view.axis),
-        code(view.ref_direction),
+        code(&view.location),
+        code(&view.axis),
+        code(&view.ref_direction),
         0,
         0,
     ]
@@ -140,35 +142,35 @@ fn of_axes(view: AxisView<'_>) -> [u64; 6] {
 fn of_operator(view: OperatorView<'_>) -> [u64; 6] {
     [
         1,
-        code_if_any(view.axis1),
-        code_if_any(view.axis2),
-        code(view.origin),
-        code_if_any(view.scale),
-        code_if_any(view.axis3),
+        code_if_any(&view.axis1),
+        code_if_any(&view.axis2),
+        code(&view.origin),
+        code_if_any(&view.scale),
+        code_if_any(&view.axis3),
     ]
 }
 
 fn of_representation(view: RepresentationView<'_>) -> [u64; 6] {
-    [1, code(view.identifier), code_if_any(view.items), 0, 0, 0]
+    [1, code(&view.identifier), code_if_any(&view.items), 0, 0, 0]
 }
 
 fn of_faceset(view: FacesetView<'_>) -> [u64; 6] {
     [
         1,
         u64::from(view.polygonal),
-        code(view.points),
-        code(view.faces),
-        code_if_any(view.pn_index),
+        code(&view.points),
+        code(&view.faces),
+        code_if_any(&view.pn_index),
         0,
     ]
 }
 
 fn of_face(view: FaceView<'_>) -> [u64; 6] {
-    [1, code(view.corners), code_if_any(view.voids), 0, 0, 0]
+    [1, code(&view.corners), code_if_any(&view.voids), 0, 0, 0]
 }
 
 fn of_mapped_item(view: MappedView<'_>) -> [u64; 6] {
-    [1, code(view.source), code(view.target), 0, 0, 0]
+    [1, code(&view.source), code(&view.target), 0, 0, 0]
 }
 
 fn told(exchange: &Exchange, call: Call, id: u64) -> Option<[u64; 6]> {

@@ -1,8 +1,6 @@
 -- Values in a row: what they are, and the first that is refused.
-use Rattle.std.proofs.Common.{◌≡◌, ℕ, zero, suc, ◌+◌, ◌<◌, ◌≤◌, inl, inr, List, [], ◌∷◌, ◌++◌, length, get_or, take, take_all, refl, sym, ap, ap₂, ◌∙◌, subst, arith}
+use Rattle.std.proofs.Common.{◌≡◌, ℕ, zero, suc, ◌+◌, ◌<◌, ◌≤◌, inl, inr, List, [], ◌∷◌, ◌++◌, length, get_or, take, refl, sym, ap, ap₂, ◌∙◌, subst, arith}
 use Rattle.std.specs.List.{AllZip}
-use Rattle.std.proofs.lemmas.List.{take_more}
-use Rattle.std.proofs.lemmas.Slice.Zip.{all_zipped_more}
 use Rattle.ifc_units.specs.declared.fault.GridFault.{GridFault}
 use Rattle.ifc_units.specs.declared.fault.LengthError.{LengthError}
 use Rattle.ifc_units.specs.declared.fault.LengthError.TheVariants as error
@@ -11,17 +9,6 @@ use Rattle.ifc_units.specs.Lengths.{FirstRefused, IsUnread, Fails}
 module _ {X Y : Type 0} (R : X → Y → Type 0) (IsRefused : X → GridFault → Type 0) where
   abbrev pub Has : X → Type 0
   Has x = (y : Y) × R x y
-
-  -- one more of a row
-  pub more : (xs : List X) (i : ℕ) (old new : List Y) (x : X) (y : Y) → i < length xs → x ≡ get_or xs i x → R x y → new ≡ old ++ y ∷ []
-      → AllZip R (take i xs) old → AllZip R (take (i + 1) xs) new
-  more xs i old new x y lt at is grown are =
-      let step : take (i + 1) xs ≡ take i xs ++ x ∷ [] = take_more xs i x lt ∙ ap (λ z. take i xs ++ z ∷ []) (sym at) in
-      rw (step, grown) (all_zipped_more R (take i xs) old x y are is)
-
-  -- the whole row
-  pub whole : (xs : List X) (i : ℕ) (ys : List Y) → length xs ≤ i → AllZip R (take i xs) ys → AllZip R xs ys
-  whole xs i ys le are = subst (λ z. AllZip R z ys) (take_all i xs le) are
 
   -- the first that is refused
   pub refused_here : (xs : List X) (i : ℕ) (ys : List Y) (x : X) (f : GridFault) → i < length xs → x ≡ get_or xs i x → AllZip R (take i xs) ys → IsRefused x f → FirstRefused Has IsRefused xs f

@@ -7,7 +7,7 @@ use Rattle.bim_text.specs.Values.{Scaled}
 use Rattle.bim_text.specs.Decimals.{Reads}
 use Rattle.bim_text.proofs.Unique.{one_decimal}
 use Rattle.p21_reader.specs.declared.value.Value21.{Value21}
-use Rattle.ifc_instances.specs.Values.{number_of}
+use Rattle.p21_reader.specs.Values.{number_of}
 use Rattle.ifc_units.specs.declared.scale.Scale.{Scale}
 use Rattle.ifc_units.specs.declared.fault.GridFault.{GridFault}
 use Rattle.ifc_units.specs.declared.fault.GridFault.TheVariants.{OffGrid, TooFar}

@@ -3,18 +3,19 @@ use Rattle.std.proofs.Common.{◌≡◌, ℕ, ◌<◌, ◌≤◌, ℤ, pos, ◌-
 use Rattle.std.specs.Prelude.{unsigned_abs}
 use Rattle.std.specs.List.{AllZip}
 use Rattle.std.proofs.lemmas.Int.{ints}
+use Rattle.std.proofs.lemmas.Slice.Zip.{all_zipped_more}
 use Rattle.bim_model.specs.declared.geometry.Point.{Point}
 use Rattle.bim_model.specs.declared.upload.Mode.{Mode}
 use Rattle.bim_model.specs.Models.{farthest, IsInReach}
 use Rattle.p21_reader.specs.declared.value.Value21.{Value21}
-use Rattle.ifc_instances.specs.Values.{items_of}
+use Rattle.p21_reader.specs.Values.{items_of}
 use Rattle.ifc_units.specs.declared.scale.Scale.{Scale}
 use Rattle.ifc_units.specs.declared.fault.GridFault.{GridFault}
 use Rattle.ifc_units.specs.declared.fault.LengthError.{LengthError}
 use Rattle.ifc_units.specs.declared.fault.LengthError.TheVariants as error
 use Rattle.ifc_units.specs.Lengths.{reach, IsLength, LengthRefused, HasLength, FirstRefused, IsPoint, PointRefused, ArePoints, PointsRefused, Fails}
 use Rattle.ifc_units.proofs.LengthFacts.{one_length, length_apart, one_length_fault}
-use Rattle.ifc_units.proofs.Firsts.{never_refused, one_first, one_row, fails_here, more, whole}
+use Rattle.ifc_units.proofs.Firsts.{never_refused, one_first, one_row, fails_here}
 use Rattle.ifc_units.specs.Faults.{fault_in}
 
 -- points are equal by their coordinates
@@ -53,13 +54,6 @@ point_fails s mode v a b c error.Unread is h = record {
   none = λ p k. h.none (coordinates p) (lengths_of s mode v a b c p is k);
   unrefused = λ f k. h.unrefused f (refusal_of s mode v a b c f is k);
 }
-
-pub three_of : (vs : List Value21) (a b c : Value21) → length vs ≡ 3 → a ≡ get_or vs 0 a → b ≡ get_or vs 1 b → c ≡ get_or vs 2 c → vs ≡ a ∷ b ∷ c ∷ []
-three_of [] a b c e p q r = absurd (omega (arith, e))
-three_of (x ∷ []) a b c e p q r = absurd (omega (arith, e))
-three_of (x ∷ y ∷ []) a b c e p q r = absurd (omega (arith, e))
-three_of (x ∷ y ∷ z ∷ []) a b c e p q r = rw (p, q, r) refl
-three_of (x ∷ y ∷ z ∷ w ∷ vs) a b c e p q r = absurd (omega (arith, e))
 
 -- the three lengths one after another
 
@@ -127,18 +121,20 @@ one_points_fault s mode = one_first (IsPoint s mode) (PointRefused s mode) (poin
 
 -- a list of points, one after another
 
-pub points_fail : (s : Scale) (mode : Mode) (vs : List Value21) (i : ℕ) (ps : List Point) (v : Value21) (e : LengthError) → i < length vs → v ≡ get_or vs i v → ArePoints s mode (take i vs) ps
+pub points_fail : (s : Scale) (mode : Mode) (vs given : List Value21) (ps : List Point) (v : Value21) (e : LengthError) → given ≡ take (length given) vs
+    → (length given < length vs) × (v ≡ get_or vs (length given) v) → ArePoints s mode given ps
     → Fails (IsPoint s mode v) (PointRefused s mode v) e → Fails (ArePoints s mode vs) (PointsRefused s mode vs) e
-points_fail s mode vs i ps v e lt at are h = fails_here (IsPoint s mode) (PointRefused s mode) (point_apart s mode) vs i ps v e lt at are h
+points_fail s mode vs given ps v e front at are h =
+    fails_here (IsPoint s mode) (PointRefused s mode) (point_apart s mode) vs (length given) ps v e at.0 at.1 (subst (λ z. ArePoints s mode z ps) front are) h
 
-pub points_more : (s : Scale) (mode : Mode) (vs : List Value21) (i : ℕ) (old new : List Point) (v : Value21) (p : Point) → i < length vs → v ≡ get_or vs i v → IsPoint s mode v p → new ≡ old ++ p ∷ []
-    → ArePoints s mode (take i vs) old → ArePoints s mode (take (i + 1) vs) new
-points_more s mode = more (IsPoint s mode) (PointRefused s mode)
+pub points_more : (s : Scale) (mode : Mode) (given : List Value21) (old new : List Point) (v : Value21) (p : Point) → ArePoints s mode given old → IsPoint s mode v p → new ≡ old ++ p ∷ []
+    → ArePoints s mode (given ++ v ∷ []) new
+points_more s mode given old new v p are is grown = rw grown (all_zipped_more (IsPoint s mode) given old v p are is)
 
 pub fault_told : (s : Scale) (mode : Mode) (vs : List Value21) (e : LengthError) (r : Option GridFault) → r ≡ fault_in e → Fails (ArePoints s mode vs) (PointsRefused s mode vs) e
     → MatchOption r ((f : GridFault) → PointsRefused s mode vs f → ⊥) (PointsRefused s mode vs)
 fault_told s mode vs error.Unread r is h = rw is h.unrefused
 fault_told s mode vs (error.Refused f) r is h = rw is h
 
-pub never_told : (s : Scale) (mode : Mode) (vs : List Value21) (i : ℕ) (ps : List Point) → length vs ≤ i → ArePoints s mode (take i vs) ps → (f : GridFault) → PointsRefused s mode vs f → ⊥
-never_told s mode vs i ps le are f h = points_apart s mode vs ps f (whole (IsPoint s mode) (PointRefused s mode) vs i ps le are) h
+pub never_told : (s : Scale) (mode : Mode) (vs given : List Value21) (ps : List Point) → given ≡ vs → ArePoints s mode given ps → (f : GridFault) → PointsRefused s mode vs f → ⊥
+never_told s mode vs given ps all are f h = points_apart s mode vs ps f (subst (λ z. ArePoints s mode z ps) all are) h

@@ -1,5 +1,5 @@
 -- The projects of a file, and its length unit.
-use Rattle.std.proofs.Common.{◌≡◌, ◌⊎◌, inl, inr, ℕ, zero, suc, ◌<◌, ◌≤◌, Bool, true, false, ℤ, List, [], ◌∷◌, length, get_or, Some, None, Option, IfSome, IfNone, option_copied, Bor, All, Any, refl, sym, ap, ◌∙◌, subst, arith, if◌then◌else◌}
+use Rattle.std.proofs.Common.{◌≡◌, ◌⊎◌, inl, inr, ℕ, zero, suc, ◌<◌, ◌≤◌, Bool, true, false, ℤ, List, [], ◌∷◌, length, get_or, take, Some, None, Option, IfSome, IfNone, All, Any, refl, sym, ap, ◌∙◌, subst, arith, if◌then◌else◌}
 use Rattle.std.specs.List.{filter, find}
 use Rattle.std.proofs.lemmas.List.Elements.{All-filter}
 use Rattle.bim_model.specs.declared.upload.UploadFault.{UploadFault}
@@ -7,9 +7,9 @@ use Rattle.bim_model.specs.declared.upload.UploadFault.TheVariants.{LengthUnit}
 use Rattle.p21_reader.specs.declared.value.Value21.{Value21}
 use Rattle.p21_reader.specs.declared.value.Instance.{Instance}
 use Rattle.p21_reader.specs.Uploads.{Rises}
-use Rattle.ifc_instances.specs.Attributes.{listed}
-use Rattle.ifc_instances.specs.Looking.{look}
-use Rattle.ifc_instances.proofs.PlaceLemmas.{rising}
+use Rattle.p21_reader.specs.Attributes.{listed}
+use Rattle.p21_reader.specs.Looking.{look}
+use Rattle.p21_reader.proofs.PlaceLemmas.{rising}
 use Rattle.ifc_units.specs.declared.scale.Scale.{Scale}
 use Rattle.ifc_units.specs.Units.{unit_power, projects, assignment_of, IsUnitAmong, IsOnly, RefersToOther, AssignsPower, IsLengthUnit, IsLeastNumber, LengthUnitFault}
 
@@ -42,13 +42,40 @@ module _ {X : Type 0} (test : X → Bool) where
   pub none_passes : (xs : List X) → length (filter test xs) ≡ 1 → find test xs ≡ None → ⊥
   none_passes xs n e = let g : filter test xs ≡ [] = subst (λ o. Heads o (filter test xs)) e (heads xs) in let l : length (filter test xs) ≡ 0 = ap length g in omega (arith, n, l)
 
--- the instance that is lent
+-- what a loop over instances comes to first
 
-pub first_alone : (test : Instance → Bool) (xs : List Instance) (r : Option (Bor Instance)) → option_copied r ≡ find test xs → length (filter test xs) ≡ 1 → IfSome r (λ x. filter test xs ≡ x.now ∷ [])
+module _ (test : Instance → Bool) where
+  here_by : (b : Bool) (y x : Instance) (o : Option Instance) → x ≡ y → b ≡ true → Some x ≡ (if b then Some y else o)
+  here_by true y x o at t = ap Some at
+  here_by false y x o at t = cc
+
+  later_by : (b : Bool) (y x : Instance) (o : Option Instance) (passed : List Instance) → (passed ≡ [] → Some x ≡ o) → (if b then y ∷ passed else passed) ≡ [] → Some x ≡ (if b then Some y else o)
+  later_by true y x o passed later none = cc
+  later_by false y x o passed later none = later none
+
+  found_at : (xs : List Instance) (i : ℕ) (x : Instance) → i < length xs → x ≡ get_or xs i x → filter test (take i xs) ≡ [] → test x ≡ true → Some x ≡ find test xs
+  found_at [] i x lt at none is = absurd (omega (arith, lt))
+  found_at (y ∷ xs) zero x lt at none is = here_by (test y) y x (find test xs) at (ap test (sym at) ∙ is)
+  found_at (y ∷ xs) (suc i) x lt at none is = later_by (test y) y x (find test xs) (filter test (take i xs)) (λ e. found_at xs i x (omega (arith, lt)) at e is) none
+
+  pub first_found : (xs given : List Instance) (x : Instance) → given ≡ take (length given) xs → (length given < length xs) × (x ≡ get_or xs (length given) x)
+      → filter test given ≡ [] → test x ≡ true → Some x ≡ find test xs
+  first_found xs given x front at none is = found_at xs (length given) x at.0 at.1 (subst (λ z. filter test z ≡ []) front none) is
+
+  lacks_by : (o : Option Instance) (passed : List Instance) → Heads o passed → passed ≡ [] → None ≡ o
+  lacks_by None passed h e = refl
+  lacks_by (Some x) passed h e = let k : passed ≡ x ∷ h.0 = h.1 in cc
+
+  pub first_lacks : (xs given : List Instance) → given ≡ xs → filter test given ≡ [] → None ≡ find test xs
+  first_lacks xs given all none = lacks_by (find test xs) (filter test xs) (heads test xs) (subst (λ z. filter test z ≡ []) all none)
+
+-- the first, and that there is one
+
+pub first_alone : (test : Instance → Bool) (xs : List Instance) (r : Option Instance) → r ≡ find test xs → length (filter test xs) ≡ 1 → IfSome r (λ x. filter test xs ≡ x ∷ [])
 first_alone test xs None e n = tt
-first_alone test xs (Some x) e n = one_passes test xs x.now n (sym e)
+first_alone test xs (Some x) e n = one_passes test xs x n (sym e)
 
-pub first_there : (test : Instance → Bool) (xs : List Instance) (r : Option (Bor Instance)) (P : Type 0) → option_copied r ≡ find test xs → length (filter test xs) ≡ 1 → IfNone r P
+pub first_there : (test : Instance → Bool) (xs : List Instance) (r : Option Instance) (P : Type 0) → r ≡ find test xs → length (filter test xs) ≡ 1 → IfNone r P
 first_there test xs None P e n = absurd (none_passes test xs n (sym e))
 first_there test xs (Some x) P e n = tt
 

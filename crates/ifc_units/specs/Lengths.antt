@@ -10,7 +10,7 @@ use Rattle.bim_text.specs.Decimals.{Reads}
 use Rattle.p21_reader.specs.declared.value.Value21.{Value21}
 use Rattle.p21_reader.specs.declared.value.Instance.{Instance}
 use Rattle.ifc_instances.specs.declared.entity.Entity.TheVariants as entity
-use Rattle.ifc_instances.specs.Values.{number_of, items_of}
+use Rattle.p21_reader.specs.Values.{number_of, items_of}
 use Rattle.ifc_instances.specs.Looking.{is_a}
 use Rattle.ifc_units.specs.declared.scale.Scale.{Scale}
 use Rattle.ifc_units.specs.declared.fault.GridFault.{GridFault}

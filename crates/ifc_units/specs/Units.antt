@@ -6,26 +6,15 @@ use Rattle.std.specs.Str.{bytes_eq}
 use Rattle.bim_model.specs.declared.upload.UploadFault.{UploadFault}
 use Rattle.bim_model.specs.declared.upload.UploadFault.TheVariants.{LengthUnit}
 use Rattle.p21_reader.specs.declared.value.Value21.{Value21}
-use Rattle.p21_reader.specs.declared.value.Value21.TheOpen.{Value21-F}
-use Rattle.p21_reader.specs.declared.value.Value21.TheOpen as layer
-use Rattle.p21_reader.specs.declared.value.Value21.TheViews.{out-Value21}
 use Rattle.p21_reader.specs.declared.value.Instance.{Instance}
 use Rattle.ifc_instances.specs.declared.entity.Entity.TheVariants as entity
-use Rattle.ifc_instances.specs.Attributes.{listed, target_at}
-use Rattle.ifc_instances.specs.Looking.{look, is_a, some_passes}
-use Rattle.ifc_instances.specs.Values.{reference_of, is_absent}
+use Rattle.p21_reader.specs.Attributes.{listed, target_at}
+use Rattle.p21_reader.specs.Looking.{look}
+use Rattle.ifc_instances.specs.Looking.{is_a, some_passes}
+use Rattle.p21_reader.specs.Values.{reference_of, enumeration_of, is_absent}
 use Rattle.ifc_units.specs.declared.scale.Scale.{Scale}
 
 -- What values say.
-
--- the word of a value of an enumeration
-abbrev pub enumeration_in : Value21-F Value21 → Option (List ℕ)
-enumeration_in (layer.Enumeration word) = Some word
-enumeration_in _ = None
-
--- the letters of an enumeration, without its points
-abbrev pub enumeration_of : Value21 → Option (List ℕ)
-enumeration_of v = enumeration_in (out-Value21 v)
 
 -- an attribute is the enumeration of those letters
 abbrev pub says : List ℕ → Instance → ℕ → Bool

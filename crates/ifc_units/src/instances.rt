@@ -7,11 +7,11 @@ use crate::fault::GridFault;
 use crate::lengths::{point, points_fault};
 use crate::scale::Scale;
 use bim_model::Mode;
-use ifc_instances::{Entity, attribute, is_a, items_of};
-use p21_reader::{Instance, Value21};
+use ifc_instances::Entity;
+use p21_reader::{InstanceRef, ValueRef};
 
 // The fault of a value that is to be a point.
-fn point_fault(value: &Value21, scale: Scale, mode: Mode) -> Option<GridFault>
+fn point_fault(value: &ValueRef<'_>, scale: Scale, mode: Mode) -> Option<GridFault>
     ensures { MatchOption result ((fault : GridFault) → PointRefused scale mode value.now fault → ⊥)
         (PointRefused scale mode value.now) }
 {
@@ -22,30 +22,30 @@ fn point_fault(value: &Value21, scale: Scale, mode: Mode) -> Option<GridFault>
 }
 
 // The fault of a value that is to be a list of points.
-fn list_fault(value: &Value21, scale: Scale, mode: Mode) -> Option<GridFault>
+fn list_fault(value: &ValueRef<'_>, scale: Scale, mode: Mode) -> Option<GridFault>
     ensures { MatchOption result ((fault : GridFault) → ListRefused scale mode value.now fault → ⊥)
         (ListRefused scale mode value.now) }
 {
-    match items_of(value) {
-        Some(items) => points_fault(items, scale, mode),
+    match value.items() {
+        Some(items) => points_fault(&items, scale, mode),
         None => None,
     }
 }
 
 /// Which fault the numbers of an instance have that is an `IFCCARTESIANPOINT` or an `IFCCARTESIANPOINTLIST3D`: that of the first which has
 /// no grid number in reach. None of other instances, and where the first such value isn't a number.
-pub fn fault_of_points(instance: &Instance, scale: Scale, mode: Mode) -> Option<GridFault>
+pub fn fault_of_points(instance: &InstanceRef<'_>, scale: Scale, mode: Mode) -> Option<GridFault>
     ensures { MatchOption result ((fault : GridFault) → InstanceRefused scale mode instance.now fault → ⊥)
         (InstanceRefused scale mode instance.now) }
 {
-    let Some(value) = attribute(instance, 0) else {
+    let Some(value) = instance.attribute(0) else {
         return None;
     };
-    if is_a(Entity::Point, instance) {
-        return point_fault(value, scale, mode);
+    if Entity::Point.includes(instance) {
+        return point_fault(&value, scale, mode);
     }
-    if is_a(Entity::PointList, instance) {
-        return list_fault(value, scale, mode);
+    if Entity::PointList.includes(instance) {
+        return list_fault(&value, scale, mode);
     }
     None
 }

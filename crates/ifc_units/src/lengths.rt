@@ -11,16 +11,15 @@ use crate::grid::to_grid;
 use crate::scale::Scale;
 use bim_model::{Mode, Point};
 use bim_text::Decimal;
-use ifc_instances::{items_of, number_of};
-use p21_reader::Value21;
+use p21_reader::{ValueRef, Values};
 use std::alloc::{AllocError, Global};
 
 /// The grid number of a value that is a number (IFC4 ADD2 TC1, IfcLengthMeasure). Unread where it isn't one that is read.
-pub fn length(value: &Value21, scale: Scale, mode: Mode) -> Result<i32, LengthError>
+pub fn length(value: &ValueRef<'_>, scale: Scale, mode: Mode) -> Result<i32, LengthError>
     ensures { MatchResult result (IsLength scale mode value.now)
         (Fails (IsLength scale mode value.now) (LengthRefused scale mode value.now)) }
 {
-    let Some(bytes) = number_of(value) else {
+    let Some(bytes) = value.number() else {
         return Err(LengthError::Unread);
     };
     let Some(number) = Decimal::read(bytes) else {
@@ -34,9 +33,9 @@ pub fn length(value: &Value21, scale: Scale, mode: Mode) -> Result<i32, LengthEr
 
 // The point of three values.
 fn point_of(
-    a: &Value21,
-    b: &Value21,
-    c: &Value21,
+    a: &ValueRef<'_>,
+    b: &ValueRef<'_>,
+    c: &ValueRef<'_>,
     scale: Scale,
     mode: Mode,
 ) -> Result<Point, LengthError>
@@ -52,16 +51,16 @@ fn point_of(
 
 /// The point of a value that is a list of exactly three numbers (IFC4 ADD2 TC1, IfcCartesianPoint). The first that is no grid number in
 /// reach decides why there is none.
-pub fn point(value: &Value21, scale: Scale, mode: Mode) -> Result<Point, LengthError>
+pub fn point(value: &ValueRef<'_>, scale: Scale, mode: Mode) -> Result<Point, LengthError>
     ensures { MatchResult result (IsPoint scale mode value.now)
         (Fails (IsPoint scale mode value.now) (PointRefused scale mode value.now)) }
 {
-    let Some(items) = items_of(value) else {
+    let Some(items) = value.items() else {
         return Err(LengthError::Unread);
     };
-    match items {
-        [x, y, z] => point_of(x, y, z, scale, mode),
-        _ => Err(LengthError::Unread),
+    match items.three() {
+        Some(found) => point_of(&found.x, &found.y, &found.z, scale, mode),
+        None => Err(LengthError::Unread),
     }
 }
 
@@ -69,7 +68,7 @@ pub fn point(value: &Value21, scale: Scale, mode: Mode) -> Result<Point, LengthE
 /// none.
 pub fn points(
     alloc: Global,
-    values: &[Value21],
+    values: &Values<'_>,
     scale: Scale,
     mode: Mode,
 ) -> Result<Result<Vec<Point>, LengthError>, AllocError>
@@ -77,8 +76,8 @@ pub fn points(
         (Fails (ArePoints scale mode values.now) (PointsRefused scale mode values.now))) }
 {
     let mut made = Vec::with_capacity(alloc, values.len())?;
-    for value in values {
-        match point(value, scale, mode) {
+    for value in values.iter() {
+        match point(&value, scale, mode) {
             Ok(point) => made.push(point)?,
             Err(error) => return Ok(Err(error)),
         }
@@ -87,12 +86,12 @@ pub fn points(
 }
 
 /// Which fault the first value has that is no point. None where there is none, or that value can't be read. Takes no memory.
-pub fn points_fault(values: &[Value21], scale: Scale, mode: Mode) -> Option<GridFault>
+pub fn points_fault(values: &Values<'_>, scale: Scale, mode: Mode) -> Option<GridFault>
     ensures { MatchOption result ((fault : GridFault) → PointsRefused scale mode values.now fault → ⊥)
         (PointsRefused scale mode values.now) }
 {
-    for value in values {
-        match point(value, scale, mode) {
+    for value in values.iter() {
+        match point(&value, scale, mode) {
             Ok(_point) => {}
             Err(error) => return error.fault(),
         }

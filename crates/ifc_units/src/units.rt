@@ -1,84 +1,74 @@
 //! The length unit of a file.
-ghost use Rattle.std.specs.Prelude.{◌≡◌, ◌∷◌, [], ℕ, ℤ, Some, Any, length, IfOk, IfErr, IfSome, IfNone, option_copied, find};
+ghost use Rattle.std.specs.Prelude.{◌≡◌, ◌∷◌, [], ℕ, ℤ, Some, Any, length, IfOk, IfErr, IfSome, IfNone, find};
 ghost use Rattle.std.specs.Bool.{MatchBool};
 ghost use Rattle.bim_model.specs.declared.upload.UploadFault.{UploadFault};
 ghost use Rattle.p21_reader.specs.declared.value.Instance.{Instance};
 ghost use Rattle.ifc_instances.specs.declared.entity.Entity.TheVariants.{Project};
 ghost use Rattle.ifc_instances.specs.Looking.{is_a};
 ghost use Rattle.ifc_units.specs.declared.scale.Scale.{Scale};
-ghost use Rattle.ifc_units.specs.Units.{enumeration_of, says, is_length_unit, prefix_power, power_with, unit_power, projects, assignment_of, RefersToUnit, IsUnitAmong, IsOnly, RefersToOther, AssignsPower, IsLengthUnit, IsLeastNumber, LengthUnitFault};
+ghost use Rattle.ifc_units.specs.Units.{says, is_length_unit, prefix_power, power_with, unit_power, projects, assignment_of, RefersToUnit, IsUnitAmong, IsOnly, RefersToOther, AssignsPower, IsLengthUnit, IsLeastNumber, LengthUnitFault};
 
 use crate::scale::Scale;
 use bim_model::UploadFault;
-use ifc_instances::{Entity, attribute, is_a, is_absent, listed, look, reference_of, target_at};
-use p21_reader::{Exchange, Instance, Value21};
-
-// The letters of an enumeration.
-fn enumeration_of(value: &Value21) -> Option<&str>
-    ensures { option_copied result ≡ enumeration_of value.now }
-{
-    match value {
-        Value21::Enumeration(word) => Some(word.as_str()),
-        _ => None,
-    }
-}
+use ifc_instances::Entity;
+use p21_reader::{Exchange, InstanceRef, Instances, ValueRef, Values};
 
 // Whether the attribute is the enumeration of those letters.
-fn says(word: &str, instance: &Instance, at: usize) -> bool
+fn says(word: &str, instance: &InstanceRef<'_>, at: usize) -> bool
     ensures { result ≡ says word.now instance.now at }
 {
-    let Some(value) = attribute(instance, at) else {
+    let Some(value) = instance.attribute(at) else {
         return false;
     };
-    match enumeration_of(value) {
-        Some(letters) => letters == word,
+    match value.enumeration() {
+        Some(letters) => letters == word.as_bytes(),
         None => false,
     }
 }
 
 #[tactic(auto, unfolding(crate::specs::Units::is_length_unit))]
-fn is_length_unit(instance: &Instance) -> bool
+fn is_length_unit(instance: &InstanceRef<'_>) -> bool
     ensures { result ≡ is_length_unit instance.now }
 {
-    is_a(Entity::SiUnit, instance) && says("LENGTHUNIT", instance, 1)
+    Entity::SiUnit.includes(instance) && says("LENGTHUNIT", instance, 1)
 }
 
 #[tactic(auto, unfolding(crate::specs::Units::prefix_power))]
-fn prefix_power(prefix: &str) -> Option<i32>
+fn prefix_power(prefix: &[u8]) -> Option<i32>
     ensures { result ≡ prefix_power prefix.now }
 {
-    if prefix == "KILO" {
+    if prefix == "KILO".as_bytes() {
         return Some(6);
     }
-    if prefix == "HECTO" {
+    if prefix == "HECTO".as_bytes() {
         return Some(5);
     }
-    if prefix == "DECA" {
+    if prefix == "DECA".as_bytes() {
         return Some(4);
     }
-    if prefix == "DECI" {
+    if prefix == "DECI".as_bytes() {
         return Some(2);
     }
-    if prefix == "CENTI" {
+    if prefix == "CENTI".as_bytes() {
         return Some(1);
     }
-    if prefix == "MILLI" {
+    if prefix == "MILLI".as_bytes() {
         return Some(0);
     }
-    if prefix == "MICRO" {
+    if prefix == "MICRO".as_bytes() {
         return Some(-3);
     }
     None
 }
 
 // The power of ten of a millimetre that a metre is with a prefix.
-fn power_with(prefix: &Value21) -> Option<i32>
+fn power_with(prefix: &ValueRef<'_>) -> Option<i32>
     ensures { result ≡ power_with (Some prefix.now) }
 {
-    if is_absent(prefix) {
+    if prefix.is_absent() {
         return Some(3);
     }
-    match enumeration_of(prefix) {
+    match prefix.enumeration() {
         Some(letters) => prefix_power(letters),
         None => None,
     }
@@ -86,25 +76,25 @@ fn power_with(prefix: &Value21) -> Option<i32>
 
 // The power of ten of a millimetre that a unit is.
 #[tactic(auto, unfolding(crate::specs::Units::unit_power))]
-fn unit_power(unit: &Instance) -> Option<i32>
+fn unit_power(unit: &InstanceRef<'_>) -> Option<i32>
     ensures { result ≡ unit_power unit.now }
 {
     if !says("METRE", unit, 3) {
         return None;
     }
-    match attribute(unit, 2) {
-        Some(prefix) => power_with(prefix),
+    match unit.attribute(2) {
+        Some(prefix) => power_with(&prefix),
         None => None,
     }
 }
 
 // How many projects there are.
-fn count_projects(instances: &[Instance]) -> usize
-    ensures { result ≡ length (projects instances.now) }
+fn count_projects(exchange: &Exchange) -> usize
+    ensures { result ≡ length (projects exchange.now) }
 {
     let mut count = 0;
-    for instance in instances {
-        if is_a(Entity::Project, instance) {
+    for instance in exchange.iter() {
+        if Entity::Project.includes(&instance) {
             count += 1;
         }
     }
@@ -112,41 +102,44 @@ fn count_projects(instances: &[Instance]) -> usize
 }
 
 // The first project.
-fn first_project(instances: &[Instance]) -> Option<&Instance>
-    ensures { option_copied result ≡ find (is_a Project) instances.now }
+fn first_project<'a>(instances: &Instances<'a>) -> Option<InstanceRef<'a>>
+    ensures { result ≡ find (is_a Project) instances.now }
 {
-    instances
-        .iter()
-        .find(|instance| is_a(Entity::Project, instance))
+    for instance in instances.iter() {
+        if Entity::Project.includes(&instance) {
+            return Some(instance);
+        }
+    }
+    None
 }
 
 // The project, where there is exactly one.
-fn only_project(instances: &[Instance]) -> Option<&Instance>
-    ensures some { IfSome result (λ project. projects instances.now ≡ project.now ∷ []) }
-    ensures none { IfNone result ((project : Instance) → projects instances.now ≡ project ∷ [] → ⊥) }
+fn only_project(exchange: &Exchange) -> Option<InstanceRef<'_>>
+    ensures some { IfSome result (λ project. projects exchange.now ≡ project ∷ []) }
+    ensures none { IfNone result ((project : Instance) → projects exchange.now ≡ project ∷ [] → ⊥) }
 {
-    if count_projects(instances) != 1 {
+    if count_projects(exchange) != 1 {
         return None;
     }
-    first_project(instances)
+    first_project(&exchange.iter())
 }
 
 // The least number of a project; 0 where there is none.
 fn least_project(exchange: &Exchange) -> u64
     ensures { IsLeastNumber (projects exchange.now) result }
 {
-    match first_project(exchange.instances()) {
-        Some(project) => project.id,
+    match first_project(&exchange.iter()) {
+        Some(project) => project.id(),
         None => 0,
     }
 }
 
 // The assignment of units of a project.
-fn assignment_of<'a>(exchange: &'a Exchange, project: &Instance) -> Option<&'a Instance>
-    ensures { option_copied result ≡ assignment_of exchange.now project.now }
+fn assignment_of<'a>(exchange: &'a Exchange, project: &InstanceRef<'_>) -> Option<InstanceRef<'a>>
+    ensures { result ≡ assignment_of exchange.now project.now }
 {
-    let assignment = target_at(exchange, project, 8)?;
-    if is_a(Entity::UnitAssignment, assignment) {
+    let assignment = exchange.target_at(project, 8)?;
+    if Entity::UnitAssignment.includes(&assignment) {
         Some(assignment)
     } else {
         None
@@ -154,26 +147,30 @@ fn assignment_of<'a>(exchange: &'a Exchange, project: &Instance) -> Option<&'a I
 }
 
 // The number of the unit of length that a value refers to.
-fn unit_named(exchange: &Exchange, value: &Value21) -> Option<u64>
+fn unit_named(exchange: &Exchange, value: &ValueRef<'_>) -> Option<u64>
     ensures some { IfSome result (λ id. RefersToUnit exchange.now id value.now) }
     ensures none { IfNone result ((id : ℕ) → RefersToUnit exchange.now id value.now → ⊥) }
 {
-    let Some(id) = reference_of(value) else {
+    let Some(id) = value.reference() else {
         return None;
     };
-    let Some(unit) = look(exchange, id) else {
+    let Some(unit) = exchange.look(id) else {
         return None;
     };
-    if is_length_unit(unit) { Some(id) } else { None }
+    if is_length_unit(&unit) {
+        Some(id)
+    } else {
+        None
+    }
 }
 
 // The number of the first unit of length among the items.
-fn first_unit(exchange: &Exchange, items: &[Value21]) -> Option<u64>
+fn first_unit(exchange: &Exchange, items: &Values<'_>) -> Option<u64>
     ensures some { IfSome result (IsUnitAmong exchange.now items.now) }
     ensures none { IfNone result ((id : ℕ) → IsUnitAmong exchange.now items.now id → ⊥) }
 {
-    for item in items {
-        if let Some(id) = unit_named(exchange, item) {
+    for item in items.iter() {
+        if let Some(id) = unit_named(exchange, &item) {
             return Some(id);
         }
     }
@@ -181,7 +178,7 @@ fn first_unit(exchange: &Exchange, items: &[Value21]) -> Option<u64>
 }
 
 // Whether a value refers to a unit of length of another number.
-fn names_other(exchange: &Exchange, value: &Value21, id: u64) -> bool
+fn names_other(exchange: &Exchange, value: &ValueRef<'_>, id: u64) -> bool
     ensures { MatchBool result (RefersToOther exchange.now id value.now)
         (RefersToOther exchange.now id value.now → ⊥) }
 {
@@ -192,13 +189,12 @@ fn names_other(exchange: &Exchange, value: &Value21, id: u64) -> bool
 }
 
 // Whether a unit of length of another number is among the items.
-#[tactic(auto, using(ifc_instances::proofs::Scans::scans))]
-fn has_other(exchange: &Exchange, items: &[Value21], id: u64) -> bool
+fn has_other(exchange: &Exchange, items: &Values<'_>, id: u64) -> bool
     ensures { MatchBool result (Any (RefersToOther exchange.now id) items.now)
         (Any (RefersToOther exchange.now id) items.now → ⊥) }
 {
-    for item in items {
-        if names_other(exchange, item, id) {
+    for item in items.iter() {
+        if names_other(exchange, &item, id) {
             return true;
         }
     }
@@ -206,7 +202,7 @@ fn has_other(exchange: &Exchange, items: &[Value21], id: u64) -> bool
 }
 
 // The number of the unit of length among the items, where there is exactly one.
-fn only_unit(exchange: &Exchange, items: &[Value21]) -> Option<u64>
+fn only_unit(exchange: &Exchange, items: &Values<'_>) -> Option<u64>
     ensures some { IfSome result (IsOnly (IsUnitAmong exchange.now items.now)) }
     ensures none { IfNone result ((id : ℕ) → IsOnly (IsUnitAmong exchange.now items.now) id → ⊥) }
 {
@@ -220,17 +216,17 @@ fn only_unit(exchange: &Exchange, items: &[Value21]) -> Option<u64>
 }
 
 // The power of ten of a millimetre that the unit of length of an assignment is.
-fn assigned_power(exchange: &Exchange, assignment: &Instance) -> Option<i32>
+fn assigned_power(exchange: &Exchange, assignment: &InstanceRef<'_>) -> Option<i32>
     ensures some { IfSome result (AssignsPower exchange.now assignment.now) }
     ensures none { IfNone result ((power : ℤ) → AssignsPower exchange.now assignment.now power → ⊥) }
 {
-    let Some(id) = only_unit(exchange, listed(assignment, 0)) else {
+    let Some(id) = only_unit(exchange, &assignment.listed(0)) else {
         return None;
     };
-    let Some(unit) = look(exchange, id) else {
+    let Some(unit) = exchange.look(id) else {
         return None;
     };
-    unit_power(unit)
+    unit_power(&unit)
 }
 
 // The scale of the file's length unit.
@@ -238,13 +234,13 @@ fn scale_of(exchange: &Exchange) -> Option<Scale>
     ensures some { IfSome result (IsLengthUnit exchange.now) }
     ensures none { IfNone result ((scale : Scale) → IsLengthUnit exchange.now scale → ⊥) }
 {
-    let Some(project) = only_project(exchange.instances()) else {
+    let Some(project) = only_project(exchange) else {
         return None;
     };
-    let Some(assignment) = assignment_of(exchange, project) else {
+    let Some(assignment) = assignment_of(exchange, &project) else {
         return None;
     };
-    match assigned_power(exchange, assignment) {
+    match assigned_power(exchange, &assignment) {
         Some(power) => Some(Scale { power }),
         None => None,
     }

@@ -94,6 +94,53 @@ fn a_lane_ends_as_its_door_does(rt: HostRuntime) -> Result<(), Fail> {
     Ok(())
 }
 
+// A door with three connections: the first read of one fails, the first write of the next, and nothing of the third.
+fn failing_door(alloc: Global) -> Result<MemDoor, AllocError> {
+    let mut links = Vec::new(alloc);
+    for (read, write) in [(1, 0), (0, 1), (0, 0)] {
+        let mut reads = Items::new(alloc);
+        reads.push(read)?;
+        let mut writes = Items::new(alloc);
+        writes.push(write)?;
+        let contents = Bytes::of(alloc, MAKE)?;
+        links.push(mem_link(alloc, contents, 1000, reads, writes)?)?;
+    }
+    MemDoor::new(alloc, links, Items::new(alloc))
+}
+
+// How many bytes were written to each of three connections.
+fn written(door: &MemDoor) -> Option<(usize, usize, usize)> {
+    match door.ended() {
+        [first, second, third] => Some((
+            first.link().sink.bytes().len(),
+            second.link().sink.bytes().len(),
+            third.link().sink.bytes().len(),
+        )),
+        _ => None,
+    }
+}
+
+// A connection that fails ends alone. Where its answer can't be written the change stands all the same, in the turn before
+// that of the next one.
+#[test]
+fn a_connection_that_fails_ends_alone(rt: HostRuntime) -> Result<(), Fail> {
+    let alloc = rt.alloc();
+    let mut door = failing_door(alloc)?;
+    let book = Book::new(alloc, 1, Limits::stated())?;
+    let (turn, mut passes) = Turn::new(alloc, book, 1)?;
+    let mut pass = passes.pop().ok_or("a pass")?;
+    let end = serve(&rt, alloc, &turn, &mut pass, &mut door, 3);
+    assert_eq!(rt; end, (LaneEnd::Full, false));
+    let ended = [
+        (EndKind::ReadFault, 0),
+        (EndKind::WriteFault, 1),
+        (EndKind::Closed, 2),
+    ];
+    assert_ended(&rt, &door, &ended);
+    assert_eq!(rt; written(&door), Some((0, 0, 249)));
+    Ok(())
+}
+
 // Doors of two connections each, whose accepts of these numbers fail.
 fn doors(alloc: Global, fails: &[u64]) -> Result<Vec<MemDoor>, AllocError>
     ensures { IfOk result (λ ds. All (λ d. IsNew true 0 (door_of d.store d.faults)) ds.items) }

@@ -13,12 +13,13 @@ use Rattle.ifc_schema.specs.declared.form.Shape.TheVariants as shape
 use Rattle.ifc_schema.specs.declared.form.Need.TheVariants.{Must, OrAbsent}
 use Rattle.ifc_schema.specs.declared.form.When.TheVariants.{Always}
 use Rattle.ifc_schema.specs.Table.{row_of, attribute, row_at}
-use Rattle.ifc_instances.specs.Values.{reference_of, items_of}
-use Rattle.ifc_instances.specs.Looking.{look, entity_at, is_a, some_passes}
+use Rattle.p21_reader.specs.Values.{reference_of, items_of}
+use Rattle.p21_reader.specs.Looking.{look}
+use Rattle.ifc_instances.specs.Looking.{entity_at, is_a, some_passes}
 use Rattle.ifc_schema.specs.Bodies.{target_passes, has_body, is_body, is_body_shape, is_body_representation, lists_body}
 use Rattle.ifc_schema.specs.Used.{Used}
 use Rattle.ifc_schema.specs.Surveys.{is_subject}
-use Rattle.ifc_instances.specs.Attributes.{target_at, led_to}
+use Rattle.p21_reader.specs.Attributes.{target_at, led_to}
 use Rattle.ifc_elements.specs.Items.{bodies, listed_by}
 use Rattle.model_build.proofs.OneKeyword.{is_shape, is_element, is_a_held, both}
 use Rattle.model_build.proofs.AttributesFormed.{in_row}

@@ -6,21 +6,22 @@ use Rattle.bim_model.specs.declared.upload.Mode.{Mode}
 use Rattle.bim_model.specs.declared.geometry.Point.{Point}
 use Rattle.p21_reader.specs.declared.value.Value21.{Value21}
 use Rattle.p21_reader.specs.declared.value.Instance.{Instance}
-use Rattle.ifc_instances.specs.Values.{items_of}
-use Rattle.ifc_instances.specs.Looking.{look}
-use Rattle.ifc_instances.specs.Places.{IsPlaceOf}
-use Rattle.ifc_instances.proofs.PlaceLemmas.{found_at, same_instance}
+use Rattle.p21_reader.specs.Values.{items_of}
+use Rattle.p21_reader.specs.Looking.{look}
+use Rattle.p21_reader.specs.Places.{IsPlaceOf}
+use Rattle.p21_reader.proofs.PlaceLemmas.{found_at, same_instance}
 use Rattle.ifc_units.specs.declared.scale.Scale.{Scale}
 use Rattle.ifc_units.specs.declared.fault.GridFault.{GridFault}
 use Rattle.ifc_units.specs.Lengths.{ArePoints, PointsRefused, ListRefused, InstanceRefused}
 use Rattle.ifc_units.proofs.PointFacts.{points_apart}
 use Rattle.ifc_units.proofs.InstanceFacts.{not_both}
-use Rattle.ifc_instances.specs.Attributes.{listed}
+use Rattle.p21_reader.specs.Attributes.{listed}
 use Rattle.ifc_elements.specs.PointTables.{IsListOf, Tabled, IsTable, kept_at}
 use Rattle.model_build.specs.LengthFaults.{Refuses}
 use Rattle.ifc_elements.proofs.TablesOfPoints.{at_place}
 use Rattle.std.specs.List.Sorted.{IsStrictlyIncreasing}
 use Rattle.std.proofs.lemmas.List.{get_or_default}
+use Rattle.std.proofs.lemmas.Option.{get_or_from_slice_get}
 use Rattle.std.proofs.lemmas.List.Elements.{Contains-get_or}
 use Rattle.bim_model.specs.declared.upload.UploadFault.{UploadFault}
 use Rattle.ifc_instances.proofs.Rising.{earlier, below_next}
@@ -50,15 +51,14 @@ pub fault_told : (world : List Instance) (scale : Scale) (mode : Mode) (id : ℕ
 fault_told world scale mode id i None found h = λ f l. h f (subst (λ j. InstanceRefused scale mode j f) (same_instance world id l.instance i l.found found) l.holds)
 fault_told world scale mode id i (Some f) found h = record { instance = i; found = found; holds = h }
 
--- the instance at the place of a number, as it is read
-pub found_there : (world instances : List Instance) (id at : ℕ) (i : Instance) → IsPlaceOf world id at → instances ≡ world → i ≡ get_or instances at i → look world id ≡ Some i
-found_there world instances id at i p same is = found_at world id at i p ∙ ap Some (sym (is ∙ ap (λ (is : List Instance). get_or is at i) same))
+-- the instance at the place of a number
+pub found_there : (world : List Instance) (id at : ℕ) (i : Instance) → IsPlaceOf world id at → slice_get world at ≡ Some i → look world id ≡ Some i
+found_there world id at i p is = found_at world id at i p ∙ ap Some (get_or_from_slice_get world at i i is)
 
-pub tabled_there : (world instances : List Instance) (table : List (Option (List Point))) (scale : Scale) (mode : Mode) (id at : ℕ) (i : Instance) (kept : Option (List Point)) → IsPlaceOf world id at → IsTable world scale mode table
-    → instances ≡ world → i ≡ get_or instances at i → kept ≡ kept_at table at → Tabled scale mode i kept
-tabled_there world instances table scale mode id at i kept p h same is keeps =
-    let here : i ≡ get_or world at i = is ∙ ap (λ (is : List Instance). get_or is at i) same in
-    subst (λ o. Tabled scale mode i o) (sym keeps) (subst (λ j. Tabled scale mode j (kept_at table at)) (sym here) (at_place world table scale mode id at i p h))
+pub tabled_there : (world : List Instance) (table : List (Option (List Point))) (scale : Scale) (mode : Mode) (id at : ℕ) (i : Instance) (kept : Option (List Point)) → IsPlaceOf world id at → IsTable world scale mode table
+    → slice_get world at ≡ Some i → kept ≡ kept_at table at → Tabled scale mode i kept
+tabled_there world table scale mode id at i kept p h is keeps =
+    subst (λ o. Tabled scale mode i o) (sym keeps) (subst (λ j. Tabled scale mode j (kept_at table at)) (get_or_from_slice_get world at i i is) (at_place world table scale mode id at i p h))
 
 -- the first ones have no fault
 abbrev pub NoneBefore : (ℕ → UploadFault → Type 0) → List ℕ → ℕ → Type 0

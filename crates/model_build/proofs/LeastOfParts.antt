@@ -40,13 +40,15 @@ pub least_none : {X : Type 0} (R : List X → ℕ → Type 0) → InParts R → 
 least_none R parts = parts.none
 
 -- one more thing
+pub least_added : {X : Type 0} (R : List X → ℕ → Type 0) (xs : List X) (x : X) (old here : Option ℕ) → InParts R → LeastOf (R xs) old → LeastOf (R (x ∷ [])) here → LeastOf (R (xs ++ x ∷ [])) (lesser old here)
+least_added R xs x old here parts g h =
+    same_least (λ id. R xs id ⊎ R (x ∷ []) id) (R (xs ++ x ∷ [])) (lesser old here) (parts.joined xs (x ∷ [])) (parts.split xs (x ∷ [])) (lesser_least (R xs) (R (x ∷ [])) old here g h)
+
 pub least_more : {X : Type 0} (R : List X → ℕ → Type 0) (xs : List X) (i : ℕ) (x : X) (old here : Option ℕ) → InParts R → i < length xs → x ≡ get_or xs i x
     → LeastOf (R (take i xs)) old → LeastOf (R (x ∷ [])) here → LeastOf (R (take (i + 1) xs)) (lesser old here)
 least_more R xs i x old here parts lt at g h =
     let t : take i xs ++ x ∷ [] ≡ take (i + 1) xs = ap (λ y. take i xs ++ y ∷ []) at ∙ sym (take_more xs i x lt) in
-    subst (λ ys. LeastOf (R ys) (lesser old here)) t
-    (same_least (λ id. R (take i xs) id ⊎ R (x ∷ []) id) (R (take i xs ++ x ∷ [])) (lesser old here) (parts.joined (take i xs) (x ∷ [])) (parts.split (take i xs) (x ∷ []))
-    (lesser_least (R (take i xs)) (R (x ∷ [])) old here g h))
+    subst (λ ys. LeastOf (R ys) (lesser old here)) t (least_added R (take i xs) x old here parts g h)
 
 -- all of them
 pub least_all : {X : Type 0} (R : List X → ℕ → Type 0) (xs : List X) (i : ℕ) (found : Option ℕ) → length xs ≤ i → LeastOf (R (take i xs)) found → LeastOf (R xs) found

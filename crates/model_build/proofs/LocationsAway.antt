@@ -6,7 +6,7 @@ use Rattle.std.specs.List.{Any}
 use Rattle.std.proofs.lemmas.Int.{ints, to_z-of_z}
 use Rattle.bim_model.specs.declared.upload.Mode.{Mode}
 use Rattle.p21_reader.specs.declared.value.Value21.{Value21}
-use Rattle.ifc_instances.specs.Values.{items_of}
+use Rattle.p21_reader.specs.Values.{items_of}
 use Rattle.ifc_units.specs.declared.scale.Scale.{Scale}
 use Rattle.ifc_units.specs.declared.fault.GridFault.TheVariants.{OffGrid, TooFar}
 use Rattle.ifc_units.specs.declared.fault.LengthError.{LengthError}
@@ -137,14 +137,6 @@ pub away_told : (scale : Scale) (mode : Mode) (value a b c : Value21) (x y z : L
     → MatchBool (are_away x y z) (IsAwayValue scale mode value) (IsAwayValue scale mode value → ⊥)
 away_told scale mode value a b c x y z e p q r =
     same_test (are_away x y z) (AreOff scale mode a b c) (IsAwayValue scale mode value) (given scale mode value a b c e) (taken scale mode value a b c e) (told_off scale mode a b c x y z p q r)
-
--- a list of three values
-pub three_items : (xs : List Value21) (a b c : Value21) → 3 ≤ length xs → length xs < 4 → a ≡ get_or xs 0 a → b ≡ get_or xs 1 b → c ≡ get_or xs 2 c → xs ≡ a ∷ b ∷ c ∷ []
-three_items [] a b c low high e f g = absurd (omega arith)
-three_items (x ∷ []) a b c low high e f g = absurd (omega arith)
-three_items (x ∷ y ∷ []) a b c low high e f g = absurd (omega arith)
-three_items (x ∷ y ∷ z ∷ []) a b c low high e f g = rw (← e, ← f, ← g) refl
-three_items (x ∷ y ∷ z ∷ w ∷ xs) a b c low high e f g = absurd (omega arith)
 
 -- The errors of a length.
 

@@ -12,7 +12,7 @@ use Rattle.p21_reader.specs.declared.value.Instance.{Instance}
 use Rattle.model_build.specs.Guids.{HasGuid, NoneRepeats}
 use Rattle.model_build.specs.Order.{Differ, Rise}
 use Rattle.std.proofs.lemmas.List.Sums.{sum_by-cons}
-use Rattle.ifc_instances.proofs.PlaceLemmas.{same_instance}
+use Rattle.p21_reader.proofs.PlaceLemmas.{same_instance}
 use Rattle.bim_model.specs.declared.upload.Mode.{Mode}
 use Rattle.bim_model.specs.declared.upload.UploadFault.TheVariants as faults
 use Rattle.bim_model.specs.declared.geometry.Point.{Point}

@@ -1,17 +1,17 @@
 -- What values that refer to items show to be unsupported.
-use Rattle.std.proofs.Common.{◌≡◌, ℕ, ◌+◌, ◌<◌, ◌≤◌, ◌⊎◌, inl, inr, true, List, [], ◌∷◌, ◌++◌, length, get_or, take, filter_map, Option, Some, None, Contains, refl, sym, subst, arith}
+use Rattle.std.proofs.Common.{◌≡◌, ℕ, ◌⊎◌, inl, inr, true, List, [], ◌∷◌, ◌++◌, filter_map, Option, Some, None, Contains, refl, sym, subst, arith}
 use Rattle.std.specs.List.{cons_option}
 use Rattle.std.proofs.lemmas.List.Elements.{Contains-append_left, Contains-append_right, Contains-append_cases, filter_map-append}
 use Rattle.p21_reader.specs.declared.value.Value21.{Value21}
 use Rattle.p21_reader.specs.declared.value.Instance.{Instance}
-use Rattle.ifc_instances.specs.Looking.{look}
-use Rattle.ifc_instances.specs.Values.{reference_of}
+use Rattle.p21_reader.specs.Looking.{look}
+use Rattle.p21_reader.specs.Values.{reference_of}
 use Rattle.ifc_schema.specs.Bodies.{is_body_representation}
 use Rattle.ifc_elements.specs.Finding.{Finds}
 use Rattle.ifc_elements.specs.Items.{spelled_items}
 use Rattle.ifc_instances.specs.Least.{LeastOf}
 use Rattle.model_build.specs.Showing.{lesser, HasOther, HasInner, BodyShows, MapShows}
-use Rattle.model_build.proofs.LeastOfParts.{InParts, least_none, least_more, least_all, same_least, lesser_least}
+use Rattle.model_build.proofs.LeastOfParts.{InParts, least_none, least_added, same_least, lesser_least}
 
 -- one of the values refers to that instance, and it holds of it
 abbrev pub Leads : List Instance → (Instance → Type 0) → List Value21 → ℕ → Type 0
@@ -38,12 +38,9 @@ leads_parts world P = record {
 pub leads_none : (world : List Instance) (P : Instance → Type 0) → LeastOf (Leads world P []) None
 leads_none world P = least_none (Leads world P) (leads_parts world P)
 
-pub leads_more : (world : List Instance) (P : Instance → Type 0) (vs : List Value21) (i : ℕ) (v : Value21) (old here : Option ℕ) → i < length vs → v ≡ get_or vs i v
-    → LeastOf (Leads world P (take i vs)) old → LeastOf (Leads world P (v ∷ [])) here → LeastOf (Leads world P (take (i + 1) vs)) (lesser old here)
-leads_more world P vs i v old here lt at g h = least_more (Leads world P) vs i v old here (leads_parts world P) lt at g h
-
-pub leads_all : (world : List Instance) (P : Instance → Type 0) (vs : List Value21) (i : ℕ) (found : Option ℕ) → length vs ≤ i → LeastOf (Leads world P (take i vs)) found → LeastOf (Leads world P vs) found
-leads_all world P vs i found le h = least_all (Leads world P) vs i found le h
+pub leads_more : (world : List Instance) (P : Instance → Type 0) (vs : List Value21) (v : Value21) (old here : Option ℕ)
+    → LeastOf (Leads world P vs) old → LeastOf (Leads world P (v ∷ [])) here → LeastOf (Leads world P (vs ++ v ∷ [])) (lesser old here)
+leads_more world P vs v old here g h = least_added (Leads world P) vs v old here (leads_parts world P) g h
 
 -- Of one value.
 

@@ -1,13 +1,10 @@
 -- What values refer to, collected and counted value by value.
 -- What the count of triangles says of the stages of a file.
-use Rattle.std.proofs.Common.{◌≡◌, ℕ, ◌+◌, ◌<◌, ◌≤◌, List, [], ◌∷◌, length, get_or, take, map, flat_map, sum_by, Some, refl, sym, ap, ◌∙◌, arith, subst}
+use Rattle.std.proofs.Common.{◌≡◌, ℕ, ◌+◌, ◌<◌, ◌≤◌, List, [], ◌∷◌, map, flat_map, sum_by, Some, refl, sym, ap, ◌∙◌, arith, subst}
 use Rattle.std.proofs.lemmas.List.Sums.{sum_by-cons, sum_by-append}
 use Rattle.std.proofs.lemmas.List.Concat.{flat_map-cons}
-use Rattle.p21_reader.specs.declared.value.Value21.{Value21}
 use Rattle.p21_reader.specs.declared.value.Instance.{Instance}
-use Rattle.ifc_instances.specs.Looking.{look}
-use Rattle.faceset.proofs.Named.{summed_more, summed_part}
-use Rattle.ifc_instances.specs.Attributes.{led_to}
+use Rattle.p21_reader.specs.Looking.{look}
 use Rattle.ifc_elements.specs.Items.{items_of, bodies, item_count, counted, count_of}
 use Rattle.model_build.specs.Triangles.{most_triangles, body_count, items_count, CountsTo}
 use Rattle.ifc_elements.specs.Finding.{Number}
@@ -19,20 +16,6 @@ use Rattle.model_build.specs.Stages.{TrianglesStage}
 use Rattle.model_build.proofs.OneList.{same_lists}
 
 -- Counting.
-
--- one value more
-pub counts_more : (f : Instance → ℕ) (world : List Instance) (vs : List Value21) (i : ℕ) (v : Value21) (so_far count more : ℕ) → i < length vs → v ≡ get_or vs i v
-    → so_far + sum_by f (led_to world (take i vs)) ≡ count → more ≡ count + sum_by f (led_to world (v ∷ [])) → so_far + sum_by f (led_to world (take (i + 1) vs)) ≡ more
-counts_more f world vs i v so_far count more lt at e m =
-    let whole : sum_by f (led_to world (take (i + 1) vs)) ≡ sum_by f (led_to world (take i vs)) + sum_by f (led_to world (v ∷ [])) = summed_more f world vs i v lt at in
-    omega (arith, whole, e, m)
-
-pub counts_past : (f : Instance → ℕ) (world : List Instance) (vs : List Value21) (i : ℕ) (v : Value21) (so_far count : ℕ) → i < length vs → v ≡ get_or vs i v
-    → so_far + sum_by f (led_to world (take i vs)) ≡ count → most_triangles < count + sum_by f (led_to world (v ∷ [])) → most_triangles < so_far + sum_by f (led_to world vs)
-counts_past f world vs i v so_far count lt at e past =
-    let whole : sum_by f (led_to world (take (i + 1) vs)) ≡ sum_by f (led_to world (take i vs)) + sum_by f (led_to world (v ∷ [])) = summed_more f world vs i v lt at in
-    let part : sum_by f (led_to world (take (i + 1) vs)) ≤ sum_by f (led_to world vs) = summed_part f world vs (i + 1) in
-    omega (arith, whole, part, e, past)
 
 counts_bodies : (world : List Instance) (ids : List ℕ) (are : List Instance) → Number world ids are → sum_by (body_count world) ids ≡ sum_by (item_count world) (flat_map (items_of world) are)
 counts_bodies world [] [] h = refl

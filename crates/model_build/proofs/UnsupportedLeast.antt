@@ -11,8 +11,8 @@ use Rattle.ifc_schema.specs.declared.form.Shape.TheVariants as shape
 use Rattle.ifc_schema.specs.declared.form.Need.TheVariants.{Must}
 use Rattle.ifc_schema.specs.declared.form.When.TheVariants.{Always}
 use Rattle.ifc_schema.specs.Table.{row_of, attribute}
-use Rattle.ifc_instances.specs.Values.{reference_of}
-use Rattle.ifc_instances.specs.Looking.{look}
+use Rattle.p21_reader.specs.Values.{reference_of}
+use Rattle.p21_reader.specs.Looking.{look}
 use Rattle.ifc_schema.specs.Used.{Used, IsMapped, named}
 use Rattle.ifc_schema.specs.Surveys.{Lists}
 use Rattle.ifc_units.specs.declared.scale.Scale.{Scale}

@@ -22,15 +22,16 @@ use Rattle.ifc_schema.specs.declared.form.When.TheVariants.{Always, WithBody}
 use Rattle.ifc_schema.specs.Words.{IsNumber, says_guid}
 use Rattle.bim_text.specs.Says.{is_guid}
 use Rattle.ifc_schema.specs.Table.{row_of, attribute, row_at}
-use Rattle.ifc_instances.specs.Values.{words_of, reference_of, items_of}
-use Rattle.ifc_instances.specs.Looking.{look, entity_at, is_a, some_passes}
+use Rattle.p21_reader.specs.Values.{words_of, reference_of, items_of}
+use Rattle.p21_reader.specs.Looking.{look}
+use Rattle.ifc_instances.specs.Looking.{entity_at, is_a, some_passes}
 use Rattle.ifc_schema.specs.Bodies.{applies, has_body}
 use Rattle.ifc_schema.specs.Flaws.{LeafFlaw, ListFlaw, ShapeFlaw, bad_unless}
 use Rattle.ifc_schema.specs.Used.{Used}
 use Rattle.ifc_schema.specs.Surveys.{is_subject}
 use Rattle.placement.specs.declared.direction.Direction.{Direction}
 use Rattle.placement.specs.Directions.{Spelled, coordinates, three_numbers, IsDirection, Directs, HasDirections}
-use Rattle.ifc_instances.specs.Attributes.{listed, reference_at}
+use Rattle.p21_reader.specs.Attributes.{listed, reference_at}
 use Rattle.faceset.specs.Sets.{spelled_triangles, HasThree}
 use Rattle.model_build.specs.Stages.{IsUsed}
 use Rattle.ifc_elements.specs.Texts.{guid_of}

@@ -2,7 +2,7 @@
 use Rattle.std.specs.Prelude.{◌≡◌, ℕ, List, Some, Contains}
 use Rattle.p21_reader.specs.declared.value.Instance.{Instance}
 use Rattle.ifc_elements.specs.Finding.{Finds}
-use Rattle.ifc_instances.specs.Attributes.{reference_at}
+use Rattle.p21_reader.specs.Attributes.{reference_at}
 
 -- one of them names that placement
 pub record IsNamed (world : List Instance) (Of : ℕ → Type 0) (placement : ℕ) : Type 0 where

@@ -14,7 +14,7 @@ use Rattle.model_build.specs.declared.file.File.{File}
 use Rattle.model_build.specs.Faults.{Stage, IsClear}
 use Rattle.model_build.specs.Stages.{UnitStage}
 use Rattle.ifc_elements.specs.Finding.{Finds}
-use Rattle.ifc_instances.specs.Attributes.{reference_at}
+use Rattle.p21_reader.specs.Attributes.{reference_at}
 use Rattle.model_build.specs.Guids.{NoneRepeats}
 use Rattle.model_build.specs.Least.{NoneOf, IsVoided, IsBadSet, IsOblique}
 use Rattle.ifc_elements.specs.PointTables.{ListsPoints}
@@ -24,7 +24,7 @@ use Rattle.model_build.specs.Faces.{HasManyCorners}
 use Rattle.faceset.specs.Sets.{is_set, HasStuck}
 use Rattle.bim_model.specs.declared.geometry.Point.{Point}
 use Rattle.bim_model.specs.declared.geometry.Triangle.{Triangle}
-use Rattle.ifc_instances.specs.Looking.{look}
+use Rattle.p21_reader.specs.Looking.{look}
 use Rattle.model_build.specs.Named.{ListsNamed}
 use Rattle.ifc_elements.specs.Items.{count_of}
 use Rattle.ifc_elements.specs.Sound.{IsSoundSet, AreSets}

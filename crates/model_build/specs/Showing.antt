@@ -3,13 +3,13 @@ use Rattle.std.specs.Prelude.{◌≡◌, ℕ, ◌⊎◌, nat_lt, Bool, true, fal
 use Rattle.bim_model.specs.declared.upload.Mode.{Mode}
 use Rattle.p21_reader.specs.declared.value.Value21.{Value21}
 use Rattle.p21_reader.specs.declared.value.Instance.{Instance}
-use Rattle.ifc_instances.specs.Values.{reference_of}
+use Rattle.p21_reader.specs.Values.{reference_of}
 use Rattle.ifc_schema.specs.Bodies.{is_body_representation}
 use Rattle.ifc_units.specs.declared.scale.Scale.{Scale}
 use Rattle.model_build.specs.declared.mapping.Lies.{Lies}
 use Rattle.model_build.specs.declared.mapping.Lies.TheVariants.{AtZero, OffZero, Between}
 use Rattle.ifc_elements.specs.Finding.{Finds}
-use Rattle.ifc_instances.specs.Attributes.{reference_at}
+use Rattle.p21_reader.specs.Attributes.{reference_at}
 use Rattle.ifc_elements.specs.Items.{spelled_items, is_item, is_mapped_item}
 use Rattle.model_build.specs.Unsupported.{IsNoTarget, HasNoTarget, HasGridNumber, IsSome, IsShifted}
 

@@ -1,7 +1,7 @@
 //! How many triangles a model has.
 ghost use Rattle.std.specs.Prelude.{◌≤◌, ◌+◌, ◌∷◌, [], sum_by, IfOk};
 ghost use Rattle.faceset.specs.Sets.{triangle_count};
-ghost use Rattle.ifc_instances.specs.Attributes.{led_to};
+ghost use Rattle.p21_reader.specs.Attributes.{led_to};
 ghost use Rattle.ifc_elements.specs.Items.{item_count, count_of};
 ghost use Rattle.model_build.specs.Triangles.{most_triangles, CountsTo, body_count};
 ghost use Rattle.ifc_elements.specs.Shapes.{AreShapes};
@@ -9,12 +9,11 @@ ghost use Rattle.ifc_elements.specs.Shapes.{AreShapes};
 use bim_model::MOST_TRIANGLES;
 use faceset::triangle_count;
 use ifc_elements::{Shapes, bodies, is_mapped_item, spelled_items, spelled_sets};
-use ifc_instances::{look, target};
-use p21_reader::{Exchange, Instance, Value21};
+use p21_reader::{Exchange, InstanceRef, ValueRef, Values};
 use std::alloc::{AllocError, Global};
 
 /// The number of triangles so far and of a set. None where it is more than a model may have, as in all that follows.
-fn count_set(exchange: &Exchange, set: &Instance, so_far: u64) -> Option<u64>
+fn count_set(exchange: &Exchange, set: &InstanceRef<'_>, so_far: u64) -> Option<u64>
     requires { so_far ≤ most_triangles }
     ensures { CountsTo (so_far + triangle_count exchange.now set.now) result }
 {
@@ -23,26 +22,26 @@ fn count_set(exchange: &Exchange, set: &Instance, so_far: u64) -> Option<u64>
 }
 
 /// .. and of the set that a value refers to.
-fn count_set_of(exchange: &Exchange, value: &Value21, so_far: u64) -> Option<u64>
+fn count_set_of(exchange: &Exchange, value: &ValueRef<'_>, so_far: u64) -> Option<u64>
     requires { so_far ≤ most_triangles }
     ensures { CountsTo (so_far + sum_by (triangle_count exchange.now)
         (led_to exchange.now (value.now ∷ []))) result }
 {
-    match target(exchange, value) {
-        Some(set) => count_set(exchange, set, so_far),
+    match exchange.target(value) {
+        Some(set) => count_set(exchange, &set, so_far),
         None => Some(so_far),
     }
 }
 
 /// .. and of the sets that values refer to.
-fn count_sets(exchange: &Exchange, values: &[Value21], so_far: u64) -> Option<u64>
+fn count_sets(exchange: &Exchange, values: &Values<'_>, so_far: u64) -> Option<u64>
     requires { so_far ≤ most_triangles }
     ensures { CountsTo (so_far + sum_by (triangle_count exchange.now)
         (led_to exchange.now values.now)) result }
 {
     let mut count = so_far;
-    for value in values {
-        let Some(counted) = count_set_of(exchange, value, count) else {
+    for value in values.iter() {
+        let Some(counted) = count_set_of(exchange, &value, count) else {
             return None;
         };
         count = counted;
@@ -51,37 +50,37 @@ fn count_sets(exchange: &Exchange, values: &[Value21], so_far: u64) -> Option<u6
 }
 
 /// .. and of an item.
-fn count_item(exchange: &Exchange, item: &Instance, so_far: u64) -> Option<u64>
+fn count_item(exchange: &Exchange, item: &InstanceRef<'_>, so_far: u64) -> Option<u64>
     requires { so_far ≤ most_triangles }
     ensures { CountsTo (so_far + item_count exchange.now item.now) result }
 {
     if is_mapped_item(item) {
-        count_sets(exchange, spelled_sets(exchange, item), so_far)
+        count_sets(exchange, &spelled_sets(exchange, item), so_far)
     } else {
         count_set(exchange, item, so_far)
     }
 }
 
 /// .. and of the item that a value refers to.
-fn count_item_of(exchange: &Exchange, value: &Value21, so_far: u64) -> Option<u64>
+fn count_item_of(exchange: &Exchange, value: &ValueRef<'_>, so_far: u64) -> Option<u64>
     requires { so_far ≤ most_triangles }
     ensures { CountsTo (so_far + sum_by (item_count exchange.now)
         (led_to exchange.now (value.now ∷ []))) result }
 {
-    match target(exchange, value) {
-        Some(item) => count_item(exchange, item, so_far),
+    match exchange.target(value) {
+        Some(item) => count_item(exchange, &item, so_far),
         None => Some(so_far),
     }
 }
 
 /// .. and of the items that values refer to.
-fn count_items(exchange: &Exchange, values: &[Value21], so_far: u64) -> Option<u64>
+fn count_items(exchange: &Exchange, values: &Values<'_>, so_far: u64) -> Option<u64>
     requires { so_far ≤ most_triangles }
     ensures { CountsTo (so_far + sum_by (item_count exchange.now) (led_to exchange.now values.now)) result }
 {
     let mut count = so_far;
-    for value in values {
-        let Some(counted) = count_item_of(exchange, value, count) else {
+    for value in values.iter() {
+        let Some(counted) = count_item_of(exchange, &value, count) else {
             return None;
         };
         count = counted;
@@ -94,8 +93,8 @@ fn count_body(exchange: &Exchange, id: u64, so_far: u64) -> Option<u64>
     requires { so_far ≤ most_triangles }
     ensures { CountsTo (so_far + body_count exchange.now id) result }
 {
-    match look(exchange, id) {
-        Some(body) => count_items(exchange, spelled_items(body), so_far),
+    match exchange.look(id) {
+        Some(body) => count_items(exchange, &spelled_items(&body), so_far),
         None => Some(so_far),
     }
 }
@@ -127,9 +126,9 @@ fn count_element(
     requires shapes { AreShapes exchange.now shapes.now }
     ensures { IfOk result (CountsTo (so_far + count_of exchange.now id)) }
 {
-    match look(exchange, id) {
+    match exchange.look(id) {
         Some(element) => {
-            let found = bodies(alloc, exchange, shapes, element)?;
+            let found = bodies(alloc, exchange, shapes, &element)?;
             Ok(count_bodies(exchange, &found, so_far))
         }
         None => Ok(Some(so_far)),

@@ -9,14 +9,14 @@ ghost use Rattle.model_build.specs.Faces.{HasManyCorners};
 ghost use Rattle.model_build.specs.Least.{IsLeastOf, NoneOf, IsVoided};
 
 use faceset::{MOST_CORNERS, outline};
-use ifc_instances::{Entity, is_a, look};
-use p21_reader::{Exchange, Instance};
+use ifc_instances::Entity;
+use p21_reader::{Exchange, InstanceRef};
 
 fn is_voided(exchange: &Exchange, id: u64) -> bool
     ensures { MatchBool result (IsVoided exchange.now id) (IsVoided exchange.now id → ⊥) }
 {
-    match look(exchange, id) {
-        Some(instance) => is_a(Entity::FaceWithVoids, instance),
+    match exchange.look(id) {
+        Some(instance) => Entity::FaceWithVoids.includes(&instance),
         None => false,
     }
 }
@@ -36,10 +36,10 @@ pub fn first_voided(exchange: &Exchange, used: &[u64]) -> Option<u64>
 }
 
 /// Whether it is a face of more than a thousand corners.
-fn has_many(instance: &Instance) -> bool
+fn has_many(instance: &InstanceRef<'_>) -> bool
     ensures { MatchBool result (HasManyCorners instance.now) (HasManyCorners instance.now → ⊥) }
 {
-    (is_a(Entity::Face, instance) || is_a(Entity::FaceWithVoids, instance))
+    (Entity::Face.includes(instance) || Entity::FaceWithVoids.includes(instance))
         && outline(instance).len() > MOST_CORNERS
 }
 
@@ -47,8 +47,8 @@ fn has_many_corners(exchange: &Exchange, id: u64) -> bool
     ensures { MatchBool result (Finds exchange.now id HasManyCorners)
         (Finds exchange.now id HasManyCorners → ⊥) }
 {
-    match look(exchange, id) {
-        Some(instance) => has_many(instance),
+    match exchange.look(id) {
+        Some(instance) => has_many(&instance),
         None => false,
     }
 }

@@ -5,7 +5,6 @@ ghost use Rattle.model_build.specs.Guids.{HasNoGuid, HasThatGuid, IsIdentified, 
 
 use bim_model::Guid;
 use ifc_elements::guid_of;
-use ifc_instances::look;
 use p21_reader::Exchange;
 use std::alloc::{AllocError, Global};
 use std::collections::BTreeSet;
@@ -15,8 +14,8 @@ fn identifier(alloc: Global, exchange: &Exchange, id: u64) -> Result<Option<Guid
     ensures { IfOk result (λ found. MatchOption found (HasNoGuid exchange.now id)
         (HasThatGuid exchange.now id)) }
 {
-    match look(exchange, id) {
-        Some(instance) => guid_of(alloc, instance),
+    match exchange.look(id) {
+        Some(instance) => guid_of(alloc, &instance),
         None => Ok(None),
     }
 }

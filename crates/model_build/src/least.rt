@@ -8,7 +8,7 @@ ghost use Rattle.faceset.specs.Reaches.{AreReaches};
 ghost use Rattle.model_build.specs.Least.{IsLeastOf, NoneOf, IsBadSet, IsAxisPlacement, IsOperator, IsOblique};
 
 use faceset::{FaceReaches, has_bad_index, is_set};
-use ifc_instances::{Entity, is_a, look};
+use ifc_instances::Entity;
 use p21_reader::Exchange;
 use placement::{axes_of, operator_axes};
 use std::alloc::{AllocError, Global};
@@ -19,13 +19,13 @@ fn is_bad_set(exchange: &Exchange, reaches: &mut FaceReaches, id: u64) -> Result
         (IsBadSet exchange.now id → ⊥)) }
     ensures kept { OnOk result (AreReaches exchange.now reaches.new) }
 {
-    let Some(set) = look(exchange, id) else {
+    let Some(set) = exchange.look(id) else {
         return Ok(false);
     };
-    if !is_set(set) {
+    if !is_set(&set) {
         return Ok(false);
     }
-    has_bad_index(exchange, reaches, set)
+    has_bad_index(exchange, reaches, &set)
 }
 
 /// The least of these instances that is a face set with an index that counts nothing (IFC4 ADD2 TC1, IfcTriangulatedFaceSet,
@@ -52,8 +52,8 @@ pub fn first_bad_index(
 fn is_axis_placement(exchange: &Exchange, id: u64) -> bool
     ensures { MatchBool result (IsAxisPlacement exchange.now id) (IsAxisPlacement exchange.now id → ⊥) }
 {
-    match look(exchange, id) {
-        Some(instance) => is_a(Entity::AxisPlacement, instance),
+    match exchange.look(id) {
+        Some(instance) => Entity::AxisPlacement.includes(&instance),
         None => false,
     }
 }
@@ -61,8 +61,8 @@ fn is_axis_placement(exchange: &Exchange, id: u64) -> bool
 fn is_operator(exchange: &Exchange, id: u64) -> bool
     ensures { MatchBool result (IsOperator exchange.now id) (IsOperator exchange.now id → ⊥) }
 {
-    match look(exchange, id) {
-        Some(instance) => is_a(Entity::Operator, instance),
+    match exchange.look(id) {
+        Some(instance) => Entity::Operator.includes(&instance),
         None => false,
     }
 }

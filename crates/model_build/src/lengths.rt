@@ -10,13 +10,12 @@ ghost use Rattle.model_build.specs.LengthFaults.{Refuses, LengthFault, told_of};
 
 use bim_model::{Items, Mode, Point, UploadFault};
 use ifc_elements::kept_at;
-use ifc_instances::place_of;
 use ifc_units::{GridFault, Scale, fault_of_points};
-use p21_reader::{Exchange, Instance};
+use p21_reader::{Exchange, InstanceRef};
 
 /// Which fault the lengths of an instance have, whose points are kept where it is a list of points on the grid.
 fn fault_of(
-    instance: &Instance,
+    instance: &InstanceRef<'_>,
     kept: Option<&[Point]>,
     scale: Scale,
     mode: Mode,
@@ -43,9 +42,9 @@ fn fault_at(
     ensures { MatchOption result ((refused : GridFault) → Refuses exchange.now scale mode id refused → ⊥)
         (Refuses exchange.now scale mode id) }
 {
-    let at = place_of(exchange, id)?;
-    let instance = &exchange.instances()[at];
-    fault_of(instance, kept_at(table, at), scale, mode)
+    let at = exchange.place_of(id)?;
+    let instance = exchange.instance(at);
+    fault_of(&instance, kept_at(table, at), scale, mode)
 }
 
 fn told(id: u64, refused: GridFault) -> UploadFault

@@ -10,9 +10,9 @@ use crate::unsupported::lesser;
 use bim_model::Mode;
 use faceset::place_of;
 use ifc_elements::is_mapped_item;
-use ifc_instances::{Entity, is_a, items_of, look, number_of, reference_at, referred_at, value_at};
+use ifc_instances::Entity;
 use ifc_units::{GridFault, LengthError, Scale, length};
-use p21_reader::{Exchange, Instance, Value21};
+use p21_reader::{Exchange, InstanceRef, ValueRef};
 use placement::{Axes, Axis, axes_of};
 
 /// The axes of the grid.
@@ -40,36 +40,40 @@ pub enum Lies {
 }
 
 /// Whether a value is a number other than 1.
-fn is_not_one(value: &Value21) -> bool
+fn is_not_one(value: &ValueRef<'_>) -> bool
     ensures { MatchBool result (IsNotOne value.now) (IsNotOne value.now → ⊥) }
 {
-    number_of(value).is_some() && place_of(value, 1).is_none()
+    value.number().is_some() && place_of(value, 1).is_none()
 }
 
 /// Whether it is no operator, or one with a scale other than 1.
-fn is_no_target(instance: &Instance) -> bool
+fn is_no_target(instance: &InstanceRef<'_>) -> bool
     ensures { MatchBool result (IsNoTarget instance.now) (IsNoTarget instance.now → ⊥) }
 {
-    if !is_a(Entity::Operator, instance) {
+    if !Entity::Operator.includes(instance) {
         return true;
     }
-    match instance.values.as_slice().get(3) {
-        Some(scale) => is_not_one(scale),
+    match instance.attribute(3) {
+        Some(scale) => is_not_one(&scale),
         None => false,
     }
 }
 
 /// The number of the instance by which an item is mapped, where that is no operator, or one with a scale other than 1.
-fn other_target(exchange: &Exchange, item: &Instance) -> Option<u64>
+fn other_target(exchange: &Exchange, item: &InstanceRef<'_>) -> Option<u64>
     ensures { MatchOption result ((id : ℕ) → NamesNoTarget exchange.now item.now id → ⊥)
         (NamesNoTarget exchange.now item.now) }
 {
-    let id = reference_at(item, 1)?;
-    let target = look(exchange, id)?;
-    if is_no_target(target) { Some(id) } else { None }
+    let id = item.reference_at(1)?;
+    let target = exchange.look(id)?;
+    if is_no_target(&target) {
+        Some(id)
+    } else {
+        None
+    }
 }
 
-fn where_it_lies(value: &Value21, scale: Scale, mode: Mode) -> Lies
+fn where_it_lies(value: &ValueRef<'_>, scale: Scale, mode: Mode) -> Lies
     ensures { HasPlace scale mode value.now result }
 {
     match length(value, scale, mode) {
@@ -100,19 +104,19 @@ fn are_away(a: Lies, b: Lies, c: Lies) -> bool
 }
 
 /// Whether a value is three lengths with grid numbers that aren't all 0.
-fn is_away_value(value: &Value21, scale: Scale, mode: Mode) -> bool
+fn is_away_value(value: &ValueRef<'_>, scale: Scale, mode: Mode) -> bool
     ensures { MatchBool result (IsAwayValue scale mode value.now) (IsAwayValue scale mode value.now → ⊥) }
 {
-    let Some(items) = items_of(value) else {
+    let Some(items) = value.items() else {
         return false;
     };
-    match items {
-        [a, b, c] => are_away(
-            where_it_lies(a, scale, mode),
-            where_it_lies(b, scale, mode),
-            where_it_lies(c, scale, mode),
+    match items.three() {
+        Some(found) => are_away(
+            where_it_lies(&found.x, scale, mode),
+            where_it_lies(&found.y, scale, mode),
+            where_it_lies(&found.z, scale, mode),
         ),
-        _ => false,
+        None => false,
     }
 }
 
@@ -120,11 +124,11 @@ fn is_away_value(value: &Value21, scale: Scale, mode: Mode) -> bool
 fn is_away(exchange: &Exchange, id: u64, scale: Scale, mode: Mode) -> bool
     ensures { MatchBool result (IsAway exchange.now scale mode id) (IsAway exchange.now scale mode id → ⊥) }
 {
-    let Some(to) = referred_at(exchange, id, 0) else {
+    let Some(to) = exchange.referred_at(id, 0) else {
         return false;
     };
-    match value_at(exchange, to, 0) {
-        Some(value) => is_away_value(value, scale, mode),
+    match exchange.value_at(to, 0) {
+        Some(value) => is_away_value(&value, scale, mode),
         None => false,
     }
 }
@@ -144,10 +148,10 @@ fn is_shifted(exchange: &Exchange, id: u64, scale: Scale, mode: Mode) -> bool
     ensures { MatchBool result (IsOtherOrigin exchange.now scale mode id)
         (IsOtherOrigin exchange.now scale mode id → ⊥) }
 {
-    let Some(map) = referred_at(exchange, id, 0) else {
+    let Some(map) = exchange.referred_at(id, 0) else {
         return false;
     };
-    let Some(origin) = referred_at(exchange, map, 0) else {
+    let Some(origin) = exchange.referred_at(map, 0) else {
         return false;
     };
     is_turned(exchange, origin) || is_away(exchange, origin, scale, mode)
@@ -168,12 +172,12 @@ fn other_origin(exchange: &Exchange, id: u64, scale: Scale, mode: Mode) -> Optio
 fn other_mapping(exchange: &Exchange, id: u64, scale: Scale, mode: Mode) -> Option<u64>
     ensures { LeastOf (ItemShows exchange.now scale mode id) result }
 {
-    let item = look(exchange, id)?;
-    if !is_mapped_item(item) {
+    let item = exchange.look(id)?;
+    if !is_mapped_item(&item) {
         return None;
     }
     let own = other_origin(exchange, id, scale, mode);
-    lesser(own, other_target(exchange, item))
+    lesser(own, other_target(exchange, &item))
 }
 
 /// The least of those, of the instances of these numbers.

@@ -2,7 +2,6 @@
 ghost use Rattle.std.specs.Prelude.{IfOk, MatchOption};
 ghost use Rattle.model_build.specs.Named.{NamesPlacement, NamesNone, ListsNamed};
 
-use ifc_instances::{look, reference_at};
 use p21_reader::Exchange;
 use std::alloc::{AllocError, Global};
 
@@ -10,8 +9,8 @@ use std::alloc::{AllocError, Global};
 fn named_by(exchange: &Exchange, element: u64) -> Option<u64>
     ensures { MatchOption result (NamesNone exchange.now element) (NamesPlacement exchange.now element) }
 {
-    let instance = look(exchange, element)?;
-    reference_at(instance, 5)
+    let instance = exchange.look(element)?;
+    instance.reference_at(5)
 }
 
 /// The numbers of the placements that the listed elements name, in their order; one that several name stands as often.

@@ -83,7 +83,7 @@ fn measured(alloc: Global, file: &File) -> Result<Vec<Option<Items<Point>>>, Bui
     ensures fault { IfErr result (IsErrorOf (FileFault file.now.exchange file.now.mode)) }
 {
     let exchange = &file.exchange;
-    let table = table_of(alloc, exchange.instances(), file.scale, file.mode)?;
+    let table = table_of(alloc, &exchange.iter(), file.scale, file.mode)?;
     let used = file.survey.used();
     if let Some(fault) = first_length_fault(exchange, &table, used, file.scale, file.mode) {
         return Err(BuildError::Fault(fault));

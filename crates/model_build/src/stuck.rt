@@ -9,7 +9,6 @@ use crate::unsupported::lesser;
 use bim_model::{Items, Mode, Point};
 use faceset::{is_set, least_stuck};
 use ifc_elements::points_at;
-use ifc_instances::{look, reference_at};
 use ifc_units::Scale;
 use p21_reader::Exchange;
 use std::alloc::{AllocError, Global};
@@ -26,19 +25,19 @@ fn stuck_in(
     requires { IsTable exchange.now scale mode table.now }
     ensures { IfOk result (LeastOf (ShowsStuckSet exchange.now scale mode id)) }
 {
-    let Some(set) = look(exchange, id) else {
+    let Some(set) = exchange.look(id) else {
         return Ok(None);
     };
-    if !is_set(set) {
+    if !is_set(&set) {
         return Ok(None);
     }
-    let Some(list) = reference_at(set, 0) else {
+    let Some(list) = set.reference_at(0) else {
         return Ok(None);
     };
     let Some(points) = points_at(exchange, table, list) else {
         return Ok(None);
     };
-    least_stuck(alloc, exchange, points, set)
+    least_stuck(alloc, exchange, points, &set)
 }
 
 /// The least number of a face that can't be cut, of the sets among the instances of these numbers.

@@ -7,8 +7,7 @@ ghost use Rattle.model_build.specs.Least.{ShownBy};
 ghost use Rattle.model_build.specs.Showing.{lesser, HasOther, HasInner, BodyShows, MapShows};
 
 use ifc_elements::{is_body_representation, is_item, is_mapped_item, spelled_items};
-use ifc_instances::{look, reference_of};
-use p21_reader::{Exchange, Value21};
+use p21_reader::{Exchange, ValueRef, Values};
 
 /// The lesser of two numbers that may lack.
 pub fn lesser(a: Option<u64>, b: Option<u64>) -> Option<u64>
@@ -22,41 +21,45 @@ pub fn lesser(a: Option<u64>, b: Option<u64>) -> Option<u64>
 }
 
 /// The number of the instance that an item refers to, where it is neither a face set nor a mapped item.
-fn other_item(exchange: &Exchange, value: &Value21) -> Option<u64>
+fn other_item(exchange: &Exchange, value: &ValueRef<'_>) -> Option<u64>
     ensures { LeastOf (HasOther exchange.now (value.now ∷ [])) result }
 {
-    let id = reference_of(value)?;
-    let item = look(exchange, id)?;
-    if is_item(item) { None } else { Some(id) }
+    let id = value.reference()?;
+    let item = exchange.look(id)?;
+    if is_item(&item) { None } else { Some(id) }
 }
 
 /// The least of those.
-fn least_other(exchange: &Exchange, values: &[Value21]) -> Option<u64>
+fn least_other(exchange: &Exchange, values: &Values<'_>) -> Option<u64>
     ensures { LeastOf (HasOther exchange.now values.now) result }
 {
     let mut least = None;
-    for value in values {
-        least = lesser(least, other_item(exchange, value));
+    for value in values.iter() {
+        least = lesser(least, other_item(exchange, &value));
     }
     least
 }
 
 /// The number of the instance that an item refers to, where it is a mapped item.
-fn inner_item(exchange: &Exchange, value: &Value21) -> Option<u64>
+fn inner_item(exchange: &Exchange, value: &ValueRef<'_>) -> Option<u64>
     ensures { LeastOf (HasInner exchange.now (value.now ∷ [])) result }
 {
-    let id = reference_of(value)?;
-    let item = look(exchange, id)?;
-    if is_mapped_item(item) { Some(id) } else { None }
+    let id = value.reference()?;
+    let item = exchange.look(id)?;
+    if is_mapped_item(&item) {
+        Some(id)
+    } else {
+        None
+    }
 }
 
 /// The least of those.
-fn least_inner(exchange: &Exchange, values: &[Value21]) -> Option<u64>
+fn least_inner(exchange: &Exchange, values: &Values<'_>) -> Option<u64>
     ensures { LeastOf (HasInner exchange.now values.now) result }
 {
     let mut least = None;
-    for value in values {
-        least = lesser(least, inner_item(exchange, value));
+    for value in values.iter() {
+        least = lesser(least, inner_item(exchange, &value));
     }
     least
 }
@@ -65,13 +68,13 @@ fn least_inner(exchange: &Exchange, values: &[Value21]) -> Option<u64>
 fn other_in_body(exchange: &Exchange, id: u64) -> Option<u64>
     ensures { LeastOf (BodyShows exchange.now id) result }
 {
-    let Some(representation) = look(exchange, id) else {
+    let Some(representation) = exchange.look(id) else {
         return None;
     };
-    if !is_body_representation(representation) {
+    if !is_body_representation(&representation) {
         return None;
     }
-    least_other(exchange, spelled_items(representation))
+    least_other(exchange, &spelled_items(&representation))
 }
 
 /// The least number of an item that isn't read, of the bodies among the instances of these numbers.
@@ -90,9 +93,9 @@ pub fn least_in_bodies(exchange: &Exchange, ids: &[u64]) -> Option<u64>
 fn other_in_mapped(exchange: &Exchange, id: u64) -> Option<u64>
     ensures { LeastOf (MapShows exchange.now id) result }
 {
-    let representation = look(exchange, id)?;
-    let items = spelled_items(representation);
-    lesser(least_other(exchange, items), least_inner(exchange, items))
+    let representation = exchange.look(id)?;
+    let items = spelled_items(&representation);
+    lesser(least_other(exchange, &items), least_inner(exchange, &items))
 }
 
 /// The least of those, of the mapped representations of these numbers.

@@ -1,3 +1,4 @@
+-- The longest front of words, names, texts and the like is a spelling, and each spelling reaches no further.
 use Rattle.std.proofs.Common.{◌≡◌, ℕ, ◌+◌, ◌-◌, ◌*◌, ◌≤◌, ◌==◌, ◌&&◌, inl, inr, List, [], ◌∷◌, ◌++◌, length, take, drop, Bool, true, false, nat_le, refl, sym, ap, subst, ◌∙◌, add-one, arith, Option, Some, None, option_map, append_assoc}
 use Rattle.std.proofs.lemmas.Bool.{eqb-true, leb-true, le-leb, cases_Bool, and_from, not-true, and_parts}
 use Rattle.std.proofs.lemmas.Bool.Decides.{nat_tests}

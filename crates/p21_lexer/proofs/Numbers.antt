@@ -1,3 +1,4 @@
+-- The front of a number is the longest, and spells one.
 use Rattle.std.proofs.Common.{◌≡◌, ℕ, ◌+◌, ◌<◌, ◌≤◌, inl, inr, List, [], ◌∷◌, ◌++◌, length, drop, true, false, nat_lt, refl, sym, ap, ◌∙◌, arith, Option, Some, None, option_map, append_assoc}
 use Rattle.std.proofs.lemmas.Bool.{ltb-true, eqb-true, lt-ltb, cases_Bool, and_parts}
 use Rattle.std.proofs.lemmas.Bool.Decides.{nat_tests}

@@ -1,3 +1,4 @@
+-- A walk byte by byte, one step further or at its end.
 use Rattle.std.proofs.Common.{◌≡◌, ℕ, ◌+◌, ◌-◌, ◌*◌, ◌<◌, ◌≤◌, ◌==◌, ◌&&◌, ◌⊎◌, inl, inr, List, [], ◌∷◌, length, get_or, drop, Bool, true, false, nat_le, suc, refl, sym, ap, add-one, arith, drop-cons, Option, Some, None, option_map}
 use Rattle.std.proofs.lemmas.Bool.{ne_eqb, le-leb, lt-leb}
 use Rattle.std.proofs.lemmas.List.{drop-drop, drop_all}

@@ -1,3 +1,4 @@
+-- The first byte tells the kind of a token, and what begins there is its longest spelling, or none.
 use Rattle.std.proofs.Common.{◌≡◌, ℕ, ◌+◌, ◌-◌, ◌<◌, ◌≤◌, ◌==◌, ◌||◌, inl, inr, List, [], ◌∷◌, ◌++◌, length, get_or, take, drop, Bool, true, false, nat_lt, suc, refl, sym, ap, subst, ◌∙◌, arith, drop-cons, Option, Some, None, option_map, append_assoc}
 use Rattle.std.proofs.lemmas.Bool.{ltb-true, eqb-true, lt-ltb, cases_Bool, and_parts}
 use Rattle.std.proofs.lemmas.Bool.Decides.{nat_tests}

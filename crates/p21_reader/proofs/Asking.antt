@@ -1,3 +1,4 @@
+-- What stands next: a sign, a word or a text, or something in its place.
 use Rattle.std.proofs.Common.{◌≡◌, ℕ, inl, inr, Bool, true, false, ◌==◌, List, [], ◌∷◌, map, codes, slice_range, Option, Some, None, Result, Ok, Err, refl, sym, ap, subst, ◌∙◌}
 use Rattle.std.specs.Prelude.{IsTrue, ◌↔◌, IfNone, IfSome, IfOk}
 use Rattle.std.specs.Str.{bytes_eq}

@@ -1,3 +1,4 @@
+-- Each refusal of an upload has its cause.
 use Rattle.std.proofs.Common.{◌≡◌, ℕ, ◌≤◌, ◌==◌, ◌⊎◌, inl, inr, List, cond, length, sum_by, IsPermutation, Result, Ok, Err, arith, refl, sym, subst}
 use Rattle.std.specs.Prelude.{IsErrAnd, IfErr}
 use Rattle.std.proofs.lemmas.List.Sorted.{length_permutation, sum_by-IsPermutation}

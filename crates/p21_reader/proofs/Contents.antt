@@ -1,3 +1,4 @@
+-- What tokens of names, keywords and texts say, and that it fits.
 use Rattle.std.proofs.Common.{◌≡◌, ℕ, ◌+◌, ◌-◌, ◌*◌, ◌<◌, ◌≤◌, ◌==◌, inl, inr, Bool, true, List, [], ◌∷◌, ◌++◌, length, get_or, map, drop, zero, suc, add-one, arith, refl, sym, ap, subst, ◌∙◌, drop-cons, slice_range}
 use Rattle.std.proofs.lemmas.Bool.Decides.{nat_tests}
 use Rattle.std.specs.Str.{IsAscii}

@@ -1,3 +1,4 @@
+-- The least number that two instances have, found among instances that are sorted.
 use Rattle.std.proofs.Common.{◌≡◌, ℕ, ◌+◌, ◌-◌, ◌<◌, ◌≤◌, ◌==◌, ◌⊎◌, inl, inr, zero, suc, add-one, List, [], ◌∷◌, length, get_or, drop, map, Option, Some, None, true, false, cond, nat_lt, arith, refl, sym, ap, subst, ◌∙◌, drop-cons}
 use Rattle.std.proofs.lemmas.Bool.{eqb-true, cases_Bool}
 use Rattle.std.proofs.lemmas.Bool.Decides.{nat_tests}

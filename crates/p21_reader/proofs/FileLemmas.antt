@@ -1,3 +1,4 @@
+-- A file is read instance by instance, up to its last semicolon.
 use Rattle.std.proofs.Common.{◌≡◌, ℕ, inl, inr, List, [], ◌∷◌, ◌++◌, Option, Some, None, Result, Ok, Err, refl, sym, ap, subst, ◌∙◌, append_assoc}
 use Rattle.std.specs.Prelude.{IsSome}
 use Rattle.p21_lexer.specs.declared.token.Token.{Token}

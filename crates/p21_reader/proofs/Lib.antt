@@ -15,5 +15,8 @@ pub mod Sizes
 pub mod Statements
 pub mod Steps
 pub mod Strict
+pub mod Turns
 pub mod Viable
 pub mod SameSaying
+pub mod PlaceLemmas
+pub mod ValueLemmas

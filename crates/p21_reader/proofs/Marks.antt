@@ -1,3 +1,4 @@
+-- The words that the grammar names.
 use Rattle.std.proofs.Common.{◌≡◌, [], Some, None, refl, ap, subst}
 use Rattle.p21_reader.specs.declared.word.Mark.{Mark}
 use Rattle.p21_reader.specs.declared.word.Mark.TheVariants as marks

@@ -1,3 +1,4 @@
+-- Bytes have one answer: one exchange or one first fault, and not both.
 use Rattle.std.proofs.Common.{◌≡◌, ℕ, ◌+◌, ◌==◌, inl, inr, cond, sum_by, IsPermutation, List, [], ◌∷◌, ◌++◌, map, length, Some, None, Ok, Err, arith, refl, sym, ap, subst, ◌∙◌, append_assoc}
 use Rattle.std.proofs.lemmas.List.Sorted.{length_permutation, sum_by-IsPermutation, IsPermutation-map, IsPermutation-trans, IsPermutation-sym}
 use Rattle.std.proofs.lemmas.List.Sums.{sum_by-cons}

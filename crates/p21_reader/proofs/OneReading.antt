@@ -1,3 +1,4 @@
+-- A file has one reading: its statements and its instances.
 use Rattle.std.proofs.Common.{◌≡◌, ℕ, List, [], ◌∷◌, ◌++◌, map, Option, Some, None, refl, sym, ap, subst, ◌∙◌, append_assoc}
 use Rattle.p21_lexer.specs.declared.token.Token.{Token}
 use Rattle.p21_lexer.specs.Cutting.{start_of}

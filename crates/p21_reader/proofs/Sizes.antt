@@ -1,3 +1,4 @@
+-- How many values a value is, by what it says.
 use Rattle.std.proofs.Common.{◌≡◌, ℕ, ◌+◌, List, [], ◌∷◌, map, sum, sum_by, refl, sym, ap, subst, ◌∙◌}
 use Rattle.std.proofs.lemmas.List.Sums.{sum_by-cons}
 use Rattle.p21_reader.specs.declared.value.Value21.{Value21}

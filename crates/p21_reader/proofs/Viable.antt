@@ -1,3 +1,4 @@
+-- The table of signs is the grammar: it leads through exactly the tokens that are a file or begin one.
 use Rattle.std.proofs.Common.{◌≡◌, ℕ, List, [], ◌∷◌, ◌++◌, Option, Some, None, option_map, Bool, true, false, cond, refl, sym, ap, subst, ◌∙◌, append_assoc, ◌-◌}
 use Rattle.std.specs.Prelude.{IsSome, ◌↔◌}
 use Rattle.p21_reader.specs.declared.limits.TheConstants.{MOST_DEPTH}

@@ -10,3 +10,7 @@ pub mod Reading
 pub mod Saying
 pub mod Schema
 pub mod Uploads
+pub mod Values
+pub mod Looking
+pub mod Places
+pub mod Attributes

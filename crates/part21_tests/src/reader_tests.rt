@@ -1,6 +1,6 @@
 //! Files and their instances, or their first fault.
 use bim_model::{BuildError, Many, UploadFault};
-use p21_reader::{Exchange, Value21, read};
+use p21_reader::{Exchange, InstanceRef, Value21, ValueRef, read};
 use std::alloc::{AllocError, Global};
 use std::process::Abort;
 use std::test::Fail;
@@ -468,6 +468,68 @@ fn instances_are_read(rt: HostRuntime) -> Result<(), Fail> {
     for row in VALUES {
         assert_value(&rt, values, row);
     }
+    Ok(())
+}
+
+/// The mark of what a value says where it stands, and the bytes that it lends.
+fn lent<'a>(value: &ValueRef<'a>) -> (u8, &'a [u8]) {
+    if let Some(bytes) = value.number() {
+        (b'1', bytes)
+    } else if let Some(bytes) = value.words() {
+        (b'\'', bytes)
+    } else if let Some(bytes) = value.enumeration() {
+        (b'.', bytes)
+    } else if value.reference().is_some() {
+        (b'#', b"")
+    } else if value.items().is_some() {
+        (b'(', b"")
+    } else if value.is_absent() {
+        (b'$', b"")
+    } else {
+        (b'?', b"")
+    }
+}
+
+/// The number of `#7`'s reference, how many values its second list has, and how many that list's second item has.
+fn assert_lists(rt: &impl Abort, instance: &InstanceRef<'_>) -> Result<(), Fail> {
+    assert_eq!(rt; instance.reference_at(6), Some(12));
+    assert_eq!(rt; instance.listed(7).len(), 0);
+    let mut items = instance.listed(8);
+    assert_eq!(rt; items.len(), 2);
+    assert!(rt; items.iter().three().is_none());
+    assert!(rt; items.next().ok_or("missing")?.number().is_some());
+    let inner = items.next().ok_or("missing")?.items_in();
+    assert_eq!(rt; inner.len(), 1);
+    assert!(rt; items.next().is_none());
+    Ok(())
+}
+
+#[test]
+fn values_where_they_stand(rt: HostRuntime) -> Result<(), Fail> {
+    let bytes = joined(rt.alloc(), [HEAD, DATA, TAIL])?;
+    let exchange = read(rt.alloc(), bytes.as_slice()).ok().ok_or("refused")?;
+    assert_eq!(rt; exchange.len(), 3);
+    assert_eq!(rt; exchange.iter().count(), 3);
+    assert_eq!(rt; exchange.place_of(12), Some(2));
+    assert!(rt; exchange.look(4).is_none());
+    let instance = exchange.look(7).ok_or("missing")?;
+    assert_eq!(rt; instance.id(), 7);
+    assert!(rt; instance.keyword().ok_or("complex")?.is("B"));
+    assert!(rt; exchange.instance(0).keyword().is_none());
+    assert_lists(&rt, &instance)?;
+    for row in VALUES {
+        let value = instance.attribute(row.at).ok_or("missing")?;
+        let (kind, spelling) = lent(&value);
+        match row.mark {
+            b'*' => assert_eq!(rt; kind, b'$'),
+            b'"' | b'!' => assert_eq!(rt; kind, b'?'),
+            mark => {
+                assert_eq!(rt; kind, mark);
+                assert_eq!(rt; spelling, row.spelling);
+            }
+        }
+    }
+    assert!(rt; instance.attribute(10).is_none());
     Ok(())
 }
 

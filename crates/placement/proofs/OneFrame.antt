@@ -7,7 +7,7 @@ use Rattle.p21_reader.specs.declared.value.Instance.{Instance}
 use Rattle.ifc_units.specs.declared.scale.Scale.{Scale}
 use Rattle.ifc_units.specs.Lengths.{IsPoint}
 use Rattle.ifc_units.proofs.PointFacts.{one_point}
-use Rattle.ifc_instances.proofs.ValueLemmas.{one}
+use Rattle.p21_reader.proofs.ValueLemmas.{one}
 use Rattle.placement.specs.declared.axis.Axis.{Axis}
 use Rattle.placement.specs.declared.axes.Axes.{Axes}
 use Rattle.placement.specs.declared.direction.Vector.{Vector}
@@ -16,7 +16,7 @@ use Rattle.placement.specs.Frames.{carried, lengths_of, frame_at}
 use Rattle.placement.specs.Chains.{parent_of}
 use Rattle.placement.specs.Directions.{HasAxes, LiesAlong, without, cross, unit, first_direction, second_direction}
 use Rattle.placement.specs.Placed.{IsLocation, AxisFrame, OwnFrame, IsComposed, FrameOf, outermost, within}
-use Rattle.ifc_instances.specs.Attributes.{referred_at, value_at}
+use Rattle.p21_reader.specs.Attributes.{referred_at, value_at}
 use Rattle.placement.proofs.Aligned.{one_axis}
 use Rattle.placement.proofs.Square.{same_directions}
 

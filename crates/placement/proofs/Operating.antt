@@ -10,7 +10,7 @@ use Rattle.ifc_units.specs.declared.scale.Scale.{Scale}
 use Rattle.ifc_units.specs.declared.fault.LengthError.{LengthError}
 use Rattle.ifc_units.specs.Lengths.{IsPoint, PointRefused, Fails}
 use Rattle.ifc_units.proofs.PointFacts.{one_point}
-use Rattle.ifc_instances.proofs.ValueLemmas.{one, refers_absent}
+use Rattle.p21_reader.proofs.ValueLemmas.{one, refers_absent}
 use Rattle.placement.specs.declared.axis.Axis.{Axis}
 use Rattle.placement.specs.declared.axes.Axes.{Axes}
 use Rattle.placement.specs.declared.direction.Direction.{Direction}
@@ -18,7 +18,7 @@ use Rattle.placement.specs.declared.direction.Vector.{Vector}
 use Rattle.placement.specs.declared.frame.Frame.{Frame}
 use Rattle.placement.specs.Frames.{lengths_of, frame_at}
 use Rattle.placement.specs.Directions.{Directs, LiesAlong, without, first_direction, second_direction}
-use Rattle.ifc_instances.specs.Attributes.{referred_at, value_at}
+use Rattle.p21_reader.specs.Attributes.{referred_at, value_at}
 use Rattle.placement.specs.Operators.{MayDirect, OperatorDirections, HasOperatorDirections, GiveOperatorAxes, HasOperatorAxes, ObliqueOperator, third_direction, IsOrigin, OperatorFrame}
 use Rattle.placement.proofs.Aligned.{one_axis}
 use Rattle.placement.proofs.Square.{same_vector, GiveSame, same_directs}

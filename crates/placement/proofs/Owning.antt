@@ -12,7 +12,7 @@ use Rattle.ifc_units.proofs.PointFacts.{point_apart}
 use Rattle.placement.specs.declared.frame.Frame.{Frame}
 use Rattle.placement.specs.Directions.{HasDirections, Oblique}
 use Rattle.placement.specs.Placed.{IsLocation, AxisFrame, OwnFrame}
-use Rattle.ifc_instances.specs.Attributes.{referred_at, value_at}
+use Rattle.p21_reader.specs.Attributes.{referred_at, value_at}
 use Rattle.placement.proofs.Square.{square}
 
 one : {X : Type 0} (o : Option X) (a b : X) → o ≡ Some a → o ≡ Some b → a ≡ b

@@ -8,8 +8,8 @@ use Rattle.bim_text.specs.Decimals.{Reads, value_of}
 use Rattle.bim_text.proofs.Unique.{one_decimal}
 use Rattle.p21_reader.specs.declared.value.Value21.{Value21}
 use Rattle.p21_reader.specs.declared.value.Instance.{Instance}
-use Rattle.ifc_instances.specs.Values.{reference_of}
-use Rattle.ifc_instances.proofs.ValueLemmas.{one, refers_absent}
+use Rattle.p21_reader.specs.Values.{reference_of}
+use Rattle.p21_reader.proofs.ValueLemmas.{one, refers_absent}
 use Rattle.placement.specs.declared.axis.Axis.{Axis}
 use Rattle.placement.specs.declared.axes.Axes.{Axes}
 use Rattle.placement.specs.declared.direction.Direction.{Direction}

@@ -6,8 +6,8 @@ use Rattle.bim_model.specs.declared.upload.BuildError.TheVariants as errors
 use Rattle.bim_model.specs.declared.upload.UploadFault.TheVariants as faults
 use Rattle.p21_reader.specs.declared.value.Value21.{Value21}
 use Rattle.p21_reader.specs.declared.value.Instance.{Instance}
-use Rattle.ifc_instances.specs.Values.{reference_of, is_absent}
-use Rattle.ifc_instances.specs.Looking.{look}
+use Rattle.p21_reader.specs.Values.{reference_of, is_absent}
+use Rattle.p21_reader.specs.Looking.{look}
 
 -- what a value names, or that it is absent
 abbrev pub named_by : Value21 → Option (Option ℕ)

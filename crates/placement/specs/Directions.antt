@@ -7,8 +7,8 @@ use Rattle.bim_text.specs.Values.{raised, size_order}
 use Rattle.bim_text.specs.Decimals.{Reads, value_of}
 use Rattle.p21_reader.specs.declared.value.Value21.{Value21}
 use Rattle.p21_reader.specs.declared.value.Instance.{Instance}
-use Rattle.ifc_instances.specs.Values.{number_of, reference_of, items_of, is_absent}
-use Rattle.ifc_instances.specs.Looking.{look}
+use Rattle.p21_reader.specs.Values.{number_of, reference_of, items_of, is_absent}
+use Rattle.p21_reader.specs.Looking.{look}
 use Rattle.placement.specs.declared.axis.Axis.{Axis}
 use Rattle.placement.specs.declared.axes.Axes.{Axes}
 use Rattle.placement.specs.declared.direction.Direction.{Direction}

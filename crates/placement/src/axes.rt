@@ -8,8 +8,7 @@ ghost use Rattle.placement.specs.Directions.{Directs, Directions, HasDirections,
 use crate::axis::Axis;
 use crate::direction::{Direction, Vector};
 use crate::read::direction_of;
-use ifc_instances::{attribute, is_absent, look, reference_of};
-use p21_reader::{Exchange, Value21};
+use p21_reader::{Exchange, ValueRef};
 
 /// Three axes along those of the grid.
 #[derive(Clone, Copy, Debug, PartialEq, Eq)]
@@ -43,24 +42,24 @@ fn given_by(exchange: &Exchange, id: u64) -> Option<Given>
     ensures some { IfSome result (λ g. Directions exchange.now id g.axis g.reference) }
     ensures none { IfNone result (HasDirections exchange.now id → ⊥) }
 {
-    let instance = look(exchange, id)?;
-    let first = attribute(instance, 1)?;
-    let second = attribute(instance, 2)?;
+    let instance = exchange.look(id)?;
+    let first = instance.attribute(1)?;
+    let second = instance.attribute(2)?;
     Some(Given {
-        axis: directed(exchange, first)?,
-        reference: directed(exchange, second)?,
+        axis: directed(exchange, &first)?,
+        reference: directed(exchange, &second)?,
     })
 }
 
 /// The direction that a value names; none where it is absent. None where it names none that can be read.
-pub(crate) fn directed(exchange: &Exchange, value: &Value21) -> Option<Option<Direction>>
+pub(crate) fn directed(exchange: &Exchange, value: &ValueRef<'_>) -> Option<Option<Direction>>
     ensures some { IfSome result (Directs exchange.now value.now) }
     ensures none { IfNone result ((d : Option Direction) → Directs exchange.now value.now d → ⊥) }
 {
-    if is_absent(value) {
+    if value.is_absent() {
         return Some(None);
     }
-    let to = reference_of(value)?;
+    let to = value.reference()?;
     Some(Some(direction_of(exchange, to)?))
 }
 

@@ -37,7 +37,7 @@ impl Chains {
     {
         let mut sorted = named.to_vec(alloc)?;
         sorted.sort_unstable();
-        let mut walk = Walk::new(alloc, exchange.instances().len())?;
+        let mut walk = Walk::new(alloc, exchange.len())?;
         for id in &sorted {
             if !walk.visit(exchange, *id)? {
                 return Err(BuildError::Fault(UploadFault::PlacementLoop { id: *id }));

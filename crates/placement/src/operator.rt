@@ -14,9 +14,8 @@ use crate::axis::Axis;
 use crate::direction::{Direction, Vector};
 use crate::frame::{Frame, lengths_of};
 use bim_model::{Mode, Point};
-use ifc_instances::{attribute, look, referred_at, value_at};
 use ifc_units::{Scale, point};
-use p21_reader::{Exchange, Instance};
+use p21_reader::{Exchange, InstanceRef};
 
 /// The three directions of an operator, each of which may be absent.
 #[derive(Clone, Copy)]
@@ -50,9 +49,9 @@ fn origin_of(exchange: &Exchange, id: u64, scale: Scale, mode: Mode) -> Option<P
     ensures { MatchOption result ((p : Point) → IsOrigin exchange.now scale mode id p → ⊥)
         (IsOrigin exchange.now scale mode id) }
 {
-    let to = referred_at(exchange, id, 2)?;
-    let value = value_at(exchange, to, 0)?;
-    match point(value, scale, mode) {
+    let to = exchange.referred_at(id, 2)?;
+    let value = exchange.value_at(to, 0)?;
+    match point(&value, scale, mode) {
         Ok(origin) => Some(origin),
         Err(_) => None,
     }
@@ -75,22 +74,22 @@ fn given_by(exchange: &Exchange, id: u64) -> Option<Given>
     ensures some { IfSome result (λ g. OperatorDirections exchange.now id g.axis1 g.axis2 g.axis3) }
     ensures none { IfNone result (HasOperatorDirections exchange.now id → ⊥) }
 {
-    let operator = look(exchange, id)?;
+    let operator = exchange.look(id)?;
     Some(Given {
-        axis1: named_at(exchange, operator, 0)?,
-        axis2: named_at(exchange, operator, 1)?,
-        axis3: named_at(exchange, operator, 4)?,
+        axis1: named_at(exchange, &operator, 0)?,
+        axis2: named_at(exchange, &operator, 1)?,
+        axis3: named_at(exchange, &operator, 4)?,
     })
 }
 
 /// The direction that an attribute names; none where it is missing or absent. None where it names none that can be read.
-fn named_at(exchange: &Exchange, operator: &Instance, at: usize) -> Option<Option<Direction>>
+fn named_at(exchange: &Exchange, operator: &InstanceRef<'_>, at: usize) -> Option<Option<Direction>>
     ensures some { IfSome result (MayDirect exchange.now (slice_get operator.now.values at)) }
     ensures none { IfNone result ((d : Option Direction)
         → MayDirect exchange.now (slice_get operator.now.values at) d → ⊥) }
 {
-    match attribute(operator, at) {
-        Some(value) => directed(exchange, value),
+    match operator.attribute(at) {
+        Some(value) => directed(exchange, &value),
         None => Some(None),
     }
 }

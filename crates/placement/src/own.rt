@@ -9,9 +9,8 @@ ghost use Rattle.placement.specs.Placed.{IsLocation, AxisFrame, OwnFrame};
 use crate::axes::axes_of;
 use crate::frame::{Frame, lengths_of};
 use bim_model::{Mode, Point};
-use ifc_instances::{referred_at, value_at};
 use ifc_units::{Scale, point};
-use p21_reader::{Exchange, Value21};
+use p21_reader::Exchange;
 
 /// The location of the axis placement of that number (IFC4 ADD2 TC1, IfcPlacement), in grid numbers. None where its three numbers have
 /// none within 800 metres, and where it can't be read. Takes no memory.
@@ -19,9 +18,9 @@ pub fn location_of(exchange: &Exchange, id: u64, scale: Scale, mode: Mode) -> Op
     ensures { MatchOption result ((p : Point) → IsLocation exchange.now scale mode id p → ⊥)
         (IsLocation exchange.now scale mode id) }
 {
-    let to = referred_at(exchange, id, 0)?;
-    let value = value_at(exchange, to, 0)?;
-    match point(value, scale, mode) {
+    let to = exchange.referred_at(id, 0)?;
+    let value = exchange.value_at(to, 0)?;
+    match point(&value, scale, mode) {
         Ok(location) => Some(location),
         Err(_) => None,
     }
@@ -52,6 +51,6 @@ pub fn own_frame(exchange: &Exchange, id: u64, scale: Scale, mode: Mode) -> Opti
     ensures is_frame { IfSome result IsFrame }
     ensures near { IfSome result (λ f. AreWithin reach f.offset) }
 {
-    let to = referred_at(exchange, id, 1)?;
+    let to = exchange.referred_at(id, 1)?;
     axis_frame(exchange, to, scale, mode)
 }

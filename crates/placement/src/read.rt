@@ -7,8 +7,7 @@ ghost use Rattle.placement.specs.declared.direction.Direction.{Direction};
 
 use crate::direction::Direction;
 use bim_text::Decimal;
-use ifc_instances::{attribute, items_of, look, number_of};
-use p21_reader::{Exchange, Instance, Value21};
+use p21_reader::{Exchange, InstanceRef, Values};
 
 /// The spelled numbers of a point or a direction.
 #[derive(Clone, Copy)]
@@ -22,29 +21,27 @@ pub struct Numbers<'a> {
 pub fn numbers_of(exchange: &Exchange, id: u64) -> Option<Numbers<'_>>
     ensures { option_map spelled_of result ≡ numbers_of exchange.now id }
 {
-    let instance = look(exchange, id)?;
-    coordinates(instance)
+    let instance = exchange.look(id)?;
+    coordinates(&instance)
 }
 
-fn coordinates(instance: &Instance) -> Option<Numbers<'_>>
+fn coordinates<'a>(instance: &InstanceRef<'a>) -> Option<Numbers<'a>>
     ensures { option_map spelled_of result ≡ coordinates instance.now }
 {
-    let value = attribute(instance, 0)?;
-    let items = items_of(value)?;
-    three_numbers(items)
+    let value = instance.attribute(0)?;
+    let items = value.items()?;
+    three_numbers(&items)
 }
 
-fn three_numbers(items: &[Value21]) -> Option<Numbers<'_>>
+fn three_numbers<'a>(items: &Values<'a>) -> Option<Numbers<'a>>
     ensures { option_map spelled_of result ≡ three_numbers items.now }
 {
-    match items {
-        [x, y, z] => Some(Numbers {
-            x: number_of(x)?,
-            y: number_of(y)?,
-            z: number_of(z)?,
-        }),
-        _ => None,
-    }
+    let found = items.three()?;
+    Some(Numbers {
+        x: found.x.number()?,
+        y: found.y.number()?,
+        z: found.z.number()?,
+    })
 }
 
 /// The direction of that number.

@@ -5,8 +5,7 @@ ghost use Rattle.p21_reader.specs.declared.limits.TheConstants.{MOST_INSTANCES};
 ghost use Rattle.placement.specs.Chains.{parent_in, parent_of, named_by};
 ghost use Rattle.placement.specs.Walks.{Ranked, Outcome, Rest, Settling, Settled, Visited, StandsAt, IsFrom};
 
-use ifc_instances::{attribute, is_absent, place_of, reference_of};
-use p21_reader::{Exchange, Instance, Value21};
+use p21_reader::{Exchange, InstanceRef, ValueRef};
 use std::alloc::{AllocError, Global};
 
 /// Where a placement is among the instances, and the number of the one that it stands in.
@@ -32,24 +31,25 @@ pub fn standing_of(exchange: &Exchange, id: u64) -> Option<Standing>
     ensures some { IfSome result (StandsAt exchange.now id) }
     ensures none { IfNone result ((parent : Option ℕ) → parent_of exchange.now id ≡ Some parent → ⊥) }
 {
-    let at = place_of(exchange, id)?;
-    let parent = parent_in(&exchange.instances()[at])?;
+    let at = exchange.place_of(id)?;
+    let parent = parent_in(&exchange.instance(at))?;
     Some(Standing { at, parent })
 }
 
-fn parent_in(placement: &Instance) -> Option<Option<u64>>
+fn parent_in(placement: &InstanceRef<'_>) -> Option<Option<u64>>
     ensures { result ≡ parent_in placement.now }
 {
-    named_by(attribute(placement, 0)?)
+    let value = placement.attribute(0)?;
+    named_by(&value)
 }
 
-fn named_by(value: &Value21) -> Option<Option<u64>>
+fn named_by(value: &ValueRef<'_>) -> Option<Option<u64>>
     ensures { result ≡ named_by value.now }
 {
-    if is_absent(value) {
+    if value.is_absent() {
         Some(None)
     } else {
-        reference_of(value).map(Some)
+        value.reference().map(Some)
     }
 }
 

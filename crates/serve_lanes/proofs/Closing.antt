@@ -32,4 +32,3 @@ module _ (s : Service) (links : ℕ) (turn : TurnState Settings) (v0 v1 v2 : Boo
       (of_lanes lanes v0 v1 v2 (map (λ (d : DoorSeen). d.number) doors) seats j.entries numbers j.numbers more p worked
       (subst (λ (n : ℕ). HasEach lanes n seats) (sym same) each)
       (subst (λ (n : ℕ). AllBefore pass_of (n + 1) v2.seen) (sym same) (subst (λ (h : List Entry). AllBefore pass_of (top + 1) h) is before)))
-

@@ -286,7 +286,8 @@ fn open_turn(
     Ok((turn, own, passes))
 }
 
-// Runs the lanes and the workers side by side.
+// Runs the lanes and the workers side by side. Where the system makes no thread for the workers, `join` runs what stands
+// second first: the lanes, since workers wait until all lanes have ended.
 fn run_both<
     K: Serving + Sync,
     R: Threads + Wait + Sync,
@@ -315,8 +316,13 @@ where
     ensures workers { All (λ w. WorkerOver turn.now w.pass) result.1.items }
     ensures seats { map (λ w. w.pass.number) result.1.items ≡ map (λ w. w.pass.number) workers.items }
 {
-    join(
+    let (workers, lanes) = join(
         rt,
+        move || -> Vec<Worker>
+            requires { All (λ w. IsNewWorker turn.now w.pass) workers.items }
+            ensures { All (λ w. WorkerOver turn.entry.now w.pass) result.items
+                × (map (λ w. w.pass.number) result.items ≡ map (λ w. w.pass.number) workers.items) }
+        { run_workers(rt, alloc, turn, workers, gate) },
         move || -> Vec<Lane<D, C>>
             requires { All (λ l. IsReady K.service turn.now l.pass (D.seen l.door) (C.seen l.clock) l.lack)
                 lanes.items }
@@ -325,12 +331,8 @@ where
                 × (map (λ l. (D.seen l.door).number) result.items
                 ≡ map (λ l. (D.seen l.door).number) lanes.items) }
         { run_vec::<K, R, D, C, G>(rt, alloc, turn, lanes, gate, links) },
-        move || -> Vec<Worker>
-            requires { All (λ w. IsNewWorker turn.now w.pass) workers.items }
-            ensures { All (λ w. WorkerOver turn.entry.now w.pass) result.items
-                × (map (λ w. w.pass.number) result.items ≡ map (λ w. w.pass.number) workers.items) }
-        { run_workers(rt, alloc, turn, workers, gate) },
-    )
+    );
+    (lanes, workers)
 }
 
 /// What is left when all lanes have ended.

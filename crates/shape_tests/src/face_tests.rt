@@ -2,20 +2,21 @@
 ghost use Rattle.std.specs.Prelude.{◌≤◌, All, IfOk, unsigned_abs};
 ghost use Rattle.bim_model.specs.Points.{grid_limit, IsGridPoint};
 
-use bim_model::{Bytes, GRID_LIMIT, Point, Triangle};
+use bim_model::{GRID_LIMIT, Point, Triangle};
 use faceset::{FaceReaches, has_bad_index, place_of, set_triangles, triangle_count};
-use p21_reader::{Exchange, Value21, read};
+use p21_reader::{Exchange, InstanceRef, read};
 use std::alloc::{AllocError, Global};
 use std::test::Fail;
 
-fn number(alloc: Global, spelled: &str) -> Result<Value21, AllocError> {
-    Ok(Value21::Number(Bytes::of(alloc, spelled.as_bytes())?))
+fn set_in(exchange: &Exchange) -> Result<InstanceRef<'_>, Fail> {
+    Ok(exchange.look(2).ok_or("no set")?)
 }
 
 #[test]
 fn indexes_name_points(rt: HostRuntime) -> Result<(), Fail> {
     let alloc = rt.alloc();
     let cases = [
+        ("$", 3, None),
         ("1", 3, Some(0)),
         ("3", 3, Some(2)),
         ("+2.", 3, Some(1)),
@@ -29,13 +30,14 @@ fn indexes_name_points(rt: HostRuntime) -> Result<(), Fail> {
         ("1", 0, None),
         ("10000000000000000001", 3, None),
         ("1E19", 3, None),
-        ("x", 3, None),
+        (".X.", 3, None),
     ];
     for (spelled, count, wanted) in cases {
-        let value = number(alloc, spelled)?;
+        let set = format!(in alloc; "IFCTRIANGULATEDFACESET({spelled})")?;
+        let exchange = exchange_of(alloc, set.as_str(), "")?;
+        let value = set_in(&exchange)?.attribute(0).ok_or("no value")?;
         assert_eq!(rt; place_of(&value, count), wanted, "at {spelled}");
     }
-    assert_eq!(rt; place_of(&Value21::Absent, 3), None);
     Ok(())
 }
 
@@ -82,10 +84,8 @@ fn triangles_of(
     let points = points_at(alloc, corners)?;
     let set = format!(in alloc; "IFCTRIANGULATEDFACESET(#1,$,$,({rows}),{numbers})")?;
     let exchange = exchange_of(alloc, set.as_str(), "")?;
-    let Some(set) = exchange.find(2) else {
-        return Err("no set")?;
-    };
-    Ok(set_triangles(alloc, &exchange, &points, set)?)
+    let set = set_in(&exchange)?;
+    Ok(set_triangles(alloc, &exchange, &points, &set)?)
 }
 
 /// Points along a line: the coordinate is the place.
@@ -268,22 +268,24 @@ fn bad_indexes_and_counts_are_found(rt: HostRuntime) -> Result<(), Fail> {
         let bad = case.bad;
         let count = case.count;
         let exchange = exchange_of(rt.alloc(), case.set, case.faces)?;
-        let Some(set) = exchange.find(2) else {
-            return Err("no set")?;
-        };
+        let set = set_in(&exchange)?;
         let mut reaches = FaceReaches::new(rt.alloc());
-        let found = has_bad_index(&exchange, &mut reaches, set)?;
+        let found = has_bad_index(&exchange, &mut reaches, &set)?;
         assert_eq!(rt; found, bad, "at {text}");
-        let again = has_bad_index(&exchange, &mut reaches, set)?;
+        let again = has_bad_index(&exchange, &mut reaches, &set)?;
         assert_eq!(rt; again, bad, "again at {text}");
-        assert_eq!(rt; triangle_count(&exchange, set, 7), Some(count), "at {text}");
         assert_eq!(rt;
-            triangle_count(&exchange, set, count),
+            triangle_count(&exchange, &set, 7),
             Some(count),
             "at {text}"
         );
         assert_eq!(rt;
-            triangle_count(&exchange, set, count.saturating_sub(1)),
+            triangle_count(&exchange, &set, count),
+            Some(count),
+            "at {text}"
+        );
+        assert_eq!(rt;
+            triangle_count(&exchange, &set, count.saturating_sub(1)),
             None,
             "at {text}"
         );

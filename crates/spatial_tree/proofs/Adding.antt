@@ -4,6 +4,7 @@ use Rattle.std.proofs.lemmas.List.{get_or_default}
 use Rattle.std.proofs.lemmas.List.Elements.{Contains-append_left, Contains-push, Contains-push_cases}
 use Rattle.std.specs.List.Sorted.{IsPermutation}
 use Rattle.std.proofs.lemmas.List.Sorted.{Contains-permutation, IsPermutation-sym}
+use Rattle.p21_reader.proofs.Turns.{one_more}
 use Rattle.spatial_tree.specs.declared.link.Link.{Link}
 use Rattle.spatial_tree.specs.Onlys.{Adds, ListsLinks, link}
 
@@ -52,7 +53,7 @@ one_added P xs ys o u e h only = record {
 }
 
 -- one thing more of those that a list names is looked at
-pub then_added : {X : Type 0} (At : X → ℕ → ℕ → Type 0) (items : List X) (i : ℕ) (y : X) (xs ys zs : List Link) → i < length items → y ≡ get_or items i y
+then_added : {X : Type 0} (At : X → ℕ → ℕ → Type 0) (items : List X) (i : ℕ) (y : X) (xs ys zs : List Link) → i < length items → y ≡ get_or items i y
     → Adds (λ o u. AnyBefore (λ x. At x o u) items i) xs ys → Adds (At y) ys zs → Adds (λ o u. AnyBefore (λ x. At x o u) items (i + 1)) xs zs
 then_added At items i y xs ys zs lt e p q = record {
   sound = λ o u c. elim (q.sound o u c) [
@@ -65,6 +66,12 @@ then_added At items i y xs ys zs lt e p q = record {
     | inr h ↦ q.all o u h
   ];
 }
+
+-- the same in a loop over what is given one by one
+pub then_given : {X : Type 0} (At : X → ℕ → ℕ → Type 0) (items given : List X) (y : X) (xs ys zs : List Link) → (length given < length items) × (y ≡ get_or items (length given) y)
+    → Adds (λ o u. AnyBefore (λ x. At x o u) items (length given)) xs ys → Adds (At y) ys zs → Adds (λ o u. AnyBefore (λ x. At x o u) items (length (given ++ y ∷ []))) xs zs
+then_given At items given y xs ys zs at p q =
+    subst (λ n. Adds (λ o u. AnyBefore (λ x. At x o u) items n) xs zs) (one_more given y) (then_added At items (length given) y xs ys zs at.0 at.1 p q)
 
 pub all_added : {X : Type 0} (At : X → ℕ → ℕ → Type 0) (items : List X) (i : ℕ) (xs ys : List Link) → length items ≤ i → Adds (λ o u. AnyBefore (λ x. At x o u) items i) xs ys → Adds (λ o u. Any (λ x. At x o u) items) xs ys
 all_added At items i xs ys l p = record {

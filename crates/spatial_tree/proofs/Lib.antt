@@ -6,7 +6,7 @@ pub mod Marking
 pub mod Settles
 pub mod Stepping
 pub mod Trees
-pub mod World
-pub mod Making
+pub mod RelationsTabled
+pub mod StepsMade
 pub mod Listing
 pub mod OneStorey

@@ -6,6 +6,7 @@ use Rattle.std.proofs.lemmas.Option.{slice_get-get_or, slice_get_within, get_or_
 use Rattle.std.proofs.lemmas.List.Sorted.{Contains-permutation, IsPermutation-sym}
 use Rattle.std.proofs.lemmas.List.Elements.{Contains-append_left, Contains-push, Contains-push_cases}
 use Rattle.p21_reader.specs.declared.value.Instance.{Instance}
+use Rattle.p21_reader.proofs.Turns.{one_more}
 use Rattle.ifc_instances.specs.declared.entity.Entity.TheVariants.{Storey}
 use Rattle.ifc_instances.specs.Looking.{is_a}
 use Rattle.spatial_tree.specs.declared.step.Step.{Step}
@@ -24,26 +25,28 @@ pub record IdsBefore (world : List Instance) (at : ℕ) (ids : List ℕ) : Type 
   pub sound : (id : ℕ) → Contains ids id → AnyBefore (IsStoreyOfId id) world at
   pub all : (id : ℕ) → AnyBefore (IsStoreyOfId id) world at → Contains ids id
 
-pub ids_pushed : (world : List Instance) (at : ℕ) (i : Instance) (xs ys : List ℕ) → at < length world → i ≡ get_or world at i → ys ≡ xs ++ i.id ∷ [] → is_a Storey i ≡ true → IdsBefore world at xs → IdsBefore world (at + 1) ys
-ids_pushed world at i xs ys lt is e k b = record {
+pub ids_pushed : (world given : List Instance) (i : Instance) (xs ys : List ℕ) → (length given < length world) × (i ≡ get_or world (length given) i) → ys ≡ xs ++ i.id ∷ [] → is_a Storey i ≡ true
+    → IdsBefore world (length given) xs → IdsBefore world (length (given ++ i ∷ [])) ys
+ids_pushed world given i xs ys at e k b = subst (λ n. IdsBefore world n ys) (one_more given i) (record {
   sound = λ id c. elim (Contains-push_cases xs i.id id (subst (λ l. Contains l id) e c)) [
-    | inl h ↦ before_kept (IsStoreyOfId id) world at (b.sound id h)
-    | inr s ↦ before_here (IsStoreyOfId id) world at i lt is (s, k)
+    | inl h ↦ before_kept (IsStoreyOfId id) world (length given) (b.sound id h)
+    | inr s ↦ before_here (IsStoreyOfId id) world (length given) i at.0 at.1 (s, k)
   ];
-  all = λ id a. subst (λ l. Contains l id) (sym e) (elim (before_more (IsStoreyOfId id) world at i lt is a) [
+  all = λ id a. subst (λ l. Contains l id) (sym e) (elim (before_more (IsStoreyOfId id) world (length given) i at.0 at.1 a) [
     | inl h ↦ Contains-append_left xs (i.id ∷ []) id (b.all id h)
     | inr h ↦ subst (λ n. Contains (xs ++ i.id ∷ []) n) h.0 (Contains-push xs i.id)
   ]);
-}
+})
 
-pub ids_passed : (world : List Instance) (at : ℕ) (i : Instance) (xs : List ℕ) → at < length world → i ≡ get_or world at i → is_a Storey i ≡ false → IdsBefore world at xs → IdsBefore world (at + 1) xs
-ids_passed world at i xs lt is k b = record {
-  sound = λ id c. before_kept (IsStoreyOfId id) world at (b.sound id c);
-  all = λ id a. elim (before_more (IsStoreyOfId id) world at i lt is a) [
+pub ids_passed : (world given : List Instance) (i : Instance) (xs : List ℕ) → (length given < length world) × (i ≡ get_or world (length given) i) → is_a Storey i ≡ false
+    → IdsBefore world (length given) xs → IdsBefore world (length (given ++ i ∷ [])) xs
+ids_passed world given i xs at k b = subst (λ n. IdsBefore world n xs) (one_more given i) (record {
+  sound = λ id c. before_kept (IsStoreyOfId id) world (length given) (b.sound id c);
+  all = λ id a. elim (before_more (IsStoreyOfId id) world (length given) i at.0 at.1 a) [
     | inl h ↦ b.all id h
     | inr h ↦ absurd (both_ways (is_a Storey i) k h.1)
   ];
-}
+})
 
 pub ids_all : (world : List Instance) (at : ℕ) (xs ys : List ℕ) → length world ≤ at → IsPermutation xs ys → IdsBefore world at xs → ListsStoreyIds world ys
 ids_all world at xs ys l p b = record {

@@ -5,7 +5,7 @@ use Rattle.std.proofs.lemmas.Option.{same_Some}
 use Rattle.p21_reader.specs.declared.value.Value21.{Value21}
 use Rattle.p21_reader.specs.declared.value.Instance.{Instance}
 use Rattle.ifc_instances.specs.declared.entity.Entity.{Entity}
-use Rattle.ifc_instances.specs.Values.{reference_of, items_of}
+use Rattle.p21_reader.specs.Values.{reference_of, items_of}
 use Rattle.ifc_instances.specs.Looking.{is_a}
 use Rattle.spatial_tree.specs.declared.link.Link.{Link}
 use Rattle.spatial_tree.specs.Relations.{Relates}

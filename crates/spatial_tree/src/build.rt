@@ -9,19 +9,19 @@ use crate::mark::{Mark, mark_at, survey};
 use crate::step::{Step, table_of};
 use crate::storeys::{Tree, placed_by};
 use bim_model::{BuildError, UploadFault};
-use ifc_instances::{Entity, is_a};
-use p21_reader::{Exchange, Instance};
+use ifc_instances::Entity;
+use p21_reader::{Exchange, Instances};
 use std::alloc::{AllocError, Global};
 
 /// The storeys, by rising number.
-fn storeys_of(alloc: Global, instances: &[Instance]) -> Result<Vec<u64>, AllocError>
+fn storeys_of(alloc: Global, instances: &Instances<'_>) -> Result<Vec<u64>, AllocError>
     ensures all { IfOk result (λ ids. ListsStoreyIds instances.now ids.items) }
     ensures rises { IfOk result (λ ids. IsNonDecreasing ids.items) }
 {
     let mut storeys = Vec::new(alloc);
-    for instance in instances {
-        if is_a(Entity::Storey, instance) {
-            storeys.push(instance.id)?;
+    for instance in instances.iter() {
+        if Entity::Storey.includes(&instance) {
+            storeys.push(instance.id())?;
         }
     }
     storeys.sort()?;
@@ -60,7 +60,7 @@ pub fn tree(alloc: Global, exchange: &Exchange) -> Result<Tree, BuildError>
 {
     let containers = links_of(alloc, exchange, Entity::Containment, 4, 5)?;
     let wholes = links_of(alloc, exchange, Entity::Aggregates, 5, 4)?;
-    let storeys = storeys_of(alloc, exchange.instances())?;
+    let storeys = storeys_of(alloc, &exchange.iter())?;
     let table = table_of(
         alloc,
         containers.as_slice(),

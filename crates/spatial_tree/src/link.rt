@@ -1,13 +1,13 @@
 //! The pairs of objects that relations name.
-ghost use Rattle.std.specs.Prelude.{◌≡◌, ℕ, Contains, option_copied, option_and_then, IfOk, OnOk, IsSortedByKey, Any};
+ghost use Rattle.std.specs.Prelude.{◌≡◌, ℕ, Contains, option_and_then, IfOk, OnOk, IsSortedByKey, Any};
 ghost use Rattle.std.specs.List.{slice_get};
 ghost use Rattle.std.specs.Ordering.{nat_cmp};
-ghost use Rattle.ifc_instances.specs.Values.{reference_of, items_of};
+ghost use Rattle.p21_reader.specs.Values.{reference_of, items_of};
 ghost use Rattle.spatial_tree.specs.Relations.{Relates, IsRelated};
 ghost use Rattle.spatial_tree.specs.Onlys.{ListsLinks, Adds, link};
 
-use ifc_instances::{Entity, attribute, is_a, items_of, reference_at, reference_of};
-use p21_reader::{Exchange, Instance, Value21};
+use ifc_instances::Entity;
+use p21_reader::{Exchange, InstanceRef, Instances, Values};
 use std::alloc::{AllocError, Global};
 
 /// An object, and one above it.
@@ -18,20 +18,22 @@ pub struct Link {
 }
 
 /// The items of an attribute that is a list.
-fn items_at(instance: &Instance, at: usize) -> Option<&[Value21]>
-    ensures { option_copied result ≡ option_and_then items_of (slice_get instance.now.values at) }
+fn items_at<'a>(instance: &InstanceRef<'a>, at: usize) -> Option<Values<'a>>
+    ensures { result ≡ option_and_then items_of (slice_get instance.now.values at) }
 {
-    let value = attribute(instance, at)?;
-    items_of(value)
+    match instance.attribute(at) {
+        Some(value) => value.items(),
+        None => None,
+    }
 }
 
 /// Appends a pair of each reference among the items.
-fn add_items(links: &mut Vec<Link>, items: &[Value21], above: u64) -> Result<(), AllocError>
+fn add_items(links: &mut Vec<Link>, items: &Values<'_>, above: u64) -> Result<(), AllocError>
     ensures { OnOk result (Adds (λ object up. Any
         (λ v. (reference_of v ≡ Some object) × (up ≡ above)) items.now) links.old.items links.new.items) }
 {
-    for item in items {
-        if let Some(object) = reference_of(item) {
+    for item in items.iter() {
+        if let Some(object) = item.reference() {
             links.push(Link { object, above })?;
         }
     }
@@ -44,20 +46,20 @@ fn add_instance(
     entity: Entity,
     many: usize,
     one: usize,
-    instance: &Instance,
+    instance: &InstanceRef<'_>,
 ) -> Result<(), AllocError>
     ensures { OnOk result (Adds (Relates entity many one instance.now) links.old.items links.new.items) }
 {
-    if !is_a(entity, instance) {
+    if !entity.includes(instance) {
         return Ok(());
     }
-    let Some(above) = reference_at(instance, one) else {
+    let Some(above) = instance.reference_at(one) else {
         return Ok(());
     };
     let Some(items) = items_at(instance, many) else {
         return Ok(());
     };
-    add_items(links, items, above)
+    add_items(links, &items, above)
 }
 
 fn add_instances(
@@ -65,12 +67,12 @@ fn add_instances(
     entity: Entity,
     many: usize,
     one: usize,
-    instances: &[Instance],
+    instances: &Instances<'_>,
 ) -> Result<(), AllocError>
     ensures { OnOk result (Adds (IsRelated entity many one instances.now) links.old.items links.new.items) }
 {
-    for instance in instances {
-        add_instance(links, entity, many, one, instance)?;
+    for instance in instances.iter() {
+        add_instance(links, entity, many, one, &instance)?;
     }
     Ok(())
 }
@@ -87,7 +89,7 @@ pub fn links_of(
     ensures rises { IfOk result (λ links. IsSortedByKey (λ l. l.object) nat_cmp links.items) }
 {
     let mut links = Vec::new(alloc);
-    add_instances(&mut links, entity, many, one, exchange.instances())?;
+    add_instances(&mut links, entity, many, one, &exchange.iter())?;
     links.sort_by_key(|link| link.object)?;
     Ok(links)
 }

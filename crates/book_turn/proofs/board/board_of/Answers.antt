@@ -1,4 +1,4 @@
-use Rattle.std.proofs.Common.{rules, List, ℕ, replicate, ◌≡◌, ◌<◌, ◌≤◌, [], ◌∷◌, Some, sym, ap, subst}
+use Rattle.std.proofs.Common.{rules, List, ℕ, ◌≡◌, ◌<◌, ◌≤◌, [], ◌∷◌, Some, sym, ap, subst}
 use Rattle.atomic_table.specs.Table.{opening}
 use Rattle.book_turn.specs.Views.{first_view}
 use Rattle.book_turn.specs.Rule.{Kept}
@@ -13,7 +13,7 @@ new-requires g c =
     let some_pass : 0 < c.from.result = subst (λ x. 0 < x) (sym n) c.requires.passes.0 in
     let most : c.from.result ≤ 64 = subst (λ x. x ≤ 64) (sym n) c.requires.passes.1 in
     let chosen = g.O.SeqObject.settings c.of.result.value in
-    let words : c.first_words.result ≡ 1 ∷ 1 ∷ replicate 70 0 = search rules in
+    let words : c.first_words.result ≡ 1 ∷ 1 ∷ [] = search rules in
     subst (λ (ws : List ℕ). Kept g.O.SeqObject.journal g.O.SeqObject.settings (λ e. (g.O.SeqObject.stamp_of e).turn) (λ e. (g.O.SeqObject.stamp_of e).pass) c.from.result chosen (opening ws c.push.new.self.items (first_view chosen c.from.result))) (sym words)
-    (subst (λ xs. Kept g.O.SeqObject.journal g.O.SeqObject.settings (λ e. (g.O.SeqObject.stamp_of e).turn) (λ e. (g.O.SeqObject.stamp_of e).pass) c.from.result chosen (opening (1 ∷ 1 ∷ replicate 70 0) xs (first_view chosen c.from.result))) (sym items)
-    (opens g.O.SeqObject.journal g.O.SeqObject.settings (λ e. (g.O.SeqObject.stamp_of e).turn) (λ e. (g.O.SeqObject.stamp_of e).pass) c.from.result chosen c.args.object c.requires.empty (ap g.O.SeqObject.settings (sym same)) some_pass most (replicate 70 0)))
+    (subst (λ xs. Kept g.O.SeqObject.journal g.O.SeqObject.settings (λ e. (g.O.SeqObject.stamp_of e).turn) (λ e. (g.O.SeqObject.stamp_of e).pass) c.from.result chosen (opening (1 ∷ 1 ∷ []) xs (first_view chosen c.from.result))) (sym items)
+    (opens g.O.SeqObject.journal g.O.SeqObject.settings (λ e. (g.O.SeqObject.stamp_of e).turn) (λ e. (g.O.SeqObject.stamp_of e).pass) c.from.result chosen c.args.object c.requires.empty (ap g.O.SeqObject.settings (sym same)) some_pass most))

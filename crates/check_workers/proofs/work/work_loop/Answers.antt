@@ -10,20 +10,29 @@ loop-init g c = record {
   teaches = teaches_none (caller_of c.args.pass.now);
 }
 
-pub returns-in_err-work_one-clause-teaches : goal.returns-in_err-work_one-clause-teaches
-returns-in_err-work_one-clause-teaches g c =
-    teaches_trans (caller_of c.args.pass.now) (caller_of c.loop.pass) (caller_of c.work_one.new.pass) c.loop.invariant.teaches c.work_one.ensures.teaches
-
 pub returns-then-closed-clause-teaches : goal.returns-then-closed-clause-teaches
 returns-then-closed-clause-teaches g c =
     teaches_trans (caller_of c.args.pass.now) (caller_of c.loop.pass) (caller_of c.work_one.new.pass) c.loop.invariant.teaches c.work_one.ensures.teaches
 
 pub returns-then-closed-clause-done : goal.returns-then-closed-clause-done
 returns-then-closed-clause-done g c =
-    nothing_left c.args.turn.now.settings c.args.seat c.loop.pass c.work_one.new.pass c.in_ok-work_one.field-0 c.in_ok-work_one.ensures.worked c.in-Nothing.is
+    nothing_left c.args.turn.now.settings c.loop.seat c.loop.pass c.work_one.new.pass c.in-Ok-Nothing.field-0 c.in-Ok-Nothing.ensures.worked c.in-Ok-Nothing.field-0-is
 
-pub loop-preserved-in-Nothing : goal.loop-preserved-in-Nothing
-loop-preserved-in-Nothing g c = record {
+pub returns-then-closed-2-clause-teaches : goal.returns-then-closed-2-clause-teaches
+returns-then-closed-2-clause-teaches g c =
+    teaches_trans (caller_of c.args.pass.now) (caller_of c.loop.pass) (caller_of c.work_one.new.pass) c.loop.invariant.teaches c.work_one.ensures.teaches
+
+pub loop-preserved-in-Ok-Nothing : goal.loop-preserved-in-Ok-Nothing
+loop-preserved-in-Ok-Nothing g c = record {
+  can = tt;
+  finite = tt;
+  own = c.work_one.ensures.own;
+  teaches =
+      teaches_trans (caller_of c.args.pass.now) (caller_of c.loop.pass) (caller_of c.work_one.new.pass) c.loop.invariant.teaches c.work_one.ensures.teaches;
+}
+
+pub loop-preserved-in-Ok : goal.loop-preserved-in-Ok
+loop-preserved-in-Ok g c = record {
   can = tt;
   finite = tt;
   own = c.work_one.ensures.own;

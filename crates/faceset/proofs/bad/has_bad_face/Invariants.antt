@@ -1,12 +1,12 @@
-use Rattle.std.proofs.Common.{take, map, All, Any}
+use Rattle.std.proofs.Common.{map, All, Any}
 use Rattle.faceset.specs.Indexes.{PointsNowhere}
 use Rattle.faceset.specs.Sets.{outline}
-use Rattle.ifc_instances.specs.Attributes.{led_to}
+use Rattle.p21_reader.specs.Attributes.{led_to}
 use Rattle.faceset.specs.Reaches.{AreReaches}
 use Rattle.faceset.proofs.bad.has_bad_face.Given as goal
 
 abbrev pub invariant-loop-value : goal.invariant-loop-value
 invariant-loop-value l = record {
-  well : All (λ row. Any (PointsNowhere l.count) row → ⊥) (map outline (led_to l.exchange (take l.value-index l.values)));
+  well : All (λ row. Any (PointsNowhere l.count) row → ⊥) (map outline (led_to l.exchange l.yielded));
   kept : AreReaches l.exchange l.reaches;
 }

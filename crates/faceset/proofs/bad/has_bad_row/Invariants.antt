@@ -1,7 +1,7 @@
-use Rattle.std.proofs.Common.{take, All, Any}
+use Rattle.std.proofs.Common.{All, Any}
 use Rattle.faceset.specs.Indexes.{PointsNowhere}
-use Rattle.ifc_instances.specs.Attributes.{items_in}
+use Rattle.p21_reader.specs.Attributes.{items_in}
 use Rattle.faceset.proofs.bad.has_bad_row.Given as goal
 
 abbrev pub invariant-loop-row : goal.invariant-loop-row
-invariant-loop-row l = All (λ v. Any (PointsNowhere l.count) (items_in v) → ⊥) (take l.row-index l.rows)
+invariant-loop-row l = All (λ v. Any (PointsNowhere l.count) (items_in v) → ⊥) l.yielded

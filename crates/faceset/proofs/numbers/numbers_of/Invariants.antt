@@ -1,6 +1,6 @@
-use Rattle.std.proofs.Common.{◌≡◌, take, filter_map}
-use Rattle.ifc_instances.specs.Values.{reference_of}
+use Rattle.std.proofs.Common.{◌≡◌, filter_map}
+use Rattle.p21_reader.specs.Values.{reference_of}
 use Rattle.faceset.proofs.numbers.numbers_of.Given as goal
 
 abbrev pub invariant-loop-value : goal.invariant-loop-value
-invariant-loop-value l = l.ids.items ≡ filter_map reference_of (take l.value-index l.values)
+invariant-loop-value l = l.ids.items ≡ filter_map reference_of l.yielded

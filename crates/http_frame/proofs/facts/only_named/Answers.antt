@@ -1,4 +1,4 @@
-use Rattle.http_frame.proofs.Told.{two_values}
+use Rattle.http_frame.proofs.HeadFacts.{two_values}
 use Rattle.http_frame.proofs.facts.only_named.Goals as goal
 
 pub returns-else-count_named-eq1 : goal.returns-else-count_named-eq1

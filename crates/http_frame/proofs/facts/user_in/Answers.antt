@@ -1,6 +1,6 @@
 use Rattle.std.proofs.Common.{◌<◌, length, arith}
 use Rattle.std.proofs.lemmas.Grind.{common_steps}
-use Rattle.http_frame.proofs.Told.{named_user, no_user}
+use Rattle.http_frame.proofs.HeadFacts.{named_user, no_user}
 use Rattle.http_frame.proofs.facts.user_in.Goals as goal
 
 pub returns-in-Ok : goal.returns-in-Ok

@@ -8,5 +8,5 @@ use Rattle.ifc_elements.proofs.points.points_of.Goals as goal
 
 pub returns-in-Err : goal.returns-in-Err
 returns-in-Err c = λ points l.
-    failed_none c.args.scale c.args.mode c.listed.result.now c.in-Err._error points (subst (λ r. MatchResult r (λ (made : Vec Point Global). ArePoints c.args.scale c.args.mode c.listed.result.now made.items) (Fails (ArePoints c.args.scale c.args.mode c.listed.result.now) (PointsRefused c.args.scale c.args.mode c.listed.result.now))) c.in-Err.is c.in_ok-points.ensures)
+    failed_none c.args.scale c.args.mode c.listed.result c.in-Err._error points (subst (λ r. MatchResult r (λ (made : Vec Point Global). ArePoints c.args.scale c.args.mode c.listed.result made.items) (Fails (ArePoints c.args.scale c.args.mode c.listed.result) (PointsRefused c.args.scale c.args.mode c.listed.result))) c.in-Err.is c.in_ok-points.ensures)
     (subst (λ (vs : List Value21). ArePoints c.args.scale c.args.mode vs points) (sym c.listed.ensures) l.are)

@@ -1,11 +1,16 @@
-use Rattle.std.proofs.Common.{rules}
-use Rattle.ifc_elements.proofs.TablesOfPoints.{tabled_more, tabled_whole}
+use Rattle.std.proofs.Common.{List, subst}
+use Rattle.p21_reader.specs.declared.value.Instance.{Instance}
+use Rattle.p21_reader.proofs.Turns.{ended}
+use Rattle.ifc_elements.specs.PointTables.{IsTable}
+use Rattle.ifc_elements.proofs.TablesOfPoints.{tabled_more}
 use Rattle.ifc_elements.proofs.points.table_of.Goals as goal
 
 pub loop-instance-preserved : goal.loop-instance-preserved
 loop-instance-preserved c =
-    tabled_more c.args.scale c.args.mode c.args.instances.now c.loop-instance.instance-index c.loop-instance.table.items c.push.new.self.items c.instance-item.result c.in_ok-points.points
-    c.loop-instance-test.true c.instance-item.is c.in_ok-points.ensures c.in_ok-push.ensures.items c.loop-instance.invariant
+    tabled_more c.args.scale c.args.mode c.loop-instance.yielded c.loop-instance.table.items c.push.new.self.items c.in-Some.instance c.in_ok-points.points
+    c.in_ok-points.ensures c.in_ok-push.ensures.items c.loop-instance.invariant
 
 pub returns : goal.returns
-returns c = tabled_whole c.args.scale c.args.mode c.args.instances.now c.loop-instance.instance-index c.loop-instance.table.items (search rules) c.loop-instance.invariant
+returns c =
+    subst (λ (is : List Instance). IsTable is c.args.scale c.args.mode c.loop-instance.table.items) (ended c.args.instances.now c.loop-instance.yielded (cc) _ c.loop-instance.yielded_by _ c.in-None.is c.next.ensures.steps)
+    c.loop-instance.invariant

@@ -18,7 +18,7 @@ returns-then-not-added c = λ listed are ready.
 pub returns : goal.returns
 returns c = λ listed are.
     let frame = c.in-Some-operator_frame.frame in
-    mapped_added c.args.exchange.now c.args.scale c.args.mode c.args.item.now c.in-Some.operator frame c.spelled_sets.result.now c.new-own.result.items c.add_sets.new.out.items c.args.out.now.items c.add_carried.new.out.items
+    mapped_added c.args.exchange.now c.args.scale c.args.mode c.args.item.now c.in-Some.operator frame c.spelled_sets.result c.new-own.result.items c.add_sets.new.out.items c.args.out.now.items c.add_carried.new.out.items
     (sym c.in-Some.ensures) c.in-Some-operator_frame.ensures.frame c.spelled_sets.ensures c.new-own.ensures.items
     (MatchBool-at_true _ _ c.if-not-added.false (c.in_ok-added.ensures.added c.args.scale c.args.mode listed are))
     (c.in_ok-add_carried.ensures ∙ ap (λ (ts : List Triangle). c.args.out.now.items ++ map (moved frame) ts) c.deref.ensures.value)

@@ -2,11 +2,12 @@ use Rattle.std.proofs.Common.{◌≡◌, ℕ, Bool, false, List, map, get_or, So
 use Rattle.std.proofs.lemmas.List.{get_or-map}
 use Rattle.p21_reader.specs.declared.value.Value21.{Value21}
 use Rattle.p21_reader.specs.declared.value.Instance.{Instance}
-use Rattle.ifc_instances.specs.Places.{IsPlaceOf}
-use Rattle.ifc_instances.specs.Values.{reference_of}
-use Rattle.ifc_instances.specs.Looking.{look, some_passes}
+use Rattle.p21_reader.specs.Places.{IsPlaceOf}
+use Rattle.p21_reader.specs.Values.{reference_of}
+use Rattle.p21_reader.specs.Looking.{look}
+use Rattle.ifc_instances.specs.Looking.{some_passes}
 use Rattle.ifc_schema.specs.Bodies.{target_passes}
-use Rattle.ifc_instances.proofs.PlaceLemmas.{some_instance, found_at}
+use Rattle.p21_reader.proofs.PlaceLemmas.{some_instance, found_at}
 use Rattle.ifc_schema.proofs.body.target_passes.Goals as goal
 
 passes_there : (world : List Instance) (test : Instance → Bool) (answers : List Bool) (v : Value21) (id at : ℕ) → answers ≡ map test world → reference_of v ≡ Some id → IsPlaceOf world id at
@@ -17,4 +18,4 @@ passes_there world test answers v id at e r p =
     a ∙ sym (ap (some_passes test) b)
 
 pub returns-in-Some-place_of : goal.returns-in-Some-place_of
-returns-in-Some-place_of c = λ test e. passes_there c.args.exchange.now test c.args.answers.now c.args.value.now c.in-Some.id c.in-Some-place_of.at e (sym c.reference_of.ensures ∙ c.in-Some.is) c.in-Some-place_of.ensures
+returns-in-Some-place_of c = λ test e. passes_there c.args.exchange.now test c.args.answers.now c.args.value.now c.in-Some.id c.in-Some-place_of.at e (sym c.reference.ensures ∙ c.in-Some.is) c.in-Some-place_of.ensures

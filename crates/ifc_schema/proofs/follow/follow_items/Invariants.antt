@@ -1,4 +1,4 @@
-use Rattle.std.proofs.Common.{ℕ, ◌<◌, get_or}
+use Rattle.std.proofs.Common.{ℕ, ◌<◌, length, get_or}
 use Rattle.p21_reader.specs.declared.value.Value21.{Value21}
 use Rattle.ifc_schema.specs.Used.{RefersTo, LeadsTo}
 use Rattle.ifc_schema.specs.Marks.{Grows, IsMarked}
@@ -7,5 +7,5 @@ use Rattle.ifc_schema.proofs.follow.follow_items.Given as goal
 abbrev pub invariant-loop-item : goal.invariant-loop-item
 invariant-loop-item l = record {
   grows : Grows l.exchange l.initial.work l.work;
-  marked : (k : ℕ) → k < l.item-index → (d : Value21) → (to : ℕ) → RefersTo to (get_or l.items k d) → LeadsTo l.exchange l.targets to → IsMarked l.exchange l.work 0 to;
+  marked : (k : ℕ) → k < length l.yielded → (d : Value21) → (to : ℕ) → RefersTo to (get_or l.items k d) → LeadsTo l.exchange l.targets to → IsMarked l.exchange l.work 0 to;
 }

@@ -1,5 +1,6 @@
-use Rattle.std.proofs.Common.{◌≡◌, get_or, sym, ◌∙◌, true, false}
-use Rattle.ifc_instances.specs.Places.{IsPlaceOf}
+use Rattle.std.proofs.Common.{◌≡◌, get_or, sym, ap, ◌∙◌, true, false}
+use Rattle.std.proofs.lemmas.Option.{get_or_from_slice_get}
+use Rattle.p21_reader.specs.Places.{IsPlaceOf}
 use Rattle.ifc_schema.specs.Forms.{holds}
 use Rattle.ifc_schema.specs.Marks.{rank}
 use Rattle.ifc_schema.proofs.Growing.{meant_there, not_meant, reached_there, raise_grows}
@@ -9,17 +10,17 @@ use Rattle.ifc_schema.proofs.follow.mark_target.Goals as goal
 pub returns-then-holds-clause-grows : goal.returns-then-holds-clause-grows
 returns-then-holds-clause-grows c =
     let world = c.args.exchange.now in
-    let i = c.index-instances-at.result in
+    let i = c.instance.result in
     let p : IsPlaceOf world c.args.to c.in-Some.at = c.in-Some.ensures in
-    let is : i ≡ get_or world c.in-Some.at i = rw (← c.instances.ensures.same) c.index-instances-at.is in
-    let meant : holds c.args.targets i.keyword ≡ true = rw c.index-instances-at.is (sym c.holds.ensures ∙ c.if-holds.true) in
+    let is : i ≡ get_or world c.in-Some.at i = sym (get_or_from_slice_get world c.in-Some.at i i c.instance.ensures) in
+    let meant : holds c.args.targets i.keyword ≡ true = ap (holds c.args.targets) (sym c.keyword.ensures) ∙ (sym c.holds.ensures ∙ c.if-holds.true) in
     let s = c.requires.sound (meant_there world c.args.targets c.args.to c.in-Some.at i p is meant) c.in-Some.at p in
     on_ok2 c.raise.result (λ m k. (raise_grows world c.args.work.now c.raise.new.self c.in-Some.at c.args.mark (rw c.requires.size p.within) s m k).grows) c.raise.ensures.marks c.raise.ensures.stack
 
 pub returns-then-holds-clause-marked : goal.returns-then-holds-clause-marked
 returns-then-holds-clause-marked c =
     let world = c.args.exchange.now in
-    let i = c.index-instances-at.result in
+    let i = c.instance.result in
     let p : IsPlaceOf world c.args.to c.in-Some.at = c.in-Some.ensures in
     on_ok2 c.raise.result (λ m k l q at_q.
     reached_there world c.raise.new.self c.args.to c.in-Some.at (rank c.args.mark) p
@@ -29,8 +30,8 @@ returns-then-holds-clause-marked c =
 pub returns-else-holds-clause-marked : goal.returns-else-holds-clause-marked
 returns-else-holds-clause-marked c = λ l q at_q.
     let world = c.args.exchange.now in
-    let i = c.index-instances-at.result in
+    let i = c.instance.result in
     let p : IsPlaceOf world c.args.to c.in-Some.at = c.in-Some.ensures in
-    let is : i ≡ get_or world c.in-Some.at i = rw (← c.instances.ensures.same) c.index-instances-at.is in
-    let other : holds c.args.targets i.keyword ≡ false = rw c.index-instances-at.is (sym c.holds.ensures ∙ c.if-holds.false) in
+    let is : i ≡ get_or world c.in-Some.at i = sym (get_or_from_slice_get world c.in-Some.at i i c.instance.ensures) in
+    let other : holds c.args.targets i.keyword ≡ false = ap (holds c.args.targets) (sym c.keyword.ensures) ∙ (sym c.holds.ensures ∙ c.if-holds.false) in
     absurd (not_meant world c.args.targets c.args.to c.in-Some.at i p is other l)

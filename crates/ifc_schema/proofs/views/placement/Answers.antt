@@ -6,19 +6,19 @@ use Rattle.ifc_schema.proofs.views.placement.Goals as goal
 
 pub present-parent-requires : goal.present-parent-requires
 present-parent-requires c =
-    let is : entity_at c.in_ok-instance.instance.now ≡ Some entity.Placement = cc (c.in-Some-Placement.ensures, c.in-Some-Placement.field-0-is) in
-    omega (arith, rows.placement c.args.exchange.now false c.in_ok-instance.instance.now is c.in_ok-instance.ensures.shaped)
+    let is : entity_at c.in_ok-instance.instance ≡ Some entity.Placement = cc (c.in-Some-Placement.ensures, c.in-Some-Placement.field-0-is) in
+    omega (arith, rows.placement c.args.exchange.now false c.in_ok-instance.instance is c.in_ok-instance.ensures.shaped)
 
 pub present-relative-requires : goal.present-relative-requires
 present-relative-requires c =
-    let is : entity_at c.in_ok-instance.instance.now ≡ Some entity.Placement = cc (c.in-Some-Placement.ensures, c.in-Some-Placement.field-0-is) in
-    omega (arith, rows.placement c.args.exchange.now false c.in_ok-instance.instance.now is c.in_ok-instance.ensures.shaped)
+    let is : entity_at c.in_ok-instance.instance ≡ Some entity.Placement = cc (c.in-Some-Placement.ensures, c.in-Some-Placement.field-0-is) in
+    omega (arith, rows.placement c.args.exchange.now false c.in_ok-instance.instance is c.in_ok-instance.ensures.shaped)
 
 pub returns : goal.returns
 returns c =
-    let is : entity_at c.in_ok-instance.instance.now ≡ Some entity.Placement = cc (c.in-Some-Placement.ensures, c.in-Some-Placement.field-0-is) in
+    let is : entity_at c.in_ok-instance.instance ≡ Some entity.Placement = cc (c.in-Some-Placement.ensures, c.in-Some-Placement.field-0-is) in
     record {
-      instance = c.in_ok-instance.instance.now;
+      instance = c.in_ok-instance.instance;
       formed = c.in_ok-instance.ensures;
       kind = is;
       fields = record { parent = c.present-parent.ensures; relative = c.present-relative.ensures };

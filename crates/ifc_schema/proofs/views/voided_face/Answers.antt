@@ -6,14 +6,14 @@ use Rattle.ifc_schema.proofs.views.voided_face.Goals as goal
 
 pub present-corners-requires : goal.present-corners-requires
 present-corners-requires c =
-    let is : entity_at c.in_ok-instance.instance.now ≡ Some entity.FaceWithVoids = cc (c.in-Some-FaceWithVoids.ensures, c.in-Some-FaceWithVoids.field-0-is) in
-    omega (arith, rows.voided_face c.args.exchange.now false c.in_ok-instance.instance.now is c.in_ok-instance.ensures.shaped)
+    let is : entity_at c.in_ok-instance.instance ≡ Some entity.FaceWithVoids = cc (c.in-Some-FaceWithVoids.ensures, c.in-Some-FaceWithVoids.field-0-is) in
+    omega (arith, rows.voided_face c.args.exchange.now false c.in_ok-instance.instance is c.in_ok-instance.ensures.shaped)
 
 pub returns : goal.returns
 returns c =
-    let is : entity_at c.in_ok-instance.instance.now ≡ Some entity.FaceWithVoids = cc (c.in-Some-FaceWithVoids.ensures, c.in-Some-FaceWithVoids.field-0-is) in
+    let is : entity_at c.in_ok-instance.instance ≡ Some entity.FaceWithVoids = cc (c.in-Some-FaceWithVoids.ensures, c.in-Some-FaceWithVoids.field-0-is) in
     record {
-      instance = c.in_ok-instance.instance.now;
+      instance = c.in_ok-instance.instance;
       formed = c.in_ok-instance.ensures;
       kind = is;
       fields = record { corners = c.present-corners.ensures; voids = c.attribute-voids.ensures };

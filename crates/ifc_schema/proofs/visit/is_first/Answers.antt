@@ -4,4 +4,5 @@ use Rattle.ifc_schema.proofs.visit.is_first.Goals as goal
 
 pub returns-else-at-eq0-clause-first : goal.returns-else-at-eq0-clause-first
 returns-else-at-eq0-clause-first c =
-    first_there c.args.instances.now c.args.at c.index-instances-at.result c.index-instances-at-else-at-eq0.result (omega arith) c.requires.within c.requires.rises
+    first_there c.args.exchange.now c.args.at c.instance.result c.instance-else-at-eq0.result c.id.result c.id-else-at-eq0.result (omega arith) c.requires.within c.requires.rises
+    c.instance.ensures c.instance-else-at-eq0.ensures c.id.ensures c.id-else-at-eq0.ensures

@@ -1,10 +1,11 @@
 use Rattle.std.proofs.Common.{◌≡◌, ℕ, Bool, true, false, get_or, sym, ap, ◌∙◌}
 use Rattle.std.specs.Bool.{OnTrue, OnFalse}
+use Rattle.std.proofs.lemmas.Option.{get_or_from_slice_get}
 use Rattle.p21_reader.specs.declared.value.Instance.{Instance}
 use Rattle.ifc_schema.specs.declared.work.Mark.TheVariants.{Used as Met}
 use Rattle.ifc_schema.specs.Used.{is_root}
 use Rattle.ifc_instances.specs.Looking.{entity_at}
-use Rattle.ifc_instances.specs.Places.{IsPlaceOf}
+use Rattle.p21_reader.specs.Places.{IsPlaceOf}
 use Rattle.ifc_schema.proofs.Results.{on_ok2}
 use Rattle.ifc_schema.proofs.Growing.{raise_grows}
 use Rattle.ifc_schema.proofs.Following.{no_root, root_sound}
@@ -20,23 +21,23 @@ on_true false h p = cc
 
 pub returns-then-not-is_root-clause-root : goal.returns-then-not-is_root-clause-root
 returns-then-not-is_root-clause-root c = λ r.
-    let i = c.index-instances-at.result in
-    let e : i ≡ get_or c.args.exchange.now c.args.at i = rw (← c.instances-instances.ensures.same) c.index-instances-at.is in
-    let f : is_root (entity_at i) ≡ false = ap is_root (sym c.entity_at.ensures) ∙ (sym c.is_root.ensures ∙ c.if-not-is_root.true) in
+    let i = c.instance.result in
+    let e : i ≡ get_or c.args.exchange.now c.args.at i = sym (get_or_from_slice_get c.args.exchange.now c.args.at i i c.instance.ensures) in
+    let f : is_root (entity_at i) ≡ false = ap is_root (sym c.at.ensures) ∙ (sym c.is_root.ensures ∙ c.if-not-is_root.true) in
     absurd (no_root c.args.exchange.now c.args.at i e f r)
 
 pub returns-then-not-is_first-clause-root : goal.returns-then-not-is_first-clause-root
 returns-then-not-is_first-clause-root c = λ r.
-    let other : (id : ℕ) → IsPlaceOf c.instances-instances.result.now id c.args.at → ⊥ = on_false c.is_first.result c.if-not-is_first.true c.is_first.ensures.other in
-    absurd (other r.id (rw c.instances-instances.ensures.same r.place))
+    let other : (id : ℕ) → IsPlaceOf c.args.exchange.now id c.args.at → ⊥ = on_false c.is_first.result c.if-not-is_first.true c.is_first.ensures.other in
+    absurd (other r.id r.place)
 
 pub returns-clause-grows : goal.returns-clause-grows
 returns-clause-grows c =
-    let i = c.index-instances-at.result in
-    let e : i ≡ get_or c.args.exchange.now c.args.at i = rw (← c.instances-instances.ensures.same) c.index-instances-at.is in
-    let t : is_root (entity_at i) ≡ true = ap is_root (sym c.entity_at.ensures) ∙ (sym c.is_root.ensures ∙ c.if-not-is_root.false) in
-    let first : (j : Instance) → IsPlaceOf c.instances-instances.result.now (get_or c.instances-instances.result.now c.args.at j).id c.args.at =
+    let i = c.instance.result in
+    let e : i ≡ get_or c.args.exchange.now c.args.at i = sym (get_or_from_slice_get c.args.exchange.now c.args.at i i c.instance.ensures) in
+    let t : is_root (entity_at i) ≡ true = ap is_root (sym c.at.ensures) ∙ (sym c.is_root.ensures ∙ c.if-not-is_root.false) in
+    let first : (j : Instance) → IsPlaceOf c.args.exchange.now (get_or c.args.exchange.now c.args.at j).id c.args.at =
     on_true c.is_first.result c.if-not-is_first.false c.is_first.ensures.first in
-    let p : IsPlaceOf c.args.exchange.now i.id c.args.at = rw (e, ← c.instances-instances.ensures.same) (first i) in
+    let p : IsPlaceOf c.args.exchange.now i.id c.args.at = rw e (first i) in
     on_ok2 c.raise.result (λ m k. (raise_grows c.args.exchange.now c.args.work.now c.raise.new.self c.args.at Met (rw c.requires.size c.requires.within)
     (root_sound c.args.exchange.now c.args.at i p e t) m k).grows) c.raise.ensures.marks c.raise.ensures.stack

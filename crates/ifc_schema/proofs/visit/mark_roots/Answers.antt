@@ -1,4 +1,4 @@
-use Rattle.std.proofs.Common.{◌≡◌, ◌<◌, ◌+◌, ◌⊎◌, inl, inr, ℕ, arith, subst, sym}
+use Rattle.std.proofs.Common.{◌<◌, inl, inr, arith, subst, sym}
 use Rattle.ifc_instances.proofs.Rising.{below_next}
 use Rattle.ifc_schema.specs.Marks.{IsRootAt, rank_at}
 use Rattle.ifc_schema.proofs.Growing.{grows_trans}

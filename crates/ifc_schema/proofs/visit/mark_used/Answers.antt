@@ -1,11 +1,11 @@
-use Rattle.std.proofs.Common.{ℕ, ◌<◌, length, ap}
+use Rattle.std.proofs.Common.{ℕ, ◌<◌}
 use Rattle.ifc_schema.specs.Marks.{IsRootAt, rank_at}
 use Rattle.ifc_schema.proofs.Following.{going_first, all_used, all_mapped}
 use Rattle.ifc_schema.proofs.visit.mark_used.Goals as goal
 
 pub follow_all-requires-clause-going : goal.follow_all-requires-clause-going
 follow_all-requires-clause-going c =
-    going_first c.args.exchange.now c.in_ok-work.work c.mark_roots.new.work (length c.instances.result.now) (ap length c.instances.ensures.same) c.in_ok-work.ensures.marks c.in_ok-work.ensures.stack c.in_ok-mark_roots.ensures.grows
+    going_first c.args.exchange.now c.in_ok-work.work c.mark_roots.new.work c.len.result c.len.ensures.count c.in_ok-work.ensures.marks c.in_ok-work.ensures.stack c.in_ok-mark_roots.ensures.grows
 
 pub returns : goal.returns
 returns c =

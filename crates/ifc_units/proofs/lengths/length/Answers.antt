@@ -7,10 +7,10 @@ pub returns-in-Ok : goal.returns-in-Ok
 returns-in-Ok c =
     let e : to_z w32 (of_z w32 c.in-Ok.length) ≡ c.in-Ok.length = omega (arith, ints) in
     length_here c.args.scale c.args.mode c.args.value.now c.in-Some.bytes.now c.in-Some-read.number c.in-Ok.length (to_z w32 (of_z w32 c.in-Ok.length))
-    (sym c.number_of.ensures ∙ ap option_copied c.in-Some.is) c.in-Some-read.ensures.value c.in-Ok.ensures.ok c.in-Ok.ensures.within e
+    (sym c.number.ensures ∙ ap option_copied c.in-Some.is) c.in-Some-read.ensures.value c.in-Ok.ensures.ok c.in-Ok.ensures.within e
 
 pub returns-in-Err : goal.returns-in-Err
 returns-in-Err c =
     length_refused c.args.scale c.args.mode c.args.value.now c.in-Some.bytes.now c.in-Some-read.number c.in-Err.fault
-    (sym c.number_of.ensures ∙ ap option_copied c.in-Some.is) c.in-Some-read.ensures.value
+    (sym c.number.ensures ∙ ap option_copied c.in-Some.is) c.in-Some-read.ensures.value
     (λ e. c.in-Err.ensures.off_grid (rw e refl)) (λ e. c.in-Err.ensures.too_far (rw e refl))

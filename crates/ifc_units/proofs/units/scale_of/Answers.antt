@@ -1,11 +1,9 @@
-use Rattle.std.proofs.Common.{option_copied, [], ◌∷◌, ◌≡◌, subst, ap, sym, ◌∙◌}
-use Rattle.ifc_units.specs.Units.{projects}
+use Rattle.std.proofs.Common.{sym, ◌∙◌}
 use Rattle.ifc_units.proofs.UnitFacts.{same_assignment}
 use Rattle.ifc_units.proofs.units.scale_of.Goals as goal
 
 pub returns-in-None-clause-none : goal.returns-in-None-clause-none
 returns-in-None-clause-none c = λ scale h.
     c.in-None.ensures.none scale.power
-    (same_assignment c.args.exchange.now c.in-Some.project.now c.in-Some-assignment_of.assignment.now scale
-    (subst (λ w. projects w ≡ c.in-Some.project.now ∷ []) c.instances.ensures.same c.in-Some.ensures.some)
-    (sym c.assignment_of.ensures ∙ ap option_copied c.in-Some-assignment_of.is) h)
+    (same_assignment c.args.exchange.now c.in-Some.project c.in-Some-assignment_of.assignment scale c.in-Some.ensures.some
+    (sym c.assignment_of.ensures ∙ c.in-Some-assignment_of.is) h)

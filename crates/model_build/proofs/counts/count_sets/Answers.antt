@@ -1,15 +1,30 @@
+use Rattle.std.proofs.Common.{◌+◌, List, sum_by, ap, sym, ◌∙◌, arith}
+use Rattle.p21_reader.specs.declared.value.Value21.{Value21}
+use Rattle.p21_reader.specs.Attributes.{led_to}
 use Rattle.faceset.specs.Sets.{triangle_count}
-use Rattle.model_build.proofs.TrianglesCounted.{counts_more, counts_past}
+use Rattle.p21_reader.proofs.Turns.{so_far, turn, ended}
+use Rattle.faceset.proofs.Named.{summed_more, summed_front}
 use Rattle.model_build.proofs.counts.count_sets.Goals as goal
 
 pub returns-in_default : goal.returns-in_default
 returns-in_default c =
     let world = c.args.exchange.now in
-    counts_past (triangle_count world) world c.args.values.now c.loop-value.value-index c.value-item.result c.args.so_far c.loop-value.count c.loop-value-test.true c.value-item.is c.loop-value.invariant.0 c.in_default.ensures
+    let front = so_far c.args.values.now c.loop-value.yielded (cc) _ c.loop-value.yielded_by in
+    let t = turn c.args.values.now c.loop-value.yielded (cc) _ c.loop-value.yielded_by _ c.in-Some.is c.next.ensures.steps in
+    let part = summed_front (triangle_count world) world c.args.values.now c.loop-value.yielded c.in-Some.value front t.0 t.1 in
+    let sum = c.loop-value.invariant.0 in
+    let past = c.in_default.ensures in
+    omega (arith, part, sum, past)
 
 pub loop-value-preserved : goal.loop-value-preserved
 loop-value-preserved c =
-    let world = c.args.exchange.now in (
-      counts_more (triangle_count world) world c.args.values.now c.loop-value.value-index c.value-item.result c.args.so_far c.loop-value.count c.in-Some.counted c.loop-value-test.true c.value-item.is c.loop-value.invariant.0 c.in-Some.ensures.0,
-      c.in-Some.ensures.1,
-    )
+    let world = c.args.exchange.now in
+    let one = summed_more (triangle_count world) world c.loop-value.yielded c.in-Some.value in
+    let sum = c.loop-value.invariant.0 in
+    let more = c.in-Some-count_set_of.ensures.0 in
+    (omega (arith, one, sum, more), c.in-Some-count_set_of.ensures.1)
+
+pub returns : goal.returns
+returns c =
+    let all = ended c.args.values.now c.loop-value.yielded (cc) _ c.loop-value.yielded_by _ c.in-None.is c.next.ensures.steps in
+    (sym c.loop-value.invariant.0 ∙ ap (λ (vs : List Value21). c.args.so_far + sum_by (triangle_count c.args.exchange.now) (led_to c.args.exchange.now vs)) all, c.loop-value.invariant.1)

@@ -1,7 +1,7 @@
 use Rattle.std.proofs.Common.{◌≡◌, ℕ, Bool, true, false, List, Result, Ok, Err, IfOk, Some, subst, sym, ◌∙◌}
 use Rattle.std.specs.Bool.{MatchBool}
 use Rattle.p21_reader.specs.declared.value.Instance.{Instance}
-use Rattle.ifc_instances.specs.Looking.{look}
+use Rattle.p21_reader.specs.Looking.{look}
 use Rattle.faceset.specs.Sets.{is_set, HasBadIndex}
 use Rattle.model_build.specs.Least.{IsBadSet}
 use Rattle.model_build.proofs.least.is_bad_set.Goals as goal
@@ -13,4 +13,4 @@ told world id set (Ok false) e is h = λ f. h (let same : f.instance ≡ set = (
 told world id set (Err x) e is h = h
 
 pub returns-clause-bad : goal.returns-clause-bad
-returns-clause-bad c = told c.args.exchange.now c.args.id c.in-Some.set.now c.has_bad_index.result c.in-Some.ensures (sym c.is_set.ensures ∙ c.if-not-is_set.false) c.has_bad_index.ensures.bad
+returns-clause-bad c = told c.args.exchange.now c.args.id c.in-Some.set c.has_bad_index.result c.in-Some.ensures (sym c.is_set.ensures ∙ c.if-not-is_set.false) c.has_bad_index.ensures.bad

@@ -8,5 +8,5 @@ bytes_there (Some b) e = (b.now, refl)
 
 pub returns-then-is_some : goal.returns-then-is_some
 returns-then-is_some c =
-    let there = bytes_there c.number_of.result c.if-is_some.ensures in
-    not_one c.args.value.now there.0 c.place_of.result c.is_none.result (sym c.number_of.ensures ∙ there.1) c.is_none.ensures c.place_of.ensures.some c.place_of.ensures.none
+    let there = bytes_there c.number.result c.if-is_some.ensures in
+    not_one c.args.value.now there.0 c.place_of.result c.is_none.result (sym c.number.ensures ∙ there.1) c.is_none.ensures c.place_of.ensures.some c.place_of.ensures.none

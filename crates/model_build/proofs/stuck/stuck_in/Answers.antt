@@ -8,7 +8,7 @@ use Rattle.model_build.proofs.stuck.stuck_in.Goals as goal
 
 pub returns-in_default-points_at : goal.returns-in_default-points_at
 returns-in_default-points_at c =
-    no_points c.args.exchange.now c.args.scale c.args.mode c.args.id c.in-Some-reference_at.list c.in-Some.set.now c.in-Some.ensures c.in-Some-reference_at.ensures
+    no_points c.args.exchange.now c.args.scale c.args.mode c.args.id c.in-Some-reference_at.list c.in-Some.set c.in-Some.ensures c.in-Some-reference_at.ensures
     (c.in_default-points_at.ensures c.args.scale c.args.mode c.requires)
 
 pub least_stuck-requires : goal.least_stuck-requires
@@ -16,6 +16,6 @@ least_stuck-requires c = listed_grid c.args.exchange.now c.args.scale c.args.mod
 
 pub returns : goal.returns
 returns c =
-    ok_by (IsFound (HasStuck c.args.exchange.now c.in-Some-points_at.points.now c.in-Some.set.now)) (LeastOf (ShowsStuckSet c.args.exchange.now c.args.scale c.args.mode c.args.id)) c.least_stuck.result
-    (stuck_least c.args.exchange.now c.args.scale c.args.mode c.args.id c.in-Some-reference_at.list c.in-Some.set.now c.in-Some-points_at.points.now c.in-Some.ensures (sym c.is_set.ensures ∙ c.if-not-is_set.false)
+    ok_by (IsFound (HasStuck c.args.exchange.now c.in-Some-points_at.points.now c.in-Some.set)) (LeastOf (ShowsStuckSet c.args.exchange.now c.args.scale c.args.mode c.args.id)) c.least_stuck.result
+    (stuck_least c.args.exchange.now c.args.scale c.args.mode c.args.id c.in-Some-reference_at.list c.in-Some.set c.in-Some-points_at.points.now c.in-Some.ensures (sym c.is_set.ensures ∙ c.if-not-is_set.false)
     c.in-Some-reference_at.ensures (c.in-Some-points_at.ensures c.args.scale c.args.mode c.requires)) c.least_stuck.ensures

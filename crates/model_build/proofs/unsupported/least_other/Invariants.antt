@@ -1,7 +1,6 @@
-use Rattle.std.proofs.Common.{take}
 use Rattle.ifc_instances.specs.Least.{LeastOf}
 use Rattle.model_build.specs.Showing.{HasOther}
 use Rattle.model_build.proofs.unsupported.least_other.Given as goal
 
 abbrev pub invariant-loop-value : goal.invariant-loop-value
-invariant-loop-value l = LeastOf (HasOther l.exchange (take l.value-index l.values)) l.least
+invariant-loop-value l = LeastOf (HasOther l.exchange l.yielded) l.least

@@ -5,5 +5,5 @@ use Rattle.model_build.proofs.unsupported.other_in_body.Goals as goal
 
 pub returns : goal.returns
 returns c =
-    let body : is_body_representation c.in-Some.representation.now ≡ true = search rules in
-    body_least c.args.exchange.now c.args.id c.in-Some.representation.now c.spelled_items.result.now c.least_other.result c.in-Some.ensures body c.spelled_items.ensures c.least_other.ensures
+    let body : is_body_representation c.in-Some.representation ≡ true = search rules in
+    body_least c.args.exchange.now c.args.id c.in-Some.representation c.spelled_items.result c.least_other.result c.in-Some.ensures body c.spelled_items.ensures c.least_other.ensures

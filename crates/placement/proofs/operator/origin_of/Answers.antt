@@ -2,4 +2,4 @@ use Rattle.placement.proofs.Operating.{no_origin}
 use Rattle.placement.proofs.operator.origin_of.Goals as goal
 
 pub returns-in-Err : goal.returns-in-Err
-returns-in-Err c = no_origin c.args.exchange.now c.args.scale c.args.mode c.args.id c.in_ok-to.to c.in_ok-value.value.now c.in-Err.field-0 c.in_ok-to.ensures c.in_ok-value.ensures c.in-Err.ensures
+returns-in-Err c = no_origin c.args.exchange.now c.args.scale c.args.mode c.args.id c.in_ok-to.to c.in_ok-value.value c.in-Err.field-0 c.in_ok-to.ensures c.in_ok-value.ensures c.in-Err.ensures

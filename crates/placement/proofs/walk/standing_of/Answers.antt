@@ -1,17 +1,20 @@
 use Rattle.std.proofs.Common.{◌≡◌, Some, ap, ◌∙◌, sym}
-use Rattle.ifc_instances.specs.Looking.{look}
-use Rattle.ifc_instances.proofs.PlaceLemmas.{found_at}
+use Rattle.std.proofs.lemmas.Option.{get_or_from_slice_get}
+use Rattle.p21_reader.specs.Looking.{look}
+use Rattle.p21_reader.proofs.PlaceLemmas.{found_at}
 use Rattle.placement.proofs.Walking.{parent_is, unparented}
 use Rattle.placement.proofs.walk.standing_of.Goals as goal
 
 pub returns-in_err-parent-clause-none : goal.returns-in_err-parent-clause-none
 returns-in_err-parent-clause-none c =
-    let f = found_at c.args.exchange.now c.args.id c.in_ok-at.at c.index-instances-at.result c.in_ok-at.ensures in
-    let e : Some c.index-instances-at.result ≡ look c.args.exchange.now c.args.id = ap Some c.index-instances-at.is ∙ rw c.instances.ensures.same (sym f) in
-    rw c.from_residual-in_err-parent.ensures (unparented c.args.exchange.now c.args.id c.index-instances-at.result (sym e) c.in_err-parent.ensures)
+    let world = c.args.exchange.now in
+    let i = c.instance.result in
+    let e : look world c.args.id ≡ Some i = found_at world c.args.id c.in_ok-at.at i c.in_ok-at.ensures ∙ ap Some (get_or_from_slice_get world c.in_ok-at.at i i c.instance.ensures) in
+    rw c.from_residual-in_err-parent.ensures (unparented world c.args.id i e c.in_err-parent.ensures)
 
 pub returns-clause-some : goal.returns-clause-some
 returns-clause-some c =
-    let f = found_at c.args.exchange.now c.args.id c.in_ok-at.at c.index-instances-at.result c.in_ok-at.ensures in
-    let e : Some c.index-instances-at.result ≡ look c.args.exchange.now c.args.id = ap Some c.index-instances-at.is ∙ rw c.instances.ensures.same (sym f) in
-    record { place = c.in_ok-at.ensures; parent = parent_is c.args.exchange.now c.args.id c.index-instances-at.result (sym e) ∙ sym c.in_ok-parent.ensures }
+    let world = c.args.exchange.now in
+    let i = c.instance.result in
+    let e : look world c.args.id ≡ Some i = found_at world c.args.id c.in_ok-at.at i c.in_ok-at.ensures ∙ ap Some (get_or_from_slice_get world c.in_ok-at.at i i c.instance.ensures) in
+    record { place = c.in_ok-at.ensures; parent = parent_is world c.args.id i e ∙ sym c.in_ok-parent.ensures }

@@ -1,4 +1,4 @@
-use Rattle.std.proofs.Common.{sym, ◌∙◌, ap, option_copied}
+use Rattle.std.proofs.Common.{sym, ◌∙◌}
 use Rattle.spatial_tree.specs.Relations.{Relates}
 use Rattle.spatial_tree.specs.Onlys.{Adds}
 use Rattle.spatial_tree.proofs.Relating.{relates_added, on_ok_map, Pairs}
@@ -6,9 +6,9 @@ use Rattle.spatial_tree.proofs.link.add_instance.Goals as goal
 
 pub returns : goal.returns
 returns c =
-    on_ok_map (Adds (Pairs c.in-Some-items_at.items.now c.in-Some.above) c.args.links.now.items c.add_items.new.links.items) (Adds (Relates c.args.entity c.args.many c.args.one c.args.instance.now) c.args.links.now.items c.add_items.new.links.items)
-    (relates_added c.args.entity c.args.many c.args.one c.args.instance.now c.in-Some-items_at.items.now c.in-Some.above c.args.links.now.items c.add_items.new.links.items
-    (sym c.is_a.ensures ∙ c.if-not-is_a.false)
-    (sym c.items_at.ensures ∙ ap option_copied c.in-Some-items_at.is)
+    on_ok_map (Adds (Pairs c.in-Some-items_at.items c.in-Some.above) c.args.links.now.items c.add_items.new.links.items) (Adds (Relates c.args.entity c.args.many c.args.one c.args.instance.now) c.args.links.now.items c.add_items.new.links.items)
+    (relates_added c.args.entity c.args.many c.args.one c.args.instance.now c.in-Some-items_at.items c.in-Some.above c.args.links.now.items c.add_items.new.links.items
+    (sym c.includes.ensures ∙ c.if-not-includes.false)
+    (sym c.items_at.ensures ∙ c.in-Some-items_at.is)
     (sym c.reference_at.ensures ∙ c.in-Some.is))
     c.add_items.result c.add_items.ensures

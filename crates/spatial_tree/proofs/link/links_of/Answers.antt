@@ -6,7 +6,7 @@ use Rattle.spatial_tree.proofs.Adding.{added_to_none}
 use Rattle.spatial_tree.proofs.link.links_of.Goals as goal
 
 pub returns-clause-all : goal.returns-clause-all
-returns-clause-all c = rw (← c.instances.ensures.same) (added_to_none (IsRelated c.args.entity c.args.many c.args.one c.instances.result.now) c.new-links.result.items c.add_instances.new.links.items c.sort_by_key.new.self.items
+returns-clause-all c = rw (← c.iter.ensures.same) (added_to_none (IsRelated c.args.entity c.args.many c.args.one c.iter.result) c.new-links.result.items c.add_instances.new.links.items c.sort_by_key.new.self.items
     c.new-links.ensures.items c.in_ok-add_instances.ensures c.sort_by_key.ensures.permutation)
 
 pub returns-clause-rises : goal.returns-clause-rises

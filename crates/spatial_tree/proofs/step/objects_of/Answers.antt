@@ -1,4 +1,4 @@
-use Rattle.spatial_tree.proofs.Making.{deduped, dedup_rises}
+use Rattle.spatial_tree.proofs.StepsMade.{deduped, dedup_rises}
 use Rattle.spatial_tree.proofs.step.objects_of.Goals as goal
 
 pub returns-clause-rises : goal.returns-clause-rises

@@ -1,5 +1,5 @@
 use Rattle.spatial_tree.specs.Onlys.{link}
-use Rattle.spatial_tree.proofs.Making.{object_pushed, object_kept}
+use Rattle.spatial_tree.proofs.StepsMade.{object_pushed, object_kept}
 use Rattle.spatial_tree.proofs.step.push_objects.Goals as goal
 
 pub loop-link-preserved : goal.loop-link-preserved

@@ -1,6 +1,6 @@
 use Rattle.std.proofs.Common.{refl, sym, ◌∙◌, inl, inr, Some, None}
 use Rattle.std.proofs.lemmas.List.{get_or_default}
-use Rattle.spatial_tree.proofs.Making.{made}
+use Rattle.spatial_tree.proofs.StepsMade.{made}
 use Rattle.spatial_tree.proofs.step.step_of.Goals as goal
 
 pub returns-in-Some-place_in : goal.returns-in-Some-place_in

@@ -13,8 +13,8 @@ act-answer-requires-clause-after g c =
     let same = same_hand _ _ _ _ k.2 c.exchange-hand.ensures.2 c.in-Some.is in
     subst (AllBefore (λ e. (g.O.SeqObject.stamp_of e).turn) c.args.stamp.turn) (sym (ap g.O.SeqObject.journal same ∙ k.3)) c.requires.after
 
-pub hand_on-requires-clause-called : goal.hand_on-requires-clause-called
-hand_on-requires-clause-called g c =
+pub pass_on-requires-clause-called : goal.pass_on-requires-clause-called
+pass_on-requires-clause-called g c =
     let k = c.requires.called in let a = c.act-answer.ensures in
     let same = same_hand _ _ _ _ k.2 c.exchange-hand.ensures.2 c.in-Some.is in
     let hand = put_hand _ _ _ _ _ _ k.2 c.exchange-hand.ensures.3 c.exchange-empty.ensures.3 in
@@ -30,5 +30,5 @@ returns-clause-done g c =
     let hand = put_hand _ _ _ _ _ _ k.2 c.exchange-hand.ensures.3 c.exchange-empty.ensures.3 in
     let told = acted g.O.SeqObject.journal g.O.SeqObject.settings g.O.SeqObject.stamp_of g.O.SeqObject.reply_of g.O.SeqObject.added_by c.in-Some.object c.act-answer.new.self c.args.seat.now.me.0 c.args.stamp c.args.request c.act-answer.result
     (ap g.O.SeqObject.journal same ∙ k.3) (k.4 ∙ ap (λ o. Some (g.O.SeqObject.settings o)) (sym same)) a.settings a.reply a.added a.unchanged g.met.O.SeqObject.stamped c.requires.named in
-    let last = served g.O.SeqObject.journal c.args.seat.now.me _ c.hand_on.new.seat.me _ hand c.hand_on.ensures.passed in
-    (told.1 c.hand_on.new.seat.me.0 (ap (λ m. m.0) last), ap (λ m. m.1) last)
+    let last = served g.O.SeqObject.journal c.args.seat.now.me _ c.pass_on.new.seat.me _ hand c.pass_on.ensures.passed in
+    (told.1 c.pass_on.new.seat.me.0 (ap (λ m. m.0) last), ap (λ m. m.1) last)

@@ -7,5 +7,5 @@ use Rattle.ifc_elements.proofs.sets.Sets.add.Goals as goal
 pub returns : goal.returns
 returns c = λ listed are.
     let kept = rw c.in-Some-2.is at c.in_ok-made.ensures in
-    sets_more c.args.exchange.now c.args.scale c.args.mode listed c.args.self.now c.put.new.self c.args.id c.in-Some.set.now c.in-Some-2.made.items (sym c.in-Some.ensures) kept
+    sets_more c.args.exchange.now c.args.scale c.args.mode listed c.args.self.now c.put.new.self c.args.id c.in-Some.set c.in-Some-2.made.items (sym c.in-Some.ensures) kept
     (subst (λ (ts : List Triangle). Puts (set_in c.args.self.now) (set_in c.put.new.self) c.args.id ts) c.from_vec.ensures c.in_ok-put.ensures) are
