@@ -5,3 +5,5 @@ pub mod Bits
 pub mod Reach
 pub mod Spans
 pub mod Vectors
+pub mod Coarse
+pub mod Steps

@@ -1,13 +1,27 @@
 //! Boxes in blocks of eight.
 ghost use Rattle.std.specs.Prelude.{◌≡◌, ◌+◌, ◌*◌, ◌<◌, ◌≤◌, ◌^◌, ◌∷◌, [], length, map, All, OnOk};
 ghost use Rattle.box_lanes.specs.Blocks.{IsBlock, HasBlocks};
+ghost use Rattle.box_lanes.specs.Lanes.{coarse};
 ghost use Rattle.box_lanes.specs.Places.{nowhere, box_at};
 
 use bim_model::{Extent, Point};
 use std::alloc::AllocError;
+use std::simd::prelude::*;
 
 /// How many boxes are compared at once.
 pub const LANES: usize = 8;
+
+/// The sides of eight boxes in steps of 32 grid numbers, those of each kind in a list of their own. Sixteen bits a
+/// side let eight comparisons be one, and steps of 32 reach all of the grid.
+#[derive(Clone, Copy)]
+pub struct Sides {
+    pub low_x: [i16; LANES],
+    pub low_y: [i16; LANES],
+    pub low_z: [i16; LANES],
+    pub high_x: [i16; LANES],
+    pub high_y: [i16; LANES],
+    pub high_z: [i16; LANES],
+}
 
 /// Eight boxes, the sides of each kind in a list of their own.
 #[derive(Clone, Copy)]
@@ -18,6 +32,18 @@ pub struct Block {
     pub high_x: [i32; LANES],
     pub high_y: [i32; LANES],
     pub high_z: [i32; LANES],
+    pub coarse: Sides,
+}
+
+/// Eight coordinates in steps of 32, rounded down, as far as 16 bits go.
+#[inline(always)]
+pub fn coarse_of(a: i32, b: i32, c: i32, d: i32, e: i32, f: i32, g: i32, h: i32) -> [i16; LANES]
+    ensures { result ≡ map coarse (a ∷ b ∷ c ∷ d ∷ e ∷ f ∷ g ∷ h ∷ []) }
+{
+    let steps = i32x8::from_array([a, b, c, d, e, f, g, h]) >> i32x8::splat(5);
+    let least = i32x8::splat(i32::from(i16::MIN));
+    let greatest = i32x8::splat(i32::from(i16::MAX));
+    steps.simd_clamp(least, greatest).cast::<i16>().to_array()
 }
 
 // A box that fills a block up.
@@ -70,25 +96,51 @@ fn block_of(
 ) -> Block
     ensures { IsBlock result (a ∷ b ∷ c ∷ d ∷ e ∷ f ∷ g ∷ h ∷ []) }
 {
+    let low_x = [
+        a.low.x, b.low.x, c.low.x, d.low.x, e.low.x, f.low.x, g.low.x, h.low.x,
+    ];
+    let low_y = [
+        a.low.y, b.low.y, c.low.y, d.low.y, e.low.y, f.low.y, g.low.y, h.low.y,
+    ];
+    let low_z = [
+        a.low.z, b.low.z, c.low.z, d.low.z, e.low.z, f.low.z, g.low.z, h.low.z,
+    ];
+    let high_x = [
+        a.high.x, b.high.x, c.high.x, d.high.x, e.high.x, f.high.x, g.high.x, h.high.x,
+    ];
+    let high_y = [
+        a.high.y, b.high.y, c.high.y, d.high.y, e.high.y, f.high.y, g.high.y, h.high.y,
+    ];
+    let high_z = [
+        a.high.z, b.high.z, c.high.z, d.high.z, e.high.z, f.high.z, g.high.z, h.high.z,
+    ];
     Block {
-        low_x: [
-            a.low.x, b.low.x, c.low.x, d.low.x, e.low.x, f.low.x, g.low.x, h.low.x,
-        ],
-        low_y: [
-            a.low.y, b.low.y, c.low.y, d.low.y, e.low.y, f.low.y, g.low.y, h.low.y,
-        ],
-        low_z: [
-            a.low.z, b.low.z, c.low.z, d.low.z, e.low.z, f.low.z, g.low.z, h.low.z,
-        ],
-        high_x: [
-            a.high.x, b.high.x, c.high.x, d.high.x, e.high.x, f.high.x, g.high.x, h.high.x,
-        ],
-        high_y: [
-            a.high.y, b.high.y, c.high.y, d.high.y, e.high.y, f.high.y, g.high.y, h.high.y,
-        ],
-        high_z: [
-            a.high.z, b.high.z, c.high.z, d.high.z, e.high.z, f.high.z, g.high.z, h.high.z,
-        ],
+        low_x,
+        low_y,
+        low_z,
+        high_x,
+        high_y,
+        high_z,
+        coarse: Sides {
+            low_x: coarse_of(
+                a.low.x, b.low.x, c.low.x, d.low.x, e.low.x, f.low.x, g.low.x, h.low.x,
+            ),
+            low_y: coarse_of(
+                a.low.y, b.low.y, c.low.y, d.low.y, e.low.y, f.low.y, g.low.y, h.low.y,
+            ),
+            low_z: coarse_of(
+                a.low.z, b.low.z, c.low.z, d.low.z, e.low.z, f.low.z, g.low.z, h.low.z,
+            ),
+            high_x: coarse_of(
+                a.high.x, b.high.x, c.high.x, d.high.x, e.high.x, f.high.x, g.high.x, h.high.x,
+            ),
+            high_y: coarse_of(
+                a.high.y, b.high.y, c.high.y, d.high.y, e.high.y, f.high.y, g.high.y, h.high.y,
+            ),
+            high_z: coarse_of(
+                a.high.z, b.high.z, c.high.z, d.high.z, e.high.z, f.high.z, g.high.z, h.high.z,
+            ),
+        },
     }
 }
 

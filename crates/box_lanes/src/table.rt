@@ -5,9 +5,9 @@ ghost use Rattle.std.specs.Simd.Lanes.{mask_l, chunk};
 ghost use Rattle.bim_model.specs.declared.geometry.Extent.{Extent};
 ghost use Rattle.bim_model.specs.Gaps.{is_within};
 ghost use Rattle.box_lanes.specs.Places.{box_at, places_from, part, places_within, later_within};
-ghost use Rattle.box_lanes.specs.Lanes.{meets, Fits32};
+ghost use Rattle.box_lanes.specs.Lanes.{meets, may_meet, coarse_sides, Fits32};
 
-use crate::blocks::{Block, LANES, fill, fill_by};
+use crate::blocks::{Block, LANES, coarse_of, fill, fill_by};
 use bim_model::{Extent, Point};
 use std::alloc::{AllocError, Global};
 use std::marker::Model;
@@ -127,33 +127,50 @@ impl BoxTable {
         ensures { OnOk result (places.new.items
             ≡ places.old.items ++ places_from from (meets reach.now) (drop from self.now)) }
     {
-        let mut from = from;
+        let _count = self.len();
+        if from == self.count {
+            return Ok(());
+        }
+        let sides = coarse_of(
+            reach.low.x,
+            reach.low.y,
+            reach.low.z,
+            reach.high.x,
+            reach.high.y,
+            reach.high.z,
+            0,
+            0,
+        );
         let mut block = from / LANES;
-        while from < self.count {
-            self.add_block(block, from, reach, places)?;
+        self.add_block(block, from, reach, &sides, places)?;
+        block += 1;
+        while block * LANES < self.count {
+            self.add_block(block, block * LANES, reach, &sides, places)?;
             block += 1;
-            from = block * LANES;
         }
         Ok(())
     }
 
-    /// Adds the places of the boxes of a block of eight, from the place `from` on, that meet `reach`. Most blocks
-    /// have none, and are left after one test.
+    /// Adds the places of the boxes of a block of eight, from the place `from` on, that meet `reach`, whose sides in
+    /// steps of 32 are `sides`. Most blocks have none, and are left after one test.
     #[inline(always)]
     fn add_block(
         &self,
         block: usize,
         from: usize,
         reach: &Extent,
+        sides: &[i16; LANES],
         places: &mut Vec<u32>,
     ) -> Result<(), AllocError>
         requires from { from < length self.now }
         requires block { block ≡ from / 8 }
+        requires sides { sides.now ≡ coarse_sides reach.now }
         ensures { OnOk result (places.new.items ≡ places.old.items
             ++ part (meets reach.now) self.now from (min (block * 8 + 8) (length self.now))) }
     {
         let _count = self.len();
-        if self.lanes(block * LANES, reach) == 0 {
+        let lanes = self.coarse_lanes(block * LANES, reach, sides) >> (from % LANES);
+        if lanes == 0 {
             return Ok(());
         }
         let end = block_end(from, self.count);
@@ -161,8 +178,8 @@ impl BoxTable {
     }
 
     /// Adds the places of those boxes from the place `from` up to `end`, all in one block of eight, that meet
-    /// `reach`.
-    #[inline(always)]
+    /// `reach`. It stands by itself, so that what it needs isn't made ready for the many blocks that are left before.
+    #[inline(never)]
     fn add_part(
         &self,
         block: usize,
@@ -225,6 +242,34 @@ impl BoxTable {
             & i32x8::from_array(block.high_y).simd_ge(i32x8::splat(reach.low.y));
         let z = i32x8::from_array(block.low_z).simd_le(i32x8::splat(reach.high.z))
             & i32x8::from_array(block.high_z).simd_ge(i32x8::splat(reach.low.z));
+        (x & y & z).to_bitmask()
+    }
+
+    /// A bit for each of the eight boxes from `at` on, the first the lowest: whether the box meets `reach` in steps
+    /// of 32, in which `sides` are those of `reach`. Bits of boxes behind the table's may be any.
+    #[inline(always)]
+    fn coarse_lanes(&self, at: usize, reach: &Extent, sides: &[i16; LANES]) -> u64
+        requires within { at < length self.now }
+        requires block { at % 8 ≡ 0 }
+        requires sides { sides.now ≡ coarse_sides reach.now }
+        ensures { (n : ℕ) → n ≤ 8 → at + n ≤ length self.now
+            → result % 2 ^ n ≡ mask_l (map (may_meet reach.now) (take n (drop at self.now))) }
+    {
+        let _reach = *reach;
+        let _blocks = self.blocks.as_slice();
+        let block = &self.blocks[at / LANES].coarse;
+        let low_x = sides[0];
+        let low_y = sides[1];
+        let low_z = sides[2];
+        let high_x = sides[3];
+        let high_y = sides[4];
+        let high_z = sides[5];
+        let x = i16x8::from_array(block.low_x).simd_le(i16x8::splat(high_x))
+            & i16x8::from_array(block.high_x).simd_ge(i16x8::splat(low_x));
+        let y = i16x8::from_array(block.low_y).simd_le(i16x8::splat(high_y))
+            & i16x8::from_array(block.high_y).simd_ge(i16x8::splat(low_y));
+        let z = i16x8::from_array(block.low_z).simd_le(i16x8::splat(high_z))
+            & i16x8::from_array(block.high_z).simd_ge(i16x8::splat(low_z));
         (x & y & z).to_bitmask()
     }
 }

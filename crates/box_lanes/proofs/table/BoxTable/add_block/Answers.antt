@@ -1,8 +1,8 @@
 use Rattle.std.proofs.Common.{◌≡◌, ◌+◌, ◌-◌, ◌*◌, ◌/◌, ◌%◌, ◌^◌, ◌≤◌, ◌++◌, length, map, take, drop, sym, ap, ◌∙◌, arith, append-nil}
-use Rattle.std.proofs.Math.Nat.{zero-mod, zero-div}
 use Rattle.std.specs.Prelude.{min}
 use lib.Lanes.{mask_l}
-use Rattle.box_lanes.specs.Lanes.{meets}
+use Rattle.box_lanes.specs.Lanes.{meets, may_meet}
+use Rattle.box_lanes.proofs.Coarse.{none_meets, shifted_out}
 use Rattle.box_lanes.proofs.Places.{finished}
 use Rattle.box_lanes.proofs.Bits.{bits_of, part_none, part_done}
 use Rattle.box_lanes.proofs.table.BoxTable.add_block.Goals as goal
@@ -20,7 +20,9 @@ returns-then-lanes-eq0 c =
     let within : end ≤ length boxes = omega arith in
     let few : end - at ≤ 8 = omega arith in
     let on : at + (end - at) ≤ length boxes = omega (arith, begun, left, within) in
-    let bits = bits_of p boxes at a.from end c.lanes.result begun left (c.lanes.ensures (end - at) few on) in
-    let none : mask_l (map p (take (end - a.from) (drop a.from boxes))) ≡ 0 =
-    sym bits ∙ ap (λ m. m % 2 ^ (end - at) / 2 ^ (a.from - at)) c.if-lanes-eq0.true ∙ ap (λ m. m / 2 ^ (a.from - at)) (zero-mod (2 ^ (end - at))) ∙ zero-div (2 ^ (a.from - at)) in
+    let away : a.from - at ≡ a.from % 8 = omega (arith, c.requires.block) in
+    let bits = bits_of (may_meet a.reach.now) boxes at a.from end c.coarse_lanes.result begun left (c.coarse_lanes.ensures (end - at) few on) in
+    let rough : mask_l (map (may_meet a.reach.now) (take (end - a.from) (drop a.from boxes))) ≡ 0 =
+    sym bits ∙ shifted_out c.coarse_lanes.result (a.from - at) (end - at) (ap (λ k. c.coarse_lanes.result / 2 ^ k) away ∙ c.if-lanes-eq0.true) in
+    let none : mask_l (map p (take (end - a.from) (drop a.from boxes))) ≡ 0 = none_meets a.reach.now (take (end - a.from) (drop a.from boxes)) rough in
     sym (ap (λ l. items ++ l) (part_done p boxes a.from end a.from (omega arith) left within (finished p boxes end a.from left within none) ∙ part_none p boxes a.from a.from (omega arith)) ∙ append-nil items)
