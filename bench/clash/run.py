@@ -9,9 +9,14 @@ as `BASELINE FILE.ifc DISTANCE --reps N`; it prints `clashes N`, and its seconds
 Copies the crates, with what earlier checks kept of them, into a scratch folder, adds the program, builds it proved
 (`rt run`), and runs both by turns. Prints the least of each part over all turns and rounds, the ratio of the wholes
 (here over baseline), and how each whole grows from one file to the next. Ends with 1 where the numbers of clashes differ.
+
+Both programs keep what memory was let go of for the next round (MALLOC_TRIM_THRESHOLD_). The baseline does so by itself
+once it has let go of the bytes of its file, as does a server after an upload; pace.txt holds its input to the end, and
+would get new pages from the system in each round.
 """
 import argparse
 import array
+import os
 import pathlib
 import re
 import shutil
@@ -27,6 +32,7 @@ CRATES = stands_on(BELOW) | {"pace": "bucket_check bucket_grid clash_rules bim_m
 POINTS = re.compile(r"#(\d+)=IFCCARTESIANPOINTLIST3D\(\((.*)\)\);")
 FACES = re.compile(r"#\d+=IFCTRIANGULATEDFACESET\(#(\d+),[^,]*,[^,]*,\((.*?)\),[^,)]*\);")
 PLAIN = re.compile(r"clashes (\d+).* clash_s ([\d.]+) \[grid ([\d.]+) filter ([\d.]+) near ([\d.]+)\]")
+KEPT = os.environ | {"MALLOC_TRIM_THRESHOLD_": "1000000000", "MALLOC_MMAP_THRESHOLD_": "1000000000"}
 HERE = re.compile(r"clashes (\d+) buckets \d+ grid (\d+) filter (\d+) check (\d+) whole (\d+)")
 
 
@@ -77,7 +83,7 @@ def write_scene(source, target):
 
 def ran(words, form):
     """The number of clashes, and the times."""
-    output = subprocess.run(words, capture_output=True, text=True, check=True).stdout
+    output = subprocess.run(words, env=KEPT, capture_output=True, text=True, check=True).stdout
     found = form.search(output)
     return int(found[1]), [float(time) for time in found.groups()[1:]]
 
