@@ -18,5 +18,6 @@ pub mod Reading
 pub mod MovedDown
 pub mod Advancing
 pub mod Opened
+pub mod ShortRests
 pub mod Standing
 pub mod Keeping

@@ -33,6 +33,7 @@ use Rattle.http_frame.specs.Stages.{request_by, awaited_of, pending_of, IsSized,
 use Rattle.http_frame.proofs.HeadLaws.{good_unique, good_is_no_fault}
 use Rattle.http_frame.proofs.BodyLaws.{body_stays, body_fault_stays}
 use Rattle.http_frame.proofs.StepLaws.{body_to_come}
+use Rattle.http_frame.proofs.ShortRests.{rest_is_short}
 use Rattle.http_frame.proofs.Opened.{reading_goes_on}
 
 -- ---- want of memory, and a fault again
@@ -63,7 +64,8 @@ pub more_head : (watch next : Watch) (items : List ℕ) (at : ℕ) → IsSeen (d
     → Steps (Head watch) items at (record { stage = Head next; at = at; answer = Ok More }) items
 unfolding Steps
 more_head watch next items at is = λ bytes told x.
-    (bytes, told, (inr (moved bytes (drop at items) (λ (b : List ℕ). ¬ (Asks b)) x.1 is.1), moved bytes (drop at items) (λ (b : List ℕ). IsRest b) x.1 is.0, refl, refl), x)
+    let rest = moved bytes (drop at items) (λ (b : List ℕ). IsRest b) x.1 is.0 in
+    (bytes, told, (inr (moved bytes (drop at items) (λ (b : List ℕ). ¬ (Asks b)) x.1 is.1), rest, refl, refl, rest_is_short bytes rest), x)
 
 fault_told : (bytes : List ℕ) (told : Bool) (fault : FrameFault) → FailsInHead bytes fault → IsTold told bytes
 fault_told bytes told fault x = inr (λ asks. good_is_no_fault bytes asks.0 asks.1 fault asks.2 x)
@@ -228,7 +230,7 @@ sized_more facts count at items new e lacks = λ bytes told x.
     let rest = sized_rest bytes of.head of.behind count of.good of.body_is.0 (omega arith) in (
       bytes,
       told,
-      (x.0, rest, refl, refl),
+      (x.0, rest, refl, refl, rest_is_short bytes rest),
       (x.0, record { head = of.head; behind = of.behind; good = of.good; facts_are = of.facts_are; body_is = (of.body_is.0, behind ∙ sym e ∙ drop_none new) }),
     )
 
@@ -297,7 +299,7 @@ chunked_more facts chunks at items mid new taken f going all fits e = λ bytes t
     let twice = take_twice taken.chunks.filled mid new e fits in (
       bytes,
       told,
-      (r.0, rest, refl, refl),
+      (r.0, rest, refl, refl, rest_is_short bytes rest),
       (
         r.0,
         record {

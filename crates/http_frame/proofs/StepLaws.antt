@@ -24,7 +24,7 @@ pub answers_are_first : (old new : List ℕ) (told then : Bool) (acts : List Act
 answers_are_first old new told then [] es e r x = (es, refl, move (old ++ []) new told then es e (append-nil old ∙ r.0) r.1 x)
 answers_are_first old new told then (fed piece ∷ acts) es e r x =
     answers_are_first (old ++ piece) new told then acts es e r (move _ ((old ++ piece) ++ given acts) told told es e (sym (append_assoc old piece (given acts))) refl x)
-answers_are_first old new told then (answered (Ok More) ∷ acts) es e (mid, mark, (t, n, p, q), r) x =
+answers_are_first old new told then (answered (Ok More) ∷ acts) es e (mid, mark, (t, n, p, q, s), r) x =
     answers_are_first mid new mark then acts es e r (move (old ++ given acts) (mid ++ given acts) told mark es e (ap (λ b. b ++ given acts) (sym p)) (sym q) x)
 answers_are_first old new told then (answered (Ok Continue) ∷ acts) [] e (mid, mark, (t, n, p, q), r) x =
     absurd (told_not told (old ++ given acts) x.0 t (asks_stays old (given acts) n))

@@ -1,5 +1,5 @@
 -- What a framer answers.
-use Rattle.std.specs.Prelude.{◌≡◌, ℕ, Bool, true, false, List, [], ◌∷◌, ◌++◌, Result, Ok, Err}
+use Rattle.std.specs.Prelude.{◌≡◌, ℕ, ◌^◌, ◌<◌, Bool, true, false, List, [], ◌∷◌, ◌++◌, length, Result, Ok, Err}
 use Rattle.http_frame.specs.declared.types.FrameStep.{FrameStep}
 use Rattle.http_frame.specs.declared.types.FrameStep.TheVariants.{More, Continue, Request}
 use Rattle.http_frame.specs.declared.types.FrameError.{FrameError}
@@ -8,7 +8,8 @@ use Rattle.http_frame.specs.Events.{Begins, Fails, Asks, Event, continue, reques
 
 -- what `next` answers; the bytes stood for, and whether their first Continue was answered, before and after
 abbrev pub Answers : List ℕ → Bool → Result FrameStep FrameError → List ℕ → Bool → Type 0
-Answers old told (Ok More) new then = IsTold told old × IsRest old × (new ≡ old) × (then ≡ told)
+Answers old told (Ok More) new then =
+    IsTold told old × IsRest old × (new ≡ old) × (then ≡ told) × (length old < 2 ^ 34)
 Answers old told (Ok Continue) new then = (told ≡ false) × Asks old × (new ≡ old) × (then ≡ true)
 Answers old told (Ok (Request r)) new then = IsTold told old × Begins old r new × (then ≡ false)
 Answers old told (Err (Fault fault)) new then =

@@ -142,8 +142,8 @@ impl Framer {
     }
 
     /// The next event: a request that asks for `100 Continue`, once, and a request, which it stands for no
-    /// longer; `More` where the bytes leave no event and no fault. After a fault each later call answers it
-    /// too; after `Memory` it stands for the same bytes.
+    /// longer; `More` where the bytes leave no event and no fault, which are fewer than 2^34. After a fault
+    /// each later call answers it too; after `Memory` it stands for the same bytes.
     pub fn next(&mut self) -> Result<FrameStep, FrameError>
         ensures { (bytes : List ℕ) (told : Bool) → Stands self.old bytes told
             → Answered bytes told result self.new }
