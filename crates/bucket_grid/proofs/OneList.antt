@@ -1,5 +1,5 @@
 -- Buckets whose members stand in one list: what is added at its end changes none that stand before it.
-use Rattle.std.proofs.Common.{◌≡◌, ℕ, ◌≤◌, Bool, true, leb, cond, List, [], ◌∷◌, ◌++◌, length, drop, map, refl, sym, ap, ap₂, arith, ◌∙◌}
+use Rattle.std.proofs.Common.{◌≡◌, ℕ, ◌≤◌, Bool, cond, List, [], ◌∷◌, ◌++◌, length, drop, map, refl, sym, ap, ap₂, arith, ◌∙◌}
 use Rattle.std.specs.List.{All, between}
 use Rattle.std.proofs.lemmas.Bool.{le-leb}
 use Rattle.std.proofs.lemmas.List.{map_push, take-append-le, drop_at}
