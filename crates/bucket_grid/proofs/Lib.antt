@@ -16,3 +16,4 @@ pub mod OneOwner
 pub mod Points
 pub mod Near
 pub mod Counted
+pub mod OneList

@@ -2,6 +2,7 @@ pub mod Cells
 pub mod Subjects
 pub mod Dealt
 pub mod Table
+pub mod Slots
 pub mod Places
 pub mod Axes
 pub mod Grids

@@ -2,11 +2,13 @@
 #![tactic(auto)]
 
 mod axis;
+mod buckets;
 mod cell;
 mod grid;
 mod laws;
 mod lists;
 mod owner;
+mod part;
 mod search;
 mod subjects;
 mod table;
@@ -18,5 +20,6 @@ pub use laws::{
     near_elements_have_an_owner, owners_are_one,
 };
 pub use owner::{owner_of, shared_cell};
+pub use part::Part;
 pub use subjects::{Member, has_few_elements};
 pub use table::Bucket;

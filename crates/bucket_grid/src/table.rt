@@ -3,8 +3,10 @@ ghost use Rattle.std.specs.Prelude.{◌≡◌, ◌+◌, ◌<◌, ◌≤◌, ◌+
 ghost use Rattle.bucket_grid.specs.Dealt.{IsAmong};
 ghost use Rattle.bucket_grid.specs.Table.{if_bucket, with_x, with_y, with_z, column, slab, table, IsLow};
 
+use crate::buckets::Buckets;
 use crate::cell::Cell;
 use crate::lists::{Lists, Span, deal};
+use crate::part::Part;
 use bim_model::Items;
 use std::alloc::{AllocError, Global};
 
@@ -12,7 +14,7 @@ use std::alloc::{AllocError, Global};
 #[derive(Drop)]
 pub struct Bucket {
     pub cell: Cell,
-    pub members: Items<u32>,
+    pub members: Part,
 }
 
 // The cell so many places on along x.
@@ -54,42 +56,23 @@ fn with_z(low: Cell, place: usize) -> Cell
     }
 }
 
-// Adds the cell, where it has two members or more.
-fn add_bucket(
-    alloc: Global,
-    cell: Cell,
-    members: &[u32],
-    buckets: &mut Vec<Bucket>,
-) -> Result<(), AllocError>
-    ensures { OnOk result (buckets.new.items ≡ buckets.old.items ++ if_bucket cell members.now) }
-{
-    if members.len() < 2 {
-        return Ok(());
-    }
-    let members = Items::from_vec(members.to_vec(alloc)?);
-    buckets.push(Bucket { cell, members })?;
-    Ok(())
-}
-
 // Adds the buckets of the column that begins at `low`.
 fn add_column(
-    alloc: Global,
     low: Cell,
     numbers: &[u32],
     spans: &[Span],
     lists: &mut Lists,
-    buckets: &mut Vec<Bucket>,
+    buckets: &mut Buckets,
 ) -> Result<(), AllocError>
     requires among { IsAmong spans.now numbers.now (length lists.old) }
     requires low { IsLow low.z }
     requires few { length lists.old ≤ 1000000 }
-    ensures buckets { OnOk result (buckets.new.items
-        ≡ buckets.old.items ++ column spans.now low (length lists.old) numbers.now) }
+    ensures buckets { OnOk result (buckets.new ≡ buckets.old ++ column spans.now low (length lists.old) numbers.now) }
     ensures count { OnOk result (length lists.new ≡ length lists.old) }
 {
     deal(lists, numbers, spans)?;
     for place in 0..lists.count() {
-        add_bucket(alloc, with_z(low, place), lists.get(place), buckets)?;
+        buckets.add(with_z(low, place), lists.get(place))?;
     }
     Ok(())
 }
@@ -104,13 +87,12 @@ pub struct Axes {
 
 // Adds the buckets of the slab that begins at `low`.
 fn add_slab(
-    alloc: Global,
     low: Cell,
     numbers: &[u32],
     axes: &Axes,
     ys: &mut Lists,
     zs: &mut Lists,
-    buckets: &mut Vec<Bucket>,
+    buckets: &mut Buckets,
 ) -> Result<(), AllocError>
     requires among_y { IsAmong axes.now.y numbers.now (length ys.old) }
     requires among_z { IsAmong axes.now.z numbers.now (length zs.old) }
@@ -118,7 +100,7 @@ fn add_slab(
     requires low_z { IsLow low.z }
     requires few_y { length ys.old ≤ 1000000 }
     requires few_z { length zs.old ≤ 1000000 }
-    ensures buckets { OnOk result (buckets.new.items ≡ buckets.old.items
+    ensures buckets { OnOk result (buckets.new ≡ buckets.old
         ++ slab axes.now.y axes.now.z low (length ys.old) (length zs.old) numbers.now) }
     ensures count_y { OnOk result (length ys.new ≡ length ys.old) }
     ensures count_z { OnOk result (length zs.new ≡ length zs.old) }
@@ -126,7 +108,7 @@ fn add_slab(
     deal(ys, numbers, axes.y.as_slice())?;
     for place in 0..ys.count() {
         let column = with_y(low, place);
-        add_column(alloc, column, ys.get(place), axes.z.as_slice(), zs, buckets)?;
+        add_column(column, ys.get(place), axes.z.as_slice(), zs, buckets)?;
     }
     Ok(())
 }
@@ -154,19 +136,11 @@ pub fn table_of(
     let mut xs = Lists::of(alloc, counts.0)?;
     let mut ys = Lists::of(alloc, counts.1)?;
     let mut zs = Lists::of(alloc, counts.2)?;
-    let mut buckets = Vec::new(alloc);
+    let mut buckets = Buckets::new(alloc);
     deal(&mut xs, numbers, axes.x.as_slice())?;
     for place in 0..xs.count() {
         let slab = with_x(low, place);
-        add_slab(
-            alloc,
-            slab,
-            xs.get(place),
-            axes,
-            &mut ys,
-            &mut zs,
-            &mut buckets,
-        )?;
+        add_slab(slab, xs.get(place), axes, &mut ys, &mut zs, &mut buckets)?;
     }
-    Ok(buckets)
+    buckets.finish(alloc)
 }

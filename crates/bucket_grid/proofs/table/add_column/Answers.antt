@@ -7,6 +7,6 @@ use Rattle.bucket_grid.proofs.table.add_column.Goals as goal
 pub loop-place-preserved : goal.loop-place-preserved
 loop-place-preserved c = record {
   so_far =
-      upto_more (λ k. if_bucket (with_z c.args.low k) (among c.args.spans.now k c.args.numbers.now)) c.loop-place.place c.args.buckets.now.items _ _ _ c.loop-place.invariant.so_far c.in_ok-add_bucket.ensures
+      upto_more (λ k. if_bucket (with_z c.args.low k) (among c.args.spans.now k c.args.numbers.now)) c.loop-place.place c.args.buckets.now _ _ _ c.loop-place.invariant.so_far c.in_ok-add.ensures
       (ap₂ if_bucket c.with_z.ensures (dealt_at c.args.spans.now c.args.spans.now c.args.numbers.now _ c.loop-place.place _ _ _ refl c.in_ok-deal.ensures c.count-place-end.ensures c.loop-place-test.true c.get.ensures));
 }

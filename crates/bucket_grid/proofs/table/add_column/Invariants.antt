@@ -4,5 +4,5 @@ use Rattle.bucket_grid.proofs.table.add_column.Given as goal
 
 abbrev pub invariant-loop-place : goal.invariant-loop-place
 invariant-loop-place l = record {
-  so_far : l.buckets.items ≡ l.fn.buckets.items ++ column l.spans l.low l.place l.numbers;
+  so_far : l.buckets ≡ l.fn.buckets ++ column l.spans l.low l.place l.numbers;
 }

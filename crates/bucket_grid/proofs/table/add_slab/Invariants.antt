@@ -4,6 +4,6 @@ use Rattle.bucket_grid.proofs.table.add_slab.Given as goal
 
 abbrev pub invariant-loop-place : goal.invariant-loop-place
 invariant-loop-place l = record {
-  so_far : l.buckets.items ≡ l.fn.buckets.items ++ slab l.axes.y l.axes.z l.low l.place (length l.fn.zs) l.numbers;
+  so_far : l.buckets ≡ l.fn.buckets ++ slab l.axes.y l.axes.z l.low l.place (length l.fn.zs) l.numbers;
   count : length l.zs ≡ length l.fn.zs;
 }
