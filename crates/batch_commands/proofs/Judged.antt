@@ -13,7 +13,7 @@ use Rattle.bim_files.specs.Reading.{FileEnds}
 use Rattle.bim_files.specs.declared.front.FileError.{FileError}
 use Rattle.bim_files.specs.declared.front.FileError.TheVariants as file
 use Rattle.clash_check.specs.Versions.{IsVersionFault}
-use Rattle.clash_check.specs.declared.fault.VersionFault.{VersionFault}
+use Rattle.clash_check.specs.declared.version_fault.VersionFault.{VersionFault}
 use Rattle.batch_commands.specs.declared.check_words.ModelWord.{ModelWord}
 use Rattle.batch_commands.specs.declared.check_words.CheckWords.{CheckWords}
 use Rattle.batch_commands.specs.declared.refusal.Refusal.{Refusal}

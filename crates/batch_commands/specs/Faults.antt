@@ -4,11 +4,11 @@ use Rattle.std.specs.Fmt.{decimal}
 use Rattle.bim_model.specs.declared.upload.UploadFault.{UploadFault}
 use Rattle.bim_model.specs.declared.upload.UploadFault.TheVariants as upload
 use Rattle.bucket_grid.specs.declared.grid.TheConstants.{MOST_MEMBERSHIPS}
-use Rattle.clash_rules.specs.declared.fault.RuleFault.TheVariants as rule
+use Rattle.clash_rules.specs.declared.rule_fault.RuleFault.TheVariants as rule
 use Rattle.coord_json.specs.Faults.{many_word}
-use Rattle.clash_check.specs.declared.fault.TheConstants.{MOST_VERSION_ELEMENTS}
-use Rattle.clash_check.specs.declared.fault.VersionFault.{VersionFault}
-use Rattle.clash_check.specs.declared.fault.VersionFault.TheVariants as version
+use Rattle.clash_check.specs.declared.version_fault.TheConstants.{MOST_VERSION_ELEMENTS}
+use Rattle.clash_check.specs.declared.version_fault.VersionFault.{VersionFault}
+use Rattle.clash_check.specs.declared.version_fault.VersionFault.TheVariants as version
 use Rattle.batch_commands.specs.declared.rules_file.RulesFault.{RulesFault}
 use Rattle.batch_commands.specs.declared.rules_file.RulesFault.TheVariants as rules
 

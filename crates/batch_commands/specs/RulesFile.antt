@@ -10,7 +10,7 @@ use Rattle.serde_json.specs.View.{view}
 use Rattle.serde_json.specs.declared.value.Value.{Value}
 use Rattle.bim_model.specs.declared.rules.Rule.{Rule}
 use Rattle.clash_rules.specs.Json.{rules_of}
-use Rattle.clash_rules.specs.declared.fault.RuleFault.{RuleFault}
+use Rattle.clash_rules.specs.declared.rule_fault.RuleFault.{RuleFault}
 use Rattle.batch_commands.specs.declared.rules_file.RulesFault.{RulesFault}
 use Rattle.batch_commands.specs.declared.rules_file.RulesFault.TheVariants as fault
 use Rattle.batch_commands.specs.declared.rules_file.RulesError.{RulesError}

@@ -4,11 +4,11 @@
 mod block;
 mod check;
 mod check_words;
-mod faults;
 mod generate;
 mod generate_words;
 mod judge;
 mod refusal;
+mod refusal_words;
 mod report;
 mod rules_file;
 mod statuses;

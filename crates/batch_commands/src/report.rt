@@ -6,8 +6,8 @@ ghost use Rattle.batch_commands.specs.Reports.{clash_line, count_line, clash_lin
 ghost use Rattle.batch_commands.specs.Writes.{Flushes, Puts};
 
 use crate::block::{Stop, flush, put, write_bytes};
-use crate::faults::{rules_words, upload_words, version_words};
 use crate::refusal::Refusal;
+use crate::refusal_words::{rules_words, upload_words, version_words};
 use bim_io::Sink;
 use bucket_check::SetPair;
 use clash_publish::Published;

@@ -2,9 +2,9 @@
 use Rattle.std.proofs.Common.{◌≡◌, ℕ, List, codes, Option, Result, Ok, Err, refl, sym, subst}
 use Rattle.std.specs.Result.{IsErrAnd}
 use Rattle.serde_json.specs.Data.{Data}
-use Rattle.bcf_topics.specs.declared.body.TopicBody.{TopicBody}
-use Rattle.bcf_bodies.specs.declared.fault.BodyError.{BodyError}
-use Rattle.bcf_bodies.specs.declared.fault.BodyError.TheVariants.{Fault, Memory}
+use Rattle.bcf_topics.specs.declared.topic_body.TopicBody.{TopicBody}
+use Rattle.bcf_bodies.specs.declared.body_fault.BodyError.{BodyError}
+use Rattle.bcf_bodies.specs.declared.body_fault.BodyError.TheVariants.{Fault, Memory}
 use Rattle.bcf_bodies.specs.Faults.{IsFault, IsPutAs}
 use Rattle.bcf_bodies.specs.TopicBodies.{word_in, with_last, last_in}
 

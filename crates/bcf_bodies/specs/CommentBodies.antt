@@ -3,8 +3,8 @@ use Rattle.std.specs.Prelude.{ℕ, List, Option, Some, None, Result, Ok, Err, co
 use Rattle.serde_json.specs.Data.{Data}
 use Rattle.bcf_topics.specs.declared.limits.TheConstants.{MOST_COMMENT}
 use Rattle.bcf_topics.specs.declared.comment.CommentIn.{CommentIn}
-use Rattle.bcf_bodies.specs.declared.fault.BodyFault.{BodyFault}
-use Rattle.bcf_bodies.specs.declared.fault.BodyFault.TheVariants.{BadMember}
+use Rattle.bcf_bodies.specs.declared.body_fault.BodyFault.{BodyFault}
+use Rattle.bcf_bodies.specs.declared.body_fault.BodyFault.TheVariants.{BadMember}
 use Rattle.bcf_bodies.specs.Members.{filled_in, viewpoint_in}
 
 -- the comment of its members, each none where it is bad

@@ -1,8 +1,8 @@
 -- How bodies are answered.
 use Rattle.std.specs.Prelude.{◌≡◌, Result, Ok, Err, ⊤}
-use Rattle.bcf_bodies.specs.declared.fault.BodyFault.{BodyFault}
-use Rattle.bcf_bodies.specs.declared.fault.BodyError.{BodyError}
-use Rattle.bcf_bodies.specs.declared.fault.BodyError.TheVariants.{Fault, Memory}
+use Rattle.bcf_bodies.specs.declared.body_fault.BodyFault.{BodyFault}
+use Rattle.bcf_bodies.specs.declared.body_fault.BodyError.{BodyError}
+use Rattle.bcf_bodies.specs.declared.body_fault.BodyError.TheVariants.{Fault, Memory}
 
 -- the error is the fault that is meant, or want of memory
 abbrev pub IsFault : {A : Type 0} → BodyError → Result A BodyFault → Type 0

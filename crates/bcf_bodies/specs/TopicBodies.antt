@@ -7,9 +7,9 @@ use Rattle.serde_json.specs.Find.{get, as_array}
 use Rattle.serde_json.specs.Events.{items_len}
 use Rattle.bim_model.specs.declared.limits.TheConstants.{MOST_TITLE}
 use Rattle.bcf_topics.specs.declared.limits.TheConstants.{MOST_WORDS, MOST_LABELS, MOST_LABEL}
-use Rattle.bcf_topics.specs.declared.body.TopicBody.{TopicBody}
-use Rattle.bcf_bodies.specs.declared.fault.BodyFault.{BodyFault}
-use Rattle.bcf_bodies.specs.declared.fault.BodyFault.TheVariants.{Title, BadMember}
+use Rattle.bcf_topics.specs.declared.topic_body.TopicBody.{TopicBody}
+use Rattle.bcf_bodies.specs.declared.body_fault.BodyFault.{BodyFault}
+use Rattle.bcf_bodies.specs.declared.body_fault.BodyFault.TheVariants.{Title, BadMember}
 use Rattle.bcf_bodies.specs.Members.{optional, short_text, text_in, filled_in, index_in, due_in, all_of}
 
 -- at most 20 labels, each of at most 256 bytes

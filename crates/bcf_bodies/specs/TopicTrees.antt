@@ -5,7 +5,7 @@ use Rattle.serde_json.specs.Data.{Data, number, string, array, object, Members, 
 use Rattle.serde_json.specs.Find.{of_integer}
 use Rattle.bim_model.specs.declared.author.Author.{Author}
 use Rattle.bcf_json.specs.Texts.{identifier_text, IsDateText}
-use Rattle.bcf_topics.specs.declared.body.TopicBody.{TopicBody}
+use Rattle.bcf_topics.specs.declared.topic_body.TopicBody.{TopicBody}
 use Rattle.bcf_topics.specs.declared.topic.Topic.{Topic}
 use Rattle.bcf_bodies.specs.Objects.{put_text, put_text_if, listed}
 

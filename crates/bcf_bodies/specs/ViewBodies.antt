@@ -14,8 +14,8 @@ use Rattle.bcf_viewpoints.specs.declared.limits.TheConstants.{MOST_COMPONENTS, M
 use Rattle.bcf_viewpoints.specs.declared.component.Component.{Component}
 use Rattle.bcf_viewpoints.specs.declared.component.Coloring.{Coloring}
 use Rattle.bcf_viewpoints.specs.declared.view.ViewBody.{ViewBody}
-use Rattle.bcf_bodies.specs.declared.fault.BodyFault.{BodyFault}
-use Rattle.bcf_bodies.specs.declared.fault.BodyFault.TheVariants.{BadMember, BadComponent}
+use Rattle.bcf_bodies.specs.declared.body_fault.BodyFault.{BodyFault}
+use Rattle.bcf_bodies.specs.declared.body_fault.BodyFault.TheVariants.{BadMember, BadComponent}
 use Rattle.bcf_bodies.specs.Members.{optional, text_in, index_in, all_of, all_are}
 use Rattle.bcf_bodies.specs.Members.{is_list, is_table, is_flag, items_under}
 

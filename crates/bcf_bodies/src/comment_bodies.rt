@@ -3,7 +3,7 @@ ghost use Rattle.serde_json.specs.View.{view};
 ghost use Rattle.bcf_bodies.specs.Faults.{IsReadAs};
 ghost use Rattle.bcf_bodies.specs.CommentBodies.{joined_comment, comment_body};
 
-use crate::fault::{BodyError, refuse};
+use crate::body_fault::{BodyError, refuse};
 use crate::members::{filled_in, viewpoint_in};
 use bcf_topics::{CommentIn, MOST_COMMENT};
 use bim_model::Text;

@@ -8,8 +8,8 @@ ghost use Rattle.bcf_viewpoints.specs.Components.{IsComponent, IsColoring};
 ghost use Rattle.bcf_bodies.specs.Members.{all_of};
 ghost use Rattle.bcf_bodies.specs.ViewBodies.{guid_value, guid_in, joined_component, component_in, components_under, after_sign, is_color, if_color, color_in, is_coloring, joined_coloring, coloring_in, colorings_under};
 
+use crate::member_kinds::is_list;
 use crate::members::{items_under, text_in};
-use crate::shapes::is_list;
 use bcf_viewpoints::{Coloring, Component, MOST_SOURCE};
 use bim_model::{Guid, Items, Text};
 use serde_json::Value;

@@ -5,7 +5,7 @@ ghost use Rattle.bcf_bodies.specs.Members.{short_text, all_of};
 ghost use Rattle.bcf_bodies.specs.Faults.{IsReadAs, IsPutAs};
 ghost use Rattle.bcf_bodies.specs.TopicBodies.{labels_of, labels_in, member_or, title_in, word_in, titled, first_in, last_in, topic_body};
 
-use crate::fault::{BodyError, BodyFault, refuse};
+use crate::body_fault::{BodyError, BodyFault, refuse};
 use crate::members::{due_in, filled_in, index_in, text_in};
 use bcf_topics::{MOST_LABEL, MOST_LABELS, MOST_WORDS, TopicBody};
 use bim_model::{Items, MOST_TITLE, Text};

@@ -10,10 +10,10 @@ ghost use Rattle.bcf_bodies.specs.Members.{all_are, is_list, is_table, is_flag, 
 ghost use Rattle.bcf_bodies.specs.Faults.{IsReadAs};
 ghost use Rattle.bcf_bodies.specs.ViewBodies.{component_in, is_coloring, visibility_of, is_shaped, colored_count, component_count, is_shown, view_of_parts, view_body};
 
+use crate::body_fault::{BodyError, BodyFault, refuse};
 use crate::components::{colorings_under, components_among, components_under, is_coloring};
-use crate::fault::{BodyError, BodyFault, refuse};
+use crate::member_kinds::{is_flag, is_list, is_table};
 use crate::members::{index_in, items_under};
-use crate::shapes::{is_flag, is_list, is_table};
 use bcf_viewpoints::{MOST_COMPONENTS, ViewBody};
 use serde_json::Value;
 use std::alloc::Global;

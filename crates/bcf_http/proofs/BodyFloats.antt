@@ -8,7 +8,7 @@ use Rattle.serde_json.specs.Data.{Data, string, number, boolean, array, object, 
 use Rattle.serde_json.specs.Find.{of_integer}
 use Rattle.serde_json.specs.Written.{has_float, items_have_float, members_have_float}
 use Rattle.bim_model.specs.declared.author.Author.{Author}
-use Rattle.bcf_topics.specs.declared.body.TopicBody.{TopicBody}
+use Rattle.bcf_topics.specs.declared.topic_body.TopicBody.{TopicBody}
 use Rattle.bcf_topics.specs.declared.topic.Topic.{Topic}
 use Rattle.bcf_topics.specs.declared.comment.Comment.{Comment}
 use Rattle.bcf_viewpoints.specs.declared.component.Component.{Component}

@@ -7,10 +7,10 @@ use Rattle.serde_json.specs.Written.{has_float, compact_text}
 use Rattle.bcf_viewpoints.specs.declared.part.ViewPart.{ViewPart}
 use Rattle.book_history.specs.declared.replies.ReplyBody.{ReplyBody}
 use Rattle.book_history.specs.declared.replies.ReplyBody.TheVariants as reply
-use Rattle.book_history.specs.declared.faults.BookFault.{BookFault}
-use Rattle.book_history.specs.declared.faults.BookFault.TheVariants as refusal
-use Rattle.bcf_bodies.specs.declared.fault.BodyFault.{BodyFault}
-use Rattle.bcf_bodies.specs.declared.fault.BodyFault.TheVariants.{Title, BadMember, BadComponent}
+use Rattle.book_history.specs.declared.book_fault.BookFault.{BookFault}
+use Rattle.book_history.specs.declared.book_fault.BookFault.TheVariants as refusal
+use Rattle.bcf_bodies.specs.declared.body_fault.BodyFault.{BodyFault}
+use Rattle.bcf_bodies.specs.declared.body_fault.BodyFault.TheVariants.{Title, BadMember, BadComponent}
 use Rattle.bcf_bodies.specs.TopicTrees.{IsTopicTree}
 use Rattle.bcf_bodies.specs.CommentTrees.{IsCommentTree}
 use Rattle.bcf_bodies.specs.ViewTrees.{whole_tree}

@@ -2,16 +2,16 @@
 use Rattle.std.specs.Prelude.{◌≡◌, ℕ, List, [], ◌∷◌, ◌++◌, Bool, if◌then◌else◌, Option, Some, None, codes, decimal}
 use Rattle.serde_json.specs.Written.{compact_text}
 use Rattle.serde_json.specs.Data.{Data, null, string, array, object, Items, no_items, item, member, no_members}
-use Rattle.book_history.specs.declared.faults.BookFault.{BookFault}
-use Rattle.book_history.specs.declared.faults.BookFault.TheVariants as refusal
-use Rattle.book_history.specs.declared.faults.StoreWhat.{StoreWhat}
-use Rattle.book_history.specs.declared.faults.StoreWhat.TheVariants as store
+use Rattle.book_history.specs.declared.book_fault.BookFault.{BookFault}
+use Rattle.book_history.specs.declared.book_fault.BookFault.TheVariants as refusal
+use Rattle.book_history.specs.declared.book_fault.StoreWhat.{StoreWhat}
+use Rattle.book_history.specs.declared.book_fault.StoreWhat.TheVariants as store
 use Rattle.book_history.specs.declared.replies.ReplyBody.{ReplyBody}
 use Rattle.book_history.specs.declared.replies.ReplyBody.TheVariants as reply
 use Rattle.bcf_json.specs.Texts.{identifier_text}
 use Rattle.bcf_viewpoints.specs.declared.part.ViewPart.{ViewPart}
-use Rattle.bcf_bodies.specs.declared.fault.BodyFault.{BodyFault}
-use Rattle.bcf_bodies.specs.declared.fault.BodyFault.TheVariants.{Title, BadMember, BadComponent}
+use Rattle.bcf_bodies.specs.declared.body_fault.BodyFault.{BodyFault}
+use Rattle.bcf_bodies.specs.declared.body_fault.BodyFault.TheVariants.{Title, BadMember, BadComponent}
 use Rattle.bcf_bodies.specs.Objects.{listed}
 use Rattle.bcf_bodies.specs.TopicTrees.{IsTopicTree}
 use Rattle.bcf_bodies.specs.CommentTrees.{IsCommentTree}

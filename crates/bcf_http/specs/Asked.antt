@@ -8,7 +8,7 @@ use Rattle.serde_json.specs.declared.value.Value.{Value}
 use Rattle.bim_model.specs.declared.author.Author.{Author}
 use Rattle.bim_model.specs.declared.upload.Mode.{Mode}
 use Rattle.bim_model.specs.declared.rules.Rule.{Rule}
-use Rattle.clash_rules.specs.declared.fault.RuleFault.{RuleFault}
+use Rattle.clash_rules.specs.declared.rule_fault.RuleFault.{RuleFault}
 use Rattle.clash_rules.specs.Json.{rules_of}
 use Rattle.bucket_check.specs.Sets.{SetValue}
 use Rattle.http_frame.specs.declared.types.HttpRequest.{HttpRequest}
@@ -18,7 +18,7 @@ use Rattle.book_history.specs.declared.requests.Wanted.{Wanted}
 use Rattle.bcf_json.specs.Objects.{is_object}
 use Rattle.bcf_viewpoints.specs.declared.component.Coloring.{Coloring}
 use Rattle.bcf_viewpoints.specs.declared.view.ViewBody.{ViewBody}
-use Rattle.bcf_bodies.specs.declared.fault.BodyFault.{BodyFault}
+use Rattle.bcf_bodies.specs.declared.body_fault.BodyFault.{BodyFault}
 use Rattle.bcf_bodies.specs.TopicBodies.{topic_body}
 use Rattle.bcf_bodies.specs.CommentBodies.{comment_body}
 use Rattle.bcf_bodies.specs.ViewBodies.{view_body}

@@ -6,7 +6,7 @@ mod board_tests;
 #[cfg(test)]
 mod body_tests;
 #[cfg(test)]
-mod json_tests;
+mod date_and_identifier_tests;
 #[cfg(test)]
 mod topic_tests;
 #[cfg(test)]

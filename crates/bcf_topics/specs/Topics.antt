@@ -2,7 +2,7 @@
 use Rattle.std.specs.Prelude.{ℕ, ◌<◌, ◌==◌, List, not, cond, map, filter, AllPairs, Option, Some, None}
 use Rattle.std.specs.List.{find}
 use Rattle.bim_model.specs.declared.author.Author.{Author}
-use Rattle.bcf_topics.specs.declared.body.TopicBody.{TopicBody}
+use Rattle.bcf_topics.specs.declared.topic_body.TopicBody.{TopicBody}
 use Rattle.bcf_topics.specs.declared.topic.Topic.{Topic}
 
 -- their numbers rise strictly

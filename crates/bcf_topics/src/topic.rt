@@ -1,7 +1,7 @@
 //! Topics.
 ghost use Rattle.std.specs.Prelude.{◌≡◌, IfOk};
 
-use crate::body::TopicBody;
+use crate::topic_body::TopicBody;
 use bim_model::{Author, Duplicate};
 use std::alloc::{AllocError, Global};
 

@@ -4,11 +4,11 @@ ghost use Rattle.bcf_topics.specs.Topics.{new_topic, topic_of, topics_put, topic
 ghost use Rattle.bcf_topics.specs.Comments.{comment_of, comments_on, comments_with, comments_put, comments_but};
 ghost use Rattle.bcf_topics.specs.Discussions.{with_topics, with_comments, without_topic, topic_refusal, comment_refusal, answer_of, IsAnswer};
 
-use crate::body::TopicBody;
 use crate::comment::{Comment, CommentBody};
-use crate::places::{self, is_topic};
-use crate::replies;
+use crate::comment_list;
 use crate::topic::Topic;
+use crate::topic_body::TopicBody;
+use crate::topic_places::{self, is_topic};
 use bim_model::Author;
 use std::alloc::{AllocError, Global};
 use std::collections::BTreeMap;
@@ -78,7 +78,7 @@ impl Topics {
     pub fn topic(&self, serial: u64) -> Option<&Topic>
         ensures { option_copied result ≡ topic_of serial self.now.topics }
     {
-        places::find(&self.topics, serial)
+        topic_places::find(&self.topics, serial)
     }
 
     /// The comment of that serial number on that topic.
@@ -95,7 +95,7 @@ impl Topics {
         ensures { IfOk result (λ list. map (λ c. c.now) list.items ≡ comments_on topic self.now.comments) }
     {
         let alloc = *self.topics.allocator();
-        replies::list(alloc, &self.comments, topic)
+        comment_list::list(alloc, &self.comments, topic)
     }
 
     /// How many comments there are on all topics.
@@ -123,7 +123,7 @@ impl Topics {
             created: author,
             modified: None,
         };
-        places::push(&mut self.topics, topic)
+        topic_places::push(&mut self.topics, topic)
     }
 
     /// Puts another body in the place of a topic's whole body. B1 where there is no such topic, and then all
@@ -139,7 +139,7 @@ impl Topics {
             ≡ (if is_ok result then with_topics (topics_put serial body author self.old.topics) self.old
             else self.old) }
     {
-        if places::replace(&mut self.topics, serial, body, author) {
+        if topic_places::replace(&mut self.topics, serial, body, author) {
             Ok(())
         } else {
             Err(TopicError::NoTopic)
@@ -152,8 +152,8 @@ impl Topics {
         ensures answer { result ≡ answer_of (topic_refusal serial self.old) }
         ensures after { self.new ≡ (if is_ok result then without_topic serial self.old else self.old) }
     {
-        if places::remove(&mut self.topics, serial) {
-            replies::remove_all(&mut self.comments, serial);
+        if topic_places::remove(&mut self.topics, serial) {
+            comment_list::remove_all(&mut self.comments, serial);
             Ok(())
         } else {
             Err(TopicError::NoTopic)
@@ -177,7 +177,7 @@ impl Topics {
         if !is_topic(&self.topics, topic) {
             return Err(TopicError::NoTopic);
         }
-        replies::insert(&mut self.comments, topic, serial, body, author)?;
+        comment_list::insert(&mut self.comments, topic, serial, body, author)?;
         Ok(())
     }
 
@@ -199,7 +199,7 @@ impl Topics {
         if !is_topic(&self.topics, topic) {
             return Err(TopicError::NoTopic);
         }
-        if replies::replace(&mut self.comments, topic, serial, body, author) {
+        if comment_list::replace(&mut self.comments, topic, serial, body, author) {
             Ok(())
         } else {
             Err(TopicError::NoComment)
@@ -217,7 +217,7 @@ impl Topics {
         if !is_topic(&self.topics, topic) {
             return Err(TopicError::NoTopic);
         }
-        if replies::remove(&mut self.comments, topic, serial) {
+        if comment_list::remove(&mut self.comments, topic, serial) {
             Ok(())
         } else {
             Err(TopicError::NoComment)

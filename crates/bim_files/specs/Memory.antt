@@ -5,8 +5,8 @@ use Rattle.std.specs.List.{sum_by}
 use Rattle.std.specs.Str.{bytes_eq}
 use Rattle.bim_io.specs.Memory.{SourceState, SureSourceState, left_at, ended_empty}
 use Rattle.bim_io.specs.Seen.{SourceSeen, EndsEmpty}
-use Rattle.bim_files.specs.declared.shelf.MemFile.{MemFile}
-use Rattle.bim_files.specs.declared.sure.SureFile.{SureFile}
+use Rattle.bim_files.specs.declared.loans.MemFile.{MemFile}
+use Rattle.bim_files.specs.declared.sure_files.SureFile.{SureFile}
 use Rattle.bim_files.specs.Files.{FileSeen, FilesTold, FilesSeen, once}
 
 -- ---- what files tell

@@ -4,7 +4,7 @@ ghost use Rattle.bim_io.specs.Causes.{Rose};
 ghost use Rattle.bim_files.specs.Files.{Holds, IsFront, Tells};
 ghost use Rattle.bim_files.specs.Reading.{Grown, FrontEnds, FileEnds};
 
-use crate::traits::{Files, NamedSource};
+use crate::named_source::{Files, NamedSource};
 use bim_model::{Bytes, MOST_UPLOAD, Text};
 use std::alloc::{AllocError, Global};
 

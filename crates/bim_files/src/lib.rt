@@ -1,16 +1,16 @@
 //! Files by their names, as a trait with a meaning.
 #![tactic(auto)]
 
-mod adapters;
 mod front;
-mod memory;
-mod shelf;
-mod sure;
-mod traits;
+mod loans;
+mod memory_files;
+mod named_source;
+mod sure_files;
+mod system_files;
 
-pub use adapters::{StdFile, StdFiles};
 pub use front::{FileError, read_file};
-pub use memory::{LentSource, MemFiles};
-pub use shelf::MemFile;
-pub use sure::{SureFile, SureFiles, SureLentSource};
-pub use traits::{Files, NamedSource};
+pub use loans::MemFile;
+pub use memory_files::{LentSource, MemFiles};
+pub use named_source::{Files, NamedSource};
+pub use sure_files::{SureFile, SureFiles, SureLentSource};
+pub use system_files::{StdFile, StdFiles};

@@ -3,7 +3,6 @@
 
 mod author;
 mod bytes;
-mod checks;
 mod element;
 mod geometry;
 mod guid;
@@ -21,6 +20,7 @@ mod snapshot;
 mod steps;
 mod text;
 mod upload;
+mod validity;
 
 pub use author::Author;
 pub use bytes::Bytes;

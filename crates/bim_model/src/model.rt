@@ -2,9 +2,9 @@
 ghost use Rattle.std.specs.Prelude.{◌≡◌, ◌↔◌, IfOk, IfSome, IsSome};
 ghost use Rattle.bim_model.specs.Models.{triangle_count, IsModel, AreBoxes};
 
-use crate::checks::is_model;
 use crate::element::Element;
 use crate::geometry::{Extent, extent_of};
+use crate::validity::is_model;
 use std::alloc::{AllocError, Global};
 
 /// A building model, with the smallest box round each of its elements. Contracts see it as its elements: they rise strictly by identifier,

@@ -1,6 +1,6 @@
 //! Gates in memory: one that holds nobody, and one that holds calls as it is told.
 
-use crate::traits::Gate;
+use crate::connections::Gate;
 use bim_model::{Items, Shared};
 use std::alloc::{AllocError, Global};
 use std::sync::atomic::{AtomicU64, Ordering};

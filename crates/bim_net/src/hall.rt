@@ -5,8 +5,8 @@ ghost use Rattle.bim_net.specs.Seen.{IsNew};
 ghost use Rattle.bim_net.specs.Hosts.{AreNew, some_failed};
 ghost use Rattle.bim_net.specs.Halls.{HallState, new_hall};
 
+use crate::connections::Door;
 use crate::hosts::Opening;
-use crate::traits::Door;
 use bim_model::{Duplicate, Text};
 use std::alloc::{AllocError, Global};
 use std::collections::VecDeque;

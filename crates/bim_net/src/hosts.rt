@@ -3,7 +3,7 @@ ghost use Rattle.std.specs.Prelude.{◌≡◌, Some, IfOk, IfSome, vec_len, map}
 ghost use Rattle.bim_net.specs.Seen.{IsEmpty};
 ghost use Rattle.bim_net.specs.Hosts.{HostSeen, AreNew, Opens, Closes};
 
-use crate::traits::{Door, Gate};
+use crate::connections::{Door, Gate};
 use bim_io::Clock;
 use bim_model::Text;
 use std::alloc::Global;

@@ -4,8 +4,8 @@ ghost use Rattle.bim_net.specs.Seen.{IsFresh, link_seen, ended_link};
 ghost use Rattle.bim_net.specs.Doors.{TakesBack};
 ghost use Rattle.bim_net.specs.Stores.{GivesNext, new_store, numbered, door_of};
 
+use crate::connections::Link;
 use crate::ends::LinkEnd;
-use crate::traits::Link;
 use bim_io::{Sink, Source};
 use std::alloc::{AllocError, Global};
 use std::collections::VecDeque;

@@ -4,7 +4,7 @@ use Rattle.clap.specs.Words.{first_of, first_value, rows_of}
 use Rattle.clap.specs.declared.parser.matches.Found.{Found}
 use Rattle.clap.proofs.WalkLemmas.{first_value-rows}
 use Rattle.command_words.specs.Words.{IsPlainCommand}
-use Rattle.bim_server.specs.declared.words.Time.{Time}
+use Rattle.bim_server.specs.declared.replay_words.Time.{Time}
 use Rattle.bim_server.specs.Words.{all_said, buckets_said, projects_said, replay_command, replay_said, time_said}
 
 -- `replay` is a command whose parse is known

@@ -4,9 +4,9 @@ use Rattle.std.specs.Str.{bytes_eq}
 use Rattle.bim_io.specs.Seen.{ClockSeen, SinkSeen, Outside, outside}
 use Rattle.bim_session.specs.declared.end.SessionEnd.{SessionEnd}
 use Rattle.bim_session.specs.Replay.{Replays, stated_settings, status_of}
-use Rattle.bim_server.specs.declared.words.ReplayWords.{ReplayWords}
-use Rattle.bim_server.specs.declared.words.Time.{Time}
-use Rattle.bim_server.specs.declared.words.Time.TheVariants.{OfClock, At}
+use Rattle.bim_server.specs.declared.replay_words.ReplayWords.{ReplayWords}
+use Rattle.bim_server.specs.declared.replay_words.Time.{Time}
+use Rattle.bim_server.specs.declared.replay_words.Time.TheVariants.{OfClock, At}
 use Rattle.bim_files.specs.Files.{FilesSeen}
 use Rattle.batch_commands.specs.CheckWords.{check_words}
 use Rattle.batch_commands.specs.GenerateWords.{generate_words}

@@ -6,10 +6,10 @@ use Rattle.command_words.specs.Numbers.{number_word}
 use Rattle.command_words.specs.Words.{bare_command, option_of, said_by}
 use Rattle.bim_model.specs.Moments.{last_moment, IsMoment}
 use Rattle.book_history.specs.declared.limits.TheConstants.{MOST_PROJECTS}
-use Rattle.bim_server.specs.declared.words.TheConstants.{MOST_BUCKETS}
-use Rattle.bim_server.specs.declared.words.ReplayWords.{ReplayWords}
-use Rattle.bim_server.specs.declared.words.Time.{Time}
-use Rattle.bim_server.specs.declared.words.Time.TheVariants.{OfClock, At}
+use Rattle.bim_server.specs.declared.replay_words.TheConstants.{MOST_BUCKETS}
+use Rattle.bim_server.specs.declared.replay_words.ReplayWords.{ReplayWords}
+use Rattle.bim_server.specs.declared.replay_words.Time.{Time}
+use Rattle.bim_server.specs.declared.replay_words.Time.TheVariants.{OfClock, At}
 
 -- `replay` has three options, in any order
 unfoldable pub replay_command : App

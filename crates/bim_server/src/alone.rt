@@ -4,7 +4,7 @@ ghost use Rattle.bim_server.specs.OneActor.{seen_alone, IsSettled, GoesAlone};
 
 use crate::one_thread::OneThread;
 use book_history::BookRequest;
-use book_turn::fault::CallFault;
+use book_turn::call_fault::CallFault;
 use book_turn::turn::Receipt;
 use federation_book::Book;
 use link_session::Caller;

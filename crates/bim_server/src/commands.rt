@@ -6,9 +6,9 @@ ghost use Rattle.bim_server.specs.Words.{replay_words, IsReplay};
 ghost use Rattle.bim_server.specs.Serving.{without_book};
 ghost use Rattle.bim_server.specs.Commands.{Does, ReplaysBy, Runs, command_of, Ends, SaysUsage, asked_by};
 
+use crate::replay::{replay_session, status_of};
+use crate::replay_words::{ReplayWords, Time, replay_words};
 use crate::serve::{Ended, run_serve};
-use crate::session::{replay_session, status_of};
-use crate::words::{ReplayWords, Time, replay_words};
 use batch_commands::{print_usage, run_check, run_generate};
 use bim_files::Files;
 use bim_io::{Clock, MemClock, Sink, Source};

@@ -4,14 +4,14 @@
 mod alone;
 mod commands;
 mod one_thread;
+mod replay;
+mod replay_words;
 mod serve;
 #[cfg(test)]
 mod serve_tests;
 mod serve_words;
-mod session;
 #[cfg(test)]
 mod tests;
-mod words;
 
 use bim_files::StdFiles;
 use bim_io::{StdSink, StdSource, SystemClock};

@@ -11,7 +11,7 @@ use bim_io::Clock;
 use bim_model::Text;
 use bim_net::{Door, Gate, Host, HostFault};
 use book_history::Limits;
-use book_turn::fault::SpentPass;
+use book_turn::call_fault::SpentPass;
 use book_turn::limits::MOST_PASSES;
 use federation_book::Book;
 use serve_lanes::{Served, Serving, run_lanes};

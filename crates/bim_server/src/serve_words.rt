@@ -5,7 +5,7 @@ ghost use Rattle.bim_server.specs.Words.{IsCount};
 ghost use Rattle.bim_server.specs.ServeWords.{serve_command, number_or, addr_said, all_counted, counts_said};
 ghost use Rattle.bim_server.specs.ServeWords.{serve_said, serve_words, IsServe};
 
-use crate::words::projects_said;
+use crate::replay_words::projects_said;
 use bim_model::Text;
 use clap::{ArgMatches, Command};
 use command_words::{lent_words, number_word, parse, plain_command, with_option};

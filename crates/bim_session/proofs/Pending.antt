@@ -13,7 +13,7 @@ use Rattle.book_history.specs.declared.limits.Settings.{Settings}
 use Rattle.book_history.specs.declared.changes.Entry.{Entry}
 use Rattle.book_history.specs.declared.changes.Change.{Change}
 use Rattle.book_history.specs.declared.changes.Change.TheVariants as change
-use Rattle.book_history.specs.declared.faults.BookFault.{BookFault}
+use Rattle.book_history.specs.declared.book_fault.BookFault.{BookFault}
 use Rattle.bim_model.specs.declared.author.Author.{Author}
 use Rattle.bcf_topics.specs.declared.topic.Topic.{Topic}
 use Rattle.bcf_topics.specs.declared.comment.Comment.{Comment}
@@ -25,7 +25,7 @@ use Rattle.book_topics.specs.Boards.{topic_at, comment_at, view_at}
 use Rattle.book_topics.specs.Named.{topic_named, comment_named, view_named, comment_kept}
 use Rattle.bcf_viewpoints.specs.declared.view.ViewBody.{ViewBody}
 use Rattle.bcf_viewpoints.specs.declared.view.ViewIs.{ViewIs}
-use Rattle.book_history.specs.declared.faults.BookFault.TheVariants.{Pending, NoModel, NoTopic, NoComment, NoViewpoint}
+use Rattle.book_history.specs.declared.book_fault.BookFault.TheVariants.{Pending, NoModel, NoTopic, NoComment, NoViewpoint}
 use Rattle.book_history.specs.declared.replies.ReplyBody.TheVariants as reply
 use Rattle.book_history.specs.declared.requests.Wanted.{Wanted}
 use Rattle.book_history.specs.declared.requests.BookRequest.{BookRequest}

@@ -6,7 +6,7 @@ use Rattle.http_frame.specs.Events.{Event, IsRest, IsTold}
 use Rattle.book_history.specs.declared.limits.Settings.{Settings}
 use Rattle.book_history.specs.Settings.{stated_limits}
 use Rattle.book_history.specs.declared.changes.Entry.{Entry}
-use Rattle.book_history.specs.declared.faults.BookFault.TheVariants.{Pending}
+use Rattle.book_history.specs.declared.book_fault.BookFault.TheVariants.{Pending}
 use Rattle.book_history.specs.declared.replies.ReplyBody.{ReplyBody}
 use Rattle.book_history.specs.declared.replies.ReplyBody.TheVariants.{Refused}
 use Rattle.book_history.specs.History.{at_turn}

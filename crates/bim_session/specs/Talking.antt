@@ -8,8 +8,8 @@ use Rattle.http_frame.specs.Events.{Begins, Asks, IsRest, IsBlank, IsTold, Spell
 use Rattle.http_frame.specs.Events as frame
 use Rattle.http_frame.specs.Framers.{Stands}
 use Rattle.book_turn.specs.declared.turn.Receipt.{Receipt}
-use Rattle.book_turn.specs.declared.fault.CallFault.{CallFault}
-use Rattle.book_turn.specs.declared.fault.CallFault.TheVariants as call_fault
+use Rattle.book_turn.specs.declared.call_fault.CallFault.{CallFault}
+use Rattle.book_turn.specs.declared.call_fault.CallFault.TheVariants as call_fault
 use Rattle.clash_publish.specs.Shelves.{set_of}
 use Rattle.federation_book.specs.declared.book.Book.{Book}
 use Rattle.bucket_check.specs.Sets.{SetValue}

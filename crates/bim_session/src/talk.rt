@@ -15,7 +15,7 @@ use bcf_http::{Answer, ReplyKind, to_response};
 use bim_io::Clock;
 use bim_model::Bytes;
 use book_history::{BookReply, BookRequest, ReplyBody};
-use book_turn::fault::CallFault;
+use book_turn::call_fault::CallFault;
 use book_turn::turn::Receipt;
 use federation_book::Book;
 use http_frame::{FrameError, FrameFault, FrameStep, Framer, HttpRequest};

@@ -4,13 +4,13 @@ ghost use Rattle.std.specs.Str.{bytes_eq};
 ghost use Rattle.bim_text.specs.Texts.{Row, cleaned, wide_row, escape_row, high_row, row_of, text_of_spelling};
 ghost use Rattle.bim_text.specs.Says.{is_guid, is_text, ends_guid, accepts, Leaves, Lacks};
 
-use crate::bytes::are_guid_chars;
+use crate::byte_classes::are_guid_chars;
 use crate::cursor::{has_kept, kept_at, skip};
 use crate::escapes::{
     group_digits, is_code, is_page, is_shifted, is_wide, two_digits, wide_digits,
 };
 use crate::rows::{character, sequence_len};
-use crate::text::are_plain;
+use crate::spelled_text::are_plain;
 
 /// What a text is to be, or its end.
 #[derive(Clone, Copy)]

@@ -3,8 +3,8 @@ ghost use Rattle.std.specs.Prelude.{◌≡◌, ◌∷◌, [], ◌<◌, ◌≤◌
 ghost use Rattle.bim_text.specs.Texts.{cleaned, is_hexadecimal};
 ghost use Rattle.p21_lexer.specs.Spelling.{run};
 
-use crate::bytes::is_hexadecimal;
-use crate::text::next_place;
+use crate::byte_classes::is_hexadecimal;
+use crate::spelled_text::next_place;
 
 /// The first byte that is kept, and what is spelled behind it.
 #[derive(Clone, Copy)]

@@ -3,8 +3,8 @@ ghost use Rattle.std.specs.Prelude.{◌≡◌, ◌≢◌, ◌^◌, ◌%◌, ◌<
 ghost use Rattle.bim_text.specs.declared.limits.TheConstants.{MOST_DIGITS};
 
 use crate::digits::{Digits, scan};
-use crate::order::order_raised;
-use crate::spelling::{is_minus_at, scan_exponent, scan_fraction, sign_end};
+use crate::number_parts::{is_minus_at, scan_exponent, scan_fraction, sign_end};
+use crate::raised_order::order_raised;
 use bim_model::MOST_UPLOAD;
 use std::cmp::Ordering;
 

@@ -3,7 +3,7 @@ ghost use Rattle.std.specs.Prelude.{◌≡◌, ◌+◌, ◌*◌, ◌^◌, ◌<�
 ghost use Rattle.bim_text.specs.Texts.{cleaned, two, four, group, is_code, is_wide, is_shifted, is_page, is_hexadecimal};
 ghost use Rattle.p21_lexer.specs.Spelling.{run};
 
-use crate::bytes::{is_hexadecimal, nibble};
+use crate::byte_classes::{is_hexadecimal, nibble};
 use crate::cursor::{count_kept_hexadecimals, kept_at, skip};
 
 /// Whether the bytes begin as `\X\hh`, their first being a backslash.

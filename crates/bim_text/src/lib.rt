@@ -1,7 +1,7 @@
 //! Decimals and texts as they are spelled in exchange files (ISO 10303-21), and decimal printing.
 #![tactic(auto)]
 
-mod bytes;
+mod byte_classes;
 mod compare;
 mod cursor;
 mod decimal;
@@ -9,12 +9,12 @@ mod digits;
 mod escapes;
 mod laws;
 mod limits;
-mod order;
+mod number_parts;
 mod print;
+mod raised_order;
 mod rows;
 mod small;
-mod spelling;
-mod text;
+mod spelled_text;
 
 pub use compare::{says, says_guid};
 pub use decimal::Decimal;
@@ -22,4 +22,4 @@ pub use laws::{one_decimal, one_value, plain_texts};
 pub use limits::{MOST_DIGITS, MOST_EXPONENT};
 pub use print::print_i64;
 pub use small::small_whole;
-pub use text::text_of;
+pub use spelled_text::text_of;

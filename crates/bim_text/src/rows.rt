@@ -2,7 +2,7 @@
 ghost use Rattle.std.specs.Prelude.{◌≡◌, ◌+◌, ◌++◌, ◌^◌, ◌<◌, ◌≤◌, ◌⊎◌, IsTrue, IfSome, IfNone, encode_utf8, IfOk, OnOk, slice_index, drop, length, string_bytes};
 ghost use Rattle.bim_text.specs.Texts.{is_code, is_wide, is_shifted, is_page, character, wide_row, escape_row, high_row, row_of, sequence_len};
 
-use crate::bytes::{byte_at, count_hexadecimals, group_digits, is_hexadecimal, two_digits};
+use crate::byte_classes::{byte_at, count_hexadecimals, group_digits, is_hexadecimal, two_digits};
 use std::alloc::AllocError;
 
 /// Whether the bytes begin as `\X\hh`, their first being a backslash.

@@ -12,7 +12,7 @@ use Rattle.bim_model.specs.declared.geometry.Extent.{Extent}
 use Rattle.box_lanes.specs.Places.{box_at}
 use Rattle.bucket_grid.specs.declared.cell.Cell.{Cell}
 use Rattle.bucket_grid.specs.declared.cell.TheConstants.{GROWTH}
-use Rattle.bucket_grid.specs.declared.table.Bucket.{Bucket}
+use Rattle.bucket_grid.specs.declared.bucket_table.Bucket.{Bucket}
 use Rattle.bucket_grid.specs.Cells.{cell_of, first_cell, last_cell, span, is_in, holds, members, cell_cmp, IsBucket}
 use Rattle.bucket_grid.specs.Table.{upto, IsTable}
 use Rattle.bucket_grid.specs.Places.{IsGridBox}

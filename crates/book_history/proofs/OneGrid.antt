@@ -19,7 +19,7 @@ use Rattle.bim_model.proofs.Versions.{less}
 use Rattle.bim_model.proofs.Zips.{zip_same}
 use Rattle.bucket_grid.specs.declared.cell.Cell.{Cell}
 use Rattle.bucket_grid.specs.declared.subjects.Member.{Member}
-use Rattle.bucket_grid.specs.declared.table.Bucket.{Bucket}
+use Rattle.bucket_grid.specs.declared.bucket_table.Bucket.{Bucket}
 use Rattle.bucket_grid.specs.Cells.{members}
 use Rattle.bucket_grid.specs.Subjects.{IsBoxOf, AreBoxes}
 use Rattle.bucket_grid.specs.Places.{IsPlace, IsGridBox}

@@ -3,7 +3,7 @@ use Rattle.std.specs.Prelude.{◌≡◌, ℕ, ◌++◌, List}
 use Rattle.bim_model.specs.Snapshots.{IsSnapshot}
 use Rattle.bucket_grid.specs.Cells.{IsBucket}
 use Rattle.bucket_grid.specs.Grids.{GridValue, IsGrid}
-use Rattle.bucket_check.specs.declared.work.BucketWork.{BucketWork}
+use Rattle.bucket_check.specs.declared.bucket_work.BucketWork.{BucketWork}
 use Rattle.book_history.specs.declared.limits.Settings.{Settings}
 use Rattle.book_history.specs.declared.changes.Entry.{Entry}
 use Rattle.book_history.specs.declared.requests.BookRequest.{BookRequest}

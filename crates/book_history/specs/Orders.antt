@@ -2,7 +2,7 @@
 use Rattle.std.specs.Prelude.{ℕ}
 use Rattle.bim_model.specs.Snapshots.{Version}
 use Rattle.bucket_grid.specs.declared.cell.Cell.{Cell}
-use Rattle.bucket_check.specs.declared.work.BucketWork.{BucketWork}
+use Rattle.bucket_check.specs.declared.bucket_work.BucketWork.{BucketWork}
 
 -- a bucket to be checked: a cell of a version of a project, and what the version holds
 pub record OrderValue : Type 0 where

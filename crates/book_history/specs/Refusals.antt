@@ -15,9 +15,9 @@ use Rattle.book_history.specs.declared.requests.Wanted.TheVariants.{Newest, Numb
 use Rattle.book_history.specs.declared.changes.Change.{Change}
 use Rattle.book_history.specs.declared.changes.Change.TheVariants as change
 use Rattle.book_history.specs.declared.changes.Entry.{Entry}
-use Rattle.book_history.specs.declared.faults.BookFault.{BookFault}
-use Rattle.book_history.specs.declared.faults.BookFault.TheVariants as fault
-use Rattle.book_history.specs.declared.faults.StoreWhat.TheVariants.{Triangles, Text}
+use Rattle.book_history.specs.declared.book_fault.BookFault.{BookFault}
+use Rattle.book_history.specs.declared.book_fault.BookFault.TheVariants as fault
+use Rattle.book_history.specs.declared.book_fault.StoreWhat.TheVariants.{Triangles, Text}
 use Rattle.book_history.specs.Buckets.{memberships_of}
 use Rattle.book_history.specs.Versions.{VersionState, is_done, live_in}
 use Rattle.book_history.specs.Projects.{ProjectState, newest, newest_content, next_content, with_change}

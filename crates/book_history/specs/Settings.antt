@@ -2,7 +2,7 @@
 use Rattle.std.specs.Prelude.{◌≤◌}
 use Rattle.book_history.specs.declared.limits.Limits.{Limits}
 use Rattle.bucket_grid.specs.declared.grid.TheConstants.{MOST_MEMBERSHIPS}
-use Rattle.clash_check.specs.declared.fault.TheConstants.{MOST_VERSION_ELEMENTS}
+use Rattle.clash_check.specs.declared.version_fault.TheConstants.{MOST_VERSION_ELEMENTS}
 use Rattle.book_history.specs.declared.limits.TheConstants.{MOST_STORED_TRIANGLES, MOST_TEXT, MOST_ENTRIES, MOST_TOPICS, MOST_COMMENTS, MOST_VIEWPOINTS}
 
 -- each limit is at most the one of the program

@@ -2,19 +2,19 @@
 //! follows of a history of entries.
 #![tactic(auto)]
 
+mod book_fault;
 mod changes;
-mod faults;
 mod laws;
 mod limits;
 mod replies;
 mod requests;
 mod weights;
-mod work;
+mod work_order;
 
+pub use book_fault::{BookFault, StoreWhat};
 pub use book_turn::object::Stamp;
 pub use changes::{Change, Entry};
 pub use clash_publish::{Horizon, LIVE_VERSIONS};
-pub use faults::{BookFault, StoreWhat};
 pub use laws::{grids_are_one, requests_stay_legal, work_stays_given};
 pub use limits::{
     Limits, MOST_COMMENTS, MOST_ENTRIES, MOST_PROJECTS, MOST_STORED_TRIANGLES, MOST_TEXT,
@@ -23,4 +23,4 @@ pub use limits::{
 pub use replies::{BookReply, ReplyBody};
 pub use requests::{BookRequest, Wanted};
 pub use weights::{elements_in, model_text, triangles_among};
-pub use work::WorkOrder;
+pub use work_order::WorkOrder;

@@ -1,7 +1,7 @@
 //! The book's replies.
 
-use crate::faults::BookFault;
-use crate::work::WorkOrder;
+use crate::book_fault::BookFault;
+use crate::work_order::WorkOrder;
 use bcf_topics::{Comment, Topic};
 use bcf_viewpoints::CheckedView;
 use bim_model::{Items, Shared, Snapshot};

@@ -2,13 +2,13 @@
 #![tactic(auto)]
 
 #[cfg(test)]
-mod board_tests;
-#[cfg(test)]
 mod desk;
 #[cfg(test)]
 mod project_tests;
 #[cfg(test)]
 mod samples;
+#[cfg(test)]
+mod topic_request_tests;
 #[cfg(test)]
 mod turn_tests;
 #[cfg(test)]

@@ -13,7 +13,7 @@ use Rattle.std.proofs.lemmas.Map.Views.{All-keys-insert_entry, All-map-remove_en
 use Rattle.bim_model.specs.declared.guid.Guid.{Guid}
 use Rattle.bim_model.specs.declared.author.Author.{Author}
 use Rattle.bim_model.specs.Guids.{IsGuid}
-use Rattle.bcf_topics.specs.declared.body.TopicBody.{TopicBody}
+use Rattle.bcf_topics.specs.declared.topic_body.TopicBody.{TopicBody}
 use Rattle.bcf_topics.specs.declared.topic.Topic.{Topic}
 use Rattle.bcf_topics.specs.declared.comment.Comment.{Comment}
 use Rattle.bcf_topics.specs.declared.comment.CommentBody.{CommentBody}

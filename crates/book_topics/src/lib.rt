@@ -3,12 +3,12 @@
 #![tactic(auto)]
 
 mod board;
-mod clashes;
-mod comments;
+mod board_comments;
+mod board_topics;
+mod board_viewpoints;
 mod named;
 mod pairs;
-mod topics;
-mod views;
+mod topics_of_clashes;
 
 pub use bcf_topics::{Author, Comment, CommentBody, CommentIn, Topic, TopicBody};
 pub use bcf_viewpoints::{CheckedBody, CheckedView, Component, ViewBody, ViewIs};

@@ -2,8 +2,8 @@
 use Rattle.std.specs.Prelude.{◌≡◌}
 use Rattle.book_turn.specs.declared.object.Stamp.{Stamp}
 use Rattle.book_turn.specs.declared.limits.TheConstants.{MOST_TURNS}
-use Rattle.book_turn.specs.declared.fault.CallFault.{CallFault}
-use Rattle.book_turn.specs.declared.fault.CallFault.TheVariants.{Memory, PassSpent}
+use Rattle.book_turn.specs.declared.call_fault.CallFault.{CallFault}
+use Rattle.book_turn.specs.declared.call_fault.CallFault.TheVariants.{Memory, PassSpent}
 use Rattle.book_turn.specs.Passes.{PassState, GotNothing}
 
 -- the turn was taken and nothing was added; or the pass had made all its turns, took none, and stays as it was

@@ -8,8 +8,7 @@
 //! Nothing is said of time: that a turn comes, when, or that anybody gets on.
 #![tactic(auto)]
 
-mod board;
-pub mod fault;
+pub mod call_fault;
 pub mod limits;
 pub mod object;
 pub mod pass;
@@ -17,5 +16,6 @@ mod plays;
 mod rule;
 #[cfg(test)]
 mod tests;
+mod tickets;
 pub mod turn;
 mod wait;

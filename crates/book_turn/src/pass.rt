@@ -3,9 +3,9 @@ ghost use Rattle.std.specs.Prelude.{◌≡◌};
 ghost use Rattle.book_turn.specs.Numbers.{greatest};
 ghost use Rattle.book_turn.specs.Passes.{pass_state, IsIdle};
 
-use crate::board::Place;
 use crate::object::SeqObject;
 use crate::rule::View;
+use crate::tickets::Place;
 use atomic_table::Seat;
 use std::marker::Model;
 

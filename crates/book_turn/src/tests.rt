@@ -5,7 +5,7 @@ ghost use Rattle.book_turn.specs.Passes.{BelongsTo, IsSingle, KeepsNumbers};
 ghost use Rattle.book_turn.specs.Counts.{own_count};
 ghost use Rattle.std.proofs.Common.{arith};
 
-use crate::fault::{CallFault, SpentPass};
+use crate::call_fault::{CallFault, SpentPass};
 use crate::object::{SeqObject, Stamp};
 use crate::pass::Pass;
 use crate::turn::Turn;

@@ -5,11 +5,11 @@ ghost use Rattle.book_turn.specs.Entries.{AllBefore};
 ghost use Rattle.book_turn.specs.Faults.{Failed};
 ghost use Rattle.book_turn.specs.Views.{dealt_view};
 
-use crate::board::{Board, Place, board_of};
-use crate::fault::{CallFault, SpentPass};
+use crate::call_fault::{CallFault, SpentPass};
 use crate::limits::{MOST_PASSES, MOST_TURNS};
 use crate::object::SeqObject;
 use crate::pass::Pass;
+use crate::tickets::{Board, Place, board_of};
 use std::alloc::{AllocError, Global};
 use std::marker::Model;
 use std::sync::{Mutex, Wait};

@@ -3,8 +3,8 @@ ghost use Rattle.std.specs.Prelude.{ℕ, ◌≡◌, ◌<◌, [], length};
 ghost use Rattle.book_turn.specs.Steps.{Comes};
 ghost use Rattle.book_turn.specs.declared.rule.Stage.TheVariants.{Waiting};
 
-use crate::board::{Board, Place};
 use crate::object::SeqObject;
+use crate::tickets::{Board, Place};
 use std::hint;
 use std::sync::Wait;
 

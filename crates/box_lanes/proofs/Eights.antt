@@ -9,7 +9,7 @@ use mir.Syntax.{w32}
 use mir.Val.{SFits}
 use Rattle.bim_model.specs.declared.geometry.Extent.{Extent}
 use Rattle.box_lanes.specs.declared.blocks.Block.{Block}
-use Rattle.box_lanes.specs.declared.table.BoxTable.TheInside.{Inside}
+use Rattle.box_lanes.specs.declared.box_table.BoxTable.TheInside.{Inside}
 use Rattle.box_lanes.specs.Places.{nowhere, box_at}
 use Rattle.box_lanes.specs.Blocks.{boxes_of, boxes_in_block, boxes_in, padded, IsBlock, AreBlocks, HasBlocks, IsTable}
 use Rattle.box_lanes.specs.Lanes.{Fits32}

@@ -4,7 +4,7 @@ use Rattle.std.specs.List.{flat_map}
 use Rattle.bim_model.specs.declared.geometry.Extent.{Extent}
 use Rattle.box_lanes.specs.declared.blocks.Block.{Block}
 use Rattle.box_lanes.specs.declared.blocks.Sides.{Sides}
-use Rattle.box_lanes.specs.declared.table.BoxTable.TheInside.{Inside}
+use Rattle.box_lanes.specs.declared.box_table.BoxTable.TheInside.{Inside}
 use Rattle.box_lanes.specs.Lanes.{Fits32, coarse}
 use Rattle.box_lanes.specs.Places.{nowhere}
 

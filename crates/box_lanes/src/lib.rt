@@ -2,8 +2,8 @@
 #![tactic(auto)]
 
 mod blocks;
+mod box_table;
 mod plain;
-mod table;
 
+pub use box_table::BoxTable;
 pub use plain::places_within;
-pub use table::BoxTable;

@@ -10,7 +10,7 @@ use Rattle.bucket_grid.specs.Subjects.{subject_at}
 use Rattle.box_lanes.specs.Places.{box_at}
 use Rattle.bucket_grid.specs.Grids.{GridValue}
 use Rattle.bucket_check.specs.declared.pair.SetPair.{SetPair}
-use Rattle.bucket_check.specs.declared.work.BucketWork.{BucketWork}
+use Rattle.bucket_check.specs.declared.bucket_work.BucketWork.{BucketWork}
 use Rattle.bucket_check.specs.Clashes.{clash_of, is_cell, pairs_by}
 
 -- the rule by which two elements clash, where the cell owns them

@@ -4,8 +4,8 @@ ghost use Rattle.bucket_grid.specs.Cells.{members};
 ghost use Rattle.bucket_check.specs.Clashes.{own_clashes};
 ghost use Rattle.bucket_check.specs.Sets.{own_places, pair_at, IsUnmoved};
 
+use crate::bucket_work::BucketWork;
 use crate::pair::SetPair;
-use crate::work::BucketWork;
 use bim_model::{Items, Shared};
 use std::alloc::AllocError;
 use std::marker::Model;

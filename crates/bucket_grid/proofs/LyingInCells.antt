@@ -9,7 +9,7 @@ use Rattle.bucket_grid.specs.Dealt.{span_at}
 use Rattle.bucket_grid.specs.Table.{AreSpans}
 use Rattle.std.proofs.lemmas.List.Elements.{All-more, All-weaker}
 use Rattle.bim_model.specs.declared.geometry.Extent.{Extent}
-use Rattle.bucket_grid.specs.declared.axis.Axis.{Axis}
+use Rattle.bucket_grid.specs.declared.axis_cells.Axis.{Axis}
 use Rattle.bucket_grid.specs.Cells.{first_cell, last_cell}
 use Rattle.bucket_grid.specs.declared.cell.TheConstants.{GROWTH}
 use Rattle.bucket_grid.specs.Axes.{low_on, high_on, LieIn}

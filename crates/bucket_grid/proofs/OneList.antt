@@ -7,7 +7,7 @@ use Rattle.std.proofs.lemmas.List.Elements.{All-head, All-tail}
 use Rattle.std.proofs.lemmas.Slice.{between_is, between_to_end}
 use Rattle.bucket_grid.specs.declared.buckets.Slot.{Slot}
 use Rattle.bucket_grid.specs.declared.cell.Cell.{Cell}
-use Rattle.bucket_grid.specs.declared.table.Bucket.{Bucket}
+use Rattle.bucket_grid.specs.declared.bucket_table.Bucket.{Bucket}
 use Rattle.bucket_grid.specs.Slots.{bucket_of, IsWithin}
 use Rattle.bucket_grid.specs.Table.{if_bucket}
 

@@ -9,7 +9,7 @@ use Rattle.std.proofs.lemmas.Int.{ints}
 use Rattle.std.proofs.lemmas.Bool.{cases_eq}
 use Rattle.std.proofs.lemmas.List.{get_or_default}
 use Rattle.bucket_grid.specs.declared.cell.Cell.{Cell}
-use Rattle.bucket_grid.specs.declared.table.Bucket.{Bucket}
+use Rattle.bucket_grid.specs.declared.bucket_table.Bucket.{Bucket}
 use Rattle.bucket_grid.specs.Cells.{cell_cmp}
 use Rattle.bucket_grid.specs.Search.{Rise, Between}
 

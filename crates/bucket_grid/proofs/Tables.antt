@@ -13,7 +13,7 @@ use Rattle.box_lanes.specs.Places.{places_from, box_at, nowhere}
 use Rattle.box_lanes.proofs.Places.{places_more}
 use Rattle.bucket_grid.specs.declared.cell.Cell.{Cell}
 use Rattle.bucket_grid.specs.declared.lists.Span.{Span}
-use Rattle.bucket_grid.specs.declared.table.Bucket.{Bucket}
+use Rattle.bucket_grid.specs.declared.bucket_table.Bucket.{Bucket}
 use Rattle.bucket_grid.specs.Cells.{first_cell, last_cell, holds, members, cell_cmp, IsBucket}
 use Rattle.bucket_grid.specs.Dealt.{covers, span_at}
 use Rattle.bucket_grid.specs.Table.{upto, among, if_bucket, with_x, with_y, with_z, column, slab, table, AreSpans, IsTable}

@@ -2,8 +2,8 @@
 use Rattle.std.specs.Prelude.{ℕ, ◌+◌, ℤ, ◌-ℤ◌, ◌≤ℤ◌, List, length, All}
 use borrow.Author.Differences.{up}
 use Rattle.bim_model.specs.declared.geometry.Extent.{Extent}
-use Rattle.bucket_grid.specs.declared.axis.Axis.{Axis}
-use Rattle.bucket_grid.specs.declared.axis.Axis.TheVariants.{X, Y, Z}
+use Rattle.bucket_grid.specs.declared.axis_cells.Axis.{Axis}
+use Rattle.bucket_grid.specs.declared.axis_cells.Axis.TheVariants.{X, Y, Z}
 use Rattle.bucket_grid.specs.declared.lists.Span.{Span}
 use Rattle.bucket_grid.specs.Cells.{first_cell, last_cell}
 use Rattle.bucket_grid.specs.Table.{AreSpans}

@@ -4,7 +4,7 @@ use Rattle.std.specs.List.{AllZip}
 use Rattle.bim_model.specs.declared.geometry.Extent.{Extent}
 use Rattle.bim_model.specs.Snapshots.{Version}
 use Rattle.bucket_grid.specs.declared.subjects.Member.{Member}
-use Rattle.bucket_grid.specs.declared.table.Bucket.{Bucket}
+use Rattle.bucket_grid.specs.declared.bucket_table.Bucket.{Bucket}
 use Rattle.bucket_grid.specs.Cells.{memberships}
 use Rattle.bim_model.specs.Keys.{subjects_of}
 use Rattle.bucket_grid.specs.declared.grid.TheConstants.{MOST_ELEMENTS, MOST_MEMBERSHIPS}

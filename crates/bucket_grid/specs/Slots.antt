@@ -1,7 +1,7 @@
 -- Buckets whose members stand in one list.
 use Rattle.std.specs.Prelude.{ℕ, ◌≤◌, List, slice_range}
 use Rattle.bucket_grid.specs.declared.buckets.Slot.{Slot}
-use Rattle.bucket_grid.specs.declared.table.Bucket.{Bucket}
+use Rattle.bucket_grid.specs.declared.bucket_table.Bucket.{Bucket}
 
 -- the cell with what stands in the list from the start to before the end
 abbrev pub bucket_of : List ℕ → Slot → Bucket

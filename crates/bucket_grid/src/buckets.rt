@@ -3,9 +3,9 @@ ghost use Rattle.std.specs.Prelude.{◌≡◌, ◌++◌, [], map, length, IfOk, 
 ghost use Rattle.bucket_grid.specs.Slots.{bucket_of, IsWithin};
 ghost use Rattle.bucket_grid.specs.Table.{if_bucket};
 
+use crate::bucket_part::Part;
+use crate::bucket_table::Bucket;
 use crate::cell::Cell;
-use crate::part::Part;
-use crate::table::Bucket;
 use bim_model::{Items, Shared};
 use std::alloc::{AllocError, Global};
 use std::marker::Model;
@@ -27,7 +27,7 @@ pub struct Buckets {
 
 impl Model for Buckets {
     ghost use Rattle.std.specs.Prelude.{List, map, length, All};
-    ghost use Rattle.bucket_grid.specs.declared.table.Bucket.{Bucket};
+    ghost use Rattle.bucket_grid.specs.declared.bucket_table.Bucket.{Bucket};
     ghost use Rattle.bucket_grid.specs.Slots.{bucket_of, IsWithin};
 
     ghost Value = { List Bucket };

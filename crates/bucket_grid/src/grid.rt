@@ -19,12 +19,12 @@ ghost use Rattle.bucket_grid.specs.Search.{IsAfter};
 ghost use Rattle.bucket_grid.specs.declared.cell.Cell.{Cell};
 ghost use Rattle.bucket_grid.specs.declared.grid.GridError.TheVariants.{TooSpread};
 
-use crate::axis::{Axis, Range, cells_on, range_on, spans_on};
+use crate::axis_cells::{Axis, Range, cells_on, range_on, spans_on};
+use crate::bucket_table::{Axes, Bucket, table_of};
 use crate::cell::Cell;
 use crate::owner::shared_cell;
 use crate::search::{place_by, place_of};
 use crate::subjects::{Gathered, Member, gather};
-use crate::table::{Axes, Bucket, table_of};
 use bim_model::{Element, Extent, NamedModel, Rules, Shared, Snapshot};
 use std::alloc::{AllocError, Global};
 use std::marker::Model;

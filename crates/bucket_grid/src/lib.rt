@@ -1,18 +1,20 @@
 //! Elements by cells of four metres.
 #![tactic(auto)]
 
-mod axis;
+mod axis_cells;
+mod bucket_part;
+mod bucket_table;
 mod buckets;
 mod cell;
 mod grid;
 mod laws;
 mod lists;
 mod owner;
-mod part;
 mod search;
 mod subjects;
-mod table;
 
+pub use bucket_part::Part;
+pub use bucket_table::Bucket;
 pub use cell::{Cell, GROWTH, SIDE};
 pub use grid::{Grid, GridError, MOST_ELEMENTS, MOST_MEMBERSHIPS};
 pub use laws::{
@@ -20,6 +22,4 @@ pub use laws::{
     near_elements_have_an_owner, owners_are_one,
 };
 pub use owner::{owner_of, shared_cell};
-pub use part::Part;
 pub use subjects::{Member, has_few_elements};
-pub use table::Bucket;

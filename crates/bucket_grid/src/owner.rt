@@ -6,7 +6,7 @@ ghost use Rattle.bucket_grid.specs.Cells.{holds, is_in, owner_of, IsOwner};
 ghost use Rattle.bucket_grid.specs.Places.{IsGridBox};
 ghost use Rattle.bucket_grid.specs.declared.cell.Cell.{Cell};
 
-use crate::axis::{Axis, first_on, last_on};
+use crate::axis_cells::{Axis, first_on, last_on};
 use crate::cell::Cell;
 use bim_model::Extent;
 

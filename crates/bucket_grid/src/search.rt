@@ -2,10 +2,10 @@
 ghost use Rattle.std.specs.Prelude.{◌≡◌, ℕ, ◌<◌, ◌≤◌, length, slice_index_or, IfSome, IfNone, AllPairs, IsTrue};
 ghost use Rattle.bucket_grid.specs.Cells.{cell_cmp};
 ghost use Rattle.bucket_grid.specs.Search.{Rise, IsAt, IsNowhere};
-ghost use Rattle.bucket_grid.specs.declared.table.Bucket.{Bucket};
+ghost use Rattle.bucket_grid.specs.declared.bucket_table.Bucket.{Bucket};
 
+use crate::bucket_table::Bucket;
 use crate::cell::Cell;
-use crate::table::Bucket;
 use std::cmp::Ordering;
 
 /// The place of the cell among the buckets, which rise, or none where it is not there.

@@ -7,7 +7,7 @@ use Rattle.book_turn.specs.Entries.{listed}
 use Rattle.book_history.specs.declared.limits.Settings.{Settings}
 use Rattle.book_history.specs.declared.changes.Entry.{Entry}
 use Rattle.book_history.specs.declared.changes.Change.TheVariants.{BucketDone}
-use Rattle.book_history.specs.declared.faults.BookFault.TheVariants.{AlreadyDone, VersionDropped}
+use Rattle.book_history.specs.declared.book_fault.BookFault.TheVariants.{AlreadyDone, VersionDropped}
 use Rattle.book_history.specs.declared.requests.BookRequest.TheVariants.{Finish}
 use Rattle.clash_publish.specs.declared.horizon.TheConstants.{LIVE_VERSIONS}
 use Rattle.book_history.specs.Refusals.{first_of}

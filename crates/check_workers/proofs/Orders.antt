@@ -8,7 +8,7 @@ use Rattle.bucket_check.specs.Sets.{SetValue}
 use Rattle.book_turn.specs.declared.object.Stamp.{Stamp}
 use Rattle.book_history.specs.declared.limits.Settings.{Settings}
 use Rattle.book_history.specs.declared.changes.Entry.{Entry}
-use Rattle.book_history.specs.declared.faults.BookFault.TheVariants.{NoWork}
+use Rattle.book_history.specs.declared.book_fault.BookFault.TheVariants.{NoWork}
 use Rattle.book_history.specs.declared.requests.BookRequest.TheVariants.{TakeWork, Finish}
 use Rattle.book_history.specs.declared.replies.ReplyBody.TheVariants.{Work, Refused}
 use Rattle.book_history.specs.Orders.{OrderValue, order_of}

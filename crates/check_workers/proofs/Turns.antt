@@ -4,15 +4,15 @@ use Rattle.book_turn.specs.Numbers.{has}
 use Rattle.book_turn.specs.declared.object.Stamp.{Stamp}
 use Rattle.book_turn.specs.Entries.{calls_by, listed}
 use Rattle.book_turn.specs.Passes.{KeepsNumbers}
-use Rattle.book_turn.specs.declared.fault.CallFault.{CallFault}
-use Rattle.book_turn.specs.declared.fault.CallFault.TheVariants.{Memory, PassSpent}
+use Rattle.book_turn.specs.declared.call_fault.CallFault.{CallFault}
+use Rattle.book_turn.specs.declared.call_fault.CallFault.TheVariants.{Memory, PassSpent}
 use Rattle.book_turn.specs.Faults.{Failed}
 use Rattle.book_turn.proofs.Prefixes.{calls_by-append}
 use Rattle.bucket_grid.specs.Cells.{IsBucket}
 use Rattle.bucket_check.specs.Sets.{SetValue}
 use Rattle.book_history.specs.declared.limits.Settings.{Settings}
 use Rattle.book_history.specs.declared.changes.Entry.{Entry}
-use Rattle.book_history.specs.declared.faults.BookFault.TheVariants.{NoWork}
+use Rattle.book_history.specs.declared.book_fault.BookFault.TheVariants.{NoWork}
 use Rattle.book_history.specs.declared.requests.BookRequest.{BookRequest}
 use Rattle.book_history.specs.declared.requests.BookRequest.TheVariants.{TakeWork, Finish}
 use Rattle.book_history.specs.declared.replies.BookReply.{BookReply}

@@ -5,7 +5,7 @@ use Rattle.bucket_check.specs.Sets.{SetValue, IsSetOf}
 use Rattle.book_history.specs.declared.limits.Settings.{Settings}
 use Rattle.book_history.specs.declared.changes.Entry.{Entry}
 use Rattle.book_history.specs.declared.changes.Change.TheVariants.{BucketDone}
-use Rattle.book_history.specs.declared.faults.BookFault.TheVariants.{NoWork, AlreadyDone, VersionDropped}
+use Rattle.book_history.specs.declared.book_fault.BookFault.TheVariants.{NoWork, AlreadyDone, VersionDropped}
 use Rattle.book_history.specs.declared.requests.BookRequest.TheVariants.{TakeWork, Finish}
 use Rattle.book_history.specs.declared.replies.BookReply.{BookReply}
 use Rattle.book_history.specs.declared.replies.ReplyBody.{ReplyBody}

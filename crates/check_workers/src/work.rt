@@ -9,7 +9,7 @@ ghost use Rattle.check_workers.specs.Working.{IsFoundFor, IsFinishTold, tells, T
 use bim_model::{Shared, Steps};
 use bim_net::Gate;
 use book_history::{BookFault, BookRequest, ReplyBody, WorkOrder};
-use book_turn::fault::CallFault;
+use book_turn::call_fault::CallFault;
 use book_turn::pass::Pass;
 use book_turn::turn::Turn;
 use bucket_check::{BucketSet, Room, check};

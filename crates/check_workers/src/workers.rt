@@ -10,7 +10,7 @@ ghost use Rattle.check_workers.specs.Joins.{IsNewWorker, WorkerOver, HasEach, Ex
 
 use crate::work::work_loop;
 use bim_net::Gate;
-use book_turn::fault::{CallFault, SpentPass};
+use book_turn::call_fault::{CallFault, SpentPass};
 use book_turn::pass::Pass;
 use book_turn::turn::Turn;
 use bucket_check::Room;

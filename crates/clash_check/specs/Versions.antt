@@ -6,11 +6,11 @@ use Rattle.bucket_grid.specs.Grids.{HasMemberships}
 use Rattle.bucket_grid.specs.declared.grid.GridError.{GridError}
 use Rattle.bucket_grid.specs.declared.grid.GridError.TheVariants as lacks
 use Rattle.bucket_grid.specs.declared.grid.TheConstants.{MOST_MEMBERSHIPS}
-use Rattle.clash_check.specs.declared.fault.TheConstants.{MOST_VERSION_ELEMENTS}
-use Rattle.clash_check.specs.declared.fault.VersionError.{VersionError}
-use Rattle.clash_check.specs.declared.fault.VersionError.TheVariants.{Fault, Memory}
-use Rattle.clash_check.specs.declared.fault.VersionFault.{VersionFault}
-use Rattle.clash_check.specs.declared.fault.VersionFault.TheVariants.{ElementsFull, TooSpread}
+use Rattle.clash_check.specs.declared.version_fault.TheConstants.{MOST_VERSION_ELEMENTS}
+use Rattle.clash_check.specs.declared.version_fault.VersionError.{VersionError}
+use Rattle.clash_check.specs.declared.version_fault.VersionError.TheVariants.{Fault, Memory}
+use Rattle.clash_check.specs.declared.version_fault.VersionFault.{VersionFault}
+use Rattle.clash_check.specs.declared.version_fault.VersionFault.TheVariants.{ElementsFull, TooSpread}
 
 -- the number of its elements, at most what 64 bits hold
 abbrev pub element_count : Version → ℕ

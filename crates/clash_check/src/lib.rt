@@ -1,8 +1,8 @@
 //! The clashes of a whole version, bucket by bucket.
 #![tactic(auto)]
 
-mod checks;
-mod fault;
+mod version_check;
+mod version_fault;
 
-pub use checks::clashes_of;
-pub use fault::{MOST_VERSION_ELEMENTS, VersionError, VersionFault};
+pub use version_check::clashes_of;
+pub use version_fault::{MOST_VERSION_ELEMENTS, VersionError, VersionFault};

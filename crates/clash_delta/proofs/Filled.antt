@@ -6,7 +6,7 @@ use Rattle.std.specs.declared.cmp.Ordering.TheVariants.{Less}
 use Rattle.std.proofs.lemmas.Bool.{cases_eq, cases_order}
 use Rattle.std.proofs.lemmas.List.{length-map, get_or-map, ext_get_or, get_or-set_same, get_or-set_other, get_or_default}
 use Rattle.bucket_grid.specs.declared.cell.Cell.{Cell}
-use Rattle.bucket_grid.specs.declared.table.Bucket.{Bucket}
+use Rattle.bucket_grid.specs.declared.bucket_table.Bucket.{Bucket}
 use Rattle.bucket_grid.specs.Cells.{cell_cmp}
 use Rattle.bucket_grid.specs.Grids.{GridValue}
 use Rattle.bucket_check.specs.Clashes.{is_cell}

@@ -2,7 +2,7 @@
 use Rattle.std.specs.Prelude.{◌≡◌, cond, is_none, IfSome, IsSome, List, map, filter, All, Any, Some}
 use Rattle.std.specs.Option.{unwrap_or}
 use Rattle.bucket_grid.specs.declared.cell.Cell.{Cell}
-use Rattle.bucket_grid.specs.declared.table.Bucket.{Bucket}
+use Rattle.bucket_grid.specs.declared.bucket_table.Bucket.{Bucket}
 use Rattle.bucket_grid.specs.Grids.{GridValue}
 use Rattle.bucket_check.specs.Clashes.{is_cell}
 use Rattle.bucket_check.specs.Sets.{SetValue, IsSetOf}

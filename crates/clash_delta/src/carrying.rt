@@ -2,18 +2,18 @@
 ghost use Rattle.std.specs.Prelude.{◌≡◌, ◌↔◌, ◌<◌, ◌≤◌, ℕ, length, slice_index_or, IsTrue, IfOk, IfSome, Some, All};
 ghost use Rattle.std.specs.declared.cmp.Ordering.TheVariants.{Less};
 ghost use Rattle.bucket_grid.specs.declared.cell.Cell.{Cell};
-ghost use Rattle.bucket_grid.specs.declared.table.Bucket.{Bucket};
+ghost use Rattle.bucket_grid.specs.declared.bucket_table.Bucket.{Bucket};
 ghost use Rattle.bucket_grid.specs.Cells.{cell_cmp, members};
-ghost use Rattle.bucket_check.specs.declared.work.BucketWork.{BucketWork};
+ghost use Rattle.bucket_check.specs.declared.bucket_work.BucketWork.{BucketWork};
 ghost use Rattle.bucket_check.specs.Sets.{IsUnmoved, IsSetOf};
 ghost use Rattle.clash_delta.specs.Numbers.{subjects, AreNumbersBefore, AreFrom};
 ghost use Rattle.clash_delta.specs.Slots.{IsDone, IsOf};
 ghost use Rattle.clash_delta.specs.Carried.{IsCarried, IsMoved, IsCarriedTo, IsUnmovedAt, IsReachedCell};
 ghost use Rattle.clash_delta.specs.declared.slot.Slot.{Slot};
 
-use crate::numbers::numbers_before;
+use crate::equal_rules::same_rules;
+use crate::former_numbers::numbers_before;
 use crate::progress::Progress;
-use crate::rules::same_rules;
 use crate::slot::Slot;
 use bim_model::Shared;
 use bucket_check::{BucketSet, BucketWork};

@@ -3,9 +3,9 @@
 #![tactic(auto)]
 
 mod carrying;
-mod numbers;
+mod equal_rules;
+mod former_numbers;
 mod progress;
-mod rules;
 mod same;
 mod slot;
 

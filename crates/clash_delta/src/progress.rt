@@ -4,7 +4,7 @@ ghost use Rattle.std.specs.Option.{unwrap_or};
 ghost use Rattle.std.specs.List.{AllZip};
 ghost use Rattle.bucket_grid.specs.Grids.{GridValue};
 ghost use Rattle.bucket_grid.specs.declared.cell.Cell.{Cell};
-ghost use Rattle.bucket_grid.specs.declared.table.Bucket.{Bucket};
+ghost use Rattle.bucket_grid.specs.declared.bucket_table.Bucket.{Bucket};
 ghost use Rattle.bucket_check.specs.Sets.{SetValue, IsSetOf};
 ghost use Rattle.clash_delta.specs.Slots.{undone_cells, filled, IsBucketOf, IsDone, IsOf};
 ghost use Rattle.clash_delta.specs.Places.{Rise, IsPlaceOf, undone_places};

@@ -5,8 +5,8 @@ mod entry;
 mod horizon;
 mod laws;
 mod merge;
+mod pair_rows;
 mod published;
-mod rows;
 mod shelf;
 
 pub use horizon::{Horizon, LIVE_VERSIONS};

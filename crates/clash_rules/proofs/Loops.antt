@@ -5,9 +5,9 @@ use Rattle.serde_json.specs.View.{view, items_view}
 use Rattle.serde_json.specs.Data.{item}
 use Rattle.serde_json.specs.declared.value.Value.{Value}
 use Rattle.bim_model.specs.declared.rules.Rule.{Rule}
-use Rattle.clash_rules.specs.declared.fault.RuleFault.{RuleFault}
-use Rattle.clash_rules.specs.declared.fault.RuleError.{RuleError}
-use Rattle.clash_rules.specs.declared.fault.RuleError.TheVariants.{Fault, Memory}
+use Rattle.clash_rules.specs.declared.rule_fault.RuleFault.{RuleFault}
+use Rattle.clash_rules.specs.declared.rule_fault.RuleError.{RuleError}
+use Rattle.clash_rules.specs.declared.rule_fault.RuleError.TheVariants.{Fault, Memory}
 use Rattle.clash_rules.specs.Json.{rule_in, rules_from, before, behind, item_count, are_objects, IsFault}
 
 -- these rules, and then the rest

@@ -18,10 +18,10 @@ use Rattle.bim_model.specs.declared.rules.RuleKind.{RuleKind}
 use Rattle.bim_model.specs.declared.rules.RuleKind.TheVariants as kind
 use Rattle.bim_model.specs.declared.rules.Rule.{Rule}
 use Rattle.bim_model.specs.Rules.{is_class_char}
-use Rattle.clash_rules.specs.declared.fault.RuleFault.{RuleFault}
-use Rattle.clash_rules.specs.declared.fault.RuleFault.TheVariants.{TooManyRules, BadRule, Distance}
-use Rattle.clash_rules.specs.declared.fault.RuleError.{RuleError}
-use Rattle.clash_rules.specs.declared.fault.RuleError.TheVariants.{Fault, Memory}
+use Rattle.clash_rules.specs.declared.rule_fault.RuleFault.{RuleFault}
+use Rattle.clash_rules.specs.declared.rule_fault.RuleFault.TheVariants.{TooManyRules, BadRule, Distance}
+use Rattle.clash_rules.specs.declared.rule_fault.RuleError.{RuleError}
+use Rattle.clash_rules.specs.declared.rule_fault.RuleError.TheVariants.{Fault, Memory}
 use Rattle.clash_rules.specs.declared.member.Word.{Word}
 use Rattle.clash_rules.specs.declared.member.Word.TheVariants as word
 use Rattle.clash_rules.specs.declared.member.Spelled.{Spelled}

@@ -1,10 +1,10 @@
 //! Clash rules from JSON, and the rule of a pair of elements.
 #![tactic(auto)]
 
-mod fault;
+mod json_rules;
 mod member;
-mod rules;
+mod rule_fault;
 
 pub use bim_model::rule_of;
-pub use fault::{RuleError, RuleFault};
-pub use rules::from_json;
+pub use json_rules::from_json;
+pub use rule_fault::{RuleError, RuleFault};

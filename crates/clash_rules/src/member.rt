@@ -7,7 +7,7 @@ ghost use Rattle.bim_model.specs.Rules as rules;
 ghost use Rattle.bim_model.specs.Rules.{is_class_char, IsClassTest, IsRule};
 ghost use Rattle.clash_rules.specs.Json.{is_class_name, if_class, class_in, storey_named, storey_in, models_named, models_in, word_named, word_in, if_level, level_in, tests_in, if_whole, distance_in, kind_of, joined, IsSpelled, IsLevel};
 
-use crate::fault::RuleFault;
+use crate::rule_fault::RuleFault;
 use bim_model::{
     ClassTest, MOST_CLASS, MOST_DISTANCE, MOST_LEVEL, ModelTest, Rule, RuleKind, StoreyTest, Text,
 };

@@ -1,7 +1,7 @@
 //! A bucket of two elements that clash, checked and moved to the next version.
 ghost use Rattle.std.specs.Prelude.{◌≡◌, ◌<◌};
 
-use crate::samples::{grid_of, two_pipes};
+use crate::sample_pipes::{grid_of, two_pipes};
 use bim_model::Steps;
 use bucket_check::{BucketSet, BucketWork, Room, SetPair, check};
 use bucket_grid::Cell;

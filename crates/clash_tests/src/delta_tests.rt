@@ -3,7 +3,7 @@ ghost use Rattle.std.specs.Prelude.{◌≡◌, ◌<◌, OnOk, IfOk};
 ghost use Rattle.bim_model.specs.Snapshots.{Version};
 ghost use Rattle.clash_delta.specs.Slots.{IsOf};
 
-use crate::samples::{grid_of, named, pipe, rules};
+use crate::sample_pipes::{grid_of, named, pipe, rules};
 use bim_model::{NamedModel, Shared, Snapshot, Steps};
 use bucket_check::{BucketSet, BucketWork, Room, SetPair, check};
 use bucket_grid::{Cell, Grid};

@@ -1,5 +1,5 @@
 //! Versions of few boxes, worked out by another program.
-use crate::samples::{corner, named};
+use crate::sample_pipes::{corner, named};
 use bim_model::{Element, Guid, Items, NamedModel, Rules, Shared, Snapshot, Text, Triangle};
 use bucket_grid::{
     Cell, Grid, GridError, Member, cells_are_counted, cells_hold_points, close_boxes_have_an_owner,

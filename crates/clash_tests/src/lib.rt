@@ -12,6 +12,6 @@ mod publish_tests;
 #[cfg(test)]
 mod rule_tests;
 #[cfg(test)]
-mod samples;
+mod sample_pipes;
 #[cfg(test)]
-mod version_tests;
+mod version_check_tests;

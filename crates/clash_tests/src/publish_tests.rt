@@ -2,7 +2,7 @@
 ghost use Rattle.std.specs.Prelude.{◌≡◌, ◌<◌, IfOk};
 ghost use Rattle.clash_publish.specs.Merged.{AreSetsOf};
 
-use crate::samples::{grid_of, named, pipe, rules};
+use crate::sample_pipes::{grid_of, named, pipe, rules};
 use bim_model::{Element, NamedModel, Shared, Snapshot, Steps};
 use bucket_check::{BucketSet, BucketWork, Room, SetPair, check};
 use bucket_grid::Grid;

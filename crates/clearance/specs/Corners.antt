@@ -1,7 +1,7 @@
 -- Corners as a face.
 use Rattle.exact_arith.specs.Space.{Face}
 use Rattle.tri_exact.specs.Places.{at, IsPoint}
-use Rattle.clearance.specs.declared.corners.Corners.{Corners}
+use Rattle.clearance.specs.declared.corner_vectors.Corners.{Corners}
 
 -- the face of three corners
 abbrev pub face_of : Corners → Face

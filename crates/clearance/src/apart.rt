@@ -6,7 +6,7 @@ ghost use Rattle.clearance.specs.Near.{FacesNear};
 ghost use Rattle.clearance.specs.Corners.{face_of, InGrid};
 ghost use Rattle.clearance.specs.Apart.{Apart};
 
-use crate::corners::Corners;
+use crate::corner_vectors::Corners;
 use tri_exact::products::{difference, height, is_low, normal_to, scalar, square};
 use tri_exact::{Normal, V3};
 

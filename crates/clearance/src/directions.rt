@@ -5,8 +5,8 @@ ghost use Rattle.bim_model.specs.Points.{IsInGrid, step_limit};
 ghost use Rattle.clearance.specs.Boxes.{IsExtent};
 
 use crate::apart::{longer, longest_edge};
-use crate::corners::corners_of;
-use crate::runs::RUN;
+use crate::corner_vectors::corners_of;
+use crate::triangle_runs::RUN;
 use bim_model::{Extent, Triangle};
 use tri_exact::products::normal_to;
 use tri_exact::{Normal, V3};

@@ -3,15 +3,15 @@
 
 mod apart;
 mod boxes;
-mod corners;
+mod corner_vectors;
 mod directions;
+mod edge_pairs;
 mod laws;
 mod planes;
 mod projections;
-mod rows;
-mod runs;
 mod sides;
 mod solids;
+mod triangle_runs;
 mod triangles;
 
 pub use laws::{near_elements_have_close_boxes, nearness_is_decided};

@@ -5,7 +5,7 @@ ghost use Rattle.tri_exact.specs.Limits.{height_limit, square_limit, distance_li
 ghost use Rattle.clearance.specs.Corners.{face_of, InGrid};
 ghost use Rattle.clearance.specs.Planes.{IsPlane, IsOver, IsTall, Clear, IsClear};
 
-use crate::corners::Corners;
+use crate::corner_vectors::Corners;
 use tri_exact::products::{difference, height, is_low, normal_to, square};
 use tri_exact::{Normal, V3};
 

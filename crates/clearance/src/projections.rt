@@ -11,10 +11,10 @@ ghost use Rattle.clearance.specs.Projections.{InInterval, IsInterval, Longer, Pr
 
 use crate::apart::{HEIGHT, highest, is_gap, lowest};
 use crate::boxes::{extent_of, is_off};
-use crate::corners::{corners_of, vector_at};
+use crate::corner_vectors::{corners_of, vector_at};
 use crate::directions::{across_edge, sampled_edge, way_between};
 use crate::planes::lesser;
-use crate::runs::RUN;
+use crate::triangle_runs::RUN;
 use bim_model::{Extent, Triangle};
 use tri_exact::products::{difference, height, normal_to, square};
 use tri_exact::{Normal, V3};

@@ -8,7 +8,7 @@ ghost use Rattle.tri_exact.specs.Within.{HasArea, FootWithin};
 ghost use Rattle.clearance.specs.Corners.{face_of, InGrid};
 ghost use Rattle.clearance.specs.Planes.{IsPlane, IsOver, IsTall, SideNear};
 
-use crate::corners::Corners;
+use crate::corner_vectors::Corners;
 use crate::planes::{Heights, Plane};
 use tri_exact::products::{difference, is_low};
 use tri_exact::{V3, edge_pierces, is_inside};

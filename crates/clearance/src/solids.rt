@@ -7,7 +7,7 @@ ghost use Rattle.clearance.specs.Near.{ListsNear, ElementsNear, ElementInGrid};
 ghost use Rattle.clearance.specs.Decided.{is_near_lists, is_near};
 
 use crate::boxes::extent_of_all;
-use crate::runs::{BLOCK, RUN, block_near, pairs_near, split_front};
+use crate::triangle_runs::{BLOCK, RUN, block_near, pairs_near, split_front};
 use bim_model::{Element, Steps, Triangle};
 use std::sync::ledger::Ledger;
 

@@ -10,9 +10,9 @@ ghost use Rattle.clearance.specs.Planes.{IsPlane};
 
 use crate::apart::is_apart;
 use crate::boxes::{extent_of, is_off};
-use crate::corners::{Corners, corners_of};
+use crate::corner_vectors::{Corners, corners_of};
+use crate::edge_pairs::edges_near;
 use crate::planes::{Plane, heights_over, is_beyond, plane_of};
-use crate::rows::edges_near;
 use crate::sides::side_near;
 use bim_model::Triangle;
 

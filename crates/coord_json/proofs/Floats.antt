@@ -12,8 +12,8 @@ use Rattle.bim_model.specs.declared.rules.RuleKind.{RuleKind}
 use Rattle.bim_model.specs.declared.rules.RuleKind.TheVariants.{Clash, Ignore}
 use Rattle.bim_model.specs.Snapshots.{Version}
 use Rattle.bucket_check.specs.declared.pair.SetPair.{SetPair}
-use Rattle.clash_rules.specs.declared.fault.RuleFault.{RuleFault}
-use Rattle.clash_rules.specs.declared.fault.RuleFault.TheVariants.{TooManyRules, BadRule, Distance}
+use Rattle.clash_rules.specs.declared.rule_fault.RuleFault.{RuleFault}
+use Rattle.clash_rules.specs.declared.rule_fault.RuleFault.TheVariants.{TooManyRules, BadRule, Distance}
 use Rattle.coord_json.specs.Rules.{storey_tree, class_text, storeys_text, models_text, clash_tree, ignore_tree, kind_tree, rule_items}
 use Rattle.coord_json.specs.Errors.{error_tree, error_at, error_of, error_to, error_many, error_named, error_index, error_count, error_full, error_place, error_store, error_newest, error_version}
 use Rattle.coord_json.specs.Faults.{upload_fault_tree, rule_fault_tree}

@@ -5,8 +5,8 @@ use Rattle.bim_model.specs.declared.upload.Many.{Many}
 use Rattle.bim_model.specs.declared.upload.Many.TheVariants as many
 use Rattle.bim_model.specs.declared.upload.UploadFault.{UploadFault}
 use Rattle.bim_model.specs.declared.upload.UploadFault.TheVariants as fault
-use Rattle.clash_rules.specs.declared.fault.RuleFault.{RuleFault}
-use Rattle.clash_rules.specs.declared.fault.RuleFault.TheVariants.{TooManyRules, BadRule, Distance}
+use Rattle.clash_rules.specs.declared.rule_fault.RuleFault.{RuleFault}
+use Rattle.clash_rules.specs.declared.rule_fault.RuleFault.TheVariants.{TooManyRules, BadRule, Distance}
 use Rattle.coord_json.specs.Errors.{error_tree, error_at, error_of, error_to, error_many, error_index, error_count}
 
 -- what is too many

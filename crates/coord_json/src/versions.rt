@@ -4,7 +4,7 @@ ghost use Rattle.serde_json.specs.View.{view, items_view};
 ghost use Rattle.bim_model.specs.Models.{IsModel, IsModelled};
 ghost use Rattle.coord_json.specs.Versions.{box_tree, element_tree, model_tree, version_tree, changed_tree, IsElementTree, AreElementTrees, IsModelTree, AreModelTrees, IsVersionTree};
 
-use crate::rules::{rules_out, storey_out};
+use crate::rule_values::{rules_out, storey_out};
 use bim_model::{Element, Extent, NamedModel, Snapshot, extent_of};
 use serde_json::{Value, json};
 use std::alloc::{AllocError, Global};

@@ -4,11 +4,11 @@ use Rattle.std.specs.Prelude.{int_lt}
 use Rattle.std.proofs.lemmas.Int.{ints}
 use Rattle.exact_arith.proofs.Ring.{ring, at, lit, ◌⊕◌, ◌⊖◌, ◌⊗◌}
 use Rattle.exact_arith.proofs.Order.{mul_nonneg, from_rest, nonneg_by}
-use Rattle.ear_cut.specs.declared.views.View.{View}
+use Rattle.ear_cut.specs.declared.polygon_view.View.{View}
 use Rattle.ear_cut.specs.declared.corners.Corner.{Corner}
 use Rattle.ear_cut.specs.declared.corners.Turn.{Turn}
 use Rattle.ear_cut.specs.declared.corners.Angle.TheVariants.{Convex}
-use Rattle.ear_cut.specs.declared.frames.Frame.{Frame}
+use Rattle.ear_cut.specs.declared.corner_frames.Frame.{Frame}
 use Rattle.ear_cut.specs.Views.{Spot, seen, bend, signed, area, is_corner, holds}
 use Rattle.ear_cut.specs.Corners.{by_sign, angle_of}
 use Rattle.ear_cut.specs.Removal.{is_free}

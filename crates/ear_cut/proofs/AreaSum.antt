@@ -8,7 +8,7 @@ use Rattle.std.proofs.lemmas.Bool.Decides.{nat_tests}
 use Rattle.std.proofs.lemmas.List.{map-append, take-map, drop-map, get_or-map, length-map, get_or_append_left, get_or_at}
 use Rattle.std.proofs.lemmas.List.Edits.{length-remove}
 use Rattle.bim_model.specs.declared.geometry.Point.{Point}
-use Rattle.ear_cut.specs.declared.views.View.{View}
+use Rattle.ear_cut.specs.declared.polygon_view.View.{View}
 use Rattle.ear_cut.specs.declared.corners.Corner.{Corner}
 use Rattle.ear_cut.specs.declared.ears.Ear.{Ear}
 use Rattle.exact_arith.specs.Space.{Vector, nowhere, plus, cross_of}

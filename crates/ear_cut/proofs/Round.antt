@@ -4,12 +4,12 @@ use Rattle.std.specs.Prelude.{slice_index_or, remove}
 use Rattle.std.proofs.lemmas.Bool.{cases_lt}
 use Rattle.std.proofs.lemmas.Bool.Decides.{nat_tests}
 use Rattle.std.proofs.lemmas.List.Edits.{length-remove}
-use Rattle.ear_cut.specs.declared.views.View.{View}
+use Rattle.ear_cut.specs.declared.polygon_view.View.{View}
 use Rattle.ear_cut.specs.declared.corners.Corner.{Corner}
 use Rattle.ear_cut.specs.declared.corners.Turn.{Turn}
 use Rattle.ear_cut.specs.declared.corners.Angle.TheVariants.{Convex}
-use Rattle.ear_cut.specs.declared.frames.Frame.{Frame}
-use Rattle.ear_cut.specs.declared.frames.Frames.{Frames}
+use Rattle.ear_cut.specs.declared.corner_frames.Frame.{Frame}
+use Rattle.ear_cut.specs.declared.corner_frames.Frames.{Frames}
 use Rattle.ear_cut.specs.Views.{Spot, seen}
 use Rattle.ear_cut.specs.Corners.{nobody, angle_of}
 use Rattle.ear_cut.specs.Removal.{is_free}

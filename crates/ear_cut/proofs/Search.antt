@@ -5,7 +5,7 @@ use Rattle.std.specs.List.{list_all}
 use Rattle.std.proofs.lemmas.Bool.{cases_lt}
 use Rattle.std.proofs.lemmas.Bool.Decides.{nat_tests}
 use Rattle.std.proofs.lemmas.List.Folds.{list_all_at}
-use Rattle.ear_cut.specs.declared.views.View.{View}
+use Rattle.ear_cut.specs.declared.polygon_view.View.{View}
 use Rattle.ear_cut.specs.declared.corners.Corner.{Corner}
 use Rattle.ear_cut.specs.declared.corners.Turn.{Turn}
 use Rattle.ear_cut.specs.declared.corners.Angle.{Angle}

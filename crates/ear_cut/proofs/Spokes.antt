@@ -3,7 +3,7 @@ use Rattle.std.proofs.Common.{◌≡◌, ◌∙◌, ap, sym, refl, subst, ℤ, p
 use Rattle.std.proofs.lemmas.Int.{ints}
 use Rattle.exact_arith.proofs.Ring.{ring, Term, at, lit, ◌⊕◌, ◌⊖◌, ◌⊗◌}
 use Rattle.exact_arith.proofs.Order.{mul_positive}
-use Rattle.ear_cut.specs.declared.views.View.{View}
+use Rattle.ear_cut.specs.declared.polygon_view.View.{View}
 use Rattle.ear_cut.specs.declared.corners.Angle.TheVariants.{Convex}
 use Rattle.ear_cut.specs.Views.{Spot, bend, signed, area}
 use Rattle.ear_cut.specs.Corners.{by_sign}

@@ -5,10 +5,10 @@ use Rattle.std.proofs.lemmas.Bool.{cases_lt, cases_eq}
 use Rattle.std.proofs.lemmas.Bool.Decides.{nat_tests}
 use Rattle.std.proofs.lemmas.List.{get_or-map, get_or-set_same, get_or-set_other, length-map, length-set}
 use Rattle.std.proofs.lemmas.List.Edits.{length-remove, get_or-remove_below, get_or-remove_above}
-use Rattle.ear_cut.specs.declared.views.View.{View}
+use Rattle.ear_cut.specs.declared.polygon_view.View.{View}
 use Rattle.ear_cut.specs.declared.corners.Corner.{Corner}
 use Rattle.ear_cut.specs.declared.corners.Turn.{Turn}
-use Rattle.ear_cut.specs.declared.notes.Note.{Note}
+use Rattle.ear_cut.specs.declared.corner_notes.Note.{Note}
 use Rattle.ear_cut.specs.Corners.{previous, next, nobody, turn_at, angle_of, AreInGrid}
 use Rattle.bim_model.specs.Points.{IsGridPoint}
 use Rattle.ear_cut.specs.Removal.{is_free}

@@ -1,7 +1,7 @@
 -- The corners of a polygon that remain, each with its neighbours.
 use Rattle.std.specs.Prelude.{ℕ, zero, suc, ◌+◌, ◌-◌, ◌==◌, ℤ, pos, negsuc, List, [], ◌∷◌, length, slice_index_or, Bool, true, false, All, if◌then◌else◌, Option, Some, None}
 use Rattle.bim_model.specs.declared.geometry.Point.{Point}
-use Rattle.ear_cut.specs.declared.views.View.{View}
+use Rattle.ear_cut.specs.declared.polygon_view.View.{View}
 use Rattle.ear_cut.specs.declared.corners.Corner.{Corner}
 use Rattle.ear_cut.specs.declared.corners.Turn.{Turn}
 use Rattle.ear_cut.specs.declared.corners.Angle.{Angle}

@@ -1,6 +1,6 @@
 -- Convex polygons, as far as the code tells them: all corners lie round the last one, in their order.
 use Rattle.std.specs.Prelude.{ℕ, ◌+◌, ◌-◌, ◌<◌, ℤ, pos, ◌<ℤ◌, List, length, slice_index_or}
-use Rattle.ear_cut.specs.declared.views.View.{View}
+use Rattle.ear_cut.specs.declared.polygon_view.View.{View}
 use Rattle.ear_cut.specs.declared.corners.Corner.{Corner}
 use Rattle.ear_cut.specs.Views.{Spot, seen, area}
 use Rattle.ear_cut.specs.Corners.{nobody}

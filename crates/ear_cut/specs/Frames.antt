@@ -1,10 +1,10 @@
 -- Frames, rectangles of a view round runs of corners.
 use Rattle.std.specs.Prelude.{ℕ, ◌≡◌, ◌+◌, ◌*◌, ◌<◌, ◌≤◌, pos, ◌≤ℤ◌, int_lt, Bool, ◌||◌, List, length, slice_index_or, remove, Option, Some, None}
-use Rattle.ear_cut.specs.declared.views.View.{View}
+use Rattle.ear_cut.specs.declared.polygon_view.View.{View}
 use Rattle.ear_cut.specs.declared.corners.Corner.{Corner}
-use Rattle.ear_cut.specs.declared.frames.Frame.{Frame}
-use Rattle.ear_cut.specs.declared.frames.Frames.{Frames}
-use Rattle.ear_cut.specs.declared.frames.TheConstants.{RUN}
+use Rattle.ear_cut.specs.declared.corner_frames.Frame.{Frame}
+use Rattle.ear_cut.specs.declared.corner_frames.Frames.{Frames}
+use Rattle.ear_cut.specs.declared.corner_frames.TheConstants.{RUN}
 use Rattle.ear_cut.specs.Views.{Spot, seen}
 use Rattle.ear_cut.specs.Corners.{nobody}
 

@@ -1,12 +1,12 @@
 -- What the code notes of each corner that remains.
 use Rattle.std.specs.Prelude.{ℕ, ◌≡◌, ◌-◌, ◌<◌, ◌≤◌, ◌==◌, nat_lt, if◌then◌else◌, List, length, slice_index_or, remove, Bool, true, false, not, ◌&&◌, Option, Some, None}
-use Rattle.ear_cut.specs.declared.views.View.{View}
+use Rattle.ear_cut.specs.declared.polygon_view.View.{View}
 use Rattle.ear_cut.specs.declared.corners.Corner.{Corner}
 use Rattle.ear_cut.specs.declared.corners.Turn.{Turn}
 use Rattle.ear_cut.specs.declared.corners.Angle.{Angle}
 use Rattle.ear_cut.specs.declared.corners.Angle.TheVariants.{Straight, Convex, Reflex}
-use Rattle.ear_cut.specs.declared.notes.Note.{Note}
-use Rattle.ear_cut.specs.declared.frames.Frames.{Frames}
+use Rattle.ear_cut.specs.declared.corner_notes.Note.{Note}
+use Rattle.ear_cut.specs.declared.corner_frames.Frames.{Frames}
 use Rattle.ear_cut.specs.Corners.{nobody, turn_at, angle_of, AreInGrid}
 use Rattle.ear_cut.specs.Removal.{is_free, choice}
 use Rattle.ear_cut.specs.Frames.{AreFramesIn}

@@ -2,9 +2,9 @@
 use Rattle.std.specs.Prelude.{ℤ, pos, ◌-ℤ◌, ◌*ℤ◌, unsigned_abs, int_lt, Bool, true, false, ◌&&◌, ◌||◌, not, if◌then◌else◌, nat_le, Option, Some, None}
 use Rattle.std.specs.Ordering.{int_eq}
 use Rattle.bim_model.specs.declared.geometry.Point.{Point}
-use Rattle.ear_cut.specs.declared.views.Axis.{Axis}
-use Rattle.ear_cut.specs.declared.views.Axis.TheVariants.{X, Y, Z}
-use Rattle.ear_cut.specs.declared.views.View.{View}
+use Rattle.ear_cut.specs.declared.polygon_view.Axis.{Axis}
+use Rattle.ear_cut.specs.declared.polygon_view.Axis.TheVariants.{X, Y, Z}
+use Rattle.ear_cut.specs.declared.polygon_view.View.{View}
 use Rattle.exact_arith.specs.Space.{Vector, is_nowhere}
 
 -- the axis of the greatest component by size, the first on a tie

@@ -7,7 +7,7 @@ ghost use Rattle.ear_cut.specs.Limits.{most_corners};
 ghost use Rattle.ear_cut.specs.Corners.{corners_from, previous, next, turn_at, angle_of, by_sign, InGrid};
 
 use crate::normals::{cross, step};
-use crate::views::{View, area, is_zero, seen};
+use crate::polygon_view::{View, area, is_zero, seen};
 use bim_model::Point;
 use std::alloc::{AllocError, Global};
 

@@ -10,7 +10,7 @@ ghost use Rattle.ear_cut.specs.Fans.{spot_at, area_at, IsFanAt, IsFan};
 use crate::coordinates::Flat;
 use crate::corners::{Corner, Turn};
 use crate::ears::{Ear, ear_of};
-use crate::views::{View, area, seen};
+use crate::polygon_view::{View, area, seen};
 use std::alloc::{AllocError, Global};
 
 /// The i-th corner as the view shows it.

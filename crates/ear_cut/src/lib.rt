@@ -2,14 +2,14 @@
 #![tactic(auto)]
 
 mod coordinates;
+mod corner_frames;
+mod corner_notes;
 mod corners;
 mod ears;
 mod fans;
-mod frames;
 mod normals;
-mod notes;
+mod polygon_view;
 mod removal;
-mod views;
 
 pub use ears::Ear;
 pub use removal::{CutFault, MOST_CORNERS, cut};

@@ -8,13 +8,13 @@ ghost use Rattle.ear_cut.specs.Corners.{AreInGrid};
 ghost use Rattle.ear_cut.specs.Removal.{is_turned_over, cut_by, cut_of};
 ghost use Rattle.ear_cut.specs.Areas.{area_of_ears};
 
+use crate::corner_frames::frames_of;
+use crate::corner_notes::{notes_of, take_next};
 use crate::corners::{Angle, Corner, angle_of, corners_of, turn_at};
 use crate::ears::{Ear, ear_of};
 use crate::fans::fan_seen;
-use crate::frames::frames_of;
 use crate::normals::normal_of;
-use crate::notes::{notes_of, take_next};
-use crate::views::{View, view_of};
+use crate::polygon_view::{View, view_of};
 use bim_model::Point;
 use std::alloc::{AllocError, Global};
 

@@ -2,22 +2,22 @@
 #![tactic(auto)]
 
 mod bad;
-mod counts;
+mod face_counts;
 mod faces;
 mod indexes;
 mod naming;
 mod numbers;
 mod reaches;
-mod rows;
+mod set_surface;
 mod sets;
 mod stuck;
-mod surface;
+mod triangulated;
 
 pub use bad::has_bad_index;
-pub use counts::triangle_count;
+pub use face_counts::triangle_count;
 pub use faces::MOST_CORNERS;
 pub use indexes::place_of;
 pub use reaches::FaceReaches;
+pub use set_surface::set_triangles;
 pub use sets::{is_polygonal, is_set, outline};
 pub use stuck::least_stuck;
-pub use surface::set_triangles;

@@ -4,7 +4,7 @@ use Rattle.std.proofs.lemmas.List.{drop-append-le}
 use Rattle.bim_model.specs.Snapshots.{Version}
 use Rattle.book_history.specs.declared.changes.Change.{Change}
 use Rattle.book_history.specs.declared.changes.Change.TheVariants.{Upload, Remove, SetRules}
-use Rattle.book_history.specs.declared.faults.BookFault.{BookFault}
+use Rattle.book_history.specs.declared.book_fault.BookFault.{BookFault}
 use Rattle.book_history.specs.declared.limits.Limits.{Limits}
 use Rattle.book_history.specs.Versions.{VersionState, nothing, version_at, live_in, made_after}
 use Rattle.book_history.specs.Projects.{ProjectState, newest, newest_content, next_content, with_change, with_version, with_next}

@@ -10,7 +10,7 @@ use Rattle.book_turn.specs.declared.object.Stamp.{Stamp}
 use Rattle.book_topics.specs.Boards.{BoardState}
 use Rattle.book_topics.specs.Named.{topic_named, comment_named, view_named, comment_kept}
 use Rattle.book_history.specs.declared.changes.Entry.{Entry}
-use Rattle.book_history.specs.declared.faults.BookFault.{BookFault}
+use Rattle.book_history.specs.declared.book_fault.BookFault.{BookFault}
 use Rattle.book_history.specs.declared.replies.ReplyBody.{ReplyBody}
 use Rattle.book_history.specs.declared.replies.ReplyBody.TheVariants as reply
 use Rattle.book_history.specs.Requests.{Outcome, Refusal, Answer, found, view_told}

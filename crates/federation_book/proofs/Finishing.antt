@@ -12,8 +12,8 @@ use Rattle.bucket_check.specs.Clashes.{is_cell}
 use Rattle.bucket_check.specs.Sets.{SetValue}
 use Rattle.book_history.specs.declared.changes.Change.TheVariants.{BucketDone}
 use Rattle.book_history.specs.declared.changes.Entry.{Entry}
-use Rattle.book_history.specs.declared.faults.BookFault.{BookFault}
-use Rattle.book_history.specs.declared.faults.BookFault.TheVariants as fault
+use Rattle.book_history.specs.declared.book_fault.BookFault.{BookFault}
+use Rattle.book_history.specs.declared.book_fault.BookFault.TheVariants as fault
 use Rattle.book_history.specs.Buckets.{buckets_of, is_among}
 use Rattle.book_history.specs.Versions.{VersionState, nothing, version_at, with_done, is_done, live_in}
 use Rattle.book_history.specs.Projects.{ProjectState, newest, with_bucket}

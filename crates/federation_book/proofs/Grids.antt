@@ -5,7 +5,7 @@ use Rattle.std.proofs.lemmas.List.Elements.{All-head}
 use Rattle.bim_model.specs.declared.geometry.Extent.{Extent}
 use Rattle.bim_model.specs.Keys.{subjects_of}
 use Rattle.bim_model.specs.Snapshots.{Version}
-use Rattle.bucket_grid.specs.declared.table.Bucket.{Bucket}
+use Rattle.bucket_grid.specs.declared.bucket_table.Bucket.{Bucket}
 use Rattle.bucket_grid.specs.Cells.{memberships, IsBucket}
 use Rattle.bucket_grid.specs.Grids.{GridValue, HasMemberships}
 use Rattle.bucket_grid.specs.Subjects.{AreBoxes}

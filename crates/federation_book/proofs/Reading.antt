@@ -3,8 +3,8 @@ use Rattle.std.proofs.Common.{◌≡◌, ◌+◌, ◌-◌, ◌<◌, ◌≤◌, �
 use Rattle.std.proofs.lemmas.Bool.{leb-false}
 use Rattle.std.proofs.lemmas.Bool.Decides.{nat_tests}
 use Rattle.std.proofs.lemmas.List.{get_or_default, set-get_or}
-use Rattle.book_history.specs.declared.faults.BookFault.{BookFault}
-use Rattle.book_history.specs.declared.faults.BookFault.TheVariants as fault
+use Rattle.book_history.specs.declared.book_fault.BookFault.{BookFault}
+use Rattle.book_history.specs.declared.book_fault.BookFault.TheVariants as fault
 use Rattle.book_history.specs.declared.changes.Entry.{Entry}
 use Rattle.book_history.specs.Versions.{VersionState, nothing, version_at, live_in}
 use Rattle.book_history.specs.Projects.{ProjectState, newest}

@@ -9,8 +9,8 @@ use Rattle.bim_model.specs.Snapshots.{Version}
 use Rattle.bucket_grid.specs.Cells.{memberships}
 use Rattle.bucket_grid.specs.Grids.{HasMemberships}
 use Rattle.book_history.specs.declared.limits.Limits.{Limits}
-use Rattle.book_history.specs.declared.faults.BookFault.{BookFault}
-use Rattle.book_history.specs.declared.faults.BookFault.TheVariants as fault
+use Rattle.book_history.specs.declared.book_fault.BookFault.{BookFault}
+use Rattle.book_history.specs.declared.book_fault.BookFault.TheVariants as fault
 use Rattle.book_history.specs.Buckets.{memberships_of}
 use Rattle.book_history.specs.Refusals.{first_of, too_spread}
 use Rattle.book_history.specs.Weights.{told, elements_in}

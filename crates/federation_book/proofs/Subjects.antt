@@ -4,7 +4,7 @@ use Rattle.bim_model.specs.declared.element.Element.{Element}
 use Rattle.bim_model.specs.declared.rules.Rule.{Rule}
 use Rattle.bim_model.specs.declared.author.Author.{Author}
 use Rattle.bucket_check.specs.Sets.{SetValue}
-use Rattle.bcf_topics.specs.declared.body.TopicBody.{TopicBody}
+use Rattle.bcf_topics.specs.declared.topic_body.TopicBody.{TopicBody}
 use Rattle.bcf_topics.specs.declared.comment.CommentIn.{CommentIn}
 use Rattle.bcf_viewpoints.specs.declared.view.ViewBody.{ViewBody}
 use Rattle.book_history.specs.declared.requests.BookRequest.{BookRequest}

@@ -10,7 +10,7 @@ use Rattle.std.proofs.lemmas.Option.{slice_get-get_or, slice_get_past}
 use Rattle.bucket_grid.specs.declared.cell.Cell.{Cell}
 use Rattle.bucket_grid.specs.Table.{upto}
 use Rattle.book_history.specs.declared.changes.Entry.{Entry}
-use Rattle.book_history.specs.declared.faults.BookFault.TheVariants.{NoWork}
+use Rattle.book_history.specs.declared.book_fault.BookFault.TheVariants.{NoWork}
 use Rattle.book_history.specs.declared.replies.ReplyBody.TheVariants as reply
 use Rattle.book_history.specs.Orders.{OrderValue}
 use Rattle.book_history.specs.Versions.{VersionState}

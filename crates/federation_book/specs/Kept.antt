@@ -3,7 +3,7 @@ use Rattle.std.specs.Prelude.{◌≡◌, ◌≤◌, ℕ, ◌+◌, List, [], ◌�
 use Rattle.book_history.specs.declared.limits.TheConstants.{MOST_PROJECTS}
 use Rattle.book_history.specs.declared.limits.Settings.{Settings}
 use Rattle.book_history.specs.declared.changes.Entry.{Entry}
-use Rattle.book_history.specs.declared.faults.BookFault.{BookFault}
+use Rattle.book_history.specs.declared.book_fault.BookFault.{BookFault}
 use Rattle.book_history.specs.Settings.{IsWithinStated}
 use Rattle.book_history.specs.Versions.{live_in}
 use Rattle.book_history.specs.Projects.{ProjectState}

@@ -3,7 +3,7 @@ use Rattle.std.specs.Prelude.{◌≡◌, [], ◌∷◌, Option, Some, None, Resu
 use Rattle.bim_model.specs.Snapshots.{Version}
 use Rattle.bucket_grid.specs.Grids.{GridValue}
 use Rattle.book_history.specs.declared.limits.Limits.{Limits}
-use Rattle.book_history.specs.declared.faults.BookFault.{BookFault}
+use Rattle.book_history.specs.declared.book_fault.BookFault.{BookFault}
 use Rattle.book_history.specs.Versions.{VersionState, made_after}
 use Rattle.book_history.specs.Refusals.{first_of, elements_full, too_spread}
 use Rattle.federation_book.specs.declared.making.NextVersion.{NextVersion}

@@ -7,15 +7,17 @@ ghost use Rattle.federation_book.specs.Kept.{IsKept, settings_of};
 ghost use Rattle.federation_book.specs.Done.{IsDone};
 ghost use Rattle.federation_book.specs.Subjects.{subject_of};
 
-use crate::answers::{project_of, read_clashes, read_version};
 use crate::clash_topics::clash_topic;
-use crate::comments::{delete_comment, list_comments, post_comment, put_comment, read_comment};
+use crate::comment_requests::{
+    delete_comment, list_comments, post_comment, put_comment, read_comment,
+};
 use crate::making::{remove, set_rules, upload};
+use crate::project_reads::{project_of, read_clashes, read_version};
 use crate::projects::{list_projects, read_project};
 use crate::state::State;
 use crate::subject::{Subject, subject_of};
-use crate::topics::{delete_topic, list_topics, post_topic, put_topic, read_topic};
-use crate::views::{delete_view, list_views, post_view, read_view};
+use crate::topic_requests::{delete_topic, list_topics, post_topic, put_topic, read_topic};
+use crate::viewpoint_requests::{delete_view, list_views, post_view, read_view};
 use crate::working::{finish, take_work};
 use book_history::{BookRequest, ReplyBody, Stamp};
 use std::alloc::AllocError;

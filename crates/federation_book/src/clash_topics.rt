@@ -8,8 +8,8 @@ ghost use Rattle.federation_book.specs.Kept.{IsKept, settings_of};
 ghost use Rattle.federation_book.specs.Done.{IsDone};
 ghost use Rattle.federation_book.specs.Noting.{AreGuids};
 
-use crate::answers::read_clashes;
 use crate::noting::note;
+use crate::project_reads::read_clashes;
 use crate::state::State;
 use bcf_topics::Author;
 use bim_model::Guid;

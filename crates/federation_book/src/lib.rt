@@ -1,22 +1,22 @@
 //! The book: the history of all projects, and what follows from it.
 #![tactic(auto)]
 
-mod answers;
 mod asking;
 mod book;
 mod clash_topics;
-mod comments;
-mod counts;
+mod comment_requests;
 mod making;
 mod noting;
 mod project;
+mod project_reads;
 mod projects;
+mod quotas;
 mod sequence;
 mod state;
 mod subject;
-mod topics;
+mod topic_requests;
 mod version;
-mod views;
+mod viewpoint_requests;
 mod working;
 
 pub use book::Book;

@@ -8,8 +8,8 @@ ghost use Rattle.book_history.specs.Weights.{told, text_of, triangles_of};
 ghost use Rattle.book_history.specs.Refusals.{first_of, project_of, triangles_if, text_if, journal_if, left_if, store_full};
 ghost use Rattle.federation_book.specs.Kept.{KeepsProject, IsKept, settings_of};
 
-use crate::answers::project_of;
 use crate::project::{Project, left_in};
+use crate::project_reads::project_of;
 use book_history::{BookFault, Entry, Horizon, Limits, StoreWhat};
 use book_topics::Board;
 

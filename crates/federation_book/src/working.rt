@@ -7,8 +7,8 @@ ghost use Rattle.book_history.specs.Requests.{orders_from, all_orders, order_for
 ghost use Rattle.book_history.specs.Legal.{IsGiven};
 ghost use Rattle.federation_book.specs.Kept.{IsKept, settings_of};
 
-use crate::answers::{dropped, place_of};
 use crate::project::{Project, left_in};
+use crate::project_reads::{dropped, place_of};
 use crate::state::State;
 use crate::version::know;
 use bim_model::Shared;

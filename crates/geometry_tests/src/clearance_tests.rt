@@ -4,7 +4,7 @@ ghost use Rattle.bim_model.specs.Points.{IsInGrid};
 ghost use Rattle.tri_exact.specs.Limits.{distance_limit};
 ghost use Rattle.clearance.specs.Near.{ElementInGrid};
 
-use crate::samples::point;
+use crate::sample_points::point;
 use bim_model::{Element, GRID_LIMIT, Guid, Items, Steps, Text, Triangle};
 use clearance::{near, solids_near};
 use std::alloc::{AllocError, Global};

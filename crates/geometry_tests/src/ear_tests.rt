@@ -2,7 +2,7 @@
 ghost use Rattle.std.specs.Prelude.{All, IfOk};
 ghost use Rattle.bim_model.specs.Points.{IsGridPoint};
 
-use crate::samples::point;
+use crate::sample_points::point;
 use bim_model::{GRID_LIMIT, Point};
 use ear_cut::{CutFault, Ear, MOST_CORNERS, cut};
 use std::alloc::{AllocError, Global};

@@ -10,4 +10,4 @@ mod lane_tests;
 #[cfg(test)]
 mod predicate_tests;
 #[cfg(test)]
-mod samples;
+mod sample_points;

@@ -6,10 +6,10 @@ use Rattle.std.proofs.lemmas.List.{length-append, length-drop, take_all, take-ap
 use Rattle.httparse.specs.Grammar.{RequestHead, LineEnd, crlf, lf, print_blank}
 use Rattle.http_frame.specs.declared.types.FrameFault.{FrameFault}
 use Rattle.http_frame.specs.declared.watch.Watch.{Watch}
-use Rattle.http_frame.specs.declared.walk.Spot.{Spot}
-use Rattle.http_frame.specs.declared.walk.Spot.TheVariants.{Before, BeforeCr, Line, Fields}
-use Rattle.http_frame.specs.declared.walk.Place.TheVariants.{Start}
-use Rattle.http_frame.specs.declared.walk.Place.{Place}
+use Rattle.http_frame.specs.declared.field_lines.Spot.{Spot}
+use Rattle.http_frame.specs.declared.field_lines.Spot.TheVariants.{Before, BeforeCr, Line, Fields}
+use Rattle.http_frame.specs.declared.field_lines.Place.TheVariants.{Start}
+use Rattle.http_frame.specs.declared.field_lines.Place.{Place}
 use Rattle.http_frame.specs.declared.seen.GoodHead.{GoodHead}
 use Rattle.http_frame.specs.declared.seen.Seen.TheVariants as seen
 use Rattle.http_frame.specs.declared.head.Plan.{Plan}

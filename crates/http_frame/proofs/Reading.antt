@@ -15,7 +15,7 @@ use Rattle.std.proofs.Math.Seq.{take-append_seam}
 use Rattle.httparse.specs.Ascii.{crlf_bytes}
 use Rattle.httparse.specs.Grammar.{AllPass, ChunkLine, chunk_size, print_chunk_line, print_extension, IsField}
 use Rattle.http_frame.specs.declared.types.FrameFault.TheVariants.{BodyTooLong, BadChunk}
-use Rattle.http_frame.specs.declared.walk.Place.TheVariants as place
+use Rattle.http_frame.specs.declared.field_lines.Place.TheVariants as place
 use Rattle.http_frame.specs.declared.size_line.SizeSpot.{SizeSpot}
 use Rattle.http_frame.specs.declared.size_line.SizeSpot.TheVariants.{Digits, Extension, Cr, Whole, Wrong}
 use Rattle.http_frame.specs.declared.chunks.Part.{Part}

@@ -8,8 +8,8 @@ use Rattle.std.proofs.lemmas.Bool.{eqb-true}
 use Rattle.std.proofs.lemmas.List.Elements.{All-head, All-tail, All-cons, All-nil}
 use Rattle.httparse.specs.Grammar.{AllPass, is_token_byte, is_value_byte, Field, IsField, LineEnd, crlf, lf, print_end, print_field, print_section, ReadsSection}
 use Rattle.httparse.proofs.PieceLemmas.{print_field-append, token_is_no_newline, colon_ends_token}
-use Rattle.http_frame.specs.declared.walk.Place.{Place}
-use Rattle.http_frame.specs.declared.walk.Place.TheVariants.{Start, Name, Value, Cr, Last, Done, Dead}
+use Rattle.http_frame.specs.declared.field_lines.Place.{Place}
+use Rattle.http_frame.specs.declared.field_lines.Place.TheVariants.{Start, Name, Value, Cr, Last, Done, Dead}
 use Rattle.http_frame.specs.Scan.{step, run, IsOpen}
 
 pub run-append : (p : Place) (xs ys : List ℕ) → run p (xs ++ ys) ≡ run (run p xs) ys

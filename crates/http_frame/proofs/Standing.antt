@@ -22,7 +22,7 @@ use Rattle.http_frame.specs.declared.stage.Awaited.TheVariants.{Sized, Chunked, 
 use Rattle.http_frame.specs.declared.stage.Pending.{Pending}
 use Rattle.http_frame.specs.declared.stage.Stage.{Stage}
 use Rattle.http_frame.specs.declared.stage.Stage.TheVariants.{Head, Body, Failed}
-use Rattle.http_frame.specs.declared.steps.Stepped.{Stepped}
+use Rattle.http_frame.specs.declared.framer_steps.Stepped.{Stepped}
 use Rattle.http_frame.specs.Heads.{Framing, chunked, framing, most_body, HasGoodHead, FailsInHead}
 use Rattle.http_frame.specs.Bodies.{ReadsBody, FailsInBody}
 use Rattle.http_frame.specs.Events.{Begins, Fails, Asks, IsRest, IsTold}

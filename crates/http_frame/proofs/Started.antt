@@ -9,7 +9,7 @@ use Rattle.httparse.specs.Grammar.{LineEnd, crlf, lf, print_end, print_blank, pr
 use Rattle.httparse.specs.Pieces.{RequestStart, Stops, is_newline}
 use Rattle.httparse.proofs.PieceLemmas.{RequestStart_deterministic, Stops_token}
 use Rattle.httparse.proofs.GrammarLemmas.{request_pieces, request_from_pieces, request_tree, request_head}
-use Rattle.http_frame.specs.declared.walk.Place.TheVariants.{Start}
+use Rattle.http_frame.specs.declared.field_lines.Place.TheVariants.{Start}
 use Rattle.http_frame.specs.Heads.{before, begins_lf, line_at, first_line}
 use Rattle.http_frame.specs.Scan.{run, IsOpen, after_lf, after_line, Parts, IsStarted}
 use Rattle.http_frame.proofs.Lines.{token_no_lf, uri_no_lf, may_is_head}

@@ -9,8 +9,8 @@ use Rattle.httparse.specs.Grammar.{AllPass, is_token_byte, is_value_byte, Field,
 use Rattle.httparse.specs.Pieces.{FieldLine, FieldLines, BeginsLine}
 use Rattle.httparse.proofs.PieceLemmas.{print_field-append, token_is_no_newline, Section_skip, Section_line, FieldLine_deterministic, FieldLines-append, FieldLines_push}
 use Rattle.http_frame.specs.declared.types.FrameFault.TheVariants.{HeadTooLong, BadChunk}
-use Rattle.http_frame.specs.declared.walk.Place.{Place}
-use Rattle.http_frame.specs.declared.walk.Place.TheVariants.{Start, Name, Value, Cr, Last, Done, Dead}
+use Rattle.http_frame.specs.declared.field_lines.Place.{Place}
+use Rattle.http_frame.specs.declared.field_lines.Place.TheVariants.{Start, Name, Value, Cr, Last, Done, Dead}
 use Rattle.http_frame.specs.declared.chunks.Part.TheVariants.{Size, Data, Lf, Trailers}
 use Rattle.http_frame.specs.declared.chunks.ChunkStep.{ChunkStep}
 use Rattle.http_frame.specs.declared.chunks.ChunkStep.TheVariants as to

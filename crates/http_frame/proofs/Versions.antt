@@ -12,8 +12,8 @@ use Rattle.std.proofs.Math.Logic.{∥∥₁_elim}
 use Rattle.httparse.specs.Grammar.{RequestHead, LineEnd, crlf, lf, print_end, print_version, ReadsRequest}
 use Rattle.httparse.specs.Pieces.{RequestStart}
 use Rattle.httparse.proofs.GrammarLemmas.{request_pieces, request_tree}
-use Rattle.http_frame.specs.declared.walk.Spot.{Spot}
-use Rattle.http_frame.specs.declared.walk.Spot.TheVariants.{Before, BeforeCr, Line, Fields}
+use Rattle.http_frame.specs.declared.field_lines.Spot.{Spot}
+use Rattle.http_frame.specs.declared.field_lines.Spot.TheVariants.{Before, BeforeCr, Line, Fields}
 use Rattle.http_frame.specs.declared.watch.Watch.{Watch}
 use Rattle.http_frame.specs.Scan.{Parts, after_line, spot_run, IsAsked}
 use Rattle.http_frame.specs.Watched.{is_early, IsWatch}

@@ -4,12 +4,12 @@ use Rattle.std.proofs.lemmas.List.{take-append-drop}
 use Rattle.std.proofs.lemmas.Bool.{eqb-true}
 use Rattle.httparse.specs.declared.spans.HeaderSpan.{HeaderSpan}
 use Rattle.httparse.specs.Grammar.{HasNoRequest, NeverHasRequest}
-use Rattle.http_frame.specs.declared.judge.Judged.{Judged}
-use Rattle.http_frame.specs.declared.judge.Judged.TheVariants.{Open, Never, Head, Crowded}
-use Rattle.http_frame.specs.declared.walk.Place.{Place}
-use Rattle.http_frame.specs.declared.walk.Place.TheVariants.{Start, Name, Value, Cr, Last, Done, Dead}
-use Rattle.http_frame.specs.declared.walk.Spot.{Spot}
-use Rattle.http_frame.specs.declared.walk.Spot.TheVariants.{Before, BeforeCr, Line, Fields}
+use Rattle.http_frame.specs.declared.parser.Judged.{Judged}
+use Rattle.http_frame.specs.declared.parser.Judged.TheVariants.{Open, Never, Head, Crowded}
+use Rattle.http_frame.specs.declared.field_lines.Place.{Place}
+use Rattle.http_frame.specs.declared.field_lines.Place.TheVariants.{Start, Name, Value, Cr, Last, Done, Dead}
+use Rattle.http_frame.specs.declared.field_lines.Spot.{Spot}
+use Rattle.http_frame.specs.declared.field_lines.Spot.TheVariants.{Before, BeforeCr, Line, Fields}
 use Rattle.http_frame.specs.declared.watch.Look.TheVariants.{Unfinished, Hopeless}
 use Rattle.http_frame.specs.Heads.{before, begins_lf, line_at, first_line}
 use Rattle.http_frame.specs.Judged.{IsJudged}

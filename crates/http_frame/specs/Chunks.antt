@@ -6,8 +6,8 @@ use Rattle.std.specs.Str.Parse.{digits_value}
 use Rattle.httparse.specs.Grammar.{ChunkLine, chunk_size, Field}
 use Rattle.httparse.specs.Pieces.{FieldLines}
 use Rattle.http_frame.specs.declared.types.FrameFault.TheVariants.{HeadTooLong, BodyTooLong, BadChunk}
-use Rattle.http_frame.specs.declared.walk.Place.{Place}
-use Rattle.http_frame.specs.declared.walk.Place.TheVariants as place
+use Rattle.http_frame.specs.declared.field_lines.Place.{Place}
+use Rattle.http_frame.specs.declared.field_lines.Place.TheVariants as place
 use Rattle.http_frame.specs.declared.size_line.SizeSpot.{SizeSpot}
 use Rattle.http_frame.specs.declared.size_line.SizeSpot.TheVariants as spot
 use Rattle.http_frame.specs.declared.chunks.Part.{Part}

@@ -5,8 +5,8 @@ use Rattle.httparse.specs.declared.Error.TheVariants.{HeaderName, HeaderValue, N
 use Rattle.httparse.specs.declared.spans.HeaderSpan.{HeaderSpan}
 use Rattle.httparse.specs.Grammar.{HasNoRequest, NeverHasRequest, MayBecomeRequest}
 use Rattle.httparse.specs.Spans.{IsRequestOf, IsRequestWithin}
-use Rattle.http_frame.specs.declared.judge.Judged.{Judged}
-use Rattle.http_frame.specs.declared.judge.Judged.TheVariants.{Open, Never, Head, Crowded}
+use Rattle.http_frame.specs.declared.parser.Judged.{Judged}
+use Rattle.http_frame.specs.declared.parser.Judged.TheVariants.{Open, Never, Head, Crowded}
 
 -- open: no head yet, but more bytes make one; never: no head, whatever follows; a head: where its parts stand
 abbrev pub IsJudged : List ℕ → List HeaderSpan → Judged → Type 0

@@ -3,10 +3,10 @@ use Rattle.std.specs.Prelude.{ℕ, ◌==◌, List, [], ◌∷◌, if◌then◌el
 use Rattle.httparse.specs.Grammar.{is_token_byte, is_value_byte}
 use Rattle.httparse.specs.Grammar.{LineEnd}
 use Rattle.httparse.specs.Pieces.{RequestStart}
-use Rattle.http_frame.specs.declared.walk.Spot.{Spot}
-use Rattle.http_frame.specs.declared.walk.Spot.TheVariants.{Before, BeforeCr, Line, Fields}
-use Rattle.http_frame.specs.declared.walk.Place.{Place}
-use Rattle.http_frame.specs.declared.walk.Place.TheVariants.{Start, Name, Value, Cr, Last, Done, Dead}
+use Rattle.http_frame.specs.declared.field_lines.Spot.{Spot}
+use Rattle.http_frame.specs.declared.field_lines.Spot.TheVariants.{Before, BeforeCr, Line, Fields}
+use Rattle.http_frame.specs.declared.field_lines.Place.{Place}
+use Rattle.http_frame.specs.declared.field_lines.Place.TheVariants.{Start, Name, Value, Cr, Last, Done, Dead}
 use Rattle.http_frame.specs.Heads.{begins_lf}
 use Rattle.std.specs.Prelude.{◌||◌, ◌&&◌}
 

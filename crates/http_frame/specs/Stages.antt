@@ -10,15 +10,15 @@ use Rattle.http_frame.specs.declared.head.Plan.TheVariants as plan
 use Rattle.http_frame.specs.declared.seen.GoodHead.{GoodHead}
 use Rattle.http_frame.specs.declared.size_line.SizeSpot.TheVariants.{Digits}
 use Rattle.http_frame.specs.declared.chunks.Part.TheVariants.{Size}
-use Rattle.http_frame.specs.declared.walk.Spot.{Spot}
-use Rattle.http_frame.specs.declared.walk.Spot.TheVariants as spot
+use Rattle.http_frame.specs.declared.field_lines.Spot.{Spot}
+use Rattle.http_frame.specs.declared.field_lines.Spot.TheVariants as spot
 use Rattle.http_frame.specs.declared.watch.Watch.{Watch}
 use Rattle.http_frame.specs.declared.stage.Awaited.{Awaited}
 use Rattle.http_frame.specs.declared.stage.Awaited.TheVariants.{Sized, Chunked, Whole}
 use Rattle.http_frame.specs.declared.stage.Pending.{Pending}
 use Rattle.http_frame.specs.declared.stage.Stage.{Stage}
 use Rattle.http_frame.specs.declared.stage.Stage.TheVariants.{Head, Body, Failed}
-use Rattle.http_frame.specs.declared.steps.Stepped.{Stepped}
+use Rattle.http_frame.specs.declared.framer_steps.Stepped.{Stepped}
 use Rattle.http_frame.specs.Heads.{Framing, absent, sized, chunked, front, framing, most_body, HasGoodHead}
 use Rattle.http_frame.specs.Bodies.{ReadsBody}
 use Rattle.http_frame.specs.Events.{Fails, Asks, IsTold}

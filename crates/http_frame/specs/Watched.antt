@@ -3,12 +3,12 @@ use Rattle.std.specs.Prelude.{◌≡◌, ℕ, ◌<◌, List, length, Bool, true,
 use Rattle.httparse.specs.declared.spans.HeaderSpan.{HeaderSpan}
 use Rattle.httparse.specs.Grammar.{HasNoRequest, NeverHasRequest}
 use Rattle.httparse.specs.Spans.{IsRequestOf, IsRequestWithin}
-use Rattle.http_frame.specs.declared.judge.Judged.{Judged}
-use Rattle.http_frame.specs.declared.judge.Judged.TheVariants.{Open, Never, Head, Crowded}
-use Rattle.http_frame.specs.declared.walk.Place.{Place}
-use Rattle.http_frame.specs.declared.walk.Place.TheVariants as place
-use Rattle.http_frame.specs.declared.walk.Spot.{Spot}
-use Rattle.http_frame.specs.declared.walk.Spot.TheVariants.{Before, BeforeCr, Line, Fields}
+use Rattle.http_frame.specs.declared.parser.Judged.{Judged}
+use Rattle.http_frame.specs.declared.parser.Judged.TheVariants.{Open, Never, Head, Crowded}
+use Rattle.http_frame.specs.declared.field_lines.Place.{Place}
+use Rattle.http_frame.specs.declared.field_lines.Place.TheVariants as place
+use Rattle.http_frame.specs.declared.field_lines.Spot.{Spot}
+use Rattle.http_frame.specs.declared.field_lines.Spot.TheVariants.{Before, BeforeCr, Line, Fields}
 use Rattle.http_frame.specs.declared.watch.Watch.{Watch}
 use Rattle.http_frame.specs.declared.watch.Look.{Look}
 use Rattle.http_frame.specs.declared.watch.Look.TheVariants as look

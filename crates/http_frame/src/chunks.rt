@@ -3,10 +3,10 @@ ghost use Rattle.std.specs.Prelude.{◌≡◌, ◌≤◌, ◌<◌, ◌+◌, ◌=
 ghost use Rattle.std.specs.Char.{digit_value};
 ghost use Rattle.http_frame.specs.Chunks.{value_step, size_turn, trailers_on, trailer_turn, chunk_step, data_left, is_over, IsOrdered, Advances};
 
+use crate::field_lines::{Place, place_behind};
 use crate::moves::move_down;
 use crate::size_line::{SizeSpot, size_spot_behind};
 use crate::types::FrameFault;
-use crate::walk::{Place, place_behind};
 
 /// Where in a chunked body the next byte stands.
 #[derive(Clone, Copy, Debug, PartialEq, Eq)]

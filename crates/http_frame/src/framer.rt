@@ -3,10 +3,10 @@ ghost use Rattle.std.specs.Prelude.{◌≡◌, ◌≤◌, ◌↔◌, ℕ, List, 
 ghost use Rattle.std.proofs.Props.{props};
 ghost use Rattle.http_frame.specs.Stages.{IsSafe, IsSafe-prop, Keeps, Grows, is_failed, is_before};
 
+use crate::field_lines::{Spot, walk_on};
+use crate::framer_steps::step;
 use crate::stage::{Awaited, START, Stage};
-use crate::steps::step;
 use crate::types::{FrameError, FrameFault, FrameStep};
-use crate::walk::{Spot, walk_on};
 use std::alloc::{AllocError, Global};
 use std::mem;
 

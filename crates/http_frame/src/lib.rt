@@ -3,18 +3,18 @@
 
 mod chunks;
 mod facts;
+mod field_lines;
 mod framer;
+mod framer_steps;
 mod head;
-mod judge;
+mod http_version;
 mod laws;
 mod moves;
+mod parser;
 mod seen;
 mod size_line;
 mod stage;
-mod steps;
 mod types;
-mod version;
-mod walk;
 mod watch;
 
 pub use framer::Framer;

@@ -8,8 +8,8 @@ ghost use Rattle.http_frame.specs.Watched.{IsWatch};
 ghost use Rattle.http_frame.specs.Seen.{IsPlaced, IsHeadAt, IsSeen, IsSeenWith};
 
 use crate::head::{HeadFacts, Plan, asks, checked, facts_of};
+use crate::http_version::has_other_version;
 use crate::types::FrameFault;
-use crate::version::has_other_version;
 use crate::watch::{Look, Watch};
 use httparse::spans::{EMPTY_HEADER_SPAN, HeaderSpan, RequestSpans};
 use std::alloc::{AllocError, Global};

@@ -1,8 +1,8 @@
 //! What a framer keeps of the request that comes.
 use crate::chunks::Chunks;
+use crate::field_lines::Spot;
 use crate::head::HeadFacts;
 use crate::types::FrameFault;
-use crate::walk::Spot;
 use crate::watch::Watch;
 
 /// The body that is awaited.

@@ -2,8 +2,8 @@
 ghost use Rattle.std.specs.Prelude.{◌≡◌, ◌≤◌, length, take, drop};
 ghost use Rattle.http_frame.specs.Watched.{IsWatch, IsLook, is_early, look_of};
 
-use crate::judge::{Judged, ask_parser};
-use crate::walk::{Spot, is_open, walk_on};
+use crate::field_lines::{Spot, is_open, walk_on};
+use crate::parser::{Judged, ask_parser};
 use httparse::spans::{HeaderSpan, RequestSpans};
 
 /// How far the head of a request was taken.

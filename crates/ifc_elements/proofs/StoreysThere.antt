@@ -7,7 +7,7 @@ use Rattle.p21_reader.specs.Looking.{look}
 use Rattle.spatial_tree.specs.Climbing.{IsFirstStorey}
 use Rattle.spatial_tree.specs.Climbing as climbing
 use Rattle.spatial_tree.specs.Relations.{IsStorey}
-use Rattle.spatial_tree.specs.declared.storeys.Placed.{Placed}
+use Rattle.spatial_tree.specs.declared.storey_tree.Placed.{Placed}
 use Rattle.spatial_tree.specs.Placing.{placed}
 use Rattle.spatial_tree.specs.Trees.{StoreyOf, Next, ListsStoreys}
 

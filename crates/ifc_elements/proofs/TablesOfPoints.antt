@@ -13,8 +13,8 @@ use Rattle.p21_reader.specs.Places.{IsPlaceOf}
 use Rattle.p21_reader.proofs.PlaceLemmas.{found_at, some_instance, same_instance}
 use Rattle.ifc_units.specs.declared.scale.Scale.{Scale}
 use Rattle.ifc_units.specs.Lengths.{ArePoints, PointsRefused, Fails}
-use Rattle.ifc_units.specs.declared.fault.LengthError.{LengthError}
-use Rattle.ifc_units.specs.declared.fault.LengthError.TheVariants as error
+use Rattle.ifc_units.specs.declared.length_error.LengthError.{LengthError}
+use Rattle.ifc_units.specs.declared.length_error.LengthError.TheVariants as error
 use Rattle.ifc_units.proofs.PointFacts.{points_apart}
 use Rattle.ifc_elements.specs.PointTables.{IsListOf, Tabled, IsTable, kept_at, ListsPoints}
 

@@ -2,22 +2,24 @@
 //! TC1).
 #![tactic(auto)]
 
-mod element;
-mod items;
+mod body_items;
+mod kept_sets;
 mod lack;
-mod names;
+mod model_elements;
 mod points;
-mod sets;
 mod shapes;
+mod storey_names;
 mod storeys;
 mod surface;
 mod texts;
 
-pub use element::elements_of;
-pub use items::{is_body_representation, is_item, is_mapped_item, spelled_items, spelled_sets};
+pub use body_items::{
+    is_body_representation, is_item, is_mapped_item, spelled_items, spelled_sets,
+};
+pub use kept_sets::Sets;
 pub use lack::{Lack, Lacking};
-pub use names::Names;
+pub use model_elements::elements_of;
 pub use points::{kept_at, points_at, table_of};
-pub use sets::Sets;
 pub use shapes::{Shapes, bodies};
+pub use storey_names::Names;
 pub use texts::guid_of;

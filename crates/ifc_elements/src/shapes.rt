@@ -4,7 +4,7 @@ ghost use Rattle.ifc_elements.specs.Items.{bodies};
 ghost use Rattle.ifc_elements.specs.Finding.{Number};
 ghost use Rattle.ifc_elements.specs.Shapes.{AreShapes, PutsBodies, bodies_in};
 
-use crate::items::bodies_of;
+use crate::body_items::bodies_of;
 use bim_model::Items;
 use ifc_instances::Entity;
 use p21_reader::{Exchange, InstanceRef};

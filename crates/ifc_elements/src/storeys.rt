@@ -4,7 +4,7 @@ ghost use Rattle.spatial_tree.specs.Trees.{ListsStoreys};
 ghost use Rattle.ifc_elements.specs.Names.{AreNames};
 ghost use Rattle.ifc_elements.specs.Storeys.{IsStoreyName};
 
-use crate::names::Names;
+use crate::storey_names::Names;
 use crate::texts::name_of;
 use bim_model::{Duplicate, Text};
 use p21_reader::Exchange;

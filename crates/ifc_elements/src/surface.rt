@@ -14,8 +14,8 @@ ghost use Rattle.ifc_elements.specs.Shapes.{AreShapes};
 ghost use Rattle.ifc_elements.specs.Surfaces.{ItemSurface, moved};
 ghost use Rattle.ifc_elements.specs.Sound.{AreSets, ReadySet, ReadyMapped, ReadyItem, ReadyBody, Adds, KeptSet, KeptMapped, KeptItem, IsOut};
 
-use crate::items::{is_mapped_item, spelled_items, spelled_sets};
-use crate::sets::Sets;
+use crate::body_items::{is_mapped_item, spelled_items, spelled_sets};
+use crate::kept_sets::Sets;
 use crate::shapes::{Shapes, bodies};
 use bim_model::{Mode, Triangle};
 use ifc_units::Scale;

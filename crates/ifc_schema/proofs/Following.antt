@@ -18,9 +18,9 @@ use Rattle.ifc_schema.specs.declared.form.Shape.TheVariants as shape
 use Rattle.ifc_schema.specs.declared.form.Need.TheVariants.{Must}
 use Rattle.ifc_schema.specs.declared.form.When.{When}
 use Rattle.ifc_schema.specs.declared.form.When.TheVariants.{Always, WithBody, WithItems}
-use Rattle.ifc_schema.specs.declared.work.Mark.{Mark}
-use Rattle.ifc_schema.specs.declared.work.Mark.TheVariants.{Unseen, Used as Met, Mapped}
-use Rattle.ifc_schema.specs.declared.work.Work.{Work}
+use Rattle.ifc_schema.specs.declared.worklist.Mark.{Mark}
+use Rattle.ifc_schema.specs.declared.worklist.Mark.TheVariants.{Unseen, Used as Met, Mapped}
+use Rattle.ifc_schema.specs.declared.worklist.Work.{Work}
 use Rattle.ifc_schema.specs.Used.{is_root, Used, root, named, mapped, IsMapped, Names, NamesBy, Maps}
 use Rattle.ifc_schema.specs.Table.{row_of, attribute, row_at, row_or_none}
 use Rattle.p21_reader.specs.Looking.{look}

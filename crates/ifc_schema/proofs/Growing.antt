@@ -6,9 +6,9 @@ use Rattle.std.proofs.lemmas.List.Sums.{sum_by-set}
 use Rattle.std.proofs.lemmas.List.Elements.{Contains-append_left, Contains-push, Contains-push_cases}
 use Rattle.p21_reader.specs.declared.value.Instance.{Instance}
 use Rattle.ifc_schema.specs.declared.form.Targets.{Targets}
-use Rattle.ifc_schema.specs.declared.work.Mark.{Mark}
-use Rattle.ifc_schema.specs.declared.work.Mark.TheVariants.{Unseen, Used as Met, Mapped}
-use Rattle.ifc_schema.specs.declared.work.Work.{Work}
+use Rattle.ifc_schema.specs.declared.worklist.Mark.{Mark}
+use Rattle.ifc_schema.specs.declared.worklist.Mark.TheVariants.{Unseen, Used as Met, Mapped}
+use Rattle.ifc_schema.specs.declared.worklist.Work.{Work}
 use Rattle.ifc_schema.specs.Forms.{holds}
 use Rattle.p21_reader.specs.Places.{IsPlaceOf}
 use Rattle.ifc_schema.specs.Used.{LeadsTo}

@@ -7,9 +7,9 @@ use Rattle.ifc_instances.proofs.Rising.{below_next}
 use Rattle.p21_reader.specs.declared.value.Instance.{Instance}
 use Rattle.p21_reader.specs.Uploads.{Rises}
 use Rattle.ifc_schema.specs.declared.flaw.Flaw.{Flaw}
-use Rattle.ifc_schema.specs.declared.work.Mark.{Mark}
-use Rattle.ifc_schema.specs.declared.work.Mark.TheVariants.{Unseen, Used as Met, Mapped}
-use Rattle.ifc_schema.specs.declared.work.Work.{Work}
+use Rattle.ifc_schema.specs.declared.worklist.Mark.{Mark}
+use Rattle.ifc_schema.specs.declared.worklist.Mark.TheVariants.{Unseen, Used as Met, Mapped}
+use Rattle.ifc_schema.specs.declared.worklist.Work.{Work}
 use Rattle.p21_reader.specs.Looking.{look}
 use Rattle.ifc_instances.specs.Looking.{entity_at}
 use Rattle.p21_reader.specs.Places.{IsPlaceOf}

@@ -2,9 +2,9 @@
 use Rattle.std.specs.Prelude.{◌≡◌, ℕ, ◌+◌, ◌-◌, ◌*◌, ◌<◌, ◌≤◌, ◌⊎◌, Bool, true, false, List, length, Some, Contains, sum_by, slice_index_or}
 use Rattle.std.specs.List.{slice_get}
 use Rattle.p21_reader.specs.declared.value.Instance.{Instance}
-use Rattle.ifc_schema.specs.declared.work.Mark.{Mark}
-use Rattle.ifc_schema.specs.declared.work.Mark.TheVariants.{Unseen, Used as Met, Mapped}
-use Rattle.ifc_schema.specs.declared.work.Work.{Work}
+use Rattle.ifc_schema.specs.declared.worklist.Mark.{Mark}
+use Rattle.ifc_schema.specs.declared.worklist.Mark.TheVariants.{Unseen, Used as Met, Mapped}
+use Rattle.ifc_schema.specs.declared.worklist.Work.{Work}
 use Rattle.ifc_schema.specs.Used.{is_root, Used, IsMapped, Names, Maps}
 use Rattle.p21_reader.specs.Looking.{look}
 use Rattle.ifc_instances.specs.Looking.{entity_at}

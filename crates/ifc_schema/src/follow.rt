@@ -7,7 +7,7 @@ ghost use Rattle.ifc_schema.specs.Marks.{Grows, IsMarked, SoundAt, rank, rank_at
 
 use crate::body::applies;
 use crate::form::{Attribute, Shape, Targets};
-use crate::work::{Mark, Work};
+use crate::worklist::{Mark, Work};
 use ifc_instances::Entity;
 use p21_reader::{Exchange, InstanceRef, ValueRef, Values};
 use std::alloc::AllocError;

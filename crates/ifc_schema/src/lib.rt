@@ -2,23 +2,23 @@
 //! instances of a file are used.
 #![tactic(auto)]
 
+mod attribute_table;
 mod body;
-mod checks;
 mod flaw;
 mod follow;
 mod form;
 mod laws;
 mod outcome;
-mod table;
+mod surveying;
 mod views;
 mod visit;
 mod words;
-mod work;
+mod worklist;
 
 pub use body::is_body;
-pub use checks::survey;
 pub use laws::one_survey_fault;
 pub use outcome::Survey;
+pub use surveying::survey;
 pub use views::{
     AxisView, ElementView, FaceView, FacesetView, MappedView, OperatorView, PlacementView,
     RepresentationView, axis_placement, element, faceset, mapped_item, operator, placement,

@@ -9,10 +9,10 @@ ghost use Rattle.ifc_schema.specs.Bodies.{body_shapes};
 ghost use Rattle.ifc_schema.specs.Marks.{Grows, SoundAt, mark_at, rank_at, is_mapped, IsFollowed, FollowedAt, IsRootAt, Going, Known};
 ghost use Rattle.ifc_schema.specs.Table.{row_at};
 
+use crate::attribute_table::row_at;
 use crate::body::has_body;
 use crate::follow::{follow_attributes, follow_map};
-use crate::table::row_at;
-use crate::work::{Mark, Work};
+use crate::worklist::{Mark, Work};
 use ifc_instances::Entity;
 use p21_reader::{Exchange, InstanceRef};
 use std::alloc::{AllocError, Global};

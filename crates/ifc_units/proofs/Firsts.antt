@@ -1,9 +1,9 @@
 -- Values in a row: what they are, and the first that is refused.
 use Rattle.std.proofs.Common.{◌≡◌, ℕ, zero, suc, ◌+◌, ◌<◌, ◌≤◌, inl, inr, List, [], ◌∷◌, ◌++◌, length, get_or, take, refl, sym, ap, ap₂, ◌∙◌, subst, arith}
 use Rattle.std.specs.List.{AllZip}
-use Rattle.ifc_units.specs.declared.fault.GridFault.{GridFault}
-use Rattle.ifc_units.specs.declared.fault.LengthError.{LengthError}
-use Rattle.ifc_units.specs.declared.fault.LengthError.TheVariants as error
+use Rattle.ifc_units.specs.declared.length_error.GridFault.{GridFault}
+use Rattle.ifc_units.specs.declared.length_error.LengthError.{LengthError}
+use Rattle.ifc_units.specs.declared.length_error.LengthError.TheVariants as error
 use Rattle.ifc_units.specs.Lengths.{FirstRefused, IsUnread, Fails}
 
 module _ {X Y : Type 0} (R : X → Y → Type 0) (IsRefused : X → GridFault → Type 0) where

@@ -11,7 +11,7 @@ use Rattle.ifc_instances.specs.Entities.{is_of}
 use Rattle.p21_reader.specs.Values.{items_of}
 use Rattle.ifc_instances.specs.Looking.{is_a, is_keyword_of}
 use Rattle.ifc_units.specs.declared.scale.Scale.{Scale}
-use Rattle.ifc_units.specs.declared.fault.GridFault.{GridFault}
+use Rattle.ifc_units.specs.declared.length_error.GridFault.{GridFault}
 use Rattle.ifc_units.specs.Lengths.{PointRefused, PointsRefused, ListRefused, InstanceRefused}
 use Rattle.ifc_units.proofs.PointFacts.{one_point_fault, one_points_fault}
 

@@ -9,8 +9,8 @@ use Rattle.bim_text.proofs.Unique.{one_decimal}
 use Rattle.p21_reader.specs.declared.value.Value21.{Value21}
 use Rattle.p21_reader.specs.Values.{number_of}
 use Rattle.ifc_units.specs.declared.scale.Scale.{Scale}
-use Rattle.ifc_units.specs.declared.fault.GridFault.{GridFault}
-use Rattle.ifc_units.specs.declared.fault.GridFault.TheVariants.{OffGrid, TooFar}
+use Rattle.ifc_units.specs.declared.length_error.GridFault.{GridFault}
+use Rattle.ifc_units.specs.declared.length_error.GridFault.TheVariants.{OffGrid, TooFar}
 use Rattle.ifc_units.specs.Grid.{IsGridNumber, length_of}
 use Rattle.ifc_units.specs.Lengths.{units, reach, IsLength, HasFault, LengthRefused}
 use Rattle.ifc_units.proofs.Unique.{unique}

@@ -10,9 +10,9 @@ use Rattle.bim_model.specs.Models.{farthest, IsInReach}
 use Rattle.p21_reader.specs.declared.value.Value21.{Value21}
 use Rattle.p21_reader.specs.Values.{items_of}
 use Rattle.ifc_units.specs.declared.scale.Scale.{Scale}
-use Rattle.ifc_units.specs.declared.fault.GridFault.{GridFault}
-use Rattle.ifc_units.specs.declared.fault.LengthError.{LengthError}
-use Rattle.ifc_units.specs.declared.fault.LengthError.TheVariants as error
+use Rattle.ifc_units.specs.declared.length_error.GridFault.{GridFault}
+use Rattle.ifc_units.specs.declared.length_error.LengthError.{LengthError}
+use Rattle.ifc_units.specs.declared.length_error.LengthError.TheVariants as error
 use Rattle.ifc_units.specs.Lengths.{reach, IsLength, LengthRefused, HasLength, FirstRefused, IsPoint, PointRefused, ArePoints, PointsRefused, Fails}
 use Rattle.ifc_units.proofs.LengthFacts.{one_length, length_apart, one_length_fault}
 use Rattle.ifc_units.proofs.Firsts.{never_refused, one_first, one_row, fails_here}

@@ -1,9 +1,9 @@
 //! Points and lists of points as instances.
 ghost use Rattle.std.specs.Prelude.{MatchOption};
-ghost use Rattle.ifc_units.specs.declared.fault.GridFault.{GridFault};
+ghost use Rattle.ifc_units.specs.declared.length_error.GridFault.{GridFault};
 ghost use Rattle.ifc_units.specs.Lengths.{PointRefused, ListRefused, InstanceRefused};
 
-use crate::fault::GridFault;
+use crate::length_error::GridFault;
 use crate::lengths::{point, points_fault};
 use crate::scale::Scale;
 use bim_model::Mode;

@@ -8,7 +8,7 @@ ghost use Rattle.bim_text.specs.Values.{Scaled};
 ghost use Rattle.p21_reader.specs.declared.value.Value21.{Value21};
 ghost use Rattle.p21_reader.specs.declared.value.Instance.{Instance};
 ghost use Rattle.ifc_units.specs.declared.scale.Scale.{Scale};
-ghost use Rattle.ifc_units.specs.declared.fault.GridFault.{GridFault};
+ghost use Rattle.ifc_units.specs.declared.length_error.GridFault.{GridFault};
 ghost use Rattle.ifc_units.specs.Grid.{IsGridNumber};
 ghost use Rattle.ifc_units.specs.Lengths.{IsLength, LengthRefused, IsPoint, PointRefused, ArePoints, PointsRefused, InstanceRefused};
 ghost use Rattle.ifc_units.specs.Units.{IsLengthUnit, LengthUnitFault};

@@ -3,11 +3,11 @@ ghost use Rattle.std.specs.Prelude.{◌∷◌, [], IfOk, MatchOption, MatchResul
 ghost use Rattle.std.specs.List.{AllZip};
 ghost use Rattle.bim_model.specs.declared.geometry.Point.{Point};
 ghost use Rattle.p21_reader.specs.declared.value.Value21.{Value21};
-ghost use Rattle.ifc_units.specs.declared.fault.GridFault.{GridFault};
+ghost use Rattle.ifc_units.specs.declared.length_error.GridFault.{GridFault};
 ghost use Rattle.ifc_units.specs.Lengths.{IsLength, HasLength, LengthRefused, FirstRefused, IsPoint, PointRefused, ArePoints, PointsRefused, Fails};
 
-use crate::fault::{GridFault, LengthError};
-use crate::grid::to_grid;
+use crate::grid_lengths::to_grid;
+use crate::length_error::{GridFault, LengthError};
 use crate::scale::Scale;
 use bim_model::{Mode, Point};
 use bim_text::Decimal;

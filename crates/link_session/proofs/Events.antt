@@ -15,8 +15,8 @@ use Rattle.bcf_topics.specs.Comments.{comments_on}
 use Rattle.bcf_viewpoints.specs.Views.{views_on}
 use Rattle.book_topics.specs.Boards.{topic_at, comment_at, view_at}
 use Rattle.book_topics.specs.Named.{topic_named, comment_named, view_named}
-use Rattle.book_history.specs.declared.faults.BookFault.{BookFault}
-use Rattle.book_history.specs.declared.faults.BookFault.TheVariants.{NoTopic, NoComment, NoViewpoint}
+use Rattle.book_history.specs.declared.book_fault.BookFault.{BookFault}
+use Rattle.book_history.specs.declared.book_fault.BookFault.TheVariants.{NoTopic, NoComment, NoViewpoint}
 use Rattle.book_history.specs.declared.replies.ReplyBody.{ReplyBody}
 use Rattle.book_history.specs.declared.replies.ReplyBody.TheVariants as reply
 use Rattle.book_history.specs.declared.requests.Wanted.{Wanted}

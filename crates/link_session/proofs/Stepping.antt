@@ -8,8 +8,8 @@ use Rattle.http_frame.specs.declared.framer.Framer.{Framer}
 use Rattle.http_frame.specs.Events.{Event, IsRest, IsTold}
 use Rattle.http_frame.specs.Events as frame
 use Rattle.http_frame.specs.Framers.{Stands}
-use Rattle.book_turn.specs.declared.fault.CallFault.{CallFault}
-use Rattle.book_turn.specs.declared.fault.CallFault.TheVariants.{Memory, PassSpent}
+use Rattle.book_turn.specs.declared.call_fault.CallFault.{CallFault}
+use Rattle.book_turn.specs.declared.call_fault.CallFault.TheVariants.{Memory, PassSpent}
 use Rattle.book_turn.specs.declared.limits.TheConstants.{MOST_TURNS}
 use Rattle.book_history.specs.declared.requests.BookRequest.{BookRequest}
 use Rattle.book_history.specs.Runs.{Step}

@@ -13,8 +13,8 @@ use Rattle.book_history.specs.Runs.{Step}
 use Rattle.book_history.proofs.Histories.{AreOf, AreAbove, added_of, before_all, of_turn-grown, of_turn-new}
 use Rattle.book_passes.specs.Lessons.{CallerSeen, TakesTurn, own_of, stamp_in, turn_of}
 use Rattle.book_passes.proofs.Learning.{learns_none, learns_turn, learns_trans}
-use Rattle.book_turn.specs.declared.fault.CallFault.{CallFault}
-use Rattle.book_turn.specs.declared.fault.CallFault.TheVariants.{Memory, PassSpent}
+use Rattle.book_turn.specs.declared.call_fault.CallFault.{CallFault}
+use Rattle.book_turn.specs.declared.call_fault.CallFault.TheVariants.{Memory, PassSpent}
 use Rattle.bim_session.specs.Talking.{BookReceipt}
 use Rattle.link_session.specs.Callers.{entries_of, AreBy, AreWithin, GoesByPass, Skips, Calls, steps_of}
 

@@ -1,8 +1,8 @@
 -- What a caller of the book comes to know by its calls and its work.
 use Rattle.std.specs.Prelude.{◌≡◌, ◌⊎◌, ◌≤◌, ℕ, ◌++◌, List, [], ◌∷◌, Option, Some, Result, Ok, Err}
 use Rattle.std.specs.declared.alloc.AllocError.{AllocError}
-use Rattle.book_turn.specs.declared.fault.CallFault.{CallFault}
-use Rattle.book_turn.specs.declared.fault.CallFault.TheVariants.{Memory, PassSpent}
+use Rattle.book_turn.specs.declared.call_fault.CallFault.{CallFault}
+use Rattle.book_turn.specs.declared.call_fault.CallFault.TheVariants.{Memory, PassSpent}
 use Rattle.book_turn.specs.declared.limits.TheConstants.{MOST_TURNS}
 use Rattle.book_history.specs.declared.limits.Settings.{Settings}
 use Rattle.book_history.specs.declared.changes.Entry.{Entry}

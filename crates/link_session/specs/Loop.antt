@@ -4,7 +4,7 @@ use Rattle.std.specs.declared.alloc.AllocError.{AllocError}
 use Rattle.bim_io.specs.Causes.{Rose}
 use Rattle.bim_io.specs.Seen.{SourceSeen, SinkSeen, Outside, SourceGives, SinkTakes}
 use Rattle.book_history.specs.declared.limits.Settings.{Settings}
-use Rattle.book_turn.specs.declared.fault.CallFault.{CallFault}
+use Rattle.book_turn.specs.declared.call_fault.CallFault.{CallFault}
 use Rattle.book_history.specs.declared.requests.BookRequest.{BookRequest}
 use Rattle.book_history.specs.Runs.{Step}
 use Rattle.book_passes.specs.Lessons.{CallerSeen}

@@ -7,7 +7,7 @@ ghost use Rattle.link_session.specs.Callers.{GoesByPass};
 use crate::caller::Caller;
 use bim_net::Gate;
 use book_history::BookRequest;
-use book_turn::fault::CallFault;
+use book_turn::call_fault::CallFault;
 use book_turn::pass::Pass;
 use book_turn::turn::{Receipt, Turn};
 use federation_book::Book;

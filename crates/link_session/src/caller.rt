@@ -7,7 +7,7 @@ ghost use Rattle.book_passes.specs.Lessons.{CallerSeen};
 ghost use Rattle.link_session.specs.Callers.{Calls, steps_of, WorksBehind};
 
 use book_history::BookRequest;
-use book_turn::fault::CallFault;
+use book_turn::call_fault::CallFault;
 use book_turn::turn::Receipt;
 use federation_book::Book;
 use std::alloc::AllocError;

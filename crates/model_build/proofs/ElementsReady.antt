@@ -21,14 +21,14 @@ use Rattle.ifc_schema.specs.Surveys.{IsModelElement, used_ids, element_ids, is_s
 use Rattle.ifc_schema.proofs.Listing.{element_used}
 use Rattle.p21_reader.proofs.PlaceLemmas.{place_found}
 use Rattle.ifc_units.specs.declared.scale.Scale.{Scale}
-use Rattle.ifc_units.specs.declared.fault.GridFault.{GridFault}
+use Rattle.ifc_units.specs.declared.length_error.GridFault.{GridFault}
 use Rattle.ifc_units.specs.Lengths.{IsPoint, ArePoints, PointRefused, PointsRefused, ListRefused}
 use Rattle.placement.specs.declared.frame.Frame.{Frame}
 use Rattle.placement.specs.Frames.{lengths_of, frame_at}
 use Rattle.placement.specs.Operators.{IsOrigin, OperatorFrame}
 use Rattle.faceset.specs.Sets.{is_set, is_polygonal, points_of, spelled_points, spelled_triangles, faces_of, listed_in, HasThree, IsOutlined}
 use Rattle.p21_reader.specs.Attributes.{listed, reference_at}
-use Rattle.model_build.specs.declared.file.File.{File}
+use Rattle.model_build.specs.declared.judged_file.File.{File}
 use Rattle.model_build.specs.Stages.{IsUsed}
 use Rattle.ifc_elements.specs.PointTables.{IsTable, ListsPoints, kept_at}
 use Rattle.model_build.specs.LengthFaults.{LengthFault, told_of}

@@ -9,7 +9,7 @@ use Rattle.p21_reader.specs.declared.value.Instance.{Instance}
 use Rattle.ifc_schema.specs.declared.outcome.Survey.{Survey}
 use Rattle.ifc_schema.specs.Surveys.{Surveyed, IsModelElement, used_ids, element_ids}
 use Rattle.spatial_tree.specs.Trees.{IsTree, IsRefused}
-use Rattle.model_build.specs.declared.file.File.{File}
+use Rattle.model_build.specs.declared.judged_file.File.{File}
 use Rattle.model_build.specs.Faults.{IsClear, first_fault}
 use Rattle.model_build.specs.Guids.{NoneRepeats}
 use Rattle.model_build.specs.Least.{NoneOf, IsVoided, IsOblique}

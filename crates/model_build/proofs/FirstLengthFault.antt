@@ -11,7 +11,7 @@ use Rattle.p21_reader.specs.Looking.{look}
 use Rattle.p21_reader.specs.Places.{IsPlaceOf}
 use Rattle.p21_reader.proofs.PlaceLemmas.{found_at, same_instance}
 use Rattle.ifc_units.specs.declared.scale.Scale.{Scale}
-use Rattle.ifc_units.specs.declared.fault.GridFault.{GridFault}
+use Rattle.ifc_units.specs.declared.length_error.GridFault.{GridFault}
 use Rattle.ifc_units.specs.Lengths.{ArePoints, PointsRefused, ListRefused, InstanceRefused}
 use Rattle.ifc_units.proofs.PointFacts.{points_apart}
 use Rattle.ifc_units.proofs.InstanceFacts.{not_both}

@@ -8,7 +8,7 @@ use Rattle.bim_model.specs.declared.geometry.Point.{Point}
 use Rattle.p21_reader.specs.declared.value.Value21.{Value21}
 use Rattle.p21_reader.specs.declared.value.Instance.{Instance}
 use Rattle.ifc_instances.specs.declared.entity.Entity.TheVariants as entity
-use Rattle.model_build.specs.declared.file.File.{File}
+use Rattle.model_build.specs.declared.judged_file.File.{File}
 use Rattle.p21_reader.specs.Values.{reference_of, is_absent}
 use Rattle.ifc_schema.specs.Surveys.{IsModelElement, element_ids}
 use Rattle.ifc_schema.proofs.Listing.{element_used}

@@ -8,9 +8,9 @@ use Rattle.bim_model.specs.declared.upload.Mode.{Mode}
 use Rattle.p21_reader.specs.declared.value.Value21.{Value21}
 use Rattle.p21_reader.specs.Values.{items_of}
 use Rattle.ifc_units.specs.declared.scale.Scale.{Scale}
-use Rattle.ifc_units.specs.declared.fault.GridFault.TheVariants.{OffGrid, TooFar}
-use Rattle.ifc_units.specs.declared.fault.LengthError.{LengthError}
-use Rattle.ifc_units.specs.declared.fault.LengthError.TheVariants.{Unread, Refused}
+use Rattle.ifc_units.specs.declared.length_error.GridFault.TheVariants.{OffGrid, TooFar}
+use Rattle.ifc_units.specs.declared.length_error.LengthError.{LengthError}
+use Rattle.ifc_units.specs.declared.length_error.LengthError.TheVariants.{Unread, Refused}
 use Rattle.ifc_units.specs.Grid.{IsGridNumber, length_of}
 use Rattle.ifc_units.specs.Lengths.{units, reach, IsLength, LengthRefused, IsUnread, Fails}
 use Rattle.ifc_units.proofs.LengthFacts.{one_scaled}

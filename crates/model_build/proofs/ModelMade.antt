@@ -18,7 +18,7 @@ use Rattle.bim_model.specs.declared.upload.UploadFault.TheVariants as faults
 use Rattle.bim_model.specs.declared.geometry.Point.{Point}
 use Rattle.bim_model.specs.declared.geometry.Triangle.{Triangle}
 use Rattle.bim_model.specs.Boxes.{corners_of}
-use Rattle.model_build.specs.declared.file.File.{File}
+use Rattle.model_build.specs.declared.judged_file.File.{File}
 use Rattle.ifc_schema.specs.Surveys.{IsModelElement, Lists, used_ids, element_ids}
 use Rattle.ifc_units.specs.declared.scale.Scale.{Scale}
 use Rattle.model_build.specs.Faults.{IsClear}

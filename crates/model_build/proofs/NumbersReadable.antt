@@ -7,8 +7,8 @@ use Rattle.bim_model.specs.declared.upload.Mode.{Mode}
 use Rattle.bim_model.specs.declared.geometry.Point.{Point}
 use Rattle.p21_reader.specs.declared.value.Value21.{Value21}
 use Rattle.ifc_units.specs.declared.scale.Scale.{Scale}
-use Rattle.ifc_units.specs.declared.fault.GridFault.{GridFault}
-use Rattle.ifc_units.specs.declared.fault.GridFault.TheVariants.{OffGrid, TooFar}
+use Rattle.ifc_units.specs.declared.length_error.GridFault.{GridFault}
+use Rattle.ifc_units.specs.declared.length_error.GridFault.TheVariants.{OffGrid, TooFar}
 use Rattle.ifc_units.specs.Lengths.{reach, IsLength, LengthRefused, IsPoint, PointRefused, ArePoints, PointsRefused}
 use Rattle.model_build.proofs.AttributesFormed.{SpellsNumber}
 use Rattle.model_build.proofs.UsedFormed.{ThreeOf}

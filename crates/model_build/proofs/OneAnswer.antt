@@ -22,7 +22,7 @@ use Rattle.ifc_schema.specs.Surveys.{IsModelElement}
 use Rattle.ifc_schema.specs.Used.{Used}
 use Rattle.ifc_schema.proofs.OneFlaw.{one_survey_fault}
 use Rattle.ifc_units.specs.declared.scale.Scale.{Scale}
-use Rattle.ifc_units.specs.declared.fault.GridFault.{GridFault}
+use Rattle.ifc_units.specs.declared.length_error.GridFault.{GridFault}
 use Rattle.ifc_units.specs.Lengths.{InstanceRefused}
 use Rattle.ifc_units.proofs.UnitFacts.{one_unit, one_unit_fault}
 use Rattle.ifc_units.proofs.InstanceFacts.{one_instance_fault}

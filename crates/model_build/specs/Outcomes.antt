@@ -10,7 +10,7 @@ use Rattle.ifc_units.specs.Units.{IsLengthUnit}
 use Rattle.ifc_units.specs.declared.scale.Scale.{Scale}
 use Rattle.spatial_tree.specs.Trees.{IsTree, ListsStoreys}
 use Rattle.placement.specs.Chains.{AreChains}
-use Rattle.model_build.specs.declared.file.File.{File}
+use Rattle.model_build.specs.declared.judged_file.File.{File}
 use Rattle.model_build.specs.Faults.{Stage, IsClear}
 use Rattle.model_build.specs.Stages.{UnitStage}
 use Rattle.ifc_elements.specs.Finding.{Finds}

@@ -15,12 +15,12 @@ ghost use Rattle.ifc_elements.specs.Shapes.{AreShapes};
 ghost use Rattle.model_build.specs.Outcomes.{IsErrorOf, HasChains, HaveFewCorners};
 
 use crate::counts::count_triangles;
-use crate::faces::{first_voided, some_has_many_corners};
 use crate::guids::first_repeated;
 use crate::least::{first_bad_index, first_oblique};
 use crate::mapping::least_mapping;
-use crate::named::placements;
-use crate::stuck::first_stuck;
+use crate::named_placements::placements;
+use crate::uncut_faces::first_stuck;
+use crate::unread_faces::{first_voided, some_has_many_corners};
 use crate::unsupported::{least_in_bodies, least_in_mapped, lesser};
 use bim_model::{BuildError, Items, Many, Mode, Point, UploadFault};
 use ifc_elements::Shapes;

@@ -3,17 +3,17 @@
 
 mod checks;
 mod counts;
-mod faces;
-mod file;
 mod guids;
+mod judged_file;
 mod laws;
 mod least;
-mod lengths;
+mod length_faults;
 mod mapping;
-mod named;
+mod named_placements;
 mod order;
 mod stages;
-mod stuck;
+mod uncut_faces;
+mod unread_faces;
 mod unsupported;
 
 pub use laws::{instances_have_one_answer, profile_has_one_answer};

@@ -18,8 +18,8 @@ use crate::checks::{
     chains_of, corners_fault, guid_fault, index_fault, item_fault, oblique_fault, stuck_fault,
     triangles_fault, void_fault,
 };
-use crate::file::File;
-use crate::lengths::first_length_fault;
+use crate::judged_file::File;
+use crate::length_faults::first_length_fault;
 use crate::order::in_order;
 use bim_model::{BuildError, Bytes, Items, Mode, Model, Point, UploadFault};
 use ifc_elements::{Lack, Names, Sets, Shapes, elements_of, table_of};

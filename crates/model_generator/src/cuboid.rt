@@ -3,7 +3,7 @@ ghost use Rattle.std.specs.Prelude.{◌≡◌, ◌*◌, ◌+◌, ◌<◌, ◌/�
 ghost use Rattle.model_generator.specs.Numbers.{after, state_at};
 ghost use Rattle.model_generator.specs.Cuboids.{cuboid_of, IsSmall};
 
-use crate::numbers::draw;
+use crate::pseudorandom::draw;
 
 /// A cuboid by its low corner and its sizes, in millimetres.
 #[derive(Clone, Copy, Debug, PartialEq, Eq)]

@@ -3,8 +3,8 @@
 
 mod cuboid;
 mod lines;
-mod numbers;
 mod phrases;
 mod pieces;
+mod pseudorandom;
 
 pub use pieces::{MOST_GENERATED, Pieces};

@@ -5,8 +5,8 @@ use Rattle.bim_model.specs.declared.upload.Mode.{Mode}
 use Rattle.p21_reader.specs.declared.value.Value21.{Value21}
 use Rattle.p21_reader.specs.declared.value.Instance.{Instance}
 use Rattle.ifc_units.specs.declared.scale.Scale.{Scale}
-use Rattle.ifc_units.specs.declared.fault.LengthError.{LengthError}
-use Rattle.ifc_units.specs.declared.fault.LengthError.TheVariants.{Unread, Refused}
+use Rattle.ifc_units.specs.declared.length_error.LengthError.{LengthError}
+use Rattle.ifc_units.specs.declared.length_error.LengthError.TheVariants.{Unread, Refused}
 use Rattle.ifc_units.specs.Lengths.{IsPoint, PointRefused, Fails}
 use Rattle.ifc_units.proofs.PointFacts.{point_apart}
 use Rattle.placement.specs.declared.frame.Frame.{Frame}

@@ -9,7 +9,7 @@ use bim_io::Clock;
 use bim_net::{Door, EndKind, Gate, LinkEnd};
 use bim_session::SessionEnd;
 use book_history::BookRequest;
-use book_turn::fault::{CallFault, SpentPass};
+use book_turn::call_fault::{CallFault, SpentPass};
 use book_turn::pass::Pass;
 use book_turn::turn::Turn;
 use check_workers::Lack;

@@ -10,7 +10,7 @@ ghost use Rattle.check_workers.specs.Joins.{IsNewWorker, WorkerOver, HasEach, Ar
 use crate::lane::{LaneEnd, serve_lane};
 use bim_io::Clock;
 use bim_net::{Door, Gate};
-use book_turn::fault::SpentPass;
+use book_turn::call_fault::SpentPass;
 use book_turn::limits::MOST_PASSES;
 use book_turn::pass::Pass;
 use book_turn::turn::Turn;

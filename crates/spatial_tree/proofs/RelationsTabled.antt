@@ -2,10 +2,10 @@
 use Rattle.std.proofs.Common.{◌≡◌, ℕ, ◌<◌, inl, inr, List, length, get_or, Contains, Option, Some, None, refl, sym, ap, subst, arith}
 use Rattle.bim_model.specs.declared.upload.UploadFault.TheVariants as faults
 use Rattle.p21_reader.specs.declared.value.Instance.{Instance}
-use Rattle.spatial_tree.specs.declared.link.Link.{Link}
+use Rattle.spatial_tree.specs.declared.relations.Link.{Link}
 use Rattle.spatial_tree.specs.declared.step.Step.{Step}
 use Rattle.spatial_tree.specs.declared.mark.Mark.{Mark}
-use Rattle.spatial_tree.specs.declared.storeys.Placed.{Placed}
+use Rattle.spatial_tree.specs.declared.storey_tree.Placed.{Placed}
 use Rattle.spatial_tree.specs.Relations.{HasContainer, HasWhole, IsStorey}
 use Rattle.spatial_tree.specs.Trees.{Next, IsTorn, IsTree, LeastTreeFault, ListsStoreys, ListsStoreyIds, HasTreeFault}
 use Rattle.spatial_tree.specs.Onlys.{Has, ListsLinks}

@@ -13,7 +13,7 @@ use Rattle.ifc_instances.proofs.Rising.{below_next}
 use Rattle.spatial_tree.specs.declared.step.Step.{Step}
 use Rattle.spatial_tree.specs.declared.mark.Mark.{Mark}
 use Rattle.spatial_tree.specs.declared.mark.Mark.TheVariants.{Unseen, OnWay, Looped, Settled}
-use Rattle.spatial_tree.specs.declared.storeys.Placed.{Placed}
+use Rattle.spatial_tree.specs.declared.storey_tree.Placed.{Placed}
 use Rattle.spatial_tree.specs.Climbing.{IsAbove, IsFirstStorey}
 use Rattle.spatial_tree.specs.Placing.{placed, Tells, ArePlaced}
 use Rattle.spatial_tree.specs.Steps.{Goes, IsRound, Finds, here, further, storey_at, AreStepsOf}

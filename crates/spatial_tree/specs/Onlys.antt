@@ -1,6 +1,6 @@
 -- The pairs of objects that relations name, and how many different numbers are above an object.
 use Rattle.std.specs.Prelude.{ℕ, ◌==◌, List, Contains, Option, Some, None, ◌⊎◌, if◌then◌else◌, Bool, true, false}
-use Rattle.spatial_tree.specs.declared.link.Link.{Link}
+use Rattle.spatial_tree.specs.declared.relations.Link.{Link}
 use Rattle.spatial_tree.specs.declared.only.Only.{Only}
 use Rattle.spatial_tree.specs.declared.only.Only.TheVariants.{Nothing, One, Several}
 use Rattle.spatial_tree.specs.Climbing.{IsOnly, HasTwo}

@@ -3,7 +3,7 @@ use Rattle.std.specs.Prelude.{◌≡◌, ℕ, ◌<◌, true, List, length, Conta
 use Rattle.std.specs.List.{slice_get}
 use Rattle.std.specs.List.Sorted.{IsStrictlyIncreasing}
 use Rattle.spatial_tree.specs.declared.step.Step.{Step}
-use Rattle.spatial_tree.specs.declared.link.Link.{Link}
+use Rattle.spatial_tree.specs.declared.relations.Link.{Link}
 use Rattle.spatial_tree.specs.Climbing.{HasTwo, IsNext, IsAbove}
 use Rattle.spatial_tree.specs.Onlys.{Has}
 

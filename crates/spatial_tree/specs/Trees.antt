@@ -5,7 +5,7 @@ use Rattle.bim_model.specs.declared.upload.UploadFault.TheVariants as faults
 use Rattle.bim_model.specs.declared.upload.BuildError.{BuildError}
 use Rattle.bim_model.specs.declared.upload.BuildError.TheVariants.{Fault, Memory}
 use Rattle.p21_reader.specs.declared.value.Instance.{Instance}
-use Rattle.spatial_tree.specs.declared.storeys.Placed.{Placed}
+use Rattle.spatial_tree.specs.declared.storey_tree.Placed.{Placed}
 use Rattle.spatial_tree.specs.Placing.{placed}
 use Rattle.spatial_tree.specs.Relations.{HasContainer, HasWhole, IsStorey}
 use Rattle.spatial_tree.specs.Climbing.{HasTwo, IsNext, IsAbove, IsFirstStorey}

@@ -4,10 +4,10 @@ ghost use Rattle.std.specs.List.Sorted.{IsNonDecreasing};
 ghost use Rattle.spatial_tree.specs.Trees.{IsTree, IsRefused, ListsStoreys, ListsStoreyIds};
 ghost use Rattle.spatial_tree.specs.Faults.{IsFirstFault};
 
-use crate::link::links_of;
 use crate::mark::{Mark, mark_at, survey};
+use crate::relations::links_of;
 use crate::step::{Step, table_of};
-use crate::storeys::{Tree, placed_by};
+use crate::storey_tree::{Tree, placed_by};
 use bim_model::{BuildError, UploadFault};
 use ifc_instances::Entity;
 use p21_reader::{Exchange, Instances};

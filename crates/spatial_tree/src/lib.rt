@@ -4,12 +4,12 @@
 
 mod build;
 mod laws;
-mod link;
 mod mark;
 mod only;
+mod relations;
 mod step;
-mod storeys;
+mod storey_tree;
 
 pub use build::tree;
 pub use laws::one_storey;
-pub use storeys::{Placed, Tree};
+pub use storey_tree::{Placed, Tree};

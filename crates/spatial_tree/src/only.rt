@@ -3,7 +3,7 @@ ghost use Rattle.std.specs.Prelude.{◌≡◌, ◌||◌, IsSortedByKey};
 ghost use Rattle.std.specs.Ordering.{nat_cmp};
 ghost use Rattle.spatial_tree.specs.Onlys.{Has, Counts, with_number, is_several, next_in};
 
-use crate::link::Link;
+use crate::relations::Link;
 
 /// How many different numbers there are.
 #[derive(Clone, Copy)]

@@ -5,8 +5,8 @@ ghost use Rattle.std.specs.Ordering.{nat_cmp};
 ghost use Rattle.spatial_tree.specs.Onlys.{Has};
 ghost use Rattle.spatial_tree.specs.Steps.{NextIn, TornIn, IsPlaceIn, IsStepOf, AreStepsOf, IsTableOf};
 
-use crate::link::Link;
 use crate::only::{count_above, is_torn, next_above};
+use crate::relations::Link;
 use std::alloc::{AllocError, Global};
 
 /// What is known of the way up from an object.

@@ -9,7 +9,7 @@ ghost use Rattle.tri_exact.specs.Pierce.{Rises, PiercesFace, weight_a, weight_b,
 
 use crate::V3;
 use crate::edges::edge_edge_within;
-use crate::faces::point_face_within;
+use crate::point_face::point_face_within;
 use crate::products::{difference, height, normal_to, orient};
 
 /// Whether the segment pq goes up through the triangle abc, the ends' heights being known.

@@ -6,12 +6,12 @@ ghost use Rattle.bim_model.specs.Points.{step_limit, cross_limit};
 
 mod crossing;
 mod edges;
-mod faces;
+mod point_face;
 pub mod products;
 
 pub use crossing::{edge_pierces, segment_crosses};
 pub use edges::{edge_edge_within, is_beside, is_crossing, point_edge_within};
-pub use faces::{is_inside, point_face_within};
+pub use point_face::{is_inside, point_face_within};
 pub use products::{cross, dot, orient};
 
 /// The greatest distance that the tests take, in grid numbers. It holds a metre also at ten grid numbers a millimetre.

@@ -1,6 +1,6 @@
 use Rattle.std.proofs.Common.{Option, inl, inr, refl, subst, arith}
 use Rattle.bim_io.specs.Seen.{outside}
-use Rattle.bim_server.specs.declared.words.ReplayWords.{ReplayWords}
+use Rattle.bim_server.specs.declared.replay_words.ReplayWords.{ReplayWords}
 use Rattle.bim_server.specs.Commands.{Does}
 use Rattle.batch_commands.proofs.Answered.{unread_status, unwritten_status}
 use Rattle.bim_server.proofs.commands.run_replay.Goals as goal

@@ -1,6 +1,6 @@
 use Rattle.std.proofs.Common.{◌+◌, ◌-◌, ◌/◌, sym, ap, ◌∙◌, arith}
 use Rattle.bucket_grid.specs.Cells.{cell_cmp}
-use Rattle.bucket_grid.specs.declared.table.Bucket.{Bucket}
+use Rattle.bucket_grid.specs.declared.bucket_table.Bucket.{Bucket}
 use Rattle.bucket_grid.proofs.Searching.{go_up, go_down}
 use Rattle.bucket_grid.proofs.search.place_of.Goals as goal
 

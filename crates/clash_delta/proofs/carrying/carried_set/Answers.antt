@@ -1,5 +1,5 @@
 use Rattle.std.proofs.Common.{List, true≢false, sym, subst, ◌∙◌}
-use Rattle.bucket_grid.specs.declared.table.Bucket.{Bucket}
+use Rattle.bucket_grid.specs.declared.bucket_table.Bucket.{Bucket}
 use Rattle.bucket_grid.specs.Grids.{GridValue}
 use Rattle.bucket_grid.specs.Table.{IsTable}
 use Rattle.clash_delta.specs.Carried.{IsUnmovedAt}

@@ -1,7 +1,7 @@
 use Rattle.std.proofs.Common.{◌≡◌, ℕ, ◌<◌, ◌≤◌, length, get_or, take}
 use Rattle.std.specs.List.{AllZip}
 use Rattle.std.specs.declared.cmp.Ordering.TheVariants.{Less}
-use Rattle.bucket_grid.specs.declared.table.Bucket.{Bucket}
+use Rattle.bucket_grid.specs.declared.bucket_table.Bucket.{Bucket}
 use Rattle.bucket_grid.specs.Cells.{cell_cmp}
 use Rattle.clash_delta.proofs.Buckets.{IsFor}
 use Rattle.clash_delta.proofs.carrying.carry.Given as goal

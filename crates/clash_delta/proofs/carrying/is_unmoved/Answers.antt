@@ -4,7 +4,7 @@ use Rattle.bim_model.specs.declared.geometry.Extent.{Extent}
 use Rattle.bim_model.specs.declared.named_model.NamedModel.{NamedModel}
 use Rattle.bim_model.specs.Keys.{subjects_of, IsBelow}
 use Rattle.bim_model.proofs.Rising.{subjects_rise}
-use Rattle.bucket_grid.specs.declared.table.Bucket.{Bucket}
+use Rattle.bucket_grid.specs.declared.bucket_table.Bucket.{Bucket}
 use Rattle.bucket_grid.specs.Subjects.{AreBoxes}
 use Rattle.bucket_grid.specs.Table.{IsTable}
 use Rattle.bucket_grid.proofs.Zips.{zip_length}

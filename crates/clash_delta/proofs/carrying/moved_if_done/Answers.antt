@@ -1,8 +1,8 @@
 use Rattle.std.proofs.Common.{◌≡◌, List, get_or, is_none, sym, ap, subst, ◌∙◌}
-use Rattle.bucket_grid.specs.declared.table.Bucket.{Bucket}
+use Rattle.bucket_grid.specs.declared.bucket_table.Bucket.{Bucket}
 use Rattle.bucket_grid.specs.Grids.{GridValue}
 use Rattle.bucket_grid.specs.Table.{IsTable}
-use Rattle.bucket_check.specs.declared.work.BucketWork.{BucketWork}
+use Rattle.bucket_check.specs.declared.bucket_work.BucketWork.{BucketWork}
 use Rattle.bucket_check.specs.Sets.{SetValue, IsUnmoved, IsSetOf}
 use Rattle.clash_delta.specs.declared.slot.Slot.{Slot}
 use Rattle.clash_delta.specs.Places.{Rise}

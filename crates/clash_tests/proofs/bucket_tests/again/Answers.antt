@@ -4,7 +4,7 @@ use Rattle.bim_model.specs.Keys.{Subject}
 use Rattle.bucket_grid.specs.declared.cell.Cell.{Cell}
 use Rattle.bucket_grid.specs.Cells.{members}
 use Rattle.bucket_grid.specs.Grids.{GridValue}
-use Rattle.bucket_check.specs.declared.work.BucketWork.{BucketWork}
+use Rattle.bucket_check.specs.declared.bucket_work.BucketWork.{BucketWork}
 use Rattle.bucket_check.specs.Sets.{IsSame, subjects_at, IsUnmoved}
 use Rattle.clash_tests.proofs.bucket_tests.again.Goals as goal
 

@@ -1,6 +1,6 @@
 use Rattle.std.proofs.Common.{◌∙◌, ap, sym, Bool, Option, cond, rules, w64, FitsSigned}
 use Rattle.std.proofs.lemmas.Int.{to_z-of_z}
-use Rattle.ear_cut.specs.declared.views.View.{View}
+use Rattle.ear_cut.specs.declared.polygon_view.View.{View}
 use Rattle.ear_cut.specs.declared.corners.Angle.TheVariants.{Straight, Reflex}
 use Rattle.ear_cut.specs.Views.{Spot, area, seen}
 use Rattle.ear_cut.specs.Registers.{as_spot}

@@ -1,6 +1,6 @@
 use Rattle.std.proofs.Common.{length, sym, ◌∙◌, ap}
 use Rattle.book_history.specs.declared.changes.Change.TheVariants.{ClashTopic}
-use Rattle.book_history.specs.declared.faults.BookFault.TheVariants.{NoProject}
+use Rattle.book_history.specs.declared.book_fault.BookFault.TheVariants.{NoProject}
 use Rattle.book_history.specs.Versions.{version_at}
 use Rattle.book_history.specs.History.{state_of, content_of}
 use Rattle.book_history.specs.Refusals.{project_of}

@@ -1,7 +1,7 @@
 use Rattle.std.proofs.Common.{◌∷◌, sym, refl, ◌∙◌, ap}
 use Rattle.bim_model.specs.Snapshots.{Version, without_model}
 use Rattle.book_history.specs.declared.changes.Change.TheVariants.{Remove}
-use Rattle.book_history.specs.declared.faults.BookFault.TheVariants.{NoModel}
+use Rattle.book_history.specs.declared.book_fault.BookFault.TheVariants.{NoModel}
 use Rattle.book_history.specs.Versions.{VersionState}
 use Rattle.book_history.specs.Projects.{with_change}
 use Rattle.book_history.specs.History.{state_of}

@@ -1,5 +1,5 @@
 use Rattle.std.proofs.Common.{length, sym, refl}
-use Rattle.book_history.specs.declared.faults.BookFault.TheVariants.{NoProject}
+use Rattle.book_history.specs.declared.book_fault.BookFault.TheVariants.{NoProject}
 use Rattle.book_history.specs.declared.replies.ReplyBody.TheVariants as reply
 use Rattle.book_history.specs.Refusals.{project_of}
 use Rattle.book_history.specs.Requests.{Answer}

@@ -4,7 +4,7 @@ use Rattle.std.proofs.lemmas.List.{length-set}
 use Rattle.bucket_grid.specs.declared.cell.Cell.{Cell}
 use Rattle.bucket_grid.specs.Cells.{IsBucket}
 use Rattle.bucket_grid.specs.Grids.{GridValue}
-use Rattle.bucket_check.specs.declared.work.BucketWork.{BucketWork}
+use Rattle.bucket_check.specs.declared.bucket_work.BucketWork.{BucketWork}
 use Rattle.bucket_check.specs.Sets.{SetValue}
 use Rattle.book_turn.specs.Entries.{listed}
 use Rattle.book_history.specs.declared.changes.Change.TheVariants.{BucketDone}

@@ -1,6 +1,6 @@
 use Rattle.std.proofs.Common.{ℕ, length, sym, ap, arith}
 use Rattle.p21_reader.specs.declared.value.Value21.{Value21}
-use Rattle.ifc_schema.specs.declared.work.Work.{Work}
+use Rattle.ifc_schema.specs.declared.worklist.Work.{Work}
 use Rattle.ifc_schema.specs.Used.{RefersTo, SomeItem, LeadsTo}
 use Rattle.ifc_schema.specs.Marks.{IsMarked}
 use Rattle.p21_reader.proofs.Turns.{turn, ended}

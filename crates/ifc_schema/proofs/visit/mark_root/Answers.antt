@@ -2,7 +2,7 @@ use Rattle.std.proofs.Common.{◌≡◌, ℕ, Bool, true, false, get_or, sym, ap
 use Rattle.std.specs.Bool.{OnTrue, OnFalse}
 use Rattle.std.proofs.lemmas.Option.{get_or_from_slice_get}
 use Rattle.p21_reader.specs.declared.value.Instance.{Instance}
-use Rattle.ifc_schema.specs.declared.work.Mark.TheVariants.{Used as Met}
+use Rattle.ifc_schema.specs.declared.worklist.Mark.TheVariants.{Used as Met}
 use Rattle.ifc_schema.specs.Used.{is_root}
 use Rattle.ifc_instances.specs.Looking.{entity_at}
 use Rattle.p21_reader.specs.Places.{IsPlaceOf}

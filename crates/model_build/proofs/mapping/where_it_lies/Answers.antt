@@ -1,5 +1,5 @@
 use Rattle.std.proofs.Common.{ap, ◌∙◌}
-use Rattle.ifc_units.specs.declared.fault.LengthError.TheVariants.{Refused}
+use Rattle.ifc_units.specs.declared.length_error.LengthError.TheVariants.{Refused}
 use Rattle.model_build.proofs.LocationsAway.{at_zero, off_zero, fails_far, fails_off, fails_unread}
 use Rattle.model_build.proofs.mapping.where_it_lies.Goals as goal
 

@@ -1,5 +1,5 @@
 use Rattle.std.proofs.Common.{◌≡◌, map, take}
-use Rattle.bucket_grid.specs.declared.table.Bucket.{Bucket}
+use Rattle.bucket_grid.specs.declared.bucket_table.Bucket.{Bucket}
 use Rattle.clash_delta.proofs.Fresh.{empty}
 use Rattle.clash_delta.proofs.progress.Progress.fresh.Given as goal
 

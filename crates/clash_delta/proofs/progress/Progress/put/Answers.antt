@@ -1,6 +1,6 @@
 use Rattle.std.proofs.Common.{◌≡◌, List, get_or, is_none, not, refl, sym, ap, subst, ◌∙◌}
 use Rattle.bucket_grid.specs.declared.cell.Cell.{Cell}
-use Rattle.bucket_check.specs.declared.work.BucketWork.{BucketWork}
+use Rattle.bucket_check.specs.declared.bucket_work.BucketWork.{BucketWork}
 use Rattle.bucket_check.specs.Sets.{SetValue, own_places}
 use Rattle.clash_delta.specs.declared.slot.Slot.{Slot}
 use Rattle.clash_delta.specs.declared.progress.PutAnswer.TheVariants.{Taken, AlreadyDone}

@@ -1,6 +1,6 @@
 use Rattle.std.proofs.Common.{◌≡◌, ◌≤◌, length, drop, ◌∙◌, ap, subst, arith}
 use Rattle.http_frame.specs.declared.stage.Stage.{Stage}
-use Rattle.http_frame.specs.declared.walk.Spot.TheVariants.{Before}
+use Rattle.http_frame.specs.declared.field_lines.Spot.TheVariants.{Before}
 use Rattle.http_frame.specs.Framers.{Stands}
 use Rattle.http_frame.specs.Scan.{spot_run}
 use Rattle.http_frame.specs.Stages.{StandsAt, is_before}

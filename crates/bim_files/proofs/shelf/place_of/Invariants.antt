@@ -1,7 +1,0 @@
-use Rattle.std.proofs.Common.{◌≡◌, All, take, false}
-use Rattle.bim_files.specs.declared.shelf.MemFile.{MemFile}
-use Rattle.bim_files.specs.Memory.{has_name}
-use Rattle.bim_files.proofs.shelf.place_of.Given as goal
-
-abbrev pub invariant-places : goal.invariant-places
-invariant-places l = All (λ (file : MemFile). has_name l.name file ≡ false) (take l.place l.files)

@@ -1,6 +1,0 @@
-use Rattle.std.proofs.Common.{take, All}
-use Rattle.bim_model.specs.Models.{IsModelled}
-use Rattle.bim_model.proofs.checks.are_modelled.Given as goal
-
-abbrev pub invariant-loop-element : goal.invariant-loop-element
-invariant-loop-element l = All IsModelled (take l.element-index l.elements)

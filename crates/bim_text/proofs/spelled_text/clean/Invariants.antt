@@ -1,0 +1,12 @@
+use Rattle.std.proofs.Common.{◌≡◌, ◌-◌, ◌≤◌, ◌++◌, length, drop}
+use Rattle.bim_text.specs.Texts.{cleaned}
+use Rattle.bim_text.proofs.spelled_text.clean.Given as goal
+
+abbrev pub invariant-loop-at : goal.invariant-loop-at
+invariant-loop-at l = record {
+  within : l.at ≤ length l.spelled;
+  bytes : l.bytes.items ++ cleaned (drop l.at l.spelled) ≡ cleaned l.spelled;
+}
+
+abbrev pub decreases-loop-at : goal.decreases-loop-at
+decreases-loop-at l = length l.initial.spelled - l.at

@@ -1,9 +1,0 @@
-use Rattle.std.proofs.Common.{◌≡◌, ◌++◌, length}
-use Rattle.bucket_grid.specs.Table.{slab}
-use Rattle.bucket_grid.proofs.table.add_slab.Given as goal
-
-abbrev pub invariant-loop-place : goal.invariant-loop-place
-invariant-loop-place l = record {
-  so_far : l.buckets ≡ l.fn.buckets ++ slab l.axes.y l.axes.z l.low l.place (length l.fn.zs) l.numbers;
-  count : length l.zs ≡ length l.fn.zs;
-}

@@ -1,6 +1,0 @@
-use Rattle.std.proofs.Common.{ℕ, ◌<◌}
-use Rattle.clearance.specs.Runs.{NoneInRow}
-use Rattle.clearance.proofs.runs.all_near.Given as goal
-
-abbrev pub invariant-loop-start : goal.invariant-loop-start
-invariant-loop-start l = (i : ℕ) → i < l.start → NoneInRow l.ps i l.qs l.fn.d

@@ -1,0 +1,14 @@
+use Rattle.std.proofs.Common.{subst}
+use Rattle.bim_model.specs.declared.geometry.Triangle.{Triangle}
+use Rattle.bim_model.specs.Points.{shape_of}
+use Rattle.clearance.specs.Boxes.{InExtent}
+use Rattle.clearance.proofs.Gaps.{near_swaps}
+use Rattle.clearance.proofs.OffBoxes.{off_far}
+use Rattle.clearance.proofs.triangle_runs.any_near.Goals as goal
+
+pub returns-then-is_off : goal.returns-then-is_off
+returns-then-is_off c = (
+  λ x. absurd (cc x),
+  λ (k, q, lt, e, n). absurd (off_far c.args.around c.extent_of-extent.result (shape_of q) (shape_of c.args.p.now) c.args.d (subst (λ (y : Triangle). InExtent c.args.around (shape_of y)) e (c.requires.inside k q lt)) c.extent_of-extent.ensures.inside (c.is_off.ensures.0 c.if-is_off.true)
+      (near_swaps (shape_of c.args.p.now) (shape_of q) c.args.d n)),
+)

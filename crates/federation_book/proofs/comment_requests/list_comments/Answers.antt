@@ -1,0 +1,43 @@
+use Rattle.std.proofs.Common.{length, Some, None, refl, sym, ap, ◌∙◌}
+use Rattle.bcf_topics.specs.Comments.{comments_on}
+use Rattle.book_topics.specs.Boards.{BoardState}
+use Rattle.book_topics.specs.Named.{topic_named}
+use Rattle.book_history.specs.declared.book_fault.BookFault.TheVariants.{NoProject, NoTopic}
+use Rattle.book_history.specs.declared.replies.ReplyBody.TheVariants as reply
+use Rattle.book_history.specs.History.{board_of}
+use Rattle.book_history.specs.Refusals.{project_of}
+use Rattle.book_history.specs.Requests.{Answer, in_topic}
+use Rattle.federation_book.proofs.Finding.{none_told, one_told, answer_told, topic_is}
+use Rattle.federation_book.proofs.comment_requests.list_comments.Goals as goal
+
+pub returns-in_default : goal.returns-in_default
+returns-in_default c =
+    let h = c.args.state.now.entries.items in
+    let count = length c.args.state.now.projects.items in
+    none_told h NoProject (project_of count c.args.project)
+    (λ n. in_topic h n c.args.topic (λ t. Answer (reply.CommentList (comments_on t (board_of n h).discussion.comments)))) (sym c.in_default.ensures.is)
+
+pub returns-in_default-topic_named : goal.returns-in_default-topic_named
+returns-in_default-topic_named c =
+    let h = c.args.state.now.entries.items in
+    let count = length c.args.state.now.projects.items in
+    let number = c.in-Some.number in
+    let lent = c.board-board.result.now in
+    let board = board_of number h in
+    one_told h NoProject (project_of count c.args.project) number
+    (λ n. in_topic h n c.args.topic (λ t. Answer (reply.CommentList (comments_on t (board_of n h).discussion.comments)))) (reply.Refused NoTopic) (sym c.in-Some.ensures.is)
+    (none_told h NoTopic (topic_named number board c.args.topic)
+    (λ t. Answer (reply.CommentList (comments_on t board.discussion.comments))) (topic_is lent board number c.args.topic None None c.board-board.ensures c.in_default-topic_named.ensures.named refl))
+
+pub returns : goal.returns
+returns c =
+    let h = c.args.state.now.entries.items in
+    let count = length c.args.state.now.projects.items in
+    let number = c.in-Some.number in
+    let lent = c.board-board.result.now in
+    let board = board_of number h in
+    one_told h NoProject (project_of count c.args.project) number
+    (λ n. in_topic h n c.args.topic (λ t. Answer (reply.CommentList (comments_on t (board_of n h).discussion.comments)))) (reply.CommentList c.in_ok-comments.comments) (sym c.in-Some.ensures.is)
+    (one_told h NoTopic (topic_named number board c.args.topic) c.in-Some-topic_named.topic
+    (λ t. Answer (reply.CommentList (comments_on t board.discussion.comments))) (reply.CommentList c.in_ok-comments.comments) (topic_is lent board number c.args.topic (Some c.in-Some-topic_named.topic) (Some c.in-Some-topic_named.topic) c.board-board.ensures c.in-Some-topic_named.ensures.named refl)
+    (answer_told h (reply.CommentList c.in_ok-comments.comments) _ (ap reply.CommentList (c.in_ok-comments.ensures ∙ ap (λ (b : BoardState). comments_on c.in-Some-topic_named.topic b.discussion.comments) c.board-board.ensures))))

@@ -1,0 +1,68 @@
+use Rattle.std.proofs.Common.{length, Some, None, IsSome, refl, sym, subst}
+use Rattle.book_topics.specs.Boards.{BoardState, topic_at}
+use Rattle.book_topics.specs.Named.{topic_named, comment_kept}
+use Rattle.book_history.specs.declared.changes.Change.TheVariants as change
+use Rattle.book_history.specs.declared.book_fault.BookFault.TheVariants.{NoProject, NoTopic, NoViewpoint}
+use Rattle.book_history.specs.declared.replies.ReplyBody.TheVariants as reply
+use Rattle.book_history.specs.History.{board_of}
+use Rattle.book_history.specs.Refusals.{project_of}
+use Rattle.book_history.specs.Requests.{noted, in_topic, with_body}
+use Rattle.federation_book.specs.Kept.{settings_of}
+use Rattle.federation_book.proofs.Finding.{none_done, one_done, some_done, topic_is, body_is}
+use Rattle.federation_book.proofs.comment_requests.post_comment.Goals as goal
+
+pub returns-in_default-clause-done : goal.returns-in_default-clause-done
+returns-in_default-clause-done c =
+    let h = c.args.state.now.entries.items in
+    let settings = settings_of c.args.state.now in
+    let count = length c.args.state.now.projects.items in
+    none_done h c.args.stamp NoProject (project_of count c.args.project)
+    (λ n. in_topic h n c.args.topic (λ t. with_body h n t c.args.body (λ b. noted settings h n (change.PostComment t b c.args.author c.args.weight)))) (sym c.in_default.ensures.is)
+
+pub returns-in_default-topic_named-clause-done : goal.returns-in_default-topic_named-clause-done
+returns-in_default-topic_named-clause-done c =
+    let h = c.args.state.now.entries.items in
+    let settings = settings_of c.args.state.now in
+    let count = length c.args.state.now.projects.items in
+    let number = c.in-Some.number in
+    let lent = c.board-board.result.now in
+    let board = board_of number h in
+    one_done h h c.args.stamp NoProject (project_of count c.args.project) number
+    (λ n. in_topic h n c.args.topic (λ t. with_body h n t c.args.body (λ b. noted settings h n (change.PostComment t b c.args.author c.args.weight)))) (reply.Refused NoTopic) (sym c.in-Some.ensures.is)
+    (none_done h c.args.stamp NoTopic (topic_named number board c.args.topic)
+    (λ t. with_body h number t c.args.body (λ b. noted settings h number (change.PostComment t b c.args.author c.args.weight))) (topic_is lent board number c.args.topic None None c.board-board.ensures c.in_default-topic_named.ensures.named refl))
+
+pub returns-in_default-comment_kept-clause-done : goal.returns-in_default-comment_kept-clause-done
+returns-in_default-comment_kept-clause-done c =
+    let h = c.args.state.now.entries.items in
+    let settings = settings_of c.args.state.now in
+    let count = length c.args.state.now.projects.items in
+    let number = c.in-Some.number in
+    let lent = c.board-board.result.now in
+    let board = board_of number h in
+    one_done h h c.args.stamp NoProject (project_of count c.args.project) number
+    (λ n. in_topic h n c.args.topic (λ t. with_body h n t c.args.body (λ b. noted settings h n (change.PostComment t b c.args.author c.args.weight)))) (reply.Refused NoViewpoint) (sym c.in-Some.ensures.is)
+    (one_done h h c.args.stamp NoTopic (topic_named number board c.args.topic) c.in-Some-topic_named.topic
+    (λ t. with_body h number t c.args.body (λ b. noted settings h number (change.PostComment t b c.args.author c.args.weight))) (reply.Refused NoViewpoint) (topic_is lent board number c.args.topic (Some c.in-Some-topic_named.topic) (Some c.in-Some-topic_named.topic) c.board-board.ensures c.in-Some-topic_named.ensures.named refl)
+    (none_done h c.args.stamp NoViewpoint (comment_kept number board c.in-Some-topic_named.topic c.args.body)
+    (λ b. noted settings h number (change.PostComment c.in-Some-topic_named.topic b c.args.author c.args.weight)) (body_is lent board number c.in-Some-topic_named.topic c.args.body None None c.board-board.ensures c.in_default-comment_kept.ensures refl)))
+
+pub returns-clause-done : goal.returns-clause-done
+returns-clause-done c =
+    let h = c.args.state.now.entries.items in
+    let settings = settings_of c.args.state.now in
+    let count = length c.args.state.now.projects.items in
+    let number = c.in-Some.number in
+    let lent = c.board-board.result.now in
+    let board = board_of number h in
+    some_done c.note.result h c.note.new.state.entries.items c.args.stamp NoProject (project_of count c.args.project) number
+    (λ n. in_topic h n c.args.topic (λ t. with_body h n t c.args.body (λ b. noted settings h n (change.PostComment t b c.args.author c.args.weight)))) (sym c.in-Some.ensures.is)
+    (some_done c.note.result h c.note.new.state.entries.items c.args.stamp NoTopic (topic_named number board c.args.topic) c.in-Some-topic_named.topic
+    (λ t. with_body h number t c.args.body (λ b. noted settings h number (change.PostComment t b c.args.author c.args.weight))) (topic_is lent board number c.args.topic (Some c.in-Some-topic_named.topic) (Some c.in-Some-topic_named.topic) c.board-board.ensures c.in-Some-topic_named.ensures.named refl)
+    (some_done c.note.result h c.note.new.state.entries.items c.args.stamp NoViewpoint (comment_kept number board c.in-Some-topic_named.topic c.args.body) c.in-Some-comment_kept.body
+    (λ b. noted settings h number (change.PostComment c.in-Some-topic_named.topic b c.args.author c.args.weight)) (body_is lent board number c.in-Some-topic_named.topic c.args.body (Some c.in-Some-comment_kept.body) (Some c.in-Some-comment_kept.body) c.board-board.ensures c.in-Some-comment_kept.ensures refl)
+    (c.note.ensures.done)))
+
+pub note-requires-clause-fits : goal.note-requires-clause-fits
+note-requires-clause-fits c =
+    subst (λ (b : BoardState). IsSome (topic_at b c.in-Some-topic_named.topic)) c.board-board.ensures c.in-Some-topic_named.ensures.there

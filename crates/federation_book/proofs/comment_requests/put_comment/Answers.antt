@@ -1,0 +1,87 @@
+use Rattle.std.proofs.Common.{length, Some, None, IsSome, refl, sym, subst}
+use Rattle.book_topics.specs.Boards.{BoardState, topic_at, comment_at}
+use Rattle.book_topics.specs.Named.{topic_named, comment_named, comment_kept}
+use Rattle.book_history.specs.declared.changes.Change.TheVariants as change
+use Rattle.book_history.specs.declared.book_fault.BookFault.TheVariants.{NoProject, NoTopic, NoComment, NoViewpoint}
+use Rattle.book_history.specs.declared.replies.ReplyBody.TheVariants as reply
+use Rattle.book_history.specs.History.{board_of}
+use Rattle.book_history.specs.Refusals.{project_of}
+use Rattle.book_history.specs.Requests.{noted, in_topic, in_comment, with_body}
+use Rattle.federation_book.specs.Kept.{settings_of}
+use Rattle.federation_book.proofs.Finding.{none_done, one_done, some_done, topic_is, comment_is, body_is}
+use Rattle.federation_book.proofs.comment_requests.put_comment.Goals as goal
+
+pub returns-in_default-clause-done : goal.returns-in_default-clause-done
+returns-in_default-clause-done c =
+    let h = c.args.state.now.entries.items in
+    let settings = settings_of c.args.state.now in
+    let count = length c.args.state.now.projects.items in
+    none_done h c.args.stamp NoProject (project_of count c.args.project)
+    (λ n. in_topic h n c.args.topic (λ t. in_comment h n t c.args.comment (λ m. with_body h n t c.args.body (λ b. noted settings h n (change.PutComment t m b c.args.author c.args.weight))))) (sym c.in_default.ensures.is)
+
+pub returns-in_default-topic_named-clause-done : goal.returns-in_default-topic_named-clause-done
+returns-in_default-topic_named-clause-done c =
+    let h = c.args.state.now.entries.items in
+    let settings = settings_of c.args.state.now in
+    let count = length c.args.state.now.projects.items in
+    let number = c.in-Some.number in
+    let lent = c.board-board.result.now in
+    let board = board_of number h in
+    one_done h h c.args.stamp NoProject (project_of count c.args.project) number
+    (λ n. in_topic h n c.args.topic (λ t. in_comment h n t c.args.comment (λ m. with_body h n t c.args.body (λ b. noted settings h n (change.PutComment t m b c.args.author c.args.weight))))) (reply.Refused NoTopic) (sym c.in-Some.ensures.is)
+    (none_done h c.args.stamp NoTopic (topic_named number board c.args.topic)
+    (λ t. in_comment h number t c.args.comment (λ m. with_body h number t c.args.body (λ b. noted settings h number (change.PutComment t m b c.args.author c.args.weight)))) (topic_is lent board number c.args.topic None None c.board-board.ensures c.in_default-topic_named.ensures.named refl))
+
+pub returns-in_default-comment_named-clause-done : goal.returns-in_default-comment_named-clause-done
+returns-in_default-comment_named-clause-done c =
+    let h = c.args.state.now.entries.items in
+    let settings = settings_of c.args.state.now in
+    let count = length c.args.state.now.projects.items in
+    let number = c.in-Some.number in
+    let lent = c.board-board.result.now in
+    let board = board_of number h in
+    one_done h h c.args.stamp NoProject (project_of count c.args.project) number
+    (λ n. in_topic h n c.args.topic (λ t. in_comment h n t c.args.comment (λ m. with_body h n t c.args.body (λ b. noted settings h n (change.PutComment t m b c.args.author c.args.weight))))) (reply.Refused NoComment) (sym c.in-Some.ensures.is)
+    (one_done h h c.args.stamp NoTopic (topic_named number board c.args.topic) c.in-Some-topic_named.topic
+    (λ t. in_comment h number t c.args.comment (λ m. with_body h number t c.args.body (λ b. noted settings h number (change.PutComment t m b c.args.author c.args.weight)))) (reply.Refused NoComment) (topic_is lent board number c.args.topic (Some c.in-Some-topic_named.topic) (Some c.in-Some-topic_named.topic) c.board-board.ensures c.in-Some-topic_named.ensures.named refl)
+    (none_done h c.args.stamp NoComment (comment_named number board c.in-Some-topic_named.topic c.args.comment)
+    (λ m. with_body h number c.in-Some-topic_named.topic c.args.body (λ b. noted settings h number (change.PutComment c.in-Some-topic_named.topic m b c.args.author c.args.weight))) (comment_is lent board number c.in-Some-topic_named.topic c.args.comment None None c.board-board.ensures c.in_default-comment_named.ensures.named refl)))
+
+pub returns-in_default-comment_kept-clause-done : goal.returns-in_default-comment_kept-clause-done
+returns-in_default-comment_kept-clause-done c =
+    let h = c.args.state.now.entries.items in
+    let settings = settings_of c.args.state.now in
+    let count = length c.args.state.now.projects.items in
+    let number = c.in-Some.number in
+    let lent = c.board-board.result.now in
+    let board = board_of number h in
+    one_done h h c.args.stamp NoProject (project_of count c.args.project) number
+    (λ n. in_topic h n c.args.topic (λ t. in_comment h n t c.args.comment (λ m. with_body h n t c.args.body (λ b. noted settings h n (change.PutComment t m b c.args.author c.args.weight))))) (reply.Refused NoViewpoint) (sym c.in-Some.ensures.is)
+    (one_done h h c.args.stamp NoTopic (topic_named number board c.args.topic) c.in-Some-topic_named.topic
+    (λ t. in_comment h number t c.args.comment (λ m. with_body h number t c.args.body (λ b. noted settings h number (change.PutComment t m b c.args.author c.args.weight)))) (reply.Refused NoViewpoint) (topic_is lent board number c.args.topic (Some c.in-Some-topic_named.topic) (Some c.in-Some-topic_named.topic) c.board-board.ensures c.in-Some-topic_named.ensures.named refl)
+    (one_done h h c.args.stamp NoComment (comment_named number board c.in-Some-topic_named.topic c.args.comment) c.in-Some-comment_named.comment
+    (λ m. with_body h number c.in-Some-topic_named.topic c.args.body (λ b. noted settings h number (change.PutComment c.in-Some-topic_named.topic m b c.args.author c.args.weight))) (reply.Refused NoViewpoint) (comment_is lent board number c.in-Some-topic_named.topic c.args.comment (Some c.in-Some-comment_named.comment) (Some c.in-Some-comment_named.comment) c.board-board.ensures c.in-Some-comment_named.ensures.named refl)
+    (none_done h c.args.stamp NoViewpoint (comment_kept number board c.in-Some-topic_named.topic c.args.body)
+    (λ b. noted settings h number (change.PutComment c.in-Some-topic_named.topic c.in-Some-comment_named.comment b c.args.author c.args.weight)) (body_is lent board number c.in-Some-topic_named.topic c.args.body None None c.board-board.ensures c.in_default-comment_kept.ensures refl))))
+
+pub returns-clause-done : goal.returns-clause-done
+returns-clause-done c =
+    let h = c.args.state.now.entries.items in
+    let settings = settings_of c.args.state.now in
+    let count = length c.args.state.now.projects.items in
+    let number = c.in-Some.number in
+    let lent = c.board-board.result.now in
+    let board = board_of number h in
+    some_done c.note.result h c.note.new.state.entries.items c.args.stamp NoProject (project_of count c.args.project) number
+    (λ n. in_topic h n c.args.topic (λ t. in_comment h n t c.args.comment (λ m. with_body h n t c.args.body (λ b. noted settings h n (change.PutComment t m b c.args.author c.args.weight))))) (sym c.in-Some.ensures.is)
+    (some_done c.note.result h c.note.new.state.entries.items c.args.stamp NoTopic (topic_named number board c.args.topic) c.in-Some-topic_named.topic
+    (λ t. in_comment h number t c.args.comment (λ m. with_body h number t c.args.body (λ b. noted settings h number (change.PutComment t m b c.args.author c.args.weight)))) (topic_is lent board number c.args.topic (Some c.in-Some-topic_named.topic) (Some c.in-Some-topic_named.topic) c.board-board.ensures c.in-Some-topic_named.ensures.named refl)
+    (some_done c.note.result h c.note.new.state.entries.items c.args.stamp NoComment (comment_named number board c.in-Some-topic_named.topic c.args.comment) c.in-Some-comment_named.comment
+    (λ m. with_body h number c.in-Some-topic_named.topic c.args.body (λ b. noted settings h number (change.PutComment c.in-Some-topic_named.topic m b c.args.author c.args.weight))) (comment_is lent board number c.in-Some-topic_named.topic c.args.comment (Some c.in-Some-comment_named.comment) (Some c.in-Some-comment_named.comment) c.board-board.ensures c.in-Some-comment_named.ensures.named refl)
+    (some_done c.note.result h c.note.new.state.entries.items c.args.stamp NoViewpoint (comment_kept number board c.in-Some-topic_named.topic c.args.body) c.in-Some-comment_kept.body
+    (λ b. noted settings h number (change.PutComment c.in-Some-topic_named.topic c.in-Some-comment_named.comment b c.args.author c.args.weight)) (body_is lent board number c.in-Some-topic_named.topic c.args.body (Some c.in-Some-comment_kept.body) (Some c.in-Some-comment_kept.body) c.board-board.ensures c.in-Some-comment_kept.ensures refl)
+    (c.note.ensures.done))))
+
+pub note-requires-clause-fits : goal.note-requires-clause-fits
+note-requires-clause-fits c =
+    (subst (λ (b : BoardState). IsSome (topic_at b c.in-Some-topic_named.topic)) c.board-board.ensures c.in-Some-topic_named.ensures.there, subst (λ (b : BoardState). IsSome (comment_at b c.in-Some-topic_named.topic c.in-Some-comment_named.comment)) c.board-board.ensures c.in-Some-comment_named.ensures.there)

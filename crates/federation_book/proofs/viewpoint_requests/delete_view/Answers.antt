@@ -1,0 +1,68 @@
+use Rattle.std.proofs.Common.{length, Some, None, IsSome, refl, sym, subst}
+use Rattle.book_topics.specs.Boards.{BoardState, view_at}
+use Rattle.book_topics.specs.Named.{topic_named, view_named}
+use Rattle.book_history.specs.declared.changes.Change.TheVariants as change
+use Rattle.book_history.specs.declared.book_fault.BookFault.TheVariants.{NoProject, NoTopic, NoViewpoint}
+use Rattle.book_history.specs.declared.replies.ReplyBody.TheVariants as reply
+use Rattle.book_history.specs.History.{board_of}
+use Rattle.book_history.specs.Refusals.{project_of}
+use Rattle.book_history.specs.Requests.{noted, in_topic, in_view}
+use Rattle.federation_book.specs.Kept.{settings_of}
+use Rattle.federation_book.proofs.Finding.{none_done, one_done, some_done, topic_is, view_is}
+use Rattle.federation_book.proofs.viewpoint_requests.delete_view.Goals as goal
+
+pub returns-in_default-clause-done : goal.returns-in_default-clause-done
+returns-in_default-clause-done c =
+    let h = c.args.state.now.entries.items in
+    let settings = settings_of c.args.state.now in
+    let count = length c.args.state.now.projects.items in
+    none_done h c.args.stamp NoProject (project_of count c.args.project)
+    (λ n. in_topic h n c.args.topic (λ t. in_view h n t c.args.view (λ v. noted settings h n (change.DeleteView t v)))) (sym c.in_default.ensures.is)
+
+pub returns-in_default-topic_named-clause-done : goal.returns-in_default-topic_named-clause-done
+returns-in_default-topic_named-clause-done c =
+    let h = c.args.state.now.entries.items in
+    let settings = settings_of c.args.state.now in
+    let count = length c.args.state.now.projects.items in
+    let number = c.in-Some.number in
+    let lent = c.board-board.result.now in
+    let board = board_of number h in
+    one_done h h c.args.stamp NoProject (project_of count c.args.project) number
+    (λ n. in_topic h n c.args.topic (λ t. in_view h n t c.args.view (λ v. noted settings h n (change.DeleteView t v)))) (reply.Refused NoTopic) (sym c.in-Some.ensures.is)
+    (none_done h c.args.stamp NoTopic (topic_named number board c.args.topic)
+    (λ t. in_view h number t c.args.view (λ v. noted settings h number (change.DeleteView t v))) (topic_is lent board number c.args.topic None None c.board-board.ensures c.in_default-topic_named.ensures.named refl))
+
+pub returns-in_default-view_named-clause-done : goal.returns-in_default-view_named-clause-done
+returns-in_default-view_named-clause-done c =
+    let h = c.args.state.now.entries.items in
+    let settings = settings_of c.args.state.now in
+    let count = length c.args.state.now.projects.items in
+    let number = c.in-Some.number in
+    let lent = c.board-board.result.now in
+    let board = board_of number h in
+    one_done h h c.args.stamp NoProject (project_of count c.args.project) number
+    (λ n. in_topic h n c.args.topic (λ t. in_view h n t c.args.view (λ v. noted settings h n (change.DeleteView t v)))) (reply.Refused NoViewpoint) (sym c.in-Some.ensures.is)
+    (one_done h h c.args.stamp NoTopic (topic_named number board c.args.topic) c.in-Some-topic_named.topic
+    (λ t. in_view h number t c.args.view (λ v. noted settings h number (change.DeleteView t v))) (reply.Refused NoViewpoint) (topic_is lent board number c.args.topic (Some c.in-Some-topic_named.topic) (Some c.in-Some-topic_named.topic) c.board-board.ensures c.in-Some-topic_named.ensures.named refl)
+    (none_done h c.args.stamp NoViewpoint (view_named number board c.in-Some-topic_named.topic c.args.view)
+    (λ v. noted settings h number (change.DeleteView c.in-Some-topic_named.topic v)) (view_is lent board number c.in-Some-topic_named.topic c.args.view None None c.board-board.ensures c.in_default-view_named.ensures.named refl)))
+
+pub returns-clause-done : goal.returns-clause-done
+returns-clause-done c =
+    let h = c.args.state.now.entries.items in
+    let settings = settings_of c.args.state.now in
+    let count = length c.args.state.now.projects.items in
+    let number = c.in-Some.number in
+    let lent = c.board-board.result.now in
+    let board = board_of number h in
+    some_done c.note.result h c.note.new.state.entries.items c.args.stamp NoProject (project_of count c.args.project) number
+    (λ n. in_topic h n c.args.topic (λ t. in_view h n t c.args.view (λ v. noted settings h n (change.DeleteView t v)))) (sym c.in-Some.ensures.is)
+    (some_done c.note.result h c.note.new.state.entries.items c.args.stamp NoTopic (topic_named number board c.args.topic) c.in-Some-topic_named.topic
+    (λ t. in_view h number t c.args.view (λ v. noted settings h number (change.DeleteView t v))) (topic_is lent board number c.args.topic (Some c.in-Some-topic_named.topic) (Some c.in-Some-topic_named.topic) c.board-board.ensures c.in-Some-topic_named.ensures.named refl)
+    (some_done c.note.result h c.note.new.state.entries.items c.args.stamp NoViewpoint (view_named number board c.in-Some-topic_named.topic c.args.view) c.in-Some-view_named.view
+    (λ v. noted settings h number (change.DeleteView c.in-Some-topic_named.topic v)) (view_is lent board number c.in-Some-topic_named.topic c.args.view (Some c.in-Some-view_named.view) (Some c.in-Some-view_named.view) c.board-board.ensures c.in-Some-view_named.ensures.named refl)
+    (c.note.ensures.done)))
+
+pub note-requires-clause-fits : goal.note-requires-clause-fits
+note-requires-clause-fits c =
+    subst (λ (b : BoardState). IsSome (view_at b c.in-Some-topic_named.topic c.in-Some-view_named.view)) c.board-board.ensures c.in-Some-view_named.ensures.there

@@ -1,5 +1,0 @@
-use Rattle.ifc_elements.specs.Names.{AreNames}
-use Rattle.ifc_elements.proofs.names.Names.of.Given as goal
-
-abbrev pub invariant-loop-id : goal.invariant-loop-id
-invariant-loop-id l = AreNames l.exchange l.names

@@ -1,6 +1,0 @@
-use Rattle.std.proofs.Common.{take}
-use Rattle.ifc_elements.specs.Sound.{AreSets}
-use Rattle.ifc_elements.proofs.sets.Sets.of.Given as goal
-
-abbrev pub invariant-loop-id : goal.invariant-loop-id
-invariant-loop-id l = AreSets l.exchange l.scale l.mode (take l.id-index l.listed) l.sets

@@ -1,0 +1,6 @@
+use Rattle.ifc_schema.specs.Surveys.{Lists, IsModelElement}
+use Rattle.ifc_schema.specs.Steps.{Below}
+use Rattle.ifc_schema.proofs.surveying.list_elements.Given as goal
+
+abbrev pub invariant-loop-at : goal.invariant-loop-at
+invariant-loop-at l = Lists (Below l.exchange l.at (IsModelElement l.exchange)) l.ids.items

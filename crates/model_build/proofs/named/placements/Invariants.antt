@@ -1,6 +1,0 @@
-use Rattle.std.proofs.Common.{take}
-use Rattle.model_build.specs.Named.{ListsNamed}
-use Rattle.model_build.proofs.named.placements.Given as goal
-
-abbrev pub invariant-loop-id : goal.invariant-loop-id
-invariant-loop-id l = ListsNamed l.exchange (take l.id-index l.ids) l.named.items

@@ -1,0 +1,17 @@
+use Rattle.std.proofs.Common.{rules, ◌+◌, take, Option, ℕ, sym, subst}
+use Rattle.ifc_instances.specs.Least.{LeastOf}
+use Rattle.model_build.specs.Least.{ShownBy}
+use Rattle.model_build.specs.Outcomes.{ShowsStuckSet}
+use Rattle.model_build.proofs.LeastOfParts.{shown_none, shown_more, shown_all}
+use Rattle.model_build.proofs.uncut_faces.first_stuck.Goals as goal
+
+pub loop-id-init : goal.loop-id-init
+loop-id-init c = shown_none (ShowsStuckSet c.args.exchange.now c.args.scale c.args.mode) c.args.ids.now
+
+pub loop-id-preserved : goal.loop-id-preserved
+loop-id-preserved c =
+    subst (λ (found : Option ℕ). LeastOf (ShownBy (ShowsStuckSet c.args.exchange.now c.args.scale c.args.mode) (take (c.loop-id.id-index + 1) c.args.ids.now)) found) (sym c.lesser-least.ensures)
+    (shown_more (ShowsStuckSet c.args.exchange.now c.args.scale c.args.mode) c.args.ids.now c.loop-id.id-index c.loop-id.least c.in_ok-here.here c.loop-id-test.true c.loop-id.invariant c.in_ok-here.ensures)
+
+pub returns : goal.returns
+returns c = shown_all (ShowsStuckSet c.args.exchange.now c.args.scale c.args.mode) c.args.ids.now c.loop-id.id-index c.loop-id.least (search rules) c.loop-id.invariant

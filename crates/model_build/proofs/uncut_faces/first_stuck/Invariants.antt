@@ -1,0 +1,8 @@
+use Rattle.std.proofs.Common.{take}
+use Rattle.ifc_instances.specs.Least.{LeastOf}
+use Rattle.model_build.specs.Least.{ShownBy}
+use Rattle.model_build.specs.Outcomes.{ShowsStuckSet}
+use Rattle.model_build.proofs.uncut_faces.first_stuck.Given as goal
+
+abbrev pub invariant-loop-id : goal.invariant-loop-id
+invariant-loop-id l = LeastOf (ShownBy (ShowsStuckSet l.exchange l.scale l.mode) (take l.id-index l.ids)) l.least
