@@ -1,8 +1,9 @@
 #!/usr/bin/env python3
 """Shows that the map of crates is whole: bench/map.py [--draw]. crates.txt and docs/ARCHITECTURE.md have to name the same groups, in each the same
 crates in the same order, and of each crate the same that it stands on, of this repository and of the kit; each crate stands below those that it stands
-on, and has its folder, its page under docs/crates and its row in the README's table; and docs/crates.svg is the picture that this script draws of
-crates.txt. Prints each difference, and ends with status 1 if there is one. With --draw it draws the picture anew before it looks."""
+on, and has its folder, its page under docs/crates and its row in the README's table; a file name stands under src/ of one crate only, but for those that
+have one role in every crate; and docs/crates.svg is the picture that this script draws of crates.txt. Prints each difference, and ends with status 1 if
+there is one. With --draw it draws the picture anew before it looks."""
 import os
 import re
 import sys
@@ -10,6 +11,7 @@ from xml.sax.saxutils import escape
 
 TOP = os.path.dirname(os.path.dirname(os.path.abspath(__file__)))
 PICTURE = "docs/crates.svg"
+IN_EVERY_CRATE = ("lib.rt", "main.rt", "tests.rt", "laws.rt", "limits.rt")
 
 
 def text_of(path):
@@ -97,6 +99,18 @@ def in_place(crates):
     for name in rows:
         if name not in names:
             yield f"the README's table has a row for {name}, which is no crate"
+
+
+def named_once(crates):
+    holders = {}
+    for crate in crates:
+        folder = os.path.join(TOP, "crates", crate.name, "src")
+        for file in sorted(os.listdir(folder)) if os.path.isdir(folder) else []:
+            if file.endswith(".rt") and file not in IN_EVERY_CRATE:
+                holders.setdefault(file, []).append(crate.name)
+    for file, names in sorted(holders.items()):
+        if len(names) > 1:
+            yield f"src/{file} stands in {' and '.join(names)}"
 
 
 # ---- the picture
@@ -214,7 +228,7 @@ def main():
     if sys.argv[1:] == ["--draw"]:
         with open(os.path.join(TOP, PICTURE), "w", encoding="utf-8") as file:
             file.write(drawn(crates))
-    found = [*same_groups(crates, rows), *same_uses(crates, rows), *below(crates), *in_place(crates)]
+    found = [*same_groups(crates, rows), *same_uses(crates, rows), *below(crates), *in_place(crates), *named_once(crates)]
     if not os.path.isfile(os.path.join(TOP, PICTURE)) or text_of(PICTURE) != drawn(crates):
         found.append(f"{PICTURE} isn't the picture of crates.txt: python3 bench/map.py --draw")
     for difference in found:
