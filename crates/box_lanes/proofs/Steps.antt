@@ -9,10 +9,6 @@ use mir.Val.{SFits}
 use Rattle.box_lanes.specs.Lanes.{coarse}
 use Rattle.box_lanes.proofs.Coarse.{coarse_fits}
 
-top_is : (b : Bool) → top 31 (cond b 4294967295 0) ≡ b
-top_is true = refl
-top_is false = refl
-
 -- the lane of the greater and of the lesser of two numbers
 abbrev chosen : ℤ → ℤ → ℕ → ℕ → ℕ
 chosen x y a b = cond (top 31 (cond (lt_z x y) 4294967295 0)) a b
