@@ -1,5 +1,5 @@
 -- Tokens within the bytes: there is one way to be one, and what their spelling tells.
-use Rattle.std.proofs.Common.{◌≡◌, ℕ, zero, suc, true, take, drop, ◌-◌, ◌<◌, ◌≤◌, List, [], ◌∷◌, ◌++◌, length, map, sym, ap, subst, arith}
+use Rattle.std.proofs.Common.{◌≡◌, ℕ, ◌≤◌, List, [], ◌∷◌, length, map, ap, subst, arith}
 use Rattle.std.specs.Str.{IsAscii}
 use Rattle.std.specs.Char.{to_ascii_uppercase}
 use Rattle.std.specs.Coded.{le_prop, Coded-set}
@@ -7,13 +7,12 @@ use Rattle.std.proofs.Math.Logic.{∥∥₁_prop, ∥∥₁_elim}
 use Rattle.std.proofs.lemmas.List.{length-append}
 use Rattle.p21_lexer.specs.declared.token.TokenKind.{TokenKind}
 use Rattle.p21_lexer.specs.declared.token.TokenKind.TheVariants as tokens
-use Rattle.std.proofs.lemmas.Bool.Decides.{nat_tests}
-use Rattle.p21_lexer.specs.Spelling.{Spells, is_letter_or_digit}
+use Rattle.p21_lexer.specs.Spelling.{Spells}
 use Rattle.p21_values.specs.Lexemes.{inner}
 use Rattle.p21_values.specs.declared.piece.Piece.{Piece}
 use Rattle.p21_values.specs.contracts.piece.Kind as row
 use Rattle.p21_values.specs.Pieces.{IsPiece}
-use Rattle.p21_values.proofs.Contents.{keyword_ascii, AreBelow, below_ascii, below_all, below_letter}
+use Rattle.p21_values.proofs.Contents.{keyword_ascii}
 
 pub piece_prop : (bytes : List ℕ) (piece : Piece) → IsProp (IsPiece bytes piece)
 piece_prop bytes piece a b = λ k. record {
@@ -40,5 +39,3 @@ words_two k bs s is = ∥∥₁_elim s le_prop (λ w. text_long bs (subst (λ (q
 
 pub letters_two : (k : TokenKind) (bs : List ℕ) → ∥ Spells k bs ∥₁ → k ≡ tokens.Enumeration → 2 ≤ length bs
 letters_two k bs s is = ∥∥₁_elim s le_prop (λ w. letters_long bs (subst (λ (q : TokenKind). Spells q bs) is w))
-
--- the letters of an enumeration
