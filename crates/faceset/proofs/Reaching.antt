@@ -11,7 +11,7 @@ use Rattle.p21_values.specs.Values.{reference_of}
 use Rattle.faceset.specs.Indexes.{PointsAt, PointsNowhere}
 use Rattle.faceset.specs.Sets.{outline, faces_of, spelled_triangles, is_polygonal, rows_of}
 use Rattle.p21_values.specs.Attributes.{led_to, items_in, listed}
-use Rattle.faceset.specs.Reaches.{CountsFrom, AreReaches, IsWithin, PutsReach, reach_in}
+use Rattle.faceset.specs.Reaches.{CountsFrom, AreReaches, IsWithin, PutsKept, kept_in}
 use Rattle.ifc_instances.proofs.LedTo.{led_one}
 
 -- one value more
@@ -59,13 +59,13 @@ face_within world entries v id face count refers found are w =
     face_reached world v id face count w.reach refers found w.within (subst (λ i. All (CountsFrom w.reach) (outline i)) same f.reaches)
 
 -- one face more
-pub reaches_more : (world : List Instance) (old new : List (ℕ × ℕ)) (id : ℕ) (face : Instance) (reach : ℕ) → look world id ≡ Some face → All (CountsFrom reach) (outline face) → PutsReach (reach_in old) (reach_in new) id reach
+pub reaches_more : (world : List Instance) (old new : List (ℕ × ℕ)) (id : ℕ) (face : Instance) (reach : ℕ) → look world id ≡ Some face → All (CountsFrom reach) (outline face) → PutsKept (kept_in old) (kept_in new) id reach
     → AreReaches world old → AreReaches world new
 reaches_more world old new id face reach found all p are other kept there = elim (same_or other id) [
   | inl s ↦ record {
     face = face;
     found = ap (look world) s ∙ found;
-    reaches = subst (λ (n : ℕ). All (CountsFrom n) (outline face)) (same_Some reach kept (sym p.here ∙ ap (reach_in new) (sym s) ∙ there)) all;
+    reaches = subst (λ (n : ℕ). All (CountsFrom n) (outline face)) (same_Some reach kept (sym p.here ∙ ap (kept_in new) (sym s) ∙ there)) all;
   }
   | inr n ↦ are other kept (sym (p.others other n) ∙ there)
 ]

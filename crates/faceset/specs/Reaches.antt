@@ -13,9 +13,9 @@ use Rattle.faceset.specs.Sets.{outline}
 abbrev pub CountsFrom : ℕ → Value21 → Type 0
 CountsFrom reach v = (count : ℕ) → reach ≤ count → PointsNowhere count v → ⊥
 
--- the reach that is kept for a number
-abbrev pub reach_in : List (ℕ × ℕ) → ℕ → Option ℕ
-reach_in entries id = lookup (is_at (nat_cmp id)) entries
+-- the count that is kept for a number
+abbrev pub kept_in : List (ℕ × ℕ) → ℕ → Option ℕ
+kept_in entries id = lookup (is_at (nat_cmp id)) entries
 
 -- where there are so many things, or more, each index of the face of that number counts one of them
 pub record FaceCountsFrom (world : List Instance) (id reach : ℕ) : Type 0 where
@@ -25,15 +25,15 @@ pub record FaceCountsFrom (world : List Instance) (id reach : ℕ) : Type 0 wher
 
 -- what stands there by the numbers of faces is so; a face may lack
 abbrev pub AreReaches : List Instance → List (ℕ × ℕ) → Type 0
-AreReaches world entries = (id reach : ℕ) → reach_in entries id ≡ Some reach → FaceCountsFrom world id reach
+AreReaches world entries = (id reach : ℕ) → kept_in entries id ≡ Some reach → FaceCountsFrom world id reach
 
--- one face more
-pub record PutsReach (old new : ℕ → Option ℕ) (id reach : ℕ) : Type 0 where
-  pub here : new id ≡ Some reach
+-- one count more
+pub record PutsKept (old new : ℕ → Option ℕ) (id count : ℕ) : Type 0 where
+  pub here : new id ≡ Some count
   pub others : (other : ℕ) → other ≢ id → new other ≡ old other
 
 -- what stands there by a number is within so many
 pub record IsWithin (entries : List (ℕ × ℕ)) (id count : ℕ) : Type 0 where
   pub reach : ℕ
-  pub kept : reach_in entries id ≡ Some reach
+  pub kept : kept_in entries id ≡ Some reach
   pub within : reach ≤ count

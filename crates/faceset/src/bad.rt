@@ -5,10 +5,12 @@ ghost use Rattle.faceset.specs.Indexes.{PointsNowhere};
 ghost use Rattle.p21_values.specs.Attributes.{items_in, led_to};
 ghost use Rattle.faceset.specs.Sets.{outline, rows_of, HasBadNumber, HasBadIndex, counted_by};
 ghost use Rattle.faceset.specs.Reaches.{AreReaches};
+ghost use Rattle.faceset.specs.Learnt.{IsLearnt};
 
 use crate::indexes::place_of;
+use crate::learnt::Learnt;
 use crate::reaches::{FaceReaches, reach_of};
-use crate::sets::{is_polygonal, numbering, outline, spelled_points};
+use crate::sets::{is_polygonal, numbering, outline};
 use p21_table::{Exchange, InstanceRef, ValueRef, Values};
 use std::alloc::AllocError;
 
@@ -140,22 +142,22 @@ fn counted_by(numbers: &Option<Values<'_>>, count: usize) -> usize
 }
 
 /// Whether an index of the set or of its faces counts nothing, or a number in its PnIndex names no point (IFC4 ADD2 TC1,
-/// IfcTriangulatedFaceSet, IfcPolygonalFaceSet). What it learns of the faces is kept, so that each face is looked at once by the calls for
-/// many sets of one file.
+/// IfcTriangulatedFaceSet, IfcPolygonalFaceSet). What it learns of the faces and of the list of points is kept, so that each is looked at
+/// once by the calls for many sets of one file.
 pub fn has_bad_index(
     exchange: &Exchange,
-    reaches: &mut FaceReaches,
+    learnt: &mut Learnt,
     set: &InstanceRef<'_>,
 ) -> Result<bool, AllocError>
-    requires { AreReaches exchange.now reaches.old }
+    requires { IsLearnt exchange.now learnt.old }
     ensures bad { IfOk result (λ bad. MatchBool bad (HasBadIndex exchange.now set.now)
         (HasBadIndex exchange.now set.now → ⊥)) }
-    ensures kept { OnOk result (AreReaches exchange.now reaches.new) }
+    ensures kept { OnOk result (IsLearnt exchange.now learnt.new) }
 {
     let numbers = numbering(set);
-    let count = spelled_points(exchange, set).len();
+    let count = learnt.lists.of(exchange, set)?;
     if has_bad_number(&numbers, count) {
         return Ok(true);
     }
-    has_bad_rows(exchange, reaches, set, counted_by(&numbers, count))
+    has_bad_rows(exchange, &mut learnt.faces, set, counted_by(&numbers, count))
 }

@@ -2,7 +2,7 @@
 ghost use Rattle.std.specs.Prelude.{◌≡◌, ◌<◌, ◌≤◌, ◌^◌, ℕ, None, All, Any, OnOk, MatchOption};
 ghost use Rattle.std.specs.Bool.{MatchBool, ⊤};
 ghost use Rattle.faceset.specs.Indexes.{PointsNowhere};
-ghost use Rattle.faceset.specs.Reaches.{CountsFrom, PutsReach, IsWithin, reach_in};
+ghost use Rattle.faceset.specs.Reaches.{CountsFrom, PutsKept, IsWithin, kept_in};
 
 use crate::indexes::place_of;
 use p21_table::Values;
@@ -53,7 +53,7 @@ impl Model for FaceReaches {
 impl FaceReaches {
     /// None as yet. Takes no memory.
     pub fn new(alloc: Global) -> FaceReaches
-        ensures { (id : ℕ) → reach_in result id ≡ None }
+        ensures { (id : ℕ) → kept_in result id ≡ None }
     {
         FaceReaches {
             reaches: BTreeMap::new(alloc),
@@ -74,7 +74,7 @@ impl FaceReaches {
     }
 
     pub(crate) fn put(&mut self, id: u64, reach: usize) -> Result<(), AllocError>
-        ensures { OnOk result (PutsReach (reach_in self.old) (reach_in self.new) id reach) }
+        ensures { OnOk result (PutsKept (kept_in self.old) (kept_in self.new) id reach) }
     {
         self.reaches.insert(id, reach)?;
         Ok(())

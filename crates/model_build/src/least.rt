@@ -4,20 +4,20 @@ ghost use Rattle.std.specs.Bool.{MatchBool};
 ghost use Rattle.std.specs.List.Sorted.{IsStrictlyIncreasing};
 ghost use Rattle.placement.specs.Directions.{HasDirections};
 ghost use Rattle.placement.specs.Operators.{HasOperatorDirections};
-ghost use Rattle.faceset.specs.Reaches.{AreReaches};
+ghost use Rattle.faceset.specs.Learnt.{IsLearnt};
 ghost use Rattle.model_build.specs.Least.{IsLeastOf, NoneOf, IsBadSet, IsAxisPlacement, IsOperator, IsOblique};
 
-use faceset::{FaceReaches, has_bad_index, is_set};
+use faceset::{Learnt, has_bad_index, is_set};
 use ifc_instances::Entity;
 use p21_table::Exchange;
 use placement::{axes_of, operator_axes};
 use std::alloc::{AllocError, Global};
 
-fn is_bad_set(exchange: &Exchange, reaches: &mut FaceReaches, id: u64) -> Result<bool, AllocError>
-    requires { AreReaches exchange.now reaches.old }
+fn is_bad_set(exchange: &Exchange, learnt: &mut Learnt, id: u64) -> Result<bool, AllocError>
+    requires { IsLearnt exchange.now learnt.old }
     ensures bad { IfOk result (λ bad. MatchBool bad (IsBadSet exchange.now id)
         (IsBadSet exchange.now id → ⊥)) }
-    ensures kept { OnOk result (AreReaches exchange.now reaches.new) }
+    ensures kept { OnOk result (IsLearnt exchange.now learnt.new) }
 {
     let Some(set) = exchange.look(id) else {
         return Ok(false);
@@ -25,7 +25,7 @@ fn is_bad_set(exchange: &Exchange, reaches: &mut FaceReaches, id: u64) -> Result
     if !is_set(&set) {
         return Ok(false);
     }
-    has_bad_index(exchange, reaches, &set)
+    has_bad_index(exchange, learnt, &set)
 }
 
 /// The least of these instances that is a face set with an index that counts nothing (IFC4 ADD2 TC1, IfcTriangulatedFaceSet,
@@ -39,9 +39,9 @@ pub fn first_bad_index(
     ensures { IfOk result (λ found. MatchOption found (NoneOf used.now (IsBadSet exchange.now))
         (IsLeastOf used.now (IsBadSet exchange.now))) }
 {
-    let mut reaches = FaceReaches::new(alloc);
+    let mut learnt = Learnt::new(alloc);
     for id in used {
-        let bad = is_bad_set(exchange, &mut reaches, *id)?;
+        let bad = is_bad_set(exchange, &mut learnt, *id)?;
         if bad {
             return Ok(Some(*id));
         }

@@ -3,7 +3,7 @@ ghost use Rattle.std.specs.Prelude.{◌≤◌, All, IfOk, unsigned_abs};
 ghost use Rattle.bim_model.specs.Points.{grid_limit, IsGridPoint};
 
 use bim_model::{GRID_LIMIT, Point, Triangle};
-use faceset::{FaceReaches, has_bad_index, place_of, set_triangles, triangle_count};
+use faceset::{Learnt, has_bad_index, place_of, set_triangles, triangle_count};
 use p21_reader::{Exchange, InstanceRef, read};
 use std::alloc::{AllocError, Global};
 use std::test::Fail;
@@ -269,10 +269,10 @@ fn bad_indexes_and_counts_are_found(rt: HostRuntime) -> Result<(), Fail> {
         let count = case.count;
         let exchange = exchange_of(rt.alloc(), case.set, case.faces)?;
         let set = set_in(&exchange)?;
-        let mut reaches = FaceReaches::new(rt.alloc());
-        let found = has_bad_index(&exchange, &mut reaches, &set)?;
+        let mut learnt = Learnt::new(rt.alloc());
+        let found = has_bad_index(&exchange, &mut learnt, &set)?;
         assert_eq!(rt; found, bad, "at {text}");
-        let again = has_bad_index(&exchange, &mut reaches, &set)?;
+        let again = has_bad_index(&exchange, &mut learnt, &set)?;
         assert_eq!(rt; again, bad, "again at {text}");
         assert_eq!(rt;
             triangle_count(&exchange, &set, 7),

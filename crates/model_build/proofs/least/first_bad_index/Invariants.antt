@@ -1,10 +1,10 @@
 use Rattle.std.proofs.Common.{take, All}
-use Rattle.faceset.specs.Reaches.{AreReaches}
+use Rattle.faceset.specs.Learnt.{IsLearnt}
 use Rattle.model_build.specs.Least.{IsBadSet}
 use Rattle.model_build.proofs.least.first_bad_index.Given as goal
 
 abbrev pub invariant-loop-id : goal.invariant-loop-id
 invariant-loop-id l = record {
   well : All (λ k. IsBadSet l.exchange k → ⊥) (take l.id-index l.used);
-  kept : AreReaches l.exchange l.reaches;
+  kept : IsLearnt l.exchange l.learnt;
 }
