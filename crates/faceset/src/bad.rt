@@ -159,5 +159,10 @@ pub fn has_bad_index(
     if has_bad_number(&numbers, count) {
         return Ok(true);
     }
-    has_bad_rows(exchange, &mut learnt.faces, set, counted_by(&numbers, count))
+    has_bad_rows(
+        exchange,
+        &mut learnt.faces,
+        set,
+        counted_by(&numbers, count),
+    )
 }
