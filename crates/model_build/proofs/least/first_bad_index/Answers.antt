@@ -5,6 +5,9 @@ use Rattle.model_build.specs.Least.{IsBadSet}
 use Rattle.model_build.proofs.FirstIsLeast.{least_here, none_there}
 use Rattle.model_build.proofs.least.first_bad_index.Goals as goal
 
+pub loop-id-init : goal.loop-id-init
+loop-id-init c = record { well = λ k d lt bad. omega (arith, lt); kept = c.new-learnt.ensures c.args.exchange.now }
+
 pub returns-then-bad : goal.returns-then-bad
 returns-then-bad c =
     least_here (IsBadSet c.args.exchange.now) c.args.used.now c.loop-id.id-index c.requires c.loop-id-test.true c.loop-id.invariant.well (MatchBool-at_true _ _ c.if-bad.true c.in_ok-bad.ensures.bad)
