@@ -22,10 +22,11 @@ HERE = os.path.dirname(os.path.abspath(__file__))
 sys.path[:0] = [HERE, os.path.join(HERE, "..", "cases")]
 import http_reference as reference  # noqa: E402
 import odd_streams  # noqa: E402
-from serve import (HOST, RULES as RULE_BODIES, Client, Exchange, Row, Server, check_replies, fill, in_threads,  # noqa: E402
-                   project_id, take_response, topics_of, want)
+from serve import (HOST, RULES as RULE_BODIES, Client, Exchange, Row, Server, TooLong, check_replies, fill,  # noqa: E402
+                   in_threads, project_id, take_response, topics_of, want, within)
 
 MIB = 1 << 20
+GATE = 120  # seconds that a part of the flood may take
 RULES = RULE_BODIES[1]
 # What a server takes before anything is sent, and for each lane its stack, its buffers and its share of the C library's heap.
 # A lane holds the bytes of one request, in a buffer that doubles, and while that grows the old one beside it.
@@ -566,6 +567,8 @@ def main():
     most = resource.getrlimit(resource.RLIMIT_NOFILE)[1]
     resource.setrlimit(resource.RLIMIT_NOFILE, (min(most, 4096) if most != resource.RLIM_INFINITY else 4096, most))
     print(f"seed {said.seed}", flush=True)
+    if not said.full:
+        within(GATE)
     for name in said.rows or ROWS:
         began = time.monotonic()
         try:
@@ -574,6 +577,9 @@ def main():
         except (Row, OSError) as fault:
             failed += 1
             print(f"{name}: FAILS: {type(fault).__name__} {fault}", flush=True)
+        except TooLong as fault:
+            print(f"{name}: FAILS: {fault}")
+            return 1
     print(f"{len(said.rows or ROWS) - failed} passed, {failed} failed")
     return 1 if failed else 0
 

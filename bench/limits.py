@@ -189,7 +189,45 @@ def triangles(program, scale):
             table.ask("one triangle more", "PUT", f"{V}/models/n", SMALL_FILE, 507)
 
 
-ROWS = {it.__name__: it for it in (elements, memberships, journal, pairs, topics, triangles)}
+def uploads(program, scale):
+    """Models of 100,000 elements without names, of which each upload is kept: until their texts, counted with 64 bytes an
+    element, are a GiB."""
+    count, times = 100000, max(1, int(153 * scale))
+    lines = [HEAD, "#4=IFCCARTESIANPOINTLIST3D(((0.,0.,0.),(100.,0.,0.),(0.,100.,0.)));\n"
+             "#5=IFCTRIANGULATEDFACESET(#4,$,$,((1,2,3)),$);\n#6=IFCSHAPEREPRESENTATION($,'Body','Tessellation',(#5));\n"
+             "#7=IFCPRODUCTDEFINITIONSHAPE($,$,(#6));\n"]
+    for n in range(2000):
+        lines.append(f"#{10 + 3 * n}=IFCCARTESIANPOINT(({n % 50 * 9000}.,{n // 50 * 9000}.,0.));\n#{11 + 3 * n}="
+                     f"IFCAXIS2PLACEMENT3D(#{10 + 3 * n},$,$);\n#{12 + 3 * n}=IFCLOCALPLACEMENT($,#{11 + 3 * n});\n")
+    lines += [f"#{10000 + n}=IFCFAN('{n:022}',$,$,$,$,#{12 + 3 * (n % 2000)},#7,$,$);\n" for n in range(count)]
+    file = "".join(lines + [TAIL]).encode()
+    with Server(program, lanes=2, workers=1) as server:
+        table = Table(server)
+        table.ask(f"{count:,} elements in {len(file) / MB:.1f} MB", "PUT", f"{V}/models/m", file, 201)
+        for n in range(1, times):
+            table.ask(f"the same, number {n + 1}" if n in (1, times - 1) else None, "PUT", f"{V}/models/m", file, 201)
+        if scale == 1:
+            table.ask("once more", "PUT", f"{V}/models/m", file, 507)
+
+
+def changes(program, scale):
+    """A topic that is changed again and again, with eight texts that take more room than they have bytes and a user whose name
+    isn't counted, until the texts are a GiB."""
+    words = ("title", "topic_type", "topic_status", "priority", "assigned_to", "stage", "description")
+    body = json.dumps(dict({name: "b" * 24 for name in words}, labels=["b" * 24]), separators=(",", ":")).encode()
+    count = int((1 << 30) * scale) // len(body) - 10
+    with Server(program, lanes=2, workers=1) as server:
+        table = Table(server)
+        topic = table.ask(None, "POST", topics_of(), body, 201)["guid"]
+        table.fill("changes of a topic", [Exchange("PUT", f"{topics_of()}/{topic}", body, "u" * 128).bytes_of()] * count)
+        if scale == 1:
+            for _ in range(10):
+                it = table.client.ask("PUT", f"{topics_of()}/{topic}", body)
+            want(it.status == 507, f"{it.status} {it.reply[:200]!r}")
+        table.ask("the topic", "GET", f"{topics_of()}/{topic}", None, 200)
+
+
+ROWS = {it.__name__: it for it in (elements, memberships, journal, pairs, topics, triangles, uploads, changes)}
 
 
 def main():
