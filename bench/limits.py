@@ -107,6 +107,7 @@ class Table:
         began, count = time.monotonic(), 0
         for at in range(0, len(requests), 9000):
             it = Client(self.server)
+            it.socket.settimeout(600)
             for front in range(at, min(at + 9000, len(requests)), 100):
                 part = requests[front:min(front + 100, at + 9000)]
                 it.socket.sendall(b"".join(part))
