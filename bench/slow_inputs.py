@@ -67,9 +67,9 @@ def parts(depth):
     return HEAD + TRIANGLE + SHAPE + wholes + f"#{1000 + 2 * depth}=IFCPIPESEGMENT('{depth:022}',$,$,$,$,$,#7,$,$);\n" + TAIL
 
 
-def mapped(count):
-    """One pipe whose body is one triangle so often."""
-    return HEAD + TRIANGLE + SHAPE + "#8=IFCCARTESIANPOINT((0.,0.,0.));\n#9=IFCAXIS2PLACEMENT3D(#8,$,$);\n" \
+def mapped(count, zero="0."):
+    """One pipe whose body is one triangle so often, each time by an operator whose origin has a zero that is spelled so."""
+    return HEAD + TRIANGLE + SHAPE + f"#8=IFCCARTESIANPOINT((0.,0.,{zero}));\n#9=IFCAXIS2PLACEMENT3D(#8,$,$);\n" \
         "#10=IFCREPRESENTATIONMAP(#9,#6);\n#11=IFCCARTESIANTRANSFORMATIONOPERATOR3D($,$,#8,$,$);\n#12=IFCMAPPEDITEM(#10,#11);\n" \
         f"#13=IFCSHAPEREPRESENTATION($,'Body','MappedRepresentation',({','.join(['#12'] * count)}));\n" \
         "#14=IFCPRODUCTDEFINITIONSHAPE($,$,(#13));\n" + pipes(1, shape=14) + TAIL
@@ -121,6 +121,8 @@ INPUTS = {
     "1,000 combs": lambda: upload(polygons(comb(), 1000)),
     "one comb, shared by 1,000 pipes": lambda: upload(polygons(comb(), 1, 1, 1000)),
     "a set mapped 1,000,000 times": lambda: upload(mapped(1000000)),
+    "a zero of 100,000 digits, read 20,000 times": lambda: upload(mapped(20000, "0" * 100000 + ".")),
+    "a zero behind a comment, read 20,000 times": lambda: upload(mapped(20000, "/*" + "*" * 100000 + "*/0.")),
     "a chain of 300,000 placements": lambda: upload(chain(300000, 100)),
     "100,000 pipes at a chain of 100,000": lambda: upload(chain(100000, 100000)),
     "a part of a part, 150,000 deep": lambda: upload(parts(150000)),
