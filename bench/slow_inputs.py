@@ -86,6 +86,14 @@ def sheets(count, apart=3, height=3000):
     return flat[:start] + f"#4=IFCCARTESIANPOINTLIST3D(({corners[1:]}));\n#5=IFCTRIANGULATEDFACESET(#4,$,$,({faces}),$);\n" + flat[end:]
 
 
+def sharing(sets, points):
+    """So many sets of one triangle over one list of so many points."""
+    list_of = ",".join(["(1.,2.,3.)"] * points)
+    return HEAD + f"#4=IFCCARTESIANPOINTLIST3D(({list_of}));\n" + "".join(
+        f"#{1000 + n}=IFCTRIANGULATEDFACESET(#4,$,$,((1,2,{points})),$);\n" for n in range(sets)) + \
+        SHAPE.replace("#5", ",".join(f"#{1000 + n}" for n in range(sets))) + pipes(1, 8) + TAIL
+
+
 def two_storeys(count, size):
     """So many pipes at one place, by turns in one of two storeys whose names are the same and have so many bytes."""
     end = 10 + 4 * count
@@ -121,6 +129,7 @@ INPUTS = {
     "1,000 combs": lambda: upload(polygons(comb(), 1000)),
     "one comb, shared by 1,000 pipes": lambda: upload(polygons(comb(), 1, 1, 1000)),
     "a set mapped 1,000,000 times": lambda: upload(mapped(1000000)),
+    "1,000 sets over a list of 100,000 points": lambda: upload(sharing(1000, 100000)),
     "a zero of 100,000 digits, read 20,000 times": lambda: upload(mapped(20000, "0" * 100000 + ".")),
     "a zero behind a comment, read 20,000 times": lambda: upload(mapped(20000, "/*" + "*" * 100000 + "*/0.")),
     "a chain of 300,000 placements": lambda: upload(chain(300000, 100)),
