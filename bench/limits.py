@@ -118,6 +118,8 @@ class Table:
             it.close()
         print(f"  {count:,} {told}: {(time.monotonic() - began) / count * 1e6:.0f} µs each, {memory(self.server) / MB:.0f} MB",
               flush=True)
+        self.client = Client(self.server)  # who is silent for a minute is let go
+        self.client.socket.settimeout(600)
 
 
 # ---- rows
