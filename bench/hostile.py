@@ -520,9 +520,8 @@ def wanting(flood, lanes=3):
             it = client.ask("GET", f"{v}/versions/1")
             want(it.status == 503 and json.loads(it.reply)["code"] == "M1", f"{it.status} {it.reply[:80]!r}")
             want(other.ask("POST", topics_of(), b'{"title":"beside"}').status == 201, "no topic beside it")
-        for _ in range(2):
-            it = client.ask("POST", topics_of(), b'{"title":"a","x":[' + (b'{"":' * 125 + b"1" + b"}" * 125 + b",") * 6500 + b"1]}")
-            want(it.status == 503 and json.loads(it.reply)["code"] == "M1", f"{it.status} {it.reply[:80]!r}")
+        it = client.ask("POST", topics_of(), b'{"title":"a","x":[' + (b'{"":' * 125 + b"1" + b"}" * 125 + b",") * 6500 + b"1]}")
+        want(it.status == 503 and json.loads(it.reply)["code"] == "M1", f"{it.status} {it.reply[:80]!r}")
         want(client.ask("DELETE", f"{v}/models/a").turn and len(json.loads(client.ask("GET", topics_of()).reply)) == 3, "not three topics")
         client.close()
         other.close()
