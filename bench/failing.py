@@ -25,9 +25,10 @@ import time
 HERE = os.path.dirname(os.path.abspath(__file__))
 sys.path[:0] = [HERE, os.path.join(HERE, "..", "cases")]
 import http_reference as reference  # noqa: E402
-from serve import HOST, Row, Server, free_port, take_response, want  # noqa: E402
+from serve import HOST, Row, Server, TooLong, free_port, take_response, want, within  # noqa: E402
 
 MOMENT = 1714564800
+GATE = 120  # seconds that it may take where the gate asks for some calls
 WANTING = (b"HTTP/1.1 503 Service Unavailable\r\nContent-Type: application/json\r\nContent-Length: 35\r\n\r\n"
            b'{"code":"M1","message":"M1 Memory"}')
 P = "/coord/1/projects/00000001-0000-8000-8000-000000000000"
@@ -534,6 +535,8 @@ def main():
         words.error("the rows are " + ", ".join(ROWS))
     failed = 0
     print(f"seed {said.seed}", flush=True)
+    if said.some is not None:
+        within(GATE)
     with tempfile.TemporaryDirectory() as folder:
         tool = Tool(os.path.abspath(said.program), folder, said.seed, said.some)
         for name in said.rows or ROWS:
@@ -543,6 +546,10 @@ def main():
             except (Row, OSError) as fault:
                 failed += 1
                 print(f"{name}: FAILS: {type(fault).__name__} {fault}", flush=True)
+            except TooLong as fault:
+                tool.workers.shutdown(cancel_futures=True)
+                print(f"{name}: FAILS: {fault}")
+                return 1
         tool.workers.shutdown(cancel_futures=True)
     print(f"{len(said.rows or ROWS) - failed} passed, {failed} failed")
     return 1 if failed else 0

@@ -21,10 +21,12 @@ import time
 HERE = os.path.dirname(os.path.abspath(__file__))
 sys.path[:0] = [HERE, os.path.join(HERE, "..", "cases")]
 import http_reference as reference  # noqa: E402
-from serve import (HOST, RULES as RULE_BODIES, Client, Exchange, Row, Server, check_replies, fill, in_threads,  # noqa: E402
-                   project_id, take_response, topics_of, want)
+import odd_streams  # noqa: E402
+from serve import (HOST, RULES as RULE_BODIES, Client, Exchange, Row, Server, TooLong, check_replies, fill,  # noqa: E402
+                   in_threads, project_id, take_response, topics_of, want, within)
 
 MIB = 1 << 20
+GATE = 120  # seconds that a part of the flood may take
 RULES = RULE_BODIES[1]
 # What a server takes before anything is sent, and for each lane its stack, its buffers and its share of the C library's heap.
 # A lane holds the bytes of one request, in a buffer that doubles, and while that grows the old one beside it.
@@ -257,6 +259,45 @@ def replies_of(data):
     return replies
 
 
+def plain(data):
+    """The replies without their turns."""
+    return re.sub(rb"X-Book-Turn: \d+\r\n", b"", data)
+
+
+def odd(flood, lanes=4):
+    """Odd bytes, lengths, chunks, targets and bodies (odd_streams.py), each stream over a connection of its own, in pieces: what is
+    answered is what the reference answers. They ask for projects that aren't there, so nothing is changed."""
+    count, streams = flood.much(500, 10000), []
+    while len(streams) < count:
+        data = odd_streams.stream(flood.chance)
+        right = odd_streams.wanted(data) if b"00000001" not in data else None
+        if right:
+            streams.append((data, right[0]))
+    with Server(flood.program, lanes=lanes) as server:
+        server.connect().close()
+
+        def talks():
+            def some(these, seed):
+                chance = random.Random(seed)
+                for data, right in these:
+                    it = server.connect()
+                    send(it, data, chance.choice([None, 3000, 60]), chance)
+                    try:
+                        it.shutdown(socket.SHUT_WR)
+                    except OSError:
+                        pass
+                    got = all_of(it)
+                    it.close()
+                    want(plain(got) == plain(right), f"{data!r} is answered {got!r}, wanted {right!r}")
+            in_threads([lambda n=n, s=flood.chance.random(): some(streams[n::2], s) for n in range(2)])
+        logs, told = beside(server, 2, talks)
+        check_replies(flood.program, 1, logs)
+        taken = bounded(server, lanes, body=MIB, book=MIB)
+        end(server)
+    replies = sum(right.count(b"HTTP/1.1 ") for _, right in streams)
+    return f"{count} streams with {replies} replies, {told}, {taken}"
+
+
 def cuts(flood, lanes=4):
     """1,000 connections that are cut at any byte of their requests, by an end or by a reset: a change whose request came whole
     before an end stands once, one that was cut never. Then the server has served as many connections as it was to, and ends by
@@ -468,8 +509,9 @@ def long_name(count, size):
 
 
 def wanting(flood, lanes=3):
-    """A version whose list is longer than memory lasts, and one with more pairs than it lasts: the first is answered 503, the
-    second stays to be checked, and all else goes on, on the lanes and at the worker, also of versions made behind them."""
+    """A version whose list is longer than memory lasts, a body whose tree is, and a version with more pairs than it lasts: the
+    first two are answered 503, the third stays to be checked, and all else goes on, on the lanes and at the worker, also of
+    versions made behind them."""
     v = f"/coord/1/projects/{project_id(1)}"
     with Limited(flood.program, 112 * MIB, lanes=lanes) as server:
         client, other = Client(server), Client(server)
@@ -478,6 +520,8 @@ def wanting(flood, lanes=3):
             it = client.ask("GET", f"{v}/versions/1")
             want(it.status == 503 and json.loads(it.reply)["code"] == "M1", f"{it.status} {it.reply[:80]!r}")
             want(other.ask("POST", topics_of(), b'{"title":"beside"}').status == 201, "no topic beside it")
+        it = client.ask("POST", topics_of(), b'{"title":"a","x":[' + (b'{"":' * 125 + b"1" + b"}" * 125 + b",") * 6500 + b"1]}")
+        want(it.status == 503 and json.loads(it.reply)["code"] == "M1", f"{it.status} {it.reply[:80]!r}")
         want(client.ask("DELETE", f"{v}/models/a").turn and len(json.loads(client.ask("GET", topics_of()).reply)) == 3, "not three topics")
         client.close()
         other.close()
@@ -506,7 +550,7 @@ def wanting(flood, lanes=3):
     return f"a worker was refused more than {most / MIB:.0f} MiB, and went on"
 
 
-ROWS = {it.__name__: it for it in (drip, heads, lengths, cuts, resets, pipelined, never_read, bodies, wanting)}
+ROWS = {it.__name__: it for it in (drip, heads, lengths, odd, cuts, resets, pipelined, never_read, bodies, wanting)}
 
 
 def main():
@@ -522,6 +566,8 @@ def main():
     most = resource.getrlimit(resource.RLIMIT_NOFILE)[1]
     resource.setrlimit(resource.RLIMIT_NOFILE, (min(most, 4096) if most != resource.RLIM_INFINITY else 4096, most))
     print(f"seed {said.seed}", flush=True)
+    if not said.full:
+        within(GATE)
     for name in said.rows or ROWS:
         began = time.monotonic()
         try:
@@ -530,6 +576,9 @@ def main():
         except (Row, OSError) as fault:
             failed += 1
             print(f"{name}: FAILS: {type(fault).__name__} {fault}", flush=True)
+        except TooLong as fault:
+            print(f"{name}: FAILS: {fault}")
+            return 1
     print(f"{len(said.rows or ROWS) - failed} passed, {failed} failed")
     return 1 if failed else 0
 

@@ -41,6 +41,18 @@ def want(holds, text):
         raise Row(text)
 
 
+class TooLong(Exception):
+    """A script that takes longer than it may."""
+
+
+def within(seconds):
+    """From now on the script has so many seconds, and then ends by TooLong."""
+    def over(*_):
+        raise TooLong(f"longer than {seconds} seconds")
+    signal.signal(signal.SIGALRM, over)
+    signal.alarm(seconds)
+
+
 def free_port():
     with socket.socket() as it:
         it.bind((HOST, 0))

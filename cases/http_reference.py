@@ -17,6 +17,7 @@ import urllib.parse
 TCHAR = rb"[!#$%&'*+\-.^_`|~0-9A-Za-z]+"
 REQUEST_LINE = re.compile(rb"(" + TCHAR + rb") ([\x21-\x7e\x80-\xff]+) HTTP/1\.([01])$")
 FIELD = re.compile(rb"(" + TCHAR + rb"):[ \t]*([\t\x20-\x7e\x80-\xff]*)$")
+FIELD_SO_FAR = re.compile(rb"(" + TCHAR + rb"(:[\t\x20-\x7e\x80-\xff]*\r?)?)?$|\r$")
 MOST_HEAD, MOST_BODY, MOST_UPLOAD, MOST_REQUESTS = 16384, 4194304, 33554432, 10000
 
 PHRASES = {200: "OK", 201: "Created", 202: "Accepted", 410: "Gone", 400: "Bad Request", 404: "Not Found", 405: "Method Not Allowed",
@@ -83,11 +84,15 @@ def whole_line(data, at):
     return (line[:-1] if line.endswith(b"\r") else line), end + 1
 
 
-def read_fields(data, at):
+def read_fields(data, at, early=False):
+    """The fields of a section and the place behind it, None where it isn't whole. What can't become a field is told at once
+    where that is asked for, else once its line is whole."""
     fields = []
     while True:
         got = whole_line(data, at)
         if got is None:
+            if early and not FIELD_SO_FAR.match(data[at:]):
+                raise Beyond("a line that is no field") if data[at:at + 1] in (b" ", b"\t") else Fault("BadLine")
             return fields, None
         line, at = got
         if not line:
@@ -159,7 +164,10 @@ def read_request(data, start):
         raise Fault("BadHead")
     request.method, request.target, request.minor = match.group(1), match.group(2), int(match.group(3))
     try:
-        fields, at = read_fields(data[:start + MOST_HEAD], behind)
+        request.target.decode()
+        fields, at = read_fields(data[:start + MOST_HEAD], behind, True)
+    except UnicodeDecodeError:
+        raise Fault("BadHead")
     except Fault:
         raise Fault("BadHead")
     if at is None:
