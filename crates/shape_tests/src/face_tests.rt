@@ -267,6 +267,18 @@ fn exchange_of(alloc: Global, set: &str, faces: &str) -> Result<Exchange, Fail> 
     Ok(read(alloc, text.as_bytes()).ok().ok_or("unread")?)
 }
 
+/// Whether an index of the set counts nothing, asked twice: the second time with what the first has learnt.
+fn found_twice(
+    alloc: Global,
+    exchange: &Exchange,
+    set: &InstanceRef<'_>,
+) -> Result<[bool; 2], AllocError> {
+    let mut learnt = Learnt::new(alloc);
+    let found = has_bad_index(exchange, &mut learnt, set)?;
+    let again = has_bad_index(exchange, &mut learnt, set)?;
+    Ok([found, again])
+}
+
 #[test]
 fn bad_indexes_and_counts_are_found(rt: HostRuntime) -> Result<(), Fail> {
     for case in CASES {
@@ -275,11 +287,8 @@ fn bad_indexes_and_counts_are_found(rt: HostRuntime) -> Result<(), Fail> {
         let count = case.count;
         let exchange = exchange_of(rt.alloc(), case.set, case.faces)?;
         let set = set_in(&exchange)?;
-        let mut learnt = Learnt::new(rt.alloc());
-        let found = has_bad_index(&exchange, &mut learnt, &set)?;
-        assert_eq!(rt; found, bad, "at {text}");
-        let again = has_bad_index(&exchange, &mut learnt, &set)?;
-        assert_eq!(rt; again, bad, "again at {text}");
+        let found = found_twice(rt.alloc(), &exchange, &set)?;
+        assert_eq!(rt; found, [bad, bad], "at {text}");
         assert_eq!(rt;
             triangle_count(&exchange, &set, 7),
             Some(count),
