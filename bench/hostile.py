@@ -92,6 +92,19 @@ def send(it, data, pieces=None, chance=None):
         pass
 
 
+def said_to(server, data, pieces, chance):
+    """What a connection of its own is answered that sends these bytes, in pieces of one of these lengths, and then no more."""
+    it = server.connect()
+    send(it, data, chance.choice(pieces), chance)
+    try:
+        it.shutdown(socket.SHUT_WR)
+    except OSError:
+        pass
+    got = all_of(it)
+    it.close()
+    return got
+
+
 def ask_on(client, done, waits, pause):
     """Asks until the flood is over, two requests and a pause, each once the one before is answered."""
     while not done.is_set():
@@ -224,14 +237,7 @@ def lengths(flood, lanes=8):
                 for _ in range(count // 4):
                     data = lying(chance)
                     wanted, _ = reference.replay(data, 1, 1714564800)
-                    it = server.connect()
-                    send(it, data, chance.choice([None, 40]), chance)
-                    try:
-                        it.shutdown(socket.SHUT_WR)
-                    except OSError:
-                        pass
-                    got = all_of(it)
-                    it.close()
+                    got = said_to(server, data, [None, 40], chance)
                     a, b = ([(x[:9], json.loads(x.partition(b"\r\n\r\n")[2]).keys() if b'"guid"' in x else x.partition(b"\r\n\r\n")[2])
                              for x in replies_of(it)] for it in (got, wanted))
                     want(a == b, f"{data!r} is answered {got!r}, wanted {wanted!r}")
@@ -280,14 +286,7 @@ def odd(flood, lanes=4):
             def some(these, seed):
                 chance = random.Random(seed)
                 for data, right in these:
-                    it = server.connect()
-                    send(it, data, chance.choice([None, 3000, 60]), chance)
-                    try:
-                        it.shutdown(socket.SHUT_WR)
-                    except OSError:
-                        pass
-                    got = all_of(it)
-                    it.close()
+                    got = said_to(server, data, [None, 3000, 60], chance)
                     want(plain(got) == plain(right), f"{data!r} is answered {got!r}, wanted {right!r}")
             in_threads([lambda n=n, s=flood.chance.random(): some(streams[n::2], s) for n in range(2)])
         logs, told = beside(server, 2, talks)

@@ -219,6 +219,13 @@ def components(program, scale):
         table.ask("the topic goes, with them", "DELETE", topic, None, 200)
 
 
+def put_so_often(table, told, file, times):
+    """Puts the file as one model so many times."""
+    table.ask(f"{told} in {len(file) / MB:.2f} MB", "PUT", f"{V}/models/m", file, 201)
+    for n in range(1, times):
+        table.ask(f"the same, number {n + 1}" if n in (1, times - 1) else None, "PUT", f"{V}/models/m", file, 201)
+
+
 def triangles(program, scale):
     """Models of a million triangles each, up to 40,000,000, and one more."""
     sets = 1000
@@ -231,9 +238,7 @@ def triangles(program, scale):
     with Server(program, lanes=3, workers=1) as server:
         table = Table(server)
         count = max(1, int(40 * scale))
-        table.ask(f"1,000,000 triangles in {len(file) / MB:.2f} MB", "PUT", f"{V}/models/m", file, 201)
-        for n in range(1, count):
-            table.ask(f"the same, number {n + 1}" if n in (1, count - 1) else None, "PUT", f"{V}/models/m", file, 201)
+        put_so_often(table, "1,000,000 triangles", file, count)
         if scale == 1:
             table.ask("one triangle more", "PUT", f"{V}/models/n", SMALL_FILE, 507)
 
@@ -252,9 +257,7 @@ def uploads(program, scale):
     file = "".join(lines + [TAIL]).encode()
     with Server(program, lanes=3, workers=1) as server:
         table = Table(server)
-        table.ask(f"{count:,} elements in {len(file) / MB:.1f} MB", "PUT", f"{V}/models/m", file, 201)
-        for n in range(1, times):
-            table.ask(f"the same, number {n + 1}" if n in (1, times - 1) else None, "PUT", f"{V}/models/m", file, 201)
+        put_so_often(table, f"{count:,} elements", file, times)
         if scale == 1:
             table.ask("once more", "PUT", f"{V}/models/m", file, 507)
 
