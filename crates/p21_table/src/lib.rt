@@ -18,6 +18,6 @@ pub use instance_list::Instances;
 pub use instance_ref::InstanceRef;
 pub use keyword::Keyword;
 pub use places::noted_places;
-pub use simple::{inner, is_word, name_of};
+pub use simple::{inner, name_of};
 pub use value_list::{Three, Values};
 pub use value_ref::ValueRef;
