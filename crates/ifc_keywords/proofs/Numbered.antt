@@ -1,5 +1,5 @@
 -- Each known keyword has its number, and stands in the table at its hash.
-use Rattle.std.proofs.Common.{◌≡◌, ℕ, zero, suc, ◌+◌, ◌<◌, ◌≤◌, ◌==◌, inl, inr, Bool, true, ◌&&◌, nat_le, List, [], ◌∷◌, length, get_or, arith, refl, sym, ap, ◌∙◌}
+use Rattle.std.proofs.Common.{◌⊎◌, false, ◌≡◌, ℕ, zero, suc, ◌+◌, ◌<◌, ◌≤◌, ◌==◌, inl, inr, Bool, true, ◌&&◌, nat_le, List, [], ◌∷◌, length, get_or, arith, refl, sym, ap, ◌∙◌}
 use Rattle.std.proofs.lemmas.Bool.{cases_Bool, eqb-true, and_parts}
 use Rattle.std.proofs.lemmas.Bool.Decides.{nat_tests}
 use Rattle.std.proofs.lemmas.Slice.Eq.{bytes_eq-Decides}
@@ -80,3 +80,36 @@ all_long = refl
 -- a short word is none of them
 pub short_none : (k : List ℕ) → length k < 4 → 255 ≡ code_of k
 short_none k lt = no_number k (λ j l e. let n = ap (λ (xs : List ℕ). length xs) e in let m = long_at known j all_long (omega (arith, l, known_many)) in omega (arith, lt, n, m))
+
+-- A word's number, from the other side.
+
+-- a word is the keyword of its number
+pub record CodedAs (k : List ℕ) : Type 0 where
+  pub at : ℕ
+  pub within : at < 75
+  pub word : k ≡ get_or known at []
+  pub number : code_of k ≡ at
+
+-- the place of a word in a list, or it is none of them
+abbrev Among : List (List ℕ) → List ℕ → Type 0
+Among ws k = ((j : ℕ) × (j < length ws) × (k ≡ get_or ws j [])) ⊎ ((j : ℕ) → j < length ws → k ≡ get_or ws j [] → ⊥)
+
+among : (ws : List (List ℕ)) (k : List ℕ) → Among ws k
+among [] k = inr (λ j lt e. omega (arith, lt))
+among (w ∷ ws) k = elim (cases_Bool (bytes_eq k w)) [
+  | inl t ↦ inl (0, omega arith, is_same k w t)
+  | inr f ↦ elim (among ws k) [
+    | inl p ↦ inl (suc p.0, omega (arith, p.1), p.2)
+    | inr n ↦ inr (λ j. other j f n)
+  ]
+]
+  where
+    other : (j : ℕ) → bytes_eq k w ≡ false → ((i : ℕ) → i < length ws → k ≡ get_or ws i [] → ⊥) → j < length (w ∷ ws) → k ≡ get_or (w ∷ ws) j [] → ⊥
+    other zero f n lt e = (let t = same_is k w e in cc)
+    other (suc j) f n lt e = n j (omega (arith, lt)) e
+
+pub a_number : (k : List ℕ) → CodedAs k ⊎ (code_of k ≡ 255)
+a_number k = elim (among known k) [
+  | inl p ↦ (let lt : p.0 < 75 = omega (arith, p.1, known_many) in inl (record { at = p.0; within = lt; word = p.2; number = sym (has_number k p.0 lt p.2) }))
+  | inr n ↦ inr (sym (no_number k (λ j lt e. n j (omega (arith, lt, known_many)) e)))
+]
