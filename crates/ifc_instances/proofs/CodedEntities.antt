@@ -133,10 +133,13 @@ no_entity Subject = refl
 
 -- Whether a keyword is one of an entity's.
 
+agreed : (e : Entity) (k : ℕ) → k < 75 → is_of e (get_or known k []) ≡ has_code e k
+agreed e k lt = let z : 0 + k ≡ k = omega arith in agrees_at e 0 known k (all_agree e) (omega (arith, lt, known_many)) ∙ ap (λ (m : ℕ). has_code e m) z
+
 is_of_coded : (e : Entity) (k : List ℕ) → has_code e (code_of k) ≡ is_of e k
 unfolding is_of
 is_of_coded e k = elim (a_number k) [
-  | inl c ↦ ap (λ (n : ℕ). has_code e n) c.number ∙ sym (agrees_at e 0 known c.at (all_agree e) (omega (arith, c.within, known_many))) ∙ ap (λ (w : List ℕ). is_of e w) (sym c.word)
+  | inl c ↦ ap (λ (n : ℕ). has_code e n) c.number ∙ sym (agreed e c.at c.within) ∙ ap (λ (w : List ℕ). is_of e w) (sym c.word)
   | inr n ↦ ap (λ (m : ℕ). has_code e m) n ∙ no_entity e ∙ sym (none_of (keywords_of e) k (entities_known e) n)
 ]
 
@@ -162,15 +165,18 @@ found_at n (suc m) (suc k) h lt =
 
 all_found : Found 0 75
 unfolding has_code by_code
-all_found = (refl, refl, refl, refl, refl, refl, refl, refl, refl, refl, refl, refl, refl, refl, refl, refl, refl, refl, refl, refl, refl, refl, refl, refl, refl, refl, refl, refl, refl, refl, refl, refl, refl, refl, refl, refl, refl, refl, refl, refl, refl, refl, refl, refl, refl, refl, refl, refl, refl, refl, refl, refl, refl, refl, refl, refl, refl, refl, refl, refl, refl, refl, refl, refl, refl, refl, refl, refl, refl, refl, refl, refl, refl, refl, refl, tt)
+all_found = (refl, (refl, (refl, (refl, (refl, (refl, (refl, (refl, (refl, (refl, (refl, (refl, (refl, (refl, (refl, (refl, (refl, (refl, (refl, (refl, (refl, (refl, (refl, (refl, (refl, (refl, (refl, (refl, (refl, (refl, (refl, (refl, (refl, (refl, (refl, (refl, (refl, (refl, (refl, (refl, (refl, (refl, (refl, (refl, (refl, (refl, (refl, (refl, (refl, (refl, (refl, (refl, (refl, (refl, (refl, (refl, (refl, (refl, (refl, (refl, (refl, (refl, (refl, (refl, (refl, (refl, (refl, (refl, (refl, (refl, (refl, (refl, (refl, (refl, (refl, tt)))))))))))))))))))))))))))))))))))))))))))))))))))))))))))))))))))))))))))
 
 none_found : by_code 255 ≡ find (λ e. has_code e 255) entities
 unfolding has_code by_code
 none_found = refl
 
+found : (k : ℕ) → k < 75 → by_code k ≡ find (λ e. has_code e k) entities
+found k lt = let z : 0 + k ≡ k = omega arith in subst (λ (x : ℕ). by_code x ≡ find (λ e. has_code e x) entities) z (found_at 0 75 k all_found lt)
+
 by_code_is : (k : List ℕ) → by_code (code_of k) ≡ find (λ e. has_code e (code_of k)) entities
 by_code_is k = elim (a_number k) [
-  | inl c ↦ subst (λ (x : ℕ). by_code x ≡ find (λ e. has_code e x) entities) (sym c.number) (found_at 0 75 c.at all_found c.within)
+  | inl c ↦ subst (λ (x : ℕ). by_code x ≡ find (λ e. has_code e x) entities) (sym c.number) (found c.at c.within)
   | inr n ↦ subst (λ (x : ℕ). by_code x ≡ find (λ e. has_code e x) entities) (sym n) none_found
 ]
 
