@@ -2,7 +2,7 @@
 ghost use Rattle.std.specs.Prelude.{◌≡◌};
 ghost use Rattle.std.specs.List.{list_any};
 ghost use Rattle.std.specs.Str.{bytes_eq};
-ghost use Rattle.ifc_instances.specs.Entities.{is_of, entity_of, subjects};
+ghost use Rattle.ifc_instances.specs.Entities.{is_of, subjects};
 
 use p21_table::{InstanceRef, Keyword};
 
@@ -124,30 +124,6 @@ fn is_subject(keyword: &Keyword<'_>) -> bool
     is_any(keyword, &SUBJECTS)
 }
 
-const ALL: [Entity; 21] = [
-    Entity::Face,
-    Entity::FaceWithVoids,
-    Entity::Point,
-    Entity::Direction,
-    Entity::PointList,
-    Entity::TriangulatedFaceSet,
-    Entity::PolygonalFaceSet,
-    Entity::AxisPlacement,
-    Entity::Placement,
-    Entity::Representation,
-    Entity::ProductShape,
-    Entity::MappedItem,
-    Entity::RepresentationMap,
-    Entity::Operator,
-    Entity::Containment,
-    Entity::Aggregates,
-    Entity::Storey,
-    Entity::Project,
-    Entity::UnitAssignment,
-    Entity::SiUnit,
-    Entity::Subject,
-];
-
 /// Those of one keyword, in the order of the numbers of their keywords.
 const CODED: [Entity; 20] = [
     Entity::Project,
@@ -205,14 +181,6 @@ impl Entity {
             Entity::Operator => keyword.is("IFCCARTESIANTRANSFORMATIONOPERATOR3D"),
             Entity::Subject => is_subject(keyword),
         }
-    }
-
-    /// The entity of a keyword.
-    #[tactic(auto, unfolding(crate::specs::Entities::entity_of))]
-    pub fn of(keyword: &Keyword<'_>) -> Option<Entity>
-        ensures { result ≡ entity_of keyword.now }
-    {
-        ALL.iter().copied().find(|entity| entity.is(keyword))
     }
 
     /// Whether a number is that of one of its keywords.
