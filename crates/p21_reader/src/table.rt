@@ -113,8 +113,8 @@ fn keyword_end(word: Piece) -> usize
 fn keyword_code(bytes: &[u8], word: Piece) -> u8
     requires short { length bytes.now ≤ MOST_UPLOAD }
     requires piece { IsPiece bytes.now word }
-    ensures some { word.kind ≡ Kind.Word
-        → result ≡ code_said (map to_ascii_uppercase (slice_range bytes.now word.token.start word.token.end)) }
+    ensures some { word.kind ≡ Kind.Word → result
+        ≡ code_said (map to_ascii_uppercase (slice_range bytes.now word.token.start word.token.end)) }
     ensures none { (word.kind ≡ Kind.Word → ⊥) → result ≡ 255 }
 {
     if word.kind == Kind::Word {
