@@ -33,8 +33,10 @@ abbrev pub coded : List Entity
 coded =
     Project ∷ UnitAssignment ∷ SiUnit ∷ Storey ∷ Aggregates ∷ Containment ∷ ProductShape
     ∷ Representation ∷ Placement ∷ AxisPlacement ∷ Point ∷ Direction ∷ PointList
-    ∷ TriangulatedFaceSet ∷ PolygonalFaceSet ∷ Face ∷ FaceWithVoids ∷ MappedItem ∷ RepresentationMap ∷ Operator ∷ []
+    ∷ TriangulatedFaceSet ∷ PolygonalFaceSet ∷ Face ∷ FaceWithVoids ∷ MappedItem ∷ RepresentationMap
+    ∷ Operator ∷ []
 
 -- the entity that has a number
 unfoldable pub by_code : ℕ → Option Entity
-by_code code = if nat_lt code 20 then slice_get coded code else (if nat_lt code 75 then Some Subject else None)
+by_code code =
+    if nat_lt code 20 then slice_get coded code else (if nat_lt code 75 then Some Subject else None)
