@@ -231,37 +231,39 @@ fn axis(number: i8) -> Axis {
     }
 }
 
+/// The axes of a placement whose directions are spelled so; `$` for one that is absent.
+fn axes_spelled(alloc: Global, axis: &str, reference: &str) -> Result<Option<Axes>, BuildError> {
+    let first = if axis == "$" { "$" } else { "#2" };
+    let second = if reference == "$" { "$" } else { "#3" };
+    let third = if axis == "$" { "(1.,1.,1.)" } else { axis };
+    let fourth = if reference == "$" {
+        "(1.,1.,1.)"
+    } else {
+        reference
+    };
+    let data = format!(in alloc;
+        "#1=IFCAXIS2PLACEMENT3D(#4,{first},{second});#2=IFCDIRECTION({third});#3=IFCDIRECTION({fourth});"
+    )?;
+    let exchange = exchange_of(alloc, data.as_str())?;
+    Ok(axes_of(&exchange, 1))
+}
+
+/// The axes with these numbers.
+fn numbered(axes: Option<(i8, i8, i8)>) -> Option<Axes> {
+    axes.map(|(x, y, z)| Axes {
+        x: axis(x),
+        y: axis(y),
+        z: axis(z),
+    })
+}
+
 #[test]
 fn axes_are_turned(rt: HostRuntime) -> Result<(), Fail> {
     let alloc = rt.alloc();
     for turned in &TURNS {
-        let (axis_text, reference_text) = (turned.axis, turned.reference);
-        let first = if axis_text == "$" { "$" } else { "#2" };
-        let second = if reference_text == "$" { "$" } else { "#3" };
-        let third = if axis_text == "$" {
-            "(1.,1.,1.)"
-        } else {
-            axis_text
-        };
-        let fourth = if reference_text == "$" {
-            "(1.,1.,1.)"
-        } else {
-            reference_text
-        };
-        let data = format!(in alloc;
-            "#1=IFCAXIS2PLACEMENT3D(#4,{first},{second});#2=IFCDIRECTION({third});#3=IFCDIRECTION({fourth});"
-        )?;
-        let exchange = exchange_of(alloc, data.as_str())?;
-        let wanted = turned.axes.map(|(x, y, z)| Axes {
-            x: axis(x),
-            y: axis(y),
-            z: axis(z),
-        });
-        assert_eq!(rt;
-            axes_of(&exchange, 1),
-            wanted,
-            "at {axis_text} {reference_text}"
-        );
+        let found = axes_spelled(alloc, turned.axis, turned.reference)?;
+        let wanted = numbered(turned.axes);
+        assert_eq!(rt; found, wanted, "at {} {}", turned.axis, turned.reference);
     }
     Ok(())
 }

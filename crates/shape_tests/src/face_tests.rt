@@ -12,6 +12,14 @@ fn set_in(exchange: &Exchange) -> Result<InstanceRef<'_>, Fail> {
     Ok(exchange.look(2).ok_or("no set")?)
 }
 
+/// Which of so many points an index that is spelled so names.
+fn place_spelled(alloc: Global, spelled: &str, count: u8) -> Result<Option<usize>, Fail> {
+    let set = format!(in alloc; "IFCTRIANGULATEDFACESET({spelled})")?;
+    let exchange = exchange_of(alloc, set.as_str(), "")?;
+    let value = set_in(&exchange)?.attribute(0).ok_or("no value")?;
+    Ok(place_of(&value, count as usize))
+}
+
 #[test]
 fn indexes_name_points(rt: HostRuntime) -> Result<(), Fail> {
     let alloc = rt.alloc();
@@ -33,10 +41,8 @@ fn indexes_name_points(rt: HostRuntime) -> Result<(), Fail> {
         (".X.", 3, None),
     ];
     for (spelled, count, wanted) in cases {
-        let set = format!(in alloc; "IFCTRIANGULATEDFACESET({spelled})")?;
-        let exchange = exchange_of(alloc, set.as_str(), "")?;
-        let value = set_in(&exchange)?.attribute(0).ok_or("no value")?;
-        assert_eq!(rt; place_of(&value, count), wanted, "at {spelled}");
+        let found = place_spelled(alloc, spelled, count)?;
+        assert_eq!(rt; found, wanted, "at {spelled}");
     }
     Ok(())
 }
