@@ -63,7 +63,7 @@ made b n places small = elim (zero_or n) [
           zero_sign = λ e. absurd (omega (arith, e, some));
         },
         subst (λ (x : ℕ). SameValue (record { number = signed b s.m; power = (pos 0 -ℤ pos places) +ℤ pos s.z }) (record { number = signed b x; power = pos 0 -ℤ pos places })) (sym s.whole)
-        (same_value b s.m s.z ((pos 0 -ℤ pos places) +ℤ pos s.z) (pos 0 -ℤ pos places) refl),
+            (same_value b s.m s.z ((pos 0 -ℤ pos places) +ℤ pos s.z) (pos 0 -ℤ pos places) refl),
       ))
 ]
 
