@@ -60,8 +60,9 @@ fn lowered(side: i32, grow: u32, start: i32) -> i32
 /// The reach of the boxes within `grow` of the probe, of which on each axis one of the two begins at `start` or
 /// later.
 pub fn reach_of(probe: &Extent, grow: u32, start: &Point) -> Reach
-    ensures { (box : Extent) → Fits32 box
+    ensures meets { (box : Extent) → Fits32 box
         → meets result box ≡ is_within_from start.now grow probe.now box }
+    ensures fits { Fits32 probe.now }
 {
     Reach {
         low: Point {

@@ -2,8 +2,8 @@ use Rattle.std.proofs.Common.{rules, ap₂, ◌&&◌}
 use Rattle.box_lanes.proofs.Grown.{axis}
 use Rattle.box_lanes.proofs.reach.reach_of.Goals as goal
 
-pub returns : goal.returns
-returns c = λ box fits.
+pub returns-clause-meets : goal.returns-clause-meets
+returns-clause-meets c = λ box fits.
     let p = c.args.probe.now in
     let s = c.args.start.now in
     let low_x = c.lowered in

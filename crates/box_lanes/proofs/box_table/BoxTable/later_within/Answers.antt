@@ -12,4 +12,4 @@ returns c =
     let rest = drop (c.args.first + 1) c.args.self.now in
     let fits = c.len-count.ensures.fits in
     c.in_ok-add_from.ensures ∙ ap (λ l. l ++ places_from (c.args.first + 1) met rest) c.clear.ensures.items
-    ∙ places_agree met near (c.args.first + 1) rest (All-weaker Fits32 (λ b. met b ≡ near b) c.reach_of-reach.ensures rest (All-drop Fits32 (c.args.first + 1) c.args.self.now fits))
+    ∙ places_agree met near (c.args.first + 1) rest (All-weaker Fits32 (λ b. met b ≡ near b) c.reach_of-reach.ensures.meets rest (All-drop Fits32 (c.args.first + 1) c.args.self.now fits))
