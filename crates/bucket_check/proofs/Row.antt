@@ -1,5 +1,5 @@
 -- A member's row: the places that the filter of boxes gives are enough.
-use Rattle.std.proofs.Common.{◌≡◌, ℕ, zero, suc, ◌+◌, ◌-◌, ◌*◌, ◌<◌, ◌≤◌, ◌⊎◌, inl, inr, leb, ltb, ◌&&◌, Bool, true, false, cond, List, [], ◌∷◌, ◌++◌, length, take, drop, map, filter, true≢false, Option, Some, None, refl, sym, ap, ap₂, subst, arith, ◌∙◌, append-nil, drop-cons, add-one, unsigned_abs, ℤ, pos, ◌+ℤ◌, int_le}
+use Rattle.std.proofs.Common.{◌≡◌, ℕ, zero, suc, ◌+◌, ◌-◌, ◌*◌, ◌<◌, ◌≤◌, ◌⊎◌, inl, inr, leb, ltb, ◌&&◌, Bool, true, false, cond, List, [], ◌∷◌, ◌++◌, length, take, drop, map, filter, true≢false, Option, Some, None, refl, sym, ap, ap₂, subst, arith, ◌∙◌, append-nil, drop-cons, add-one, unsigned_abs, ℤ, pos, negsuc, ◌+ℤ◌, int_le}
 use Rattle.std.specs.List.{All, flat_map}
 use Rattle.std.specs.Str.{bytes_eq}
 use Rattle.std.proofs.lemmas.Bool.{cases_lt, and_parts, and_from, le-leb, leb-true, lt-leb}
@@ -127,7 +127,8 @@ close_from cell k m g K M o t =
     (close_on m.low.z m.high.z k.low.z k.high.z cell.z g (fit m.low.z M.low.z_in) (fit k.low.z K.low.z_in) (ap (λ (c : Cell). c.z) o) p.1)
   where
     fit : (x : ℤ) → unsigned_abs x ≤ grid_limit → SFits w32 x
-    fit x h = record { sfits = omega (arith, ints) }
+    fit (pos a) h = record { sfits = omega (arith, h) }
+    fit (negsuc a) h = record { sfits = omega (arith, h) }
 
 none_by : (o : Option ℕ) → ((r : ℕ) → o ≡ Some r → ⊥) → o ≡ None
 none_by None h = refl

@@ -21,7 +21,7 @@ pub add_row-requires-clause-places_in : goal.add_row-requires-clause-places_in
 add_row-requires-clause-places_in g c =
     let listed = c.deref.ensures.value ∙ c.in_ok-later_within.ensures in
     let many : length c.args.room.now.table ≡ length c.args.members.now = ap length c.requires.table ∙ length-map c.args.members.now (box_at c.args.grid.now.boxes) in
-    subst (λ n. All (λ k. k < n) c.deref.result.now) many (subst (All (λ k. k < length c.args.room.now.table)) (sym listed) (later_inside _ _ _ c.args.first c.args.room.now.table))
+    subst (λ n. All (λ k. k < n) c.deref.result.now) many (subst (All (λ k. k < length c.args.room.now.table)) (sym listed) (later_inside c.args.start.now c.args.greatest (box_at c.boxes-boxes.result.now (number_at c.args.members.now c.args.first)) c.args.first c.args.room.now.table))
 
 pub returns-clause-pairs : goal.returns-clause-pairs
 returns-clause-pairs g c =
