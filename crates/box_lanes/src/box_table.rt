@@ -122,9 +122,12 @@ impl BoxTable {
         requires { first < length self.now }
         ensures { OnOk result (places.new.items ≡ later_within start.now grow probe.now first self.now) }
     {
-        let reach = reach_of(probe, grow, start);
-        let _count = self.len();
+        let count = self.len();
         places.clear();
+        if first + 1 == count {
+            return Ok(());
+        }
+        let reach = reach_of(probe, grow, start);
         self.add_from(first + 1, &reach, places)?;
         Ok(())
     }
