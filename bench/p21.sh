@@ -52,7 +52,7 @@ fn main(rt: HostRuntime) -> io::Result<()> {
         let cut = start.elapsed(&rt)?.as_micros();
         let start = Instant::now(&rt)?;
         let found = match read(rt.alloc(), bytes.as_slice()) {
-            Ok(exchange) => exchange.instances().len() as u64,
+            Ok(exchange) => exchange.len() as u64,
             Err(BuildError::Fault(UploadFault::BadToken { at })) => at,
             Err(BuildError::Fault(UploadFault::BadStatement { at })) => at,
             Err(_) => 0,

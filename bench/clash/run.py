@@ -7,8 +7,10 @@ Each FILE has elements with triangulated surfaces in millimetres (IFCCARTESIANPO
 numbers are written into a plain file for pace.txt, the program over the built crates. BASELINE is another program, called
 as `BASELINE FILE.ifc DISTANCE --reps N`; it prints `clashes N`, and its seconds as `clash_s T [grid T filter T near T]`.
 Copies the crates, with what earlier checks kept of them, into a scratch folder, adds the program, builds it proved
-(`rt run`), and runs both by turns. Prints the least of each part over all turns and rounds, the ratio of the wholes
-(here over baseline), and how each whole grows from one file to the next. Ends with 1 where the numbers of clashes differ.
+(`rt run`), and runs both by turns: in each turn both programs on all files, with N rounds of the largest file and as many
+more of a smaller one as it is smaller, so that a slow second of the machine falls on no file alone. Prints the least of
+each part over all turns and rounds, the ratio of the wholes (here over baseline), and how each whole grows from one file
+to the next. Ends with 1 where the numbers of clashes differ.
 
 Both programs keep what memory was let go of for the next round (MALLOC_TRIM_THRESHOLD_). The baseline does so by itself
 once it has let go of the bytes of its file, as does a server after an upload; pace.txt holds its input to the end, and
@@ -88,18 +90,32 @@ def ran(words, form):
     return int(found[1]), [float(time) for time in found.groups()[1:]]
 
 
-def measured(program, baseline, file, scene, distance, args):
-    """The least times of the baseline and of the program, in milliseconds: whole, grid, filter, exact."""
-    plain, here = [float("inf")] * 4, [float("inf")] * 4
-    for _ in range(args.turns):
-        there, times = ran([baseline, file, str(distance), "--reps", str(args.rounds), "--lex", "0"], PLAIN)
-        plain = list(map(min, plain, [time * 1e3 for time in times]))
-        found, times = ran([program, scene, str(distance), str(args.rounds)], HERE)
-        here = list(map(min, here, [time / 1e6 for time in (times[3], times[0], times[1], times[2])]))
-        if found != there:
-            sys.exit(f"{file} at {distance}: {found} clashes here, {there} by the baseline")
-    here[3] = max(here[3] - here[2], 0.0)
-    return plain, here, found
+class Least:
+    """The least times on a file at a distance, in milliseconds: of the baseline whole, grid, filter, exact, of the program
+    whole, grid, filter, check; and the number of clashes."""
+
+    def __init__(self, file, scene, distance, rounds):
+        self.file, self.scene, self.distance, self.rounds = file, scene, str(distance), str(rounds)
+        self.plain, self.here, self.found = [float("inf")] * 4, [float("inf")] * 4, None
+
+    def turn(self, program, baseline):
+        """Both programs once."""
+        words = [baseline, self.file, self.distance, "--reps", self.rounds, "--lex", "0"]
+        there, times = ran(words, PLAIN)
+        self.plain = list(map(min, self.plain, [time * 1e3 for time in times]))
+        self.found, times = ran([program, self.scene, self.distance, self.rounds], HERE)
+        grid, filtered, check, whole = times
+        self.here = list(map(min, self.here, [time / 1e6 for time in (whole, grid, filtered, check)]))
+        if self.found != there:
+            sys.exit(f"{self.file} at {self.distance}: {self.found} clashes here, {there} by the baseline")
+
+    def line(self, before):
+        """A line of the table; growth is that of the whole from the line before."""
+        kind = f"{self.file.name} at {self.distance}: {self.found} clashes"
+        here = self.here[:3] + [max(self.here[3] - self.here[2], 0.0)]
+        ratio = self.here[0] / self.plain[0]
+        growth = before and f"{self.plain[0] / before.plain[0]:.2f} {self.here[0] / before.here[0]:.2f}"
+        return f"{kind:44} {parts(self.plain):36} {parts(here):36} {ratio:5.2f}  {growth or ''}"
 
 
 def parts(times):
@@ -119,18 +135,22 @@ def main():
     with tempfile.TemporaryDirectory() as scratch:
         work = pathlib.Path(scratch)
         program = args.program or build(top, work)
+        for file in args.files:
+            write_scene(file, work / f"{file.name}.scene")
+        largest = max(file.stat().st_size for file in args.files)
+        all_least = [
+            Least(file, work / f"{file.name}.scene", distance, args.rounds * largest // file.stat().st_size)
+            for distance in map(int, args.distances.split(","))
+            for file in args.files
+        ]
+        for _ in range(args.turns):
+            for least in all_least:
+                least.turn(program, args.baseline)
         print(f"{'milliseconds: whole (grid, filter, exact)':44} {'baseline':36} {'here':36} ratio  growth")
-        for distance in map(int, args.distances.split(",")):
-            before = None
-            for file in args.files:
-                scene = work / f"{file.name}.scene"
-                if not scene.exists():
-                    write_scene(file, scene)
-                plain, here, found = measured(program, args.baseline, file, scene, distance, args)
-                growth = "" if before is None else f"{plain[0] / before[0]:.2f} {here[0] / before[1]:.2f}"
-                kind = f"{file.name} at {distance}: {found} clashes"
-                print(f"{kind:44} {parts(plain):36} {parts(here):36} {here[0] / plain[0]:5.2f}  {growth}", flush=True)
-                before = plain[0], here[0]
+        before = None
+        for least in all_least:
+            print(least.line(before if before and before.distance == least.distance else None))
+            before = least
 
 
 main()

@@ -2,6 +2,7 @@ pub mod BodiesCollected
 pub mod BodiesOfShapes
 pub mod CasesOfAnswers
 pub mod ElementsMade
+pub mod NamesKept
 pub mod OneSet
 pub mod OneSurface
 pub mod PointsOnGrid
