@@ -108,9 +108,9 @@ impl BoxTable {
         Ok(places)
     }
 
-    /// The same of the boxes behind the place `first` alone, as the only places of the list, and on each axis only where
-    /// the later of the box and the probe begins at `start` or behind it. An error where memory is wanting, which leaves
-    /// some of them.
+    /// The same of the boxes behind the place `first` alone, as the only places of the list, and on each axis only
+    /// where the later of the box and the probe begins at `start` or behind it. An error where memory is wanting,
+    /// which leaves some of them.
     pub fn later_within(
         &self,
         first: usize,
