@@ -13,3 +13,5 @@ pub mod Unique
 pub mod Keeping
 pub mod Saying
 pub mod FewDigits
+pub mod ShortNumbers
+pub mod ShortDecimals

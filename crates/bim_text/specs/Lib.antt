@@ -4,3 +4,4 @@ pub mod Decimals
 pub mod Scanning
 pub mod Texts
 pub mod Says
+pub mod Short

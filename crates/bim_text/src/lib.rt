@@ -13,6 +13,7 @@ mod number_parts;
 mod print;
 mod raised_order;
 mod rows;
+mod short;
 mod small;
 mod spelled_text;
 
@@ -21,5 +22,6 @@ pub use decimal::Decimal;
 pub use laws::{one_decimal, one_value, plain_texts};
 pub use limits::{MOST_DIGITS, MOST_EXPONENT};
 pub use print::print_i64;
+pub use short::{Short, ShortRow, short_at, short_row};
 pub use small::small_whole;
 pub use spelled_text::text_of;

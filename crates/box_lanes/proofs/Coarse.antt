@@ -9,6 +9,7 @@ use lib.Lanes.{mask_l}
 use mir.Syntax.{w16, w32}
 use mir.Val.{SFits, to_z, of_z}
 use Rattle.bim_model.specs.declared.geometry.Extent.{Extent}
+use Rattle.box_lanes.specs.declared.reach.Reach.{Reach}
 use Rattle.box_lanes.specs.Lanes.{meets, coarse, may_meet}
 use Rattle.box_lanes.proofs.Vectors.{Fit}
 use Rattle.box_lanes.proofs.Eights.{read_sides}
@@ -35,13 +36,17 @@ both_of true true c d f g e = ap₂ (λ x y. x && y) (f refl) (g refl)
 both_of true false c d f g e = absurd (true≢false (sym e))
 both_of false b c d f g e = absurd (true≢false (sym e))
 
-may_meet_too : (r b : Extent) → meets r b ≡ true → may_meet r b ≡ true
+far_coarse : (later : Bool) (x low high : ℤ) → int_le x (cond later low high) ≡ true → int_le (coarse x) (cond later (coarse low) (coarse high)) ≡ true
+far_coarse true x low high = le_coarse x low
+far_coarse false x low high = le_coarse x high
+
+may_meet_too : (r : Reach) (b : Extent) → meets r b ≡ true → may_meet r b ≡ true
 may_meet_too r b =
     both_of _ _ _ _
     (both_of _ _ _ _
-    (both_of _ _ _ _ (le_coarse b.low.x r.high.x) (le_coarse r.low.x b.high.x))
-    (both_of _ _ _ _ (le_coarse b.low.y r.high.y) (le_coarse r.low.y b.high.y)))
-    (both_of _ _ _ _ (le_coarse b.low.z r.high.z) (le_coarse r.low.z b.high.z))
+    (both_of _ _ _ _ (le_coarse b.low.x r.high.x) (far_coarse r.later_x r.low.x b.low.x b.high.x))
+    (both_of _ _ _ _ (le_coarse b.low.y r.high.y) (far_coarse r.later_y r.low.y b.low.y b.high.y)))
+    (both_of _ _ _ _ (le_coarse b.low.z r.high.z) (far_coarse r.later_z r.low.z b.low.z b.high.z))
 
 -- ---- bits
 abbrev digit : Bool → ℕ
@@ -60,7 +65,7 @@ none p q i (b ∷ bs) e =
     ap₂ (λ a m. a + 2 * m) here there
 
 -- where none meets in steps, none meets
-pub none_meets : (r : Extent) (bs : List Extent) → mask_l (map (may_meet r) bs) ≡ 0 → mask_l (map (meets r) bs) ≡ 0
+pub none_meets : (r : Reach) (bs : List Extent) → mask_l (map (may_meet r) bs) ≡ 0 → mask_l (map (meets r) bs) ≡ 0
 none_meets r bs e = none (meets r) (may_meet r) (may_meet_too r) bs e
 
 pub all_fit : (side : Extent → ℤ) (bs : List Extent) → All (Fit true (λ b. coarse (side b))) bs

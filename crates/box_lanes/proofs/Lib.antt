@@ -2,7 +2,7 @@ pub mod Axes
 pub mod Eights
 pub mod Places
 pub mod Bits
-pub mod Reach
+pub mod Grown
 pub mod Spans
 pub mod Vectors
 pub mod Coarse

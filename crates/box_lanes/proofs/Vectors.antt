@@ -90,3 +90,15 @@ module _ (k : Bool) {A : Type 0} where
   -- a bit for each lane
   pub masked : (f : A → Bool) (bs : List A) {xs : List ℕ} → length bs ≡ 8 → xs ≡ map (λ b. lane k (f b)) bs → mask_l (map (top (hbits (width k))) xs) % 2 ^ 64 ≡ mask_l (map f bs)
   masked f bs long p = ap (λ l. mask_l (map (top (hbits (width k))) l) % 2 ^ 64) p ∙ ap (λ l. mask_l l % 2 ^ 64) (tops f bs) ∙ mask_l-mod (map f bs) 64 (omega (arith, length-map bs f))
+
+-- the low side or the high one, of each
+abbrev pub far : {A : Type 0} → Bool → (low high : A → ℤ) → A → ℤ
+far later low high b = cond later (low b) (high b)
+
+pub far_list : {A : Type 0} (later : Bool) (low high : A → ℤ) (bs : List A) {xs ys zs : List ℤ} → zs ≡ cond later xs ys → xs ≡ map low bs → ys ≡ map high bs → zs ≡ map (far later low high) bs
+far_list true low high bs e p q = e ∙ p
+far_list false low high bs e p q = e ∙ q
+
+pub far_fit : (k : Bool) {A : Type 0} (later : Bool) (low high : A → ℤ) (bs : List A) → All (Fit k low) bs → All (Fit k high) bs → All (Fit k (far later low high)) bs
+far_fit k true low high bs p q = p
+far_fit k false low high bs p q = q

@@ -3,7 +3,6 @@ use Rattle.std.specs.Prelude.{◌<◌, ◌^◌, ◌≡◌, ℕ, zero, suc, ℤ, 
 use Rattle.std.specs.List.{flat_map}
 use Rattle.bim_model.specs.declared.geometry.Extent.{Extent}
 use Rattle.box_lanes.specs.declared.blocks.Block.{Block}
-use Rattle.box_lanes.specs.declared.blocks.Sides.{Sides}
 use Rattle.box_lanes.specs.declared.box_table.BoxTable.TheInside.{Inside}
 use Rattle.box_lanes.specs.Lanes.{Fits32, coarse}
 use Rattle.box_lanes.specs.Places.{nowhere}
@@ -24,14 +23,16 @@ boxes_of (a ∷ lx) (b ∷ ly) (c ∷ lz) (d ∷ hx) (e ∷ hy) (f ∷ hz) =
 abbrev pub boxes_in_block : Block → List Extent
 boxes_in_block b = boxes_of b.low_x b.low_y b.low_z b.high_x b.high_y b.high_z
 
--- each list has its side of every box, in steps of 32
-pub record IsCoarse (sides : Sides) (boxes : List Extent) : Type 0 where
-  pub low_x_is : sides.low_x ≡ map (λ (b : Extent). coarse b.low.x) boxes
-  pub low_y_is : sides.low_y ≡ map (λ (b : Extent). coarse b.low.y) boxes
-  pub low_z_is : sides.low_z ≡ map (λ (b : Extent). coarse b.low.z) boxes
-  pub high_x_is : sides.high_x ≡ map (λ (b : Extent). coarse b.high.x) boxes
-  pub high_y_is : sides.high_y ≡ map (λ (b : Extent). coarse b.high.y) boxes
-  pub high_z_is : sides.high_z ≡ map (λ (b : Extent). coarse b.high.z) boxes
+-- the sides of the boxes in steps of 32, those of each kind in a list of their own, low ones first
+abbrev pub coarse_lists : List Extent → List (List ℤ)
+coarse_lists boxes =
+    map (λ (b : Extent). coarse b.low.x) boxes
+    ∷ map (λ (b : Extent). coarse b.low.y) boxes
+    ∷ map (λ (b : Extent). coarse b.low.z) boxes
+    ∷ map (λ (b : Extent). coarse b.high.x) boxes
+    ∷ map (λ (b : Extent). coarse b.high.y) boxes
+    ∷ map (λ (b : Extent). coarse b.high.z) boxes
+    ∷ []
 
 -- each list has its side of every box, also in steps of 32, and the sides fit 32 bits
 pub record IsBlock (block : Block) (boxes : List Extent) : Type 0 where
@@ -41,7 +42,7 @@ pub record IsBlock (block : Block) (boxes : List Extent) : Type 0 where
   pub high_x_is : block.high_x ≡ map (λ (b : Extent). b.high.x) boxes
   pub high_y_is : block.high_y ≡ map (λ (b : Extent). b.high.y) boxes
   pub high_z_is : block.high_z ≡ map (λ (b : Extent). b.high.z) boxes
-  pub coarse_is : IsCoarse block.coarse boxes
+  pub coarse_is : block.coarse ≡ coarse_lists boxes
   pub fits : All Fits32 boxes
 
 -- the first n boxes, with others behind where there are fewer

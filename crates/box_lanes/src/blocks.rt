@@ -11,19 +11,8 @@ use std::simd::prelude::*;
 /// How many boxes are compared at once.
 pub const LANES: usize = 8;
 
-/// The sides of eight boxes in steps of 32 grid numbers, those of each kind in a list of their own. Sixteen bits a
-/// side let eight comparisons be one, and steps of 32 reach all of the grid.
-#[derive(Clone, Copy)]
-pub struct Sides {
-    pub low_x: [i16; LANES],
-    pub low_y: [i16; LANES],
-    pub low_z: [i16; LANES],
-    pub high_x: [i16; LANES],
-    pub high_y: [i16; LANES],
-    pub high_z: [i16; LANES],
-}
-
-/// Eight boxes, the sides of each kind in a list of their own.
+/// Eight boxes, the sides of each kind in a list of their own; and their sides in steps of 32 grid numbers, low ones
+/// first. Sixteen bits a side let eight comparisons be one, and steps of 32 reach all of the grid.
 #[derive(Clone, Copy)]
 pub struct Block {
     pub low_x: [i32; LANES],
@@ -32,7 +21,7 @@ pub struct Block {
     pub high_x: [i32; LANES],
     pub high_y: [i32; LANES],
     pub high_z: [i32; LANES],
-    pub coarse: Sides,
+    pub coarse: [[i16; LANES]; 6],
 }
 
 /// Eight coordinates in steps of 32, rounded down, as far as 16 bits go.
@@ -121,26 +110,26 @@ fn block_of(
         high_x,
         high_y,
         high_z,
-        coarse: Sides {
-            low_x: coarse_of(
+        coarse: [
+            coarse_of(
                 a.low.x, b.low.x, c.low.x, d.low.x, e.low.x, f.low.x, g.low.x, h.low.x,
             ),
-            low_y: coarse_of(
+            coarse_of(
                 a.low.y, b.low.y, c.low.y, d.low.y, e.low.y, f.low.y, g.low.y, h.low.y,
             ),
-            low_z: coarse_of(
+            coarse_of(
                 a.low.z, b.low.z, c.low.z, d.low.z, e.low.z, f.low.z, g.low.z, h.low.z,
             ),
-            high_x: coarse_of(
+            coarse_of(
                 a.high.x, b.high.x, c.high.x, d.high.x, e.high.x, f.high.x, g.high.x, h.high.x,
             ),
-            high_y: coarse_of(
+            coarse_of(
                 a.high.y, b.high.y, c.high.y, d.high.y, e.high.y, f.high.y, g.high.y, h.high.y,
             ),
-            high_z: coarse_of(
+            coarse_of(
                 a.high.z, b.high.z, c.high.z, d.high.z, e.high.z, f.high.z, g.high.z, h.high.z,
             ),
-        },
+        ],
     }
 }
 

@@ -1,13 +1,14 @@
 //! A table of boxes, in which those near a box are found eight at a time.
-ghost use Rattle.std.specs.Prelude.{◌≡◌, ◌+◌, ◌-◌, ◌+ℤ◌, ◌-ℤ◌, pos, ◌*◌, ◌/◌, ◌%◌, ◌≤◌, ◌<◌, ◌^◌, ◌++◌, [], ℕ, List, length, map, take, drop, min, All, IfOk, OnOk, OnErr};
+ghost use Rattle.std.specs.Prelude.{◌≡◌, cond, ◌+◌, ◌-◌, ◌+ℤ◌, ◌-ℤ◌, pos, ◌*◌, ◌/◌, ◌%◌, ◌≤◌, ◌<◌, ◌^◌, ◌++◌, [], ℕ, List, length, map, take, drop, min, All, IfOk, OnOk, OnErr};
 ghost use Rattle.std.specs.Int.{saturate_signed, w32};
 ghost use Rattle.std.specs.Simd.Lanes.{mask_l, chunk};
 ghost use Rattle.bim_model.specs.declared.geometry.Extent.{Extent};
 ghost use Rattle.bim_model.specs.Gaps.{is_within};
 ghost use Rattle.box_lanes.specs.Places.{box_at, places_from, part, places_within, later_within};
-ghost use Rattle.box_lanes.specs.Lanes.{meets, may_meet, coarse_sides, Fits32};
+ghost use Rattle.box_lanes.specs.Lanes.{meets, may_meet, IsRough, Fits32};
 
-use crate::blocks::{Block, LANES, coarse_of, fill, fill_by};
+use crate::blocks::{Block, LANES, fill, fill_by};
+use crate::reach::{Reach, Rough, reach_of, rough_of};
 use bim_model::{Extent, Point};
 use std::alloc::{AllocError, Global};
 use std::marker::Model;
@@ -95,34 +96,44 @@ impl BoxTable {
     pub fn within(&self, alloc: Global, probe: &Extent, grow: u32) -> Result<Vec<u32>, AllocError>
         ensures { IfOk result (λ places. places.items ≡ places_within probe.now grow self.now) }
     {
-        let reach = grown(probe, grow);
+        let start = Point {
+            x: i32::MIN,
+            y: i32::MIN,
+            z: i32::MIN,
+        };
+        let reach = reach_of(probe, grow, &start);
         let _count = self.len();
         let mut places = Vec::new(alloc);
         self.add_from(0, &reach, &mut places)?;
         Ok(places)
     }
 
-    /// The same of the boxes behind the place `first` alone, as the only places of the list. An error where memory
-    /// is wanting, which leaves some of them.
+    /// The same of the boxes behind the place `first` alone, as the only places of the list, and on each axis only
+    /// where the later of the box and the probe begins at `start` or behind it. An error where memory is wanting,
+    /// which leaves some of them.
     pub fn later_within(
         &self,
         first: usize,
         probe: &Extent,
         grow: u32,
+        start: &Point,
         places: &mut Vec<u32>,
     ) -> Result<(), AllocError>
         requires { first < length self.now }
-        ensures { OnOk result (places.new.items ≡ later_within probe.now grow first self.now) }
+        ensures { OnOk result (places.new.items ≡ later_within start.now grow probe.now first self.now) }
     {
-        let reach = grown(probe, grow);
-        let _count = self.len();
+        let count = self.len();
         places.clear();
+        if first + 1 == count {
+            return Ok(());
+        }
+        let reach = reach_of(probe, grow, start);
         self.add_from(first + 1, &reach, places)?;
         Ok(())
     }
 
     /// Adds the places of the boxes from the place `from` on that meet `reach`.
-    fn add_from(&self, from: usize, reach: &Extent, places: &mut Vec<u32>) -> Result<(), AllocError>
+    fn add_from(&self, from: usize, reach: &Reach, places: &mut Vec<u32>) -> Result<(), AllocError>
         requires { from ≤ length self.now }
         ensures { OnOk result (places.new.items
             ≡ places.old.items ++ places_from from (meets reach.now) (drop from self.now)) }
@@ -131,45 +142,36 @@ impl BoxTable {
         if from == self.count {
             return Ok(());
         }
-        let sides = coarse_of(
-            reach.low.x,
-            reach.low.y,
-            reach.low.z,
-            reach.high.x,
-            reach.high.y,
-            reach.high.z,
-            0,
-            0,
-        );
+        let rough = rough_of(reach);
         let mut block = from / LANES;
-        self.add_block(block, from, reach, &sides, places)?;
+        self.add_block(block, from, reach, &rough, places)?;
         block += 1;
         while block * LANES < self.count {
-            self.add_block(block, block * LANES, reach, &sides, places)?;
+            self.add_block(block, block * LANES, reach, &rough, places)?;
             block += 1;
         }
         Ok(())
     }
 
-    /// Adds the places of the boxes of a block of eight, from the place `from` on, that meet `reach`, whose sides in
-    /// steps of 32 are `sides`. Most blocks have none, and are left after one test.
+    /// Adds the places of the boxes of a block of eight, from the place `from` on, that meet `reach`, which is `rough`
+    /// in steps of 32. Most blocks have none, and are left after one test.
     #[inline(always)]
     fn add_block(
         &self,
         block: usize,
         from: usize,
-        reach: &Extent,
-        sides: &[i16; LANES],
+        reach: &Reach,
+        rough: &Rough,
         places: &mut Vec<u32>,
     ) -> Result<(), AllocError>
         requires from { from < length self.now }
         requires block { block ≡ from / 8 }
-        requires sides { sides.now ≡ coarse_sides reach.now }
+        requires rough { IsRough reach.now rough.now }
         ensures { OnOk result (places.new.items ≡ places.old.items
             ++ part (meets reach.now) self.now from (min (block * 8 + 8) (length self.now))) }
     {
         let _count = self.len();
-        let lanes = self.coarse_lanes(block * LANES, reach, sides) >> (from % LANES);
+        let lanes = self.coarse_lanes(block * LANES, reach, rough) >> (from % LANES);
         if lanes == 0 {
             return Ok(());
         }
@@ -185,7 +187,7 @@ impl BoxTable {
         block: usize,
         from: usize,
         end: usize,
-        reach: &Extent,
+        reach: &Reach,
         places: &mut Vec<u32>,
     ) -> Result<(), AllocError>
         requires from { from < end }
@@ -213,7 +215,7 @@ impl BoxTable {
     /// A bit for each of the boxes from the place `from` up to `end`, all in one block of eight, the first the
     /// lowest: whether the box meets `reach`.
     #[inline(always)]
-    fn bits(&self, block: usize, from: usize, end: usize, reach: &Extent) -> u64
+    fn bits(&self, block: usize, from: usize, end: usize, reach: &Reach) -> u64
         requires from { from < end }
         requires end { end ≤ length self.now }
         requires block { end ≤ from / 8 * 8 + 8 }
@@ -228,7 +230,7 @@ impl BoxTable {
     /// A bit for each of the eight boxes from `at` on, the first the lowest: whether the box meets `reach`. Bits of
     /// boxes behind the table's may be any.
     #[inline(always)]
-    fn lanes(&self, at: usize, reach: &Extent) -> u64
+    fn lanes(&self, at: usize, reach: &Reach) -> u64
         requires within { at < length self.now }
         requires block { at % 8 ≡ 0 }
         ensures { (n : ℕ) → n ≤ 8 → at + n ≤ length self.now
@@ -236,40 +238,38 @@ impl BoxTable {
     {
         let _blocks = self.blocks.as_slice();
         let block = &self.blocks[at / LANES];
+        let far_x = far_lane(reach.later_x, &block.low_x, &block.high_x);
+        let far_y = far_lane(reach.later_y, &block.low_y, &block.high_y);
+        let far_z = far_lane(reach.later_z, &block.low_z, &block.high_z);
         let x = i32x8::from_array(block.low_x).simd_le(i32x8::splat(reach.high.x))
-            & i32x8::from_array(block.high_x).simd_ge(i32x8::splat(reach.low.x));
+            & i32x8::from_array(*far_x).simd_ge(i32x8::splat(reach.low.x));
         let y = i32x8::from_array(block.low_y).simd_le(i32x8::splat(reach.high.y))
-            & i32x8::from_array(block.high_y).simd_ge(i32x8::splat(reach.low.y));
+            & i32x8::from_array(*far_y).simd_ge(i32x8::splat(reach.low.y));
         let z = i32x8::from_array(block.low_z).simd_le(i32x8::splat(reach.high.z))
-            & i32x8::from_array(block.high_z).simd_ge(i32x8::splat(reach.low.z));
+            & i32x8::from_array(*far_z).simd_ge(i32x8::splat(reach.low.z));
         (x & y & z).to_bitmask()
     }
 
     /// A bit for each of the eight boxes from `at` on, the first the lowest: whether the box meets `reach` in steps
-    /// of 32, in which `sides` are those of `reach`. Bits of boxes behind the table's may be any.
+    /// of 32, in which it is `rough`. Bits of boxes behind the table's may be any.
     #[inline(always)]
-    fn coarse_lanes(&self, at: usize, reach: &Extent, sides: &[i16; LANES]) -> u64
+    fn coarse_lanes(&self, at: usize, reach: &Reach, rough: &Rough) -> u64
         requires within { at < length self.now }
         requires block { at % 8 ≡ 0 }
-        requires sides { sides.now ≡ coarse_sides reach.now }
+        requires rough { IsRough reach.now rough.now }
         ensures { (n : ℕ) → n ≤ 8 → at + n ≤ length self.now
             → result % 2 ^ n ≡ mask_l (map (may_meet reach.now) (take n (drop at self.now))) }
     {
         let _reach = *reach;
         let _blocks = self.blocks.as_slice();
         let block = &self.blocks[at / LANES].coarse;
-        let low_x = sides[0];
-        let low_y = sides[1];
-        let low_z = sides[2];
-        let high_x = sides[3];
-        let high_y = sides[4];
-        let high_z = sides[5];
-        let x = i16x8::from_array(block.low_x).simd_le(i16x8::splat(high_x))
-            & i16x8::from_array(block.high_x).simd_ge(i16x8::splat(low_x));
-        let y = i16x8::from_array(block.low_y).simd_le(i16x8::splat(high_y))
-            & i16x8::from_array(block.high_y).simd_ge(i16x8::splat(low_y));
-        let z = i16x8::from_array(block.low_z).simd_le(i16x8::splat(high_z))
-            & i16x8::from_array(block.high_z).simd_ge(i16x8::splat(low_z));
+        let sides = &rough.sides;
+        let x = i16x8::from_array(block[0]).simd_le(i16x8::splat(sides[3]))
+            & i16x8::from_array(block[rough.far_x]).simd_ge(i16x8::splat(sides[0]));
+        let y = i16x8::from_array(block[1]).simd_le(i16x8::splat(sides[4]))
+            & i16x8::from_array(block[rough.far_y]).simd_ge(i16x8::splat(sides[1]));
+        let z = i16x8::from_array(block[2]).simd_le(i16x8::splat(sides[5]))
+            & i16x8::from_array(block[rough.far_z]).simd_ge(i16x8::splat(sides[2]));
         (x & y & z).to_bitmask()
     }
 }
@@ -287,46 +287,10 @@ fn block_end(from: usize, count: usize) -> usize
     if end < count { end } else { count }
 }
 
-// A low side less `grow`, as far as 32 bits go. It takes half the steps of a subtraction that watches for overflow.
+// The sides that are compared with a low end: low ones where a box has to begin later, else high ones.
 #[inline(always)]
-fn lowered(side: i32, grow: u32) -> i32
-    ensures { result ≡ saturate_signed w32 (side -ℤ pos grow) }
+fn far_lane<'a>(later: bool, low: &'a [i32; LANES], high: &'a [i32; LANES]) -> &'a [i32; LANES]
+    ensures { result.now ≡ cond later low.now high.now }
 {
-    let least = i64::from(side) - i64::from(grow);
-    if least < i64::from(i32::MIN) {
-        i32::MIN
-    } else {
-        least as i32
-    }
-}
-
-// A high side and `grow`, as far as 32 bits go.
-#[inline(always)]
-fn raised(side: i32, grow: u32) -> i32
-    ensures { result ≡ saturate_signed w32 (side +ℤ pos grow) }
-{
-    let greatest = i64::from(side) + i64::from(grow);
-    if greatest > i64::from(i32::MAX) {
-        i32::MAX
-    } else {
-        greatest as i32
-    }
-}
-
-/// The box grown by `grow` on each side, as far as 32 bits go.
-fn grown(probe: &Extent, grow: u32) -> Extent
-    ensures { (box : Extent) → Fits32 box → meets result box ≡ is_within probe.now grow box }
-{
-    Extent {
-        low: Point {
-            x: lowered(probe.low.x, grow),
-            y: lowered(probe.low.y, grow),
-            z: lowered(probe.low.z, grow),
-        },
-        high: Point {
-            x: raised(probe.high.x, grow),
-            y: raised(probe.high.y, grow),
-            z: raised(probe.high.z, grow),
-        },
-    }
+    if later { low } else { high }
 }

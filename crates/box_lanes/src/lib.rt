@@ -4,6 +4,7 @@
 mod blocks;
 mod box_table;
 mod plain;
+mod reach;
 
 pub use box_table::BoxTable;
 pub use plain::places_within;

@@ -6,7 +6,7 @@ ghost use Rattle.bim_model.specs.Rules.{greatest_distance};
 ghost use Rattle.bim_model.specs.Keys.{subjects_of};
 ghost use Rattle.bim_model.specs.declared.limits.TheConstants.{MOST_DISTANCE};
 ghost use Rattle.box_lanes.specs.Places.{box_at};
-ghost use Rattle.bucket_grid.specs.Cells.{owner_of, members};
+ghost use Rattle.bucket_grid.specs.Cells.{owner_of, start_of, members};
 ghost use Rattle.bucket_grid.specs.Subjects.{subject_at};
 ghost use Rattle.bucket_grid.specs.declared.grid.TheConstants.{MOST_ELEMENTS};
 ghost use Rattle.bucket_check.specs.Clashes.{in_grid_numbers, clash_by, clash_of, is_cell, pair_if, row_by};
@@ -16,8 +16,8 @@ use crate::bucket_work::BucketWork;
 use crate::pair::SetPair;
 use crate::room::Room;
 use crate::set::BucketSet;
-use bim_model::{Element, Found, Items, PER_MM, Shared, Steps, greatest_distance, rule_of};
-use bucket_grid::{Cell, Grid, owner_of};
+use bim_model::{Element, Found, Items, PER_MM, Point, Shared, Steps, greatest_distance, rule_of};
+use bucket_grid::{Cell, Grid, owner_of, start_of};
 use clearance::solids_near;
 use std::alloc::{AllocError, Global};
 use std::sync::ledger::Ledger;
@@ -148,13 +148,15 @@ fn add_row<L: Ledger>(
     Ok(())
 }
 
-// Adds the pairs of one member with the later ones, whose boxes stand in the room's table.
+// Adds the pairs of one member with the later ones, whose boxes stand in the room's table. Where the cell owns a pair,
+// on each axis one of the two begins where the cell's own boxes do.
 fn add_later<L: Ledger>(
     grid: &Grid,
     cell: Cell,
     members: &[u32],
     first: usize,
     greatest: u32,
+    start: &Point,
     room: &mut Room,
     pairs: &mut Vec<SetPair>,
     steps: &mut Steps<L>,
@@ -163,6 +165,7 @@ fn add_later<L: Ledger>(
     requires few { length members.now ≤ MOST_ELEMENTS }
     requires members_in { All (λ n. n < length grid.now.boxes) members.now }
     requires greatest { greatest ≡ in_grid_numbers (greatest_distance grid.now.version.rules) }
+    requires start { start.now ≡ start_of cell }
     requires table { room.old.table ≡ map (box_at grid.now.boxes) members.now }
     ensures table { room.new.table ≡ room.old.table }
     ensures pairs { OnOk result (pairs.new.items ≡ pairs.old.items
@@ -172,7 +175,7 @@ fn add_later<L: Ledger>(
     let boxes = grid.boxes();
     let probe = &boxes[members[first] as usize];
     room.table
-        .later_within(first, probe, greatest, &mut room.places)?;
+        .later_within(first, probe, greatest, start, &mut room.places)?;
     add_row(grid, cell, members, first, &room.places, pairs, steps)?;
     Ok(())
 }
@@ -193,11 +196,12 @@ fn found_among<L: Ledger>(
     ensures steps { 2 * steps.new ≤ 2 * steps.old + length members.now * (length members.now - 1) }
 {
     let greatest = greatest_distance(grid.rules()) * PER_MM as u32;
+    let start = start_of(cell);
     room.table.refill(grid.boxes(), members)?;
     let mut pairs = Vec::new(alloc);
     for first in 0..members.len() {
         add_later(
-            grid, cell, members, first, greatest, room, &mut pairs, steps,
+            grid, cell, members, first, greatest, &start, room, &mut pairs, steps,
         )?;
     }
     Ok(pairs)

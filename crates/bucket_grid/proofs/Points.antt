@@ -1,12 +1,14 @@
 -- A cell holds a box exactly where a point of the grown box lies in the cell.
 use Rattle.std.proofs.Common.{◌≡◌, ◌↔◌, ℤ, pos, negsuc, ◌+ℤ◌, ◌-ℤ◌, ◌*ℤ◌, ◌≤ℤ◌, ◌<ℤ◌, int_le, Bool, true, false, ◌&&◌, refl, subst, arith}
+use Rattle.std.specs.Int.{w32, saturate_signed}
 use Rattle.std.proofs.lemmas.Int.{ints}
 use Rattle.std.proofs.lemmas.Bool.{and_parts, and_from}
+use mir.Val.{SFits}
 use Rattle.bim_model.specs.declared.geometry.Point.{Point}
 use Rattle.bim_model.specs.declared.geometry.Extent.{Extent}
 use Rattle.bucket_grid.specs.declared.cell.Cell.{Cell}
 use Rattle.bucket_grid.specs.declared.cell.TheConstants.{SIDE, GROWTH}
-use Rattle.bucket_grid.specs.Cells.{cell_of, first_cell, last_cell, is_in, holds}
+use Rattle.bucket_grid.specs.Cells.{cell_of, first_cell, first_low, last_cell, is_in, holds}
 use Rattle.bucket_grid.specs.Places.{IsInOrder}
 use Rattle.bucket_grid.specs.Laws.{IsAround, IsInCell}
 use Rattle.bucket_grid.proofs.Owners.{cell_of_rises}
@@ -15,6 +17,15 @@ use Rattle.bucket_grid.proofs.Owners.{cell_of_rises}
 starts : (x : ℤ) → (cell_of x *ℤ SIDE) ≤ℤ x
 starts (pos a) = omega (arith, ints)
 starts (negsuc a) = omega (arith, ints)
+
+saturated : (x l : ℤ) → SFits w32 l → x ≤ℤ l → saturate_signed w32 x ≤ℤ l
+saturated x l L h = grind (arith, ints)
+
+-- a low side begins at the least one of its first cell, or behind it
+pub first_low_at_most : (low i : ℤ) → SFits w32 low → first_cell low ≡ i → first_low i ≤ℤ low
+first_low_at_most low i L e =
+    let there : (i *ℤ SIDE) ≤ℤ (low -ℤ GROWTH) = subst (λ c. (c *ℤ SIDE) ≤ℤ (low -ℤ GROWTH)) e (starts (low -ℤ GROWTH)) in
+    saturated ((i *ℤ SIDE) +ℤ GROWTH) low L (omega (arith, ints))
 
 ends : (x : ℤ) → x <ℤ ((cell_of x +ℤ pos 1) *ℤ SIDE)
 ends (pos a) = omega (arith, ints)

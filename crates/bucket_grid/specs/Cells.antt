@@ -3,13 +3,14 @@
 -- A coordinate lies in the cell of its quotient by the cell's side, rounded down. A box is held by each cell that
 -- has a point of it when it is grown by a metre on each side: on each axis the cells from that of its grown low side
 -- to that of its grown high side.
-use Rattle.std.specs.Prelude.{◌≡◌, ℕ, ◌+◌, ◌*◌, ◌≤◌, ℤ, ◌+ℤ◌, ◌-ℤ◌, int_le, Bool, true, ◌&&◌, List, length, sum_by}
-use Rattle.std.specs.Int.{int_div_euclid, int_max}
+use Rattle.std.specs.Prelude.{◌≡◌, ℕ, ◌+◌, ◌*◌, ◌≤◌, ℤ, ◌+ℤ◌, ◌-ℤ◌, ◌*ℤ◌, int_le, Bool, true, ◌&&◌, List, length, sum_by}
+use Rattle.std.specs.Int.{w32, int_div_euclid, int_max, saturate_signed}
 use Rattle.std.specs.Ordering.{int_cmp, ordering_then}
 use Rattle.std.specs.declared.cmp.Ordering.{Ordering}
 use Rattle.std.specs.declared.cmp.Ordering.TheVariants.{Greater}
 use borrow.Author.Differences.{up}
 use Rattle.bim_model.specs.declared.geometry.Extent.{Extent}
+use Rattle.bim_model.specs.declared.geometry.Point.{Point}
 use Rattle.box_lanes.specs.Places.{places_from}
 use Rattle.bucket_grid.specs.declared.cell.Cell.{Cell}
 use Rattle.bucket_grid.specs.declared.cell.TheConstants.{SIDE, GROWTH}
@@ -22,9 +23,17 @@ cell_of x = int_div_euclid x SIDE
 abbrev pub first_cell : ℤ → ℤ
 first_cell low = cell_of (low -ℤ GROWTH)
 
+-- the least low side whose first cell is i, as far as 32 bits go
+abbrev pub first_low : ℤ → ℤ
+first_low i = saturate_signed w32 ((i *ℤ SIDE) +ℤ GROWTH)
+
 -- the last, by the high side
 abbrev pub last_cell : ℤ → ℤ
 last_cell high = cell_of (high +ℤ GROWTH)
+
+-- where the boxes begin at the least that have their first cell here
+abbrev pub start_of : Cell → Point
+start_of c = record { x = first_low c.x; y = first_low c.y; z = first_low c.z }
 
 -- the cell lies between them
 abbrev pub is_in : ℤ → ℤ → ℤ → Bool

@@ -67,7 +67,8 @@ fn add_column(
     requires among { IsAmong spans.now numbers.now (length lists.old) }
     requires low { IsLow low.z }
     requires few { length lists.old ≤ 1000000 }
-    ensures buckets { OnOk result (buckets.new ≡ buckets.old ++ column spans.now low (length lists.old) numbers.now) }
+    ensures buckets { OnOk result (buckets.new
+        ≡ buckets.old ++ column spans.now low (length lists.old) numbers.now) }
     ensures count { OnOk result (length lists.new ≡ length lists.old) }
 {
     deal(lists, numbers, spans)?;

@@ -1,10 +1,11 @@
 //! Cells.
-ghost use Rattle.std.specs.Prelude.{◌≡◌, ◌+◌, ◌≤◌, ◌&&◌, unsigned_abs};
+ghost use Rattle.std.specs.Prelude.{◌≡◌, ◌+◌, ◌≤◌, ◌&&◌, ◌+ℤ◌, ◌*ℤ◌, unsigned_abs};
+ghost use Rattle.std.specs.Int.{saturate_signed, w32};
 ghost use Rattle.bim_model.specs.Points.{grid_limit};
-ghost use Rattle.bucket_grid.specs.declared.cell.TheConstants.{GROWTH};
-ghost use Rattle.bucket_grid.specs.Cells.{cell_of, first_cell, last_cell};
+ghost use Rattle.bucket_grid.specs.declared.cell.TheConstants.{SIDE, GROWTH};
+ghost use Rattle.bucket_grid.specs.Cells.{cell_of, first_cell, last_cell, first_low, start_of};
 
-use bim_model::PER_MM;
+use bim_model::{PER_MM, Point};
 
 /// A cell of four metres on each side, by its number on each axis.
 #[derive(Clone, Copy, Debug, PartialEq, Eq, PartialOrd, Ord)]
@@ -49,4 +50,29 @@ pub fn last_cell(high: i32) -> i32
     ensures small { unsigned_abs result ≤ 2100 }
 {
     cell_of(high + GROWTH)
+}
+
+// The least low side whose first cell is this one, as far as 32 bits go.
+fn first_low(cell: i32) -> i32
+    ensures { result ≡ first_low cell }
+{
+    let low = i64::from(cell) * i64::from(SIDE) + i64::from(GROWTH);
+    if low < i64::from(i32::MIN) {
+        i32::MIN
+    } else if low > i64::from(i32::MAX) {
+        i32::MAX
+    } else {
+        low as i32
+    }
+}
+
+/// Where the boxes begin at the least that have their first cell here, as far as 32 bits go.
+pub fn start_of(cell: Cell) -> Point
+    ensures { result ≡ start_of cell }
+{
+    Point {
+        x: first_low(cell.x),
+        y: first_low(cell.y),
+        z: first_low(cell.z),
+    }
 }

@@ -15,7 +15,7 @@ mod subjects;
 
 pub use bucket_part::Part;
 pub use bucket_table::Bucket;
-pub use cell::{Cell, GROWTH, SIDE};
+pub use cell::{Cell, GROWTH, SIDE, start_of};
 pub use grid::{Grid, GridError, MOST_ELEMENTS, MOST_MEMBERSHIPS};
 pub use laws::{
     cells_are_counted, cells_hold_points, close_boxes_have_an_owner, memberships_are_one,

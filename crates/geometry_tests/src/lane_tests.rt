@@ -11,18 +11,14 @@ const MAX: i32 = i32::MAX;
 
 const MIN: i32 = i32::MIN;
 
+fn point(x: i32, y: i32, z: i32) -> Point {
+    Point { x, y, z }
+}
+
 fn extent(s: [i32; 6]) -> Extent {
     Extent {
-        low: Point {
-            x: s[0],
-            y: s[1],
-            z: s[2],
-        },
-        high: Point {
-            x: s[3],
-            y: s[4],
-            z: s[5],
-        },
+        low: point(s[0], s[1], s[2]),
+        high: point(s[3], s[4], s[5]),
     }
 }
 
@@ -124,7 +120,8 @@ fn boxes_of_each_number_are_found(rt: HostRuntime) -> Result<(), Fail> {
     Ok(())
 }
 
-/// A table that is filled again, by places, and asked for the boxes behind one of them alone.
+/// A table that is filled again, by places, and asked for the boxes behind one of them alone, all and those that begin
+/// at a start.
 #[test]
 fn a_table_is_filled_again(rt: HostRuntime) -> Result<(), Fail> {
     let boxes = [
@@ -134,10 +131,13 @@ fn a_table_is_filled_again(rt: HostRuntime) -> Result<(), Fail> {
     ];
     let mut table = BoxTable::new(rt.alloc());
     let mut places = Vec::new(rt.alloc());
+    let all = point(MIN, MIN, MIN);
     table.refill(&boxes, &[2, 0, 1, 0])?;
-    table.later_within(1, &boxes[0], 4, &mut places)?;
+    table.later_within(1, &boxes[0], 4, &all, &mut places)?;
     assert_eq!(rt; places.as_slice(), [2, 3].as_slice());
-    table.later_within(3, &boxes[0], 4, &mut places)?;
+    table.later_within(0, &boxes[0], 4, &point(1, 0, 0), &mut places)?;
+    assert_eq!(rt; places.as_slice(), [2].as_slice());
+    table.later_within(3, &boxes[0], 4, &all, &mut places)?;
     assert_eq!(rt; places.len(), 0);
     table.refill(&boxes, &[1])?;
     let found = table.within(rt.alloc(), &boxes[0], 4)?;

@@ -1,3 +1,4 @@
+pub mod CodedEntities
 pub mod Scans
 pub mod Rising
 pub mod LedTo

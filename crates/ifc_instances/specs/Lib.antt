@@ -1,3 +1,4 @@
+pub mod Coded
 pub mod Entities
 pub mod Looking
 pub mod Least

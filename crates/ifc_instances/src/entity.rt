@@ -2,7 +2,7 @@
 ghost use Rattle.std.specs.Prelude.{◌≡◌};
 ghost use Rattle.std.specs.List.{list_any};
 ghost use Rattle.std.specs.Str.{bytes_eq};
-ghost use Rattle.ifc_instances.specs.Entities.{is_of, entity_of, subjects};
+ghost use Rattle.ifc_instances.specs.Entities.{is_of, subjects};
 
 use p21_table::{InstanceRef, Keyword};
 
@@ -124,32 +124,33 @@ fn is_subject(keyword: &Keyword<'_>) -> bool
     is_any(keyword, &SUBJECTS)
 }
 
-const ALL: [Entity; 21] = [
-    Entity::Face,
-    Entity::FaceWithVoids,
+/// Those of one keyword, in the order of the numbers of their keywords.
+const CODED: [Entity; 20] = [
+    Entity::Project,
+    Entity::UnitAssignment,
+    Entity::SiUnit,
+    Entity::Storey,
+    Entity::Aggregates,
+    Entity::Containment,
+    Entity::ProductShape,
+    Entity::Representation,
+    Entity::Placement,
+    Entity::AxisPlacement,
     Entity::Point,
     Entity::Direction,
     Entity::PointList,
     Entity::TriangulatedFaceSet,
     Entity::PolygonalFaceSet,
-    Entity::AxisPlacement,
-    Entity::Placement,
-    Entity::Representation,
-    Entity::ProductShape,
+    Entity::Face,
+    Entity::FaceWithVoids,
     Entity::MappedItem,
     Entity::RepresentationMap,
     Entity::Operator,
-    Entity::Containment,
-    Entity::Aggregates,
-    Entity::Storey,
-    Entity::Project,
-    Entity::UnitAssignment,
-    Entity::SiUnit,
-    Entity::Subject,
 ];
 
 impl Entity {
     ghost use Rattle.std.specs.Prelude.{◌≡◌};
+    ghost use Rattle.ifc_instances.specs.Coded.{has_code, by_code};
     ghost use Rattle.ifc_instances.specs.Looking.{entity_at, is_a};
 
     /// Whether a keyword is one of this entity's.
@@ -182,31 +183,61 @@ impl Entity {
         }
     }
 
-    /// The entity of a keyword.
-    #[tactic(auto, unfolding(crate::specs::Entities::entity_of))]
-    pub fn of(keyword: &Keyword<'_>) -> Option<Entity>
-        ensures { result ≡ entity_of keyword.now }
+    /// Whether a number is that of one of its keywords.
+    #[tactic(auto, unfolding(crate::specs::Coded::has_code))]
+    fn has_code(self, code: u8) -> bool
+        ensures { result ≡ has_code self code }
     {
-        ALL.iter().copied().find(|entity| entity.is(keyword))
+        match self {
+            Entity::Project => code == 0,
+            Entity::UnitAssignment => code == 1,
+            Entity::SiUnit => code == 2,
+            Entity::Storey => code == 3,
+            Entity::Aggregates => code == 4,
+            Entity::Containment => code == 5,
+            Entity::ProductShape => code == 6,
+            Entity::Representation => code == 7,
+            Entity::Placement => code == 8,
+            Entity::AxisPlacement => code == 9,
+            Entity::Point => code == 10,
+            Entity::Direction => code == 11,
+            Entity::PointList => code == 12,
+            Entity::TriangulatedFaceSet => code == 13,
+            Entity::PolygonalFaceSet => code == 14,
+            Entity::Face => code == 15,
+            Entity::FaceWithVoids => code == 16,
+            Entity::MappedItem => code == 17,
+            Entity::RepresentationMap => code == 18,
+            Entity::Operator => code == 19,
+            Entity::Subject => code >= 20 && code < 75,
+        }
+    }
+
+    /// The entity that has a number.
+    #[tactic(auto, unfolding(crate::specs::Coded::by_code))]
+    fn by_code(code: u8) -> Option<Entity>
+        ensures { result ≡ by_code code }
+    {
+        if code < 20 {
+            Some(CODED[code as usize])
+        } else if code < 75 {
+            Some(Entity::Subject)
+        } else {
+            None
+        }
     }
 
     /// Whether an instance is of this entity.
     pub fn includes(self, instance: &InstanceRef<'_>) -> bool
         ensures { result ≡ is_a self instance.now }
     {
-        match instance.keyword() {
-            Some(keyword) => self.is(&keyword),
-            None => false,
-        }
+        self.has_code(instance.code())
     }
 
     /// The entity of an instance.
     pub fn at(instance: &InstanceRef<'_>) -> Option<Entity>
         ensures { result ≡ entity_at instance.now }
     {
-        match instance.keyword() {
-            Some(keyword) => Entity::of(&keyword),
-            None => None,
-        }
+        Entity::by_code(instance.code())
     }
 }

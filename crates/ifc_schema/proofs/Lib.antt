@@ -7,3 +7,4 @@ pub mod Apart
 pub mod Rows
 pub mod Wholes
 pub mod OneFlaw
+pub mod SoundRows

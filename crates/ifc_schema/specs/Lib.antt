@@ -8,3 +8,4 @@ pub mod Surveys
 pub mod Marks
 pub mod Steps
 pub mod Views
+pub mod Passing

@@ -1,5 +1,9 @@
 //! What is wrong first with an instance.
 ghost use Rattle.std.specs.Prelude.{◌≡◌};
+ghost use Rattle.std.specs.Bool.{OnTrue};
+ghost use Rattle.p21_values.specs.declared.value.Value21.{Value21};
+ghost use Rattle.p21_table.specs.ShortRows.{SaysRow};
+ghost use Rattle.ifc_schema.specs.Passing.{IsSound, Passes};
 ghost use Rattle.ifc_schema.specs.Forms.{fits, holds, allows_absent, allows_missing};
 ghost use Rattle.ifc_schema.specs.Flaws.{
   bad_unless,
@@ -25,6 +29,7 @@ use crate::attribute_table::row_at;
 use crate::body::applies;
 use crate::form::{Attribute, Count, Leaf, Shape, Targets};
 use crate::words::{is_number, is_whole, says_guid};
+use bim_text::ShortRow;
 use p21_table::{Exchange, InstanceRef, ValueRef, Values};
 
 /// What is wrong with an instance that lacks the form of its row.
@@ -136,14 +141,62 @@ fn list_flaw(exchange: &Exchange, leaf: Leaf, count: Count, value: &ValueRef<'_>
     }
 }
 
+/// Whether nothing stands behind the points of a row's numbers.
+fn are_bare(row: ShortRow) -> bool
+    ensures { OnTrue result ((row.x.places ≡ 0) × (row.y.places ≡ 0) × (row.z.places ≡ 0)) }
+{
+    if row.x.places != 0 {
+        return false;
+    }
+    if row.y.places != 0 {
+        return false;
+    }
+    row.z.places == 0
+}
+
+/// Whether a row of short numbers is a list of that many such leaves. False says nothing.
+fn is_sound(leaf: Leaf, inner: Count, row: ShortRow) -> bool
+    ensures { OnTrue result ((v : Value21) → SaysRow row v → IsSound inner leaf v) }
+{
+    match inner {
+        Count::Exactly(3) => match leaf {
+            Leaf::Number => true,
+            Leaf::Whole => are_bare(row),
+            _ => false,
+        },
+        _ => false,
+    }
+}
+
+/// What is left of rows behind those at the front that are short numbers and have no flaw.
+fn past_sound<'a>(leaf: Leaf, inner: Count, rows: Values<'a>) -> Values<'a>
+    ensures { Passes (IsSound inner leaf) rows.entry result }
+{
+    let mut left = rows;
+    loop {
+        let mut ahead = left.iter();
+        match ahead.next_row() {
+            Some(row) => {
+                if !is_sound(leaf, inner, row) {
+                    return left;
+                }
+                left = ahead;
+            }
+            None => return left,
+        }
+    }
+}
+
 fn lists_flaw(exchange: &Exchange, leaf: Leaf, inner: Count, rows: &Values<'_>) -> Option<Flaw>
     ensures { FirstFlaw (ListFlaw inner (LeafFlaw exchange.now leaf)) rows.now result }
 {
-    for row in rows.iter() {
+    let mut left = past_sound(leaf, inner, rows.iter());
+    while let Some(row) = left.next() {
         let flaw = list_flaw(exchange, leaf, inner, &row);
         if flaw.is_some() {
             return flaw;
         }
+        left = past_sound(leaf, inner, left);
     }
     None
 }

@@ -13,6 +13,7 @@ use Rattle.p21_values.specs.declared.limits.TheConstants.{MOST_DEPTH}
 use Rattle.p21_values.specs.declared.fault.ReadFault.{ReadFault}
 use Rattle.p21_values.specs.declared.piece.Kind.{Kind}
 use Rattle.p21_values.specs.declared.piece.Kind.TheVariants as kinds
+use Rattle.ifc_keywords.specs.Codes.{code_of, code_at}
 use Rattle.p21_values.specs.declared.value.Value21.{Value21}
 use Rattle.p21_values.specs.declared.value.Instance.{Instance}
 use Rattle.p21_values.specs.declared.instance_head.Head.{Head}
@@ -131,6 +132,17 @@ keyword_named bytes t k word end (Some v) vs rest e s i w a b h =
     let f : end ≡ t.end = a (e ∙ n) in
     rw (w, f) (word_named bytes t v (word_kind t.kind (slice_range bytes t.start t.end) n) s l i)
 
+code_named : (bytes : List ℕ) (t : Token) (k : Kind) (code : ℕ) (keyword : Option (List ℕ)) (vs : List Value21) (rest : List Lexeme) → k ≡ kind_of (class_of (lexeme_of bytes t)) → ∥ Spells t.kind (slice_range bytes t.start t.end) ∥₁
+    → t.end ≤ length bytes → (k ≡ kinds.Word → code ≡ code_of (map to_ascii_uppercase (slice_range bytes t.start t.end))) → ((k ≡ kinds.Word → ⊥) → code ≡ 255) → SpellsBody keyword vs (lexeme_of bytes t ∷ rest) → code ≡ code_at keyword
+code_named bytes t k code None vs rest e s i a b h =
+    let l : lexeme_of bytes t ≡ Opening = heads_one (lexeme_of bytes t) Opening rest h.1 h.2 in
+    let n : k ≡ kinds.Open = e ∙ ap (λ x. kind_of (class_of x)) l in
+    b (λ m. let x : kinds.Open ≡ kinds.Word = sym n ∙ m in cc)
+code_named bytes t k code (Some v) vs rest e s i a b h =
+    let l : lexeme_of bytes t ≡ KeywordOf v = heads_one (lexeme_of bytes t) (KeywordOf v) rest (Opening ∷ (print_all vs ++ Closing ∷ [])) h in
+    let n : kind_of (class_of (lexeme_of bytes t)) ≡ kinds.Word = ap (λ x. kind_of (class_of x)) l in
+    a (e ∙ n) ∙ ap code_of (word_named bytes t v (word_kind t.kind (slice_range bytes t.start t.end) n) s l i).2
+
 take_all : (xs : List ℕ) (n : ℕ) → n ≡ length xs → take n xs ≡ xs
 take_all xs n e = rw e (take-length xs)
 
@@ -159,9 +171,10 @@ many i = sum_by size i.values
 
 pub entry_made : (bytes : List ℕ) (name : Lexeme) (at opened end close : ℕ) (old new final : Table) (head : Head) (t : Token) (k : Kind) → ReferenceTo head.id ≡ name → Goes (T Equals ∷ []) [] bytes at opened (Assigning ∷ [])
     → CutsFrom bytes opened (Ok (Some t)) → k ≡ kind_of (class_of (lexeme_of bytes t)) → ∥ Spells t.kind (slice_range bytes t.start t.end) ∥₁ → PutsBody bytes t old new (Ok end) → Goes (T Semi ∷ []) [] bytes end close (Ending ∷ [])
-    → head.word ≡ t.start → (k ≡ kinds.Word → head.word_end ≡ t.end) → ((k ≡ kinds.Word → ⊥) → head.word_end ≡ t.start) → head.first ≡ length old.starts.items → head.count ≡ length new.starts.items - length old.starts.items
+    → head.word ≡ t.start → (k ≡ kinds.Word → head.word_end ≡ t.end) → ((k ≡ kinds.Word → ⊥) → head.word_end ≡ t.start)
+    → (k ≡ kinds.Word → head.code ≡ code_of (map to_ascii_uppercase (slice_range bytes t.start t.end))) → ((k ≡ kinds.Word → ⊥) → head.code ≡ 255) → head.first ≡ length old.starts.items → head.count ≡ length new.starts.items - length old.starts.items
     → final.heads.items ≡ old.heads.items ++ head ∷ [] → final.starts.items ≡ new.starts.items → final.values ≡ new.values → PutsInstance name bytes at old final (Ok close)
-entry_made bytes name at opened end close old new final head t k n e h seen s b x w a z f m hs fs fv =
+entry_made bytes name at opened end close old new final head t k n e h seen s b x w a z u v f m hs fs fv =
     let d = instance_named bytes name at opened end close (record { id = head.id; keyword = b.0; values = b.1 }) t b.3 b.5.0 n e h b.4 b.5.1 b.5.2 x in
     let g : final.starts.items ≡ old.starts.items ++ b.2 = fs ∙ b.6 in
     let m2 : head.count ≡ length final.starts.items - length old.starts.items = m ∙ ap (λ y. length y - length old.starts.items) (sym fs) in (
@@ -174,6 +187,7 @@ entry_made bytes name at opened end close old new final head t k n e h seen s b 
       record {
         number = refl;
         keyword = keyword_named bytes t k head.word head.word_end b.0 b.1 b.5.0 seen s (cut_within bytes opened t h) w a z b.5.1;
+        coded = code_named bytes t k head.code b.0 b.1 b.5.0 seen s (cut_within bytes opened t h) u v b.5.1;
         within = first_within old.starts.items b.2 final.starts.items head.first head.count g f m2;
         values = subst (λ y. StandAt bytes y b.1) (sym (starts_taken old.starts.items b.2 final.starts.items head.first head.count g f m2)) b.7;
       },
@@ -197,6 +211,7 @@ tells_more bytes starts more head i h =
     record {
       number = h.number;
       keyword = h.keyword;
+      coded = h.coded;
       within = omega (arith, w, a);
       values = subst (λ y. StandAt bytes y i.values) (sym e) h.values;
     }

@@ -13,7 +13,7 @@ use crate::double::least_double;
 use crate::file::{begin, read_file};
 use crate::table::Table;
 use bim_model::{BuildError, Bytes, MOST_UPLOAD, Many, UploadFault};
-use p21_table::Exchange;
+use p21_table::{Exchange, noted_places};
 use p21_values::{Head, MOST_INSTANCES, MOST_VALUES};
 use std::alloc::{AllocError, Global};
 
@@ -95,8 +95,9 @@ pub fn read_owned(alloc: Global, bytes: Bytes) -> Result<Exchange, BuildError>
         None => {}
     }
     let heads = sorted(table.heads)?;
+    let notes = noted_places(alloc, heads.as_slice())?;
     match least_double(heads.as_slice()) {
-        None => Ok(Exchange::of(bytes, heads, table.starts)),
+        None => Ok(Exchange::of(bytes, heads, table.starts, notes)),
         Some(id) => Err(BuildError::Fault(UploadFault::DoubleId { id })),
     }
 }

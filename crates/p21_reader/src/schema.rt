@@ -6,7 +6,7 @@ ghost use Rattle.p21_values.specs.Pieces.{IsPiece};
 
 use crate::ahead::only_text;
 use bim_text::text_of;
-use p21_table::is_word;
+use ifc_keywords::is_word;
 use p21_values::{Kind, Piece, ReadFault};
 use std::alloc::{AllocError, Global};
 

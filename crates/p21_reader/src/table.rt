@@ -1,7 +1,9 @@
 //! The table of a file: a head for each instance, and for each attribute the place where its value begins.
-ghost use Rattle.std.specs.Prelude.{◌≡◌, ◌<◌, ◌≤◌, ◌+◌, ◌^◌, ◌-◌, ◌∷◌, [], length, Some, IfOk, OnOk};
+ghost use Rattle.std.specs.Prelude.{◌≡◌, ◌<◌, ◌≤◌, ◌+◌, ◌^◌, ◌-◌, ◌∷◌, [], length, map, slice_range, Some, IfOk, OnOk};
+ghost use Rattle.std.specs.Char.{to_ascii_uppercase};
 ghost use Rattle.bim_model.specs.declared.limits.TheConstants.{MOST_UPLOAD};
 ghost use Rattle.p21_values.specs.declared.limits.TheConstants.{MOST_DEPTH};
+ghost use Rattle.ifc_keywords.specs.Codes.{code_of as code_said};
 ghost use Rattle.p21_values.specs.Lexemes.{lexeme_of};
 ghost use Rattle.p21_values.specs.Pieces.{IsPiece};
 ghost use Rattle.p21_reader.specs.Tabling.{PutsStart, PutsStarts, PutsBody, PutsInstance, TablesSection};
@@ -9,6 +11,7 @@ ghost use Rattle.p21_reader.specs.Tabling.{PutsStart, PutsStarts, PutsBody, Puts
 use crate::passing::{pass_complex, pass_value};
 use crate::section::closing;
 use crate::word::expect;
+use ifc_keywords::code_of;
 use p21_table::name_of;
 use p21_values::{Head, Kind, MOST_DEPTH, Piece, ReadFault, refused, take};
 use std::alloc::Global;
@@ -106,6 +109,21 @@ fn keyword_end(word: Piece) -> usize
     }
 }
 
+/// The number of the keyword whose token is given; 255 where it is none of the known ones, or no keyword.
+fn keyword_code(bytes: &[u8], word: Piece) -> u8
+    requires short { length bytes.now ≤ MOST_UPLOAD }
+    requires piece { IsPiece bytes.now word }
+    ensures some { word.kind ≡ Kind.Word → result
+        ≡ code_said (map to_ascii_uppercase (slice_range bytes.now word.token.start word.token.end)) }
+    ensures none { (word.kind ≡ Kind.Word → ⊥) → result ≡ 255 }
+{
+    if word.kind == Kind::Word {
+        code_of(&bytes[word.token.start..word.token.end])
+    } else {
+        255
+    }
+}
+
 /// Adds an instance whose name is given.
 fn entry(bytes: &[u8], name: Piece, table: &mut Table) -> Result<usize, ReadFault>
     requires short { length bytes.now ≤ MOST_UPLOAD }
@@ -131,6 +149,7 @@ fn entry(bytes: &[u8], name: Piece, table: &mut Table) -> Result<usize, ReadFaul
         word_end: keyword_end(word) as u32,
         first: first as u32,
         count: count as u32,
+        code: keyword_code(bytes, word),
     })?;
     Ok(close)
 }

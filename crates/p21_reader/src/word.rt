@@ -7,7 +7,7 @@ ghost use Rattle.p21_reader.specs.Reading.{Expects};
 ghost use Rattle.p21_reader.specs.Heading.{mark_seen, class_seen};
 ghost use Rattle.p21_reader.specs.Files.{ReadsWord};
 
-use p21_table::is_word;
+use ifc_keywords::is_word;
 use p21_values::{Kind, Piece, ReadFault, refused, take};
 
 /// The words that the grammar names; each other word is `Other`.

@@ -15,7 +15,7 @@ abbrev pub SameIds : List Head → List Instance → Type 0
 SameIds heads world = map (λ (h : Head). h.id) heads ≡ map (λ (i : Instance). i.id) world
 
 abbrev pub some_head : Head
-some_head = record { id = 0; word = 0; word_end = 0; first = 0; count = 0 }
+some_head = record { id = 0; word = 0; word_end = 0; first = 0; count = 0; code = 0 }
 
 -- there are as many
 pub as_many : (heads : List Head) (world : List Instance) → SameIds heads world → length heads ≡ length world

@@ -13,6 +13,7 @@ use Rattle.p21_lexer.specs.Gaps.{Passes}
 use Rattle.p21_lexer.specs.Cutting.{CutsFrom}
 use Rattle.p21_values.specs.contracts.value.Value21 as row
 use Rattle.p21_values.specs.declared.instance_head.Head.{Head}
+use Rattle.ifc_keywords.specs.Codes.{code_at}
 use Rattle.p21_values.specs.declared.value.Value21.{Value21}
 use Rattle.p21_values.specs.declared.value.Instance.{Instance}
 use Rattle.p21_values.specs.Lexemes.{Lexeme, Closing, Cuts}
@@ -36,6 +37,12 @@ tells bytes starts heads world at h lt = told_at bytes starts heads world at som
 
 pub id_said : (bytes starts : List ℕ) (heads : List Head) (world : List Instance) (at : ℕ) → ∥ Holds bytes starts heads world ∥₁ → at < length world → (head_at heads at).id ≡ (instance_at world at).id
 id_said bytes starts heads world at h lt = ∥∥₁_elim h (Coded-set coded_ℕ _ _) (λ k. (tells bytes starts heads world at k lt).number)
+
+-- The number of its keyword.
+
+pub code_said : (bytes starts : List ℕ) (heads : List Head) (world : List Instance) (at : ℕ) → ∥ Holds bytes starts heads world ∥₁ → at < length world
+    → (head_at heads at).code ≡ code_at (instance_at world at).keyword
+code_said bytes starts heads world at h lt = ∥∥₁_elim h (Coded-set coded_ℕ _ _) (λ k. (tells bytes starts heads world at k lt).coded)
 
 -- Its keyword.
 

@@ -5,3 +5,4 @@ pub mod Heads
 pub mod Kept
 pub mod PlainBytes
 pub mod Waiting
+pub mod RowsThere

@@ -8,12 +8,14 @@ use p21_values::Head;
 use std::marker::Model;
 
 /// The instances of a file's DATA section: at most 1,000,000 with at most 8,000,000 values. It keeps the file's bytes, for each instance a
-/// head, and for each attribute where it begins. Contracts see it as the list of its instances, which rises by their numbers.
+/// head, for each attribute where it begins, and notes of where numbers stand among the heads, which are tried first. Contracts see it as
+/// the list of its instances, which rises by their numbers.
 #[derive(Drop)]
 pub struct Exchange {
     bytes: Bytes,
     heads: Vec<Head>,
     starts: Vec<u32>,
+    notes: Vec<u32>,
     ghost holds: { Meaning bytes starts.items heads.items } by { one_world bytes starts.items heads.items },
 }
 
@@ -42,6 +44,7 @@ pub(crate) struct Kept<'a> {
     pub bytes: &'a [u8],
     pub heads: &'a [Head],
     pub starts: &'a [u32],
+    pub notes: &'a [u32],
 }
 
 impl Exchange {
@@ -53,7 +56,7 @@ impl Exchange {
     ghost use Rattle.p21_values.specs.declared.value.Instance.{Instance};
 
     /// The exchange that a table over these bytes tells.
-    pub fn of(bytes: Bytes, heads: Vec<Head>, starts: Vec<u32>) -> Exchange
+    pub fn of(bytes: Bytes, heads: Vec<Head>, starts: Vec<u32>, notes: Vec<u32>) -> Exchange
         requires { (world : List Instance) × Holds bytes starts.items heads.items world × Rises world
             × (length world ≤ MOST_INSTANCES) × (values_of world ≤ MOST_VALUES) }
         ensures { (world : List Instance) → Holds bytes starts.items heads.items world → result ≡ world }
@@ -62,6 +65,7 @@ impl Exchange {
             bytes,
             heads,
             starts,
+            notes,
         }
     }
 
@@ -76,6 +80,7 @@ impl Exchange {
             bytes: self.bytes.as_slice(),
             heads: self.heads.as_slice(),
             starts: self.starts.as_slice(),
+            notes: self.notes.as_slice(),
         }
     }
 

@@ -42,6 +42,7 @@ impl<'a> Model for InstanceRef<'a> {
 impl<'a> InstanceRef<'a> {
     ghost use Rattle.std.specs.Prelude.{◌≡◌, ◌<◌, Some, length};
     ghost use Rattle.std.specs.List.{slice_get};
+    ghost use Rattle.ifc_keywords.specs.Codes.{code_at};
     ghost use Rattle.p21_values.specs.Attributes.{listed, reference_at};
 
     /// The instance at a place.
@@ -69,6 +70,13 @@ impl<'a> InstanceRef<'a> {
             return None;
         }
         Some(Keyword::of(between(kept.bytes, head.word as usize, head.word_end as usize)))
+    }
+
+    /// The number of its keyword among the known ones; 255 of another, and of a complex instance.
+    pub fn code(&self) -> u8
+        ensures { result ≡ code_at self.now.keyword }
+    {
+        self.exchange.kept().heads[self.at].code
     }
 
     /// Its attributes in their order; none of a complex instance.

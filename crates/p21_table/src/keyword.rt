@@ -1,8 +1,9 @@
 //! A keyword where it stands in a file.
 ghost use Rattle.p21_lexer.specs.Spelling.{IsWord};
 
-use crate::simple::{is_word, upper_text};
+use crate::simple::upper_text;
 use bim_model::Text;
+use ifc_keywords::is_word;
 use std::alloc::{AllocError, Global};
 use std::marker::Model;
 

@@ -17,6 +17,7 @@ pub use exchange::Exchange;
 pub use instance_list::Instances;
 pub use instance_ref::InstanceRef;
 pub use keyword::Keyword;
-pub use simple::{inner, is_word, name_of};
+pub use places::noted_places;
+pub use simple::{inner, name_of};
 pub use value_list::{Three, Values};
 pub use value_ref::ValueRef;

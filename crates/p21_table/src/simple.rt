@@ -1,6 +1,6 @@
 //! Values of one token: numbers, texts, names, enumerations and bits.
 ghost use Rattle.std.specs.Prelude.{◌≡◌, ◌≤◌, ◌∷◌, [], IfOk, length, map};
-ghost use Rattle.std.specs.Str.{IsAscii, bytes_eq};
+ghost use Rattle.std.specs.Str.{IsAscii};
 ghost use Rattle.std.specs.Char.{to_ascii_uppercase};
 ghost use Rattle.p21_lexer.specs.Spelling.{IsWord, value_after};
 ghost use Rattle.p21_lexer.specs.declared.limits.TheConstants.{GREATEST_NAME};
@@ -66,21 +66,4 @@ pub fn inner(spelled: &[u8]) -> &[u8]
     ensures { result.now ≡ inner_of spelled.now }
 {
     &spelled[1..spelled.len() - 1]
-}
-
-/// Whether the bytes are this word, in letters of either case.
-pub fn is_word(bytes: &[u8], word: &[u8]) -> bool
-    ensures { result ≡ bytes_eq (map to_ascii_uppercase bytes.now) word.now }
-{
-    if bytes.len() != word.len() {
-        return false;
-    }
-    let mut at = 0;
-    while at < bytes.len() {
-        if bytes[at].to_ascii_uppercase() != word[at] {
-            return false;
-        }
-        at += 1;
-    }
-    true
 }

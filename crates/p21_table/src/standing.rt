@@ -5,7 +5,7 @@ ghost use Rattle.p21_values.specs.declared.value.Value21.{Value21};
 ghost use Rattle.p21_values.specs.Pieces.{IsPiece};
 ghost use Rattle.p21_values.specs.Values.{number_of, words_of, enumeration_of, reference_of, items_of, is_absent};
 ghost use Rattle.p21_values.specs.Lexemes.{Lexeme, Cuts};
-ghost use Rattle.p21_values.specs.Standing.{Stands, Begins, StandInside, Closes, Waits, Leaves};
+ghost use Rattle.p21_values.specs.Standing.{Stands, Begins, StandInside, StandBehind, Closes, Waits, Leaves};
 
 use crate::simple::{inner, name_of};
 use p21_lexer::TokenKind;
@@ -213,6 +213,26 @@ fn end_there(bytes: &[u8], first: Piece) -> Option<usize>
         };
     }
     Some(first.token.end)
+}
+
+/// Where the next value of a list begins, or the list ends, behind one that ends at a place, where a sign stands right there. None says
+/// nothing.
+#[inline(always)]
+pub fn sign_behind(bytes: &[u8], end: usize) -> Option<usize>
+    ensures next { IfSome result (λ at. (vs : List Value21) → StandBehind bytes.now end vs
+        → StandInside bytes.now at vs) }
+    ensures within { IfSome result (λ at. at ≤ length bytes.now) }
+{
+    if end >= bytes.len() {
+        return None;
+    }
+    if bytes[end] == b',' {
+        return Some(end + 1);
+    }
+    if bytes[end] == b')' {
+        return Some(end);
+    }
+    None
 }
 
 /// Where the next value of a list begins, or the list ends, behind the value whose first token is given.

@@ -4,8 +4,9 @@ ghost use Rattle.p21_values.specs.declared.value.Value21.{Value21};
 ghost use Rattle.p21_values.specs.Standing.{StandInside};
 ghost use Rattle.p21_values.proofs.Stood.{one_inside};
 
-use crate::standing::{item_there, next_there};
+use crate::standing::{item_there, next_there, sign_behind};
 use crate::value_ref::ValueRef;
+use bim_text::{ShortRow, short_row};
 use std::alloc::{AllocError, Global};
 use std::marker::Model;
 
@@ -60,6 +61,7 @@ impl<'a> Values<'a> {
     ghost use Rattle.std.specs.Prelude.{◌≡◌, ◌<◌, ◌≤◌, ◌^◌, ◌∷◌, [], List, length, IfOk, IsTrue, ◌↔◌, MatchOption};
     ghost use Rattle.p21_values.specs.declared.value.Value21.{Value21};
     ghost use Rattle.p21_values.specs.Standing.{StandInside};
+    ghost use Rattle.p21_table.specs.ShortRows.{SaysRow};
 
     /// The values that stand from there on, up to a closing parenthesis.
     pub(crate) fn of(bytes: &'a [u8], at: usize) -> Values<'a>
@@ -76,6 +78,18 @@ impl<'a> Values<'a> {
         ensures { result ≡ [] }
     {
         Values::of(b")", 0)
+    }
+
+    /// The next value, where it is a row of three short numbers without blanks between them: it is read in one loop. None says nothing, and
+    /// leaves it.
+    pub fn next_row(&mut self) -> Option<ShortRow>
+        ensures { MatchOption result (self.new ≡ self.old)
+            (λ row. (value : Value21) × (self.old ≡ value ∷ self.new) × SaysRow row value) }
+    {
+        let row = short_row(self.bytes, self.at)?;
+        let after = sign_behind(self.bytes, row.end)?;
+        *self = Values::of(self.bytes, after);
+        Some(row)
     }
 
     /// How many values are left. It goes over them.

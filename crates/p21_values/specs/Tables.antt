@@ -3,6 +3,7 @@ use Rattle.std.specs.Prelude.{◌≡◌, ℕ, ◌+◌, ◌≤◌, List, length, 
 use Rattle.std.specs.List.{AllZip}
 use Rattle.std.specs.Char.{to_ascii_uppercase}
 use Rattle.p21_lexer.specs.Spelling.{IsWord}
+use Rattle.ifc_keywords.specs.Codes.{code_at}
 use Rattle.p21_values.specs.declared.value.Instance.{Instance}
 use Rattle.p21_values.specs.declared.instance_head.Head.{Head}
 use Rattle.p21_values.specs.Standing.{StandAt}
@@ -24,6 +25,7 @@ starts_of starts head = take head.count (drop head.first starts)
 pub record Tells (bytes starts : List ℕ) (head : Head) (i : Instance) : Type 0 where
   pub number : head.id ≡ i.id
   pub keyword : NamesKeyword bytes head.word head.word_end i.keyword
+  pub coded : head.code ≡ code_at i.keyword
   pub within : head.first + head.count ≤ length starts
   pub values : StandAt bytes (starts_of starts head) i.values
 

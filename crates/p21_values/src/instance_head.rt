@@ -12,4 +12,6 @@ pub struct Head {
     pub first: u32,
     /// How many attributes it has.
     pub count: u32,
+    /// The number of its keyword among the known ones; 255 of another, and of a complex instance.
+    pub code: u8,
 }

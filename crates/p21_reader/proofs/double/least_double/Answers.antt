@@ -7,7 +7,7 @@ use Rattle.p21_reader.proofs.double.least_double.Goals as goal
 
 -- what an index gives where it is out of range
 abbrev no_head : Head
-no_head = record { id = 0; word = 0; word_end = 0; first = 0; count = 0 }
+no_head = record { id = 0; word = 0; word_end = 0; first = 0; count = 0; code = 0 }
 
 abbrev number : Head → ℕ
 number h = h.id

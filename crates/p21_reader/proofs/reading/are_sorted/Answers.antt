@@ -5,7 +5,7 @@ use Rattle.p21_reader.proofs.reading.are_sorted.Goals as goal
 
 -- what an index gives where it is out of range
 abbrev no_head : Head
-no_head = record { id = 0; word = 0; word_end = 0; first = 0; count = 0 }
+no_head = record { id = 0; word = 0; word_end = 0; first = 0; count = 0; code = 0 }
 
 pub loop-at-init : goal.loop-at-init
 loop-at-init c = record { begun = omega arith; sorted = sorted_one (λ h. h.id) c.args.heads.now }

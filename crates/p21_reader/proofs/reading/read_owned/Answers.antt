@@ -32,7 +32,7 @@ of-requires c =
     let n = same_count c.args.bytes c.in_ok-table.table.starts.items c.in_ok-table.table.heads.items t.0 t.2 in
     let few = c.in-None.ensures t.0 (sym n) t.3 in
     let w = ordered c.args.bytes c.in_ok-table.table c.in_ok-heads.heads.items t c.in_ok-heads.ensures.moved in
-    let same = w.3 ∙ ap (λ hs. map (λ (h : Head). h.id) hs) (sym c.as_slice-3.ensures.value) in
+    let same = w.3 ∙ ap (λ hs. map (λ (h : Head). h.id) hs) (sym c.as_slice-4.ensures.value) in
     (w.0, w.1, c.in-None-least_double.ensures.none w.0 same, few_sorted t.0 w.0 w.2 few.0, small_sorted t.0 w.0 w.2 few.1)
 
 pub returns-in-None-least_double-clause-exchange : goal.returns-in-None-least_double-clause-exchange
@@ -41,7 +41,7 @@ returns-in-None-least_double-clause-exchange c =
     let n = same_count c.args.bytes c.in_ok-table.table.starts.items c.in_ok-table.table.heads.items t.0 t.2 in
     let few = c.in-None.ensures t.0 (sym n) t.3 in
     let w = ordered c.args.bytes c.in_ok-table.table c.in_ok-heads.heads.items t c.in_ok-heads.ensures.moved in
-    let same = w.3 ∙ ap (λ hs. map (λ (h : Head). h.id) hs) (sym c.as_slice-3.ensures.value) in
+    let same = w.3 ∙ ap (λ hs. map (λ (h : Head). h.id) hs) (sym c.as_slice-4.ensures.value) in
     let s = spelled_exchange c.args.bytes t.0 w.0 t.1 few.0 few.1 w.2 (c.in-None-least_double.ensures.none w.0 same) in
     subst (λ (x : List Instance). SpellsExchange c.args.bytes x) (sym (c.of.ensures w.0 w.1)) s
 
@@ -51,7 +51,7 @@ returns-in-Some-least_double-clause-fault c =
     let n = same_count c.args.bytes c.in_ok-table.table.starts.items c.in_ok-table.table.heads.items t.0 t.2 in
     let few = c.in-None.ensures t.0 (sym n) t.3 in
     let w = ordered c.args.bytes c.in_ok-table.table c.in_ok-heads.heads.items t c.in_ok-heads.ensures.moved in
-    let same = w.3 ∙ ap (λ hs. map (λ (h : Head). h.id) hs) (sym c.as_slice-3.ensures.value) in
+    let same = w.3 ∙ ap (λ hs. map (λ (h : Head). h.id) hs) (sym c.as_slice-4.ensures.value) in
     double_cause c.args.bytes t.0 w.0 c.in-Some-least_double.id t.1 few.0 few.1 w.2 (c.in-Some-least_double.ensures.double w.0 same)
 
 pub returns-in-Some-least_double-clause-refused : goal.returns-in-Some-least_double-clause-refused
@@ -60,6 +60,6 @@ returns-in-Some-least_double-clause-refused c =
     let n = same_count c.args.bytes c.in_ok-table.table.starts.items c.in_ok-table.table.heads.items t.0 t.2 in
     let few = c.in-None.ensures t.0 (sym n) t.3 in
     let w = ordered c.args.bytes c.in_ok-table.table c.in_ok-heads.heads.items t c.in_ok-heads.ensures.moved in
-    let same = w.3 ∙ ap (λ hs. map (λ (h : Head). h.id) hs) (sym c.as_slice-3.ensures.value) in
+    let same = w.3 ∙ ap (λ hs. map (λ (h : Head). h.id) hs) (sym c.as_slice-4.ensures.value) in
     cause_refused c.args.bytes (Fault (DoubleId c.in-Some-least_double.id))
     (double_cause c.args.bytes t.0 w.0 c.in-Some-least_double.id t.1 few.0 few.1 w.2 (c.in-Some-least_double.ensures.double w.0 same))

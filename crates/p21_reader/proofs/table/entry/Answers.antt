@@ -35,10 +35,10 @@ returns-clause-instance c =
     let t = c.in_ok-word.word.token in
     let old = c.args.table.now in
     let new = c.body.new.table in
-    let head : Head = record { id = c.name_of.result; word = t.start; word_end = c.keyword_end.result; first = c.len-first.result; count = c.len.result - c.len-first.result } in
+    let head : Head = record { id = c.name_of.result; word = t.start; word_end = c.keyword_end.result; first = c.len-first.result; count = c.len.result - c.len-first.result; code = c.keyword_code.result } in
     let f = c.len-first.ensures ∙ old.starts.ok.0 in
     let l = c.len.ensures ∙ new.starts.ok.0 in
     let final : Table = record { heads = c.push.new.self; starts = new.starts; values = new.values } in
     entry_made c.args.bytes.now (lexeme_of c.args.bytes.now c.args.name.token) c.args.name.token.end c.in_ok-at.at c.in_ok-end.end c.in_ok-close.close old new final head t c.in_ok-word.word.kind
     c.name_of.ensures c.in_ok-at.ensures.expects c.in_ok-word.ensures.cuts c.in_ok-word.ensures.piece.seen c.in_ok-word.ensures.piece.spelled c.in_ok-end.ensures.body c.in_ok-close.ensures.expects
-    refl c.keyword_end.ensures.some c.keyword_end.ensures.none f (omega (arith, l, f)) (c.in_ok-push.ensures.items ∙ ap (λ x. x ++ head ∷ []) c.in_ok-end.ensures.heads) refl refl
+    refl c.keyword_end.ensures.some c.keyword_end.ensures.none c.keyword_code.ensures.some c.keyword_code.ensures.none f (omega (arith, l, f)) (c.in_ok-push.ensures.items ∙ ap (λ x. x ++ head ∷ []) c.in_ok-end.ensures.heads) refl refl

@@ -1,0 +1,171 @@
+//! Short numbers where they stand among other bytes, each read in one loop.
+ghost use Rattle.std.specs.Prelude.{◌≡◌, ◌+◌, ◌^◌, ◌<◌, ◌≤◌, ◌++◌, length, drop, IfSome};
+ghost use Rattle.std.specs.Bool.{OnTrue};
+ghost use Rattle.p21_lexer.specs.Spelling.{value_after};
+ghost use Rattle.bim_text.specs.Numbers.{sign_bytes};
+ghost use Rattle.bim_text.specs.Scanning.{front};
+ghost use Rattle.bim_text.specs.Short.{EndsAt, IsShortAt, IsRowAt, sign_of};
+
+use crate::digits::is_digit;
+
+/// A number of few digits without exponent: its digits as one whole number, how many of them stand behind the point, and where it ends.
+#[derive(Clone, Copy)]
+pub struct Short {
+    /// Whether a minus stands before it.
+    pub negative: bool,
+    /// All its digits, below 10^15.
+    pub digits: u64,
+    /// How many of them stand behind the point, at most 15.
+    pub places: u32,
+    /// The place behind it.
+    pub end: usize,
+}
+
+/// Three such numbers between parentheses, and the place behind the closing one.
+#[derive(Clone, Copy)]
+pub struct ShortRow {
+    pub x: Short,
+    pub y: Short,
+    pub z: Short,
+    pub end: usize,
+}
+
+/// Digits behind others, and where they end.
+#[derive(Clone, Copy)]
+struct Run {
+    value: u64,
+    end: usize,
+}
+
+/// A sign that was read, and the place behind it.
+#[derive(Clone, Copy)]
+struct Signed {
+    negative: bool,
+    end: usize,
+}
+
+/// The digits that stand there, behind others, as far as they are few.
+#[inline(always)]
+#[tactic(auto, using(crate::proofs::Fronts::fronts))]
+fn run_from(bytes: &[u8], from: usize, before: u64) -> Run
+    requires place { from ≤ length bytes.now }
+    requires small { before < 10 ^ 15 }
+    ensures value { value_after before (front (drop from bytes.now))
+        ≡ value_after result.value (front (drop result.end bytes.now)) }
+    ensures end { from + length (front (drop from bytes.now))
+        ≡ result.end + length (front (drop result.end bytes.now)) }
+    ensures within { result.end ≤ length bytes.now }
+    ensures few { result.end ≤ from + 15 }
+    ensures small { result.value < 10 ^ 15 }
+{
+    let mut at = from;
+    let mut value = before;
+    while at < bytes.len() && at - from < 15 && value < 100_000_000_000_000 && is_digit(bytes[at]) {
+        value = value * 10 + (bytes[at] - b'0') as u64;
+        at += 1;
+    }
+    Run { value, end: at }
+}
+
+/// Whether a comma or a closing parenthesis stands there.
+#[inline(always)]
+fn ends_there(bytes: &[u8], at: usize) -> bool
+    ensures { OnTrue result (EndsAt bytes.now at) }
+{
+    if at >= bytes.len() {
+        return false;
+    }
+    bytes[at] == b',' || bytes[at] == b')'
+}
+
+/// The minus that stands there, or none.
+#[inline(always)]
+fn minus_there(bytes: &[u8], from: usize) -> Signed
+    requires { from ≤ length bytes.now }
+    ensures sign { drop from bytes.now ≡ sign_bytes (sign_of result.negative) ++ drop result.end bytes.now }
+    ensures within { result.end ≤ length bytes.now }
+    ensures near { result.end ≡ from + length (sign_bytes (sign_of result.negative)) }
+{
+    if from < bytes.len() {
+        if bytes[from] == b'-' {
+            return Signed {
+                negative: true,
+                end: from + 1,
+            };
+        }
+    }
+    Signed {
+        negative: false,
+        end: from,
+    }
+}
+
+/// The number that stands there, where it is short and a comma or a closing parenthesis stands right behind it. None says nothing.
+#[inline(always)]
+pub fn short_at(bytes: &[u8], from: usize) -> Option<Short>
+    requires { from ≤ length bytes.now }
+    ensures { IfSome result (IsShortAt bytes.now from) }
+{
+    let sign = minus_there(bytes, from);
+    let whole = run_from(bytes, sign.end, 0);
+    if whole.end == sign.end {
+        return None;
+    }
+    if ends_there(bytes, whole.end) {
+        return Some(Short {
+            negative: sign.negative,
+            digits: whole.value,
+            places: 0,
+            end: whole.end,
+        });
+    }
+    if whole.end >= bytes.len() {
+        return None;
+    }
+    if bytes[whole.end] != b'.' {
+        return None;
+    }
+    let point = whole.end + 1;
+    let fraction = run_from(bytes, point, whole.value);
+    if !ends_there(bytes, fraction.end) {
+        return None;
+    }
+    Some(Short {
+        negative: sign.negative,
+        digits: fraction.value,
+        places: (fraction.end - point) as u32,
+        end: fraction.end,
+    })
+}
+
+/// The row of three short numbers that stands there, without blanks. None says nothing.
+#[inline(always)]
+pub fn short_row(bytes: &[u8], from: usize) -> Option<ShortRow>
+    requires { from ≤ length bytes.now }
+    ensures { IfSome result (IsRowAt bytes.now from) }
+{
+    if from >= bytes.len() {
+        return None;
+    }
+    if bytes[from] != b'(' {
+        return None;
+    }
+    let x = short_at(bytes, from + 1)?;
+    if bytes[x.end] != b',' {
+        return None;
+    }
+    let y = short_at(bytes, x.end + 1)?;
+    if bytes[y.end] != b',' {
+        return None;
+    }
+    let z = short_at(bytes, y.end + 1)?;
+    if bytes[z.end] != b')' {
+        return None;
+    }
+    Some(ShortRow {
+        x,
+        y,
+        z,
+        end: z.end + 1,
+    })
+}

@@ -1,0 +1,6 @@
+//! The keywords of the entities of IFC that are followed (IFC4 ADD2 TC1), each with a number.
+#![tactic(auto)]
+
+mod known_words;
+
+pub use known_words::{code_of, is_word};
