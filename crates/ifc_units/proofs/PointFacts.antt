@@ -1,5 +1,5 @@
 -- A value is one point at most, or has one fault; and so for lists of points.
-use Rattle.std.proofs.Common.{◌≡◌, ℕ, ◌<◌, ◌≤◌, ℤ, pos, ◌-ℤ◌, ◌≤ℤ◌, List, [], ◌∷◌, ◌++◌, ◌+◌, take, length, get_or, MatchOption, Some, Option, Result, Ok, Err, MatchResult, IsErrAnd, refl, sym, ap, subst, ◌∙◌, append_assoc, arith}
+use Rattle.std.proofs.Common.{◌≡◌, ℕ, ◌<◌, ◌≤◌, ℤ, pos, ◌-ℤ◌, ◌≤ℤ◌, List, [], ◌∷◌, ◌++◌, ◌+◌, take, length, get_or, MatchOption, Some, None, Option, Result, Ok, Err, MatchResult, IsErrAnd, refl, sym, ap, subst, ◌∙◌, append_assoc, arith}
 use Rattle.std.specs.Prelude.{unsigned_abs}
 use Rattle.std.specs.List.{AllZip}
 use Rattle.std.proofs.lemmas.Int.{ints}
@@ -153,5 +153,10 @@ pub never_told : (s : Scale) (mode : Mode) (vs left : List Value21) (ps : List P
 never_told s mode vs left ps b none f h = points_apart s mode vs ps f (points_over s mode vs left ps b none) h
 
 -- a result that was matched
-pub matched : {A E : Type 0} {P : A → Type 0} {Q : E → Type 0} (r t : Result A E) → r ≡ t → MatchResult r P Q → MatchResult t P Q
-matched r t e h = rw (← e) h
+pub matched : {A E : Type 0} (P : A → Type 0) (Q : E → Type 0) (r t : Result A E) → r ≡ t → MatchResult r P Q → MatchResult t P Q
+matched P Q r t e h = rw (← e) h
+
+-- there is none
+pub none_left : {A : Type 0} (P : Type 0) (Q : A → Type 0) (r : Option A) → MatchOption r P Q → ((x : A) → r ≡ Some x → ⊥) → P
+none_left P Q None h other = h
+none_left P Q (Some x) h other = absurd (other x refl)

@@ -199,25 +199,25 @@ reads_for text s shift d h is = record { spelling = h.spelling; read = h.read; v
 
 -- What its size on the grid says of a value.
 
-pub short_here : (scale : Scale) (mode : Mode) (s : Short) (v : Value21) (size : ℕ) (g : ℤ) → SaysShort s v → IsSizeOf mode (scale.power -ℤ pos s.places) s.digits size → size ≤ MOST → g ≡ signed s.negative size → IsLength scale mode v g
-short_here scale mode s v size g says is within e =
+pub short_here : (scale : Scale) (mode : Mode) (s : Short) (v : Value21) (size : ℕ) (p g : ℤ) → SaysShort s v → p ≡ scale.power -ℤ pos s.places → IsSizeOf mode p s.digits size → size ≤ MOST → g ≡ signed s.negative size
+    → IsLength scale mode v g
+short_here scale mode s v size p g says at is within e =
     let f = decimal_for s scale.power says.digits in
     let d = f.0 in
-    let sized = sizes_too mode s.digits d.digits size (scale.power -ℤ pos s.places) (d.exp +ℤ scale.power) f.1.scaled is in
+    let sized = sizes_too mode s.digits d.digits size p (d.exp +ℤ scale.power) (subst (λ (x : ℤ). IsSame s.digits x d.digits (d.exp +ℤ scale.power)) (sym at) f.1.scaled) is in
     length_here scale mode v says.spelled d g g says.number (reads_for says.spelled s scale.power d says.spells f.1)
     (subst (λ (x : ℤ). IsGridNumber mode UNITS (record { number = x; power = d.exp +ℤ scale.power }) g) f.1.sign (grid_ok mode s.negative d.digits size (d.exp +ℤ scale.power) g sized e))
     (omega (arith, ap unsigned_abs e, signed_size s.negative size, within)) refl
 
-pub short_refused : (scale : Scale) (mode : Mode) (s : Short) (v : Value21) (fault : GridFault) → SaysShort s v → (fault ≡ OffGrid → mode ≡ Exact)
-    → (fault ≡ OffGrid → (n : ℕ) → IsSizeOf mode (scale.power -ℤ pos s.places) s.digits n → ⊥)
-    → (fault ≡ TooFar → (n : ℕ) × IsSizeOf mode (scale.power -ℤ pos s.places) s.digits n × (MOST < n)) → LengthRefused scale mode v fault
-short_refused scale mode s v fault says exact off far =
+pub short_refused : (scale : Scale) (mode : Mode) (s : Short) (v : Value21) (fault : GridFault) (q : ℤ) → SaysShort s v → q ≡ scale.power -ℤ pos s.places → (fault ≡ OffGrid → mode ≡ Exact)
+    → (fault ≡ OffGrid → (n : ℕ) → IsSizeOf mode q s.digits n → ⊥) → (fault ≡ TooFar → (n : ℕ) × IsSizeOf mode q s.digits n × (MOST < n)) → LengthRefused scale mode v fault
+short_refused scale mode s v fault q says at exact off far =
     let f = decimal_for s scale.power says.digits in
     let d = f.0 in
     let p = d.exp +ℤ scale.power in
-    let q = scale.power -ℤ pos s.places in
+    let scaled : IsSame s.digits q d.digits p = subst (λ (x : ℤ). IsSame s.digits x d.digits p) (sym at) f.1.scaled in
     length_refused scale mode v says.spelled d fault says.number (reads_for says.spelled s scale.power d says.spells f.1)
     (λ e. subst (λ (x : ℤ). (g : ℤ) → IsGridNumber mode UNITS (record { number = x; power = p }) g → ⊥) f.1.sign
-    (grid_off mode s.negative d.digits p (exact e) (λ n h. off e n (sizes_too mode d.digits s.digits n p q (sym f.1.scaled) h))))
+    (grid_off mode s.negative d.digits p (exact e) (λ n h. off e n (sizes_too mode d.digits s.digits n p q (sym scaled) h))))
     (λ e. let is = far e in subst (λ (x : ℤ). (g : ℤ) × IsGridNumber mode UNITS (record { number = x; power = p }) g × (MOST < unsigned_abs g)) f.1.sign
-    (grid_far mode s.negative d.digits p (is.0, sizes_too mode s.digits d.digits is.0 q p f.1.scaled is.1, is.2)))
+    (grid_far mode s.negative d.digits p (is.0, sizes_too mode s.digits d.digits is.0 q p scaled is.1, is.2)))
