@@ -89,11 +89,7 @@ fn row_point(row: ShortRow, scale: Scale, mode: Mode) -> Result<Point, LengthErr
 }
 
 /// The point of the next value that is left; none at the end.
-fn next_point(
-    left: &mut Values<'_>,
-    scale: Scale,
-    mode: Mode,
-) -> Option<Result<Point, LengthError>>
+fn next_point(left: &mut Values<'_>, scale: Scale, mode: Mode) -> Option<Result<Point, LengthError>>
     ensures { MatchOption result (left.old ≡ [])
         (λ found. (value : Value21) × (left.old ≡ value ∷ left.new) × MatchResult found (IsPoint scale mode value)
         (Fails (IsPoint scale mode value) (PointRefused scale mode value))) }

@@ -29,8 +29,8 @@ returns-in-Err-clause-off_grid c =
     let p : ℤ = to_z w64 (of_z w64 (to_z w64 (of_z w64 (to_z w32 (of_z w32 n.exp))) +ℤ to_z w64 (of_z w64 (to_z w32 (of_z w32 c.args.scale.power))))) in
     let at : p ≡ n.exp +ℤ c.args.scale.power = omega (arith, ints) in
     λ is. (let e : c.in-Err.fault ≡ OffGrid = cc in
-        grid_off c.args.mode n.negative n.digits (n.exp +ℤ c.args.scale.power) (c.in-Err.ensures.exact (rw e refl))
-        (subst (λ (x : ℤ). (m : ℕ) → IsSizeOf c.args.mode x n.digits m → ⊥) at (c.in-Err.ensures.off_grid (rw e refl))))
+    grid_off c.args.mode n.negative n.digits (n.exp +ℤ c.args.scale.power) (c.in-Err.ensures.exact (rw e refl))
+    (subst (λ (x : ℤ). (m : ℕ) → IsSizeOf c.args.mode x n.digits m → ⊥) at (c.in-Err.ensures.off_grid (rw e refl))))
 
 pub returns-in-Err-clause-too_far : goal.returns-in-Err-clause-too_far
 returns-in-Err-clause-too_far c =
@@ -38,5 +38,5 @@ returns-in-Err-clause-too_far c =
     let p : ℤ = to_z w64 (of_z w64 (to_z w64 (of_z w64 (to_z w32 (of_z w32 n.exp))) +ℤ to_z w64 (of_z w64 (to_z w32 (of_z w32 c.args.scale.power))))) in
     let at : p ≡ n.exp +ℤ c.args.scale.power = omega (arith, ints) in
     λ is. (let e : c.in-Err.fault ≡ TooFar = cc in
-        grid_far c.args.mode n.negative n.digits (n.exp +ℤ c.args.scale.power)
-        (subst (λ (x : ℤ). (m : ℕ) × IsSizeOf c.args.mode x n.digits m × (MOST < m)) at (c.in-Err.ensures.too_far (rw e refl))))
+    grid_far c.args.mode n.negative n.digits (n.exp +ℤ c.args.scale.power)
+    (subst (λ (x : ℤ). (m : ℕ) × IsSizeOf c.args.mode x n.digits m × (MOST < m)) at (c.in-Err.ensures.too_far (rw e refl))))
