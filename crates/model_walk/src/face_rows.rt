@@ -1,0 +1,121 @@
+//! The triangles of faces, as rows (IFC4 ADD2 TC1, IfcPolygonalFaceSet, IfcIndexedPolygonalFace).
+use crate::row_places::place_named;
+use crate::triangle_rows::{Row, point_at};
+use bim_model::Point;
+use ear_cut::{CutFault, Ear, cut};
+use faceset::{MOST_CORNERS, outline};
+use ifc_instances::Entity;
+use p21_reader::{Exchange, InstanceRef, ValueRef, Values};
+use std::alloc::{AllocError, Global};
+
+/// Which points the corners of a face are. None where an index names none, or they are too many.
+fn corner_places(
+    alloc: Global,
+    indexes: &Values<'_>,
+    numbers: Option<&[u32]>,
+    count: usize,
+) -> Result<Option<Vec<u32>>, AllocError> {
+    let mut made = Vec::new(alloc);
+    for value in indexes.iter() {
+        if made.len() == MOST_CORNERS {
+            return Ok(None);
+        }
+        match place_named(&value, numbers, count) {
+            Some(place) => made.push(place)?,
+            None => return Ok(None),
+        }
+    }
+    Ok(Some(made))
+}
+
+/// The points at these places.
+fn corners_at(alloc: Global, points: &[Point], places: &[u32]) -> Result<Vec<Point>, AllocError> {
+    let mut made = Vec::with_capacity(alloc, places.len())?;
+    for place in places {
+        made.push(point_at(points, *place))?;
+    }
+    Ok(made)
+}
+
+fn place_at(places: &[u32], at: u32) -> u32 {
+    match places.get(at as usize) {
+        Some(place) => *place,
+        None => 0,
+    }
+}
+
+/// Adds the rows of ears.
+fn add_ears(places: &[u32], ears: &[Ear], rows: &mut Vec<Row>) -> Result<(), AllocError> {
+    for ear in ears {
+        rows.push(Row {
+            a: place_at(places, ear.a),
+            b: place_at(places, ear.b),
+            c: place_at(places, ear.c),
+        })?;
+    }
+    Ok(())
+}
+
+/// Adds the rows of a face. False where it has too few corners or too many, an index that names no point, or can't be cut.
+fn add_face(
+    alloc: Global,
+    face: &InstanceRef<'_>,
+    numbers: Option<&[u32]>,
+    points: &[Point],
+    rows: &mut Vec<Row>,
+) -> Result<bool, AllocError> {
+    let Some(places) = corner_places(alloc, &outline(face), numbers, points.len())? else {
+        return Ok(false);
+    };
+    if places.len() < 3 {
+        return Ok(false);
+    }
+    let corners = corners_at(alloc, points, &places)?;
+    match cut(alloc, &corners) {
+        Ok(ears) => {
+            add_ears(&places, &ears, rows)?;
+            Ok(true)
+        }
+        Err(CutFault::Stuck) => Ok(false),
+        Err(CutFault::Memory) => Err(AllocError),
+    }
+}
+
+/// Adds the rows of the face that a value refers to.
+fn add_face_of(
+    alloc: Global,
+    exchange: &Exchange,
+    value: &ValueRef<'_>,
+    numbers: Option<&[u32]>,
+    points: &[Point],
+    rows: &mut Vec<Row>,
+) -> Result<bool, AllocError> {
+    match exchange.target(value) {
+        Some(face) => {
+            if !Entity::Face.includes(&face) {
+                return Ok(false);
+            }
+            add_face(alloc, &face, numbers, points, rows)
+        }
+        None => Ok(false),
+    }
+}
+
+/// The rows of the faces that values refer to, one face after another, at most so many. None where one isn't cut.
+pub fn rows_of_faces(
+    alloc: Global,
+    exchange: &Exchange,
+    values: &Values<'_>,
+    numbers: Option<&[u32]>,
+    points: &[Point],
+    most: usize,
+) -> Result<Option<Vec<Row>>, AllocError> {
+    let mut rows = Vec::new(alloc);
+    for value in values.iter() {
+        let added = add_face_of(alloc, exchange, &value, numbers, points, &mut rows)?;
+        if !added || rows.len() > most {
+            return Ok(None);
+        }
+    }
+    Ok(Some(rows))
+}

@@ -1,0 +1,67 @@
+//! Which points the indexes of a set name, read once each (IFC4 ADD2 TC1, IfcTriangulatedFaceSet, CoordIndex and PnIndex).
+use crate::triangle_rows::Row;
+use faceset::place_of;
+use p21_reader::{ValueRef, Values};
+use std::alloc::{AllocError, Global};
+
+/// Which of so many points, counted from 0, an index names.
+fn point_named(value: &ValueRef<'_>, count: usize) -> Option<u32> {
+    match place_of(value, count) {
+        Some(place) => Some(place as u32),
+        None => None,
+    }
+}
+
+/// The same, directly or by the places that the numbers of the points name.
+pub fn place_named(value: &ValueRef<'_>, numbers: Option<&[u32]>, count: usize) -> Option<u32> {
+    match numbers {
+        Some(places) => match place_of(value, places.len()) {
+            Some(at) => Some(places[at]),
+            None => None,
+        },
+        None => point_named(value, count),
+    }
+}
+
+/// Which of so many points each value names. None where one of them names none.
+pub fn places_named(
+    alloc: Global,
+    values: &Values<'_>,
+    count: usize,
+) -> Result<Option<Vec<u32>>, AllocError> {
+    let mut made = Vec::new(alloc);
+    for value in values.iter() {
+        match point_named(&value, count) {
+            Some(place) => made.push(place)?,
+            None => return Ok(None),
+        }
+    }
+    Ok(Some(made))
+}
+
+/// The row of a value that is three indexes.
+fn row_of(value: &ValueRef<'_>, numbers: Option<&[u32]>, count: usize) -> Option<Row> {
+    let found = value.items()?.three()?;
+    Some(Row {
+        a: place_named(&found.x, numbers, count)?,
+        b: place_named(&found.y, numbers, count)?,
+        c: place_named(&found.z, numbers, count)?,
+    })
+}
+
+/// The rows of values, in their order. None where one isn't three indexes of points.
+pub fn rows_of(
+    alloc: Global,
+    values: &Values<'_>,
+    numbers: Option<&[u32]>,
+    count: usize,
+) -> Result<Option<Vec<Row>>, AllocError> {
+    let mut made = Vec::new(alloc);
+    for value in values.iter() {
+        match row_of(&value, numbers, count) {
+            Some(row) => made.push(row)?,
+            None => return Ok(None),
+        }
+    }
+    Ok(Some(made))
+}

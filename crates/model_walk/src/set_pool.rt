@@ -1,0 +1,61 @@
+//! The rows of the face sets that are used, read once each.
+use crate::pool::Pool;
+use crate::set_rows::rows_of_set;
+use crate::triangle_rows::Row;
+use bim_model::{Items, MOST_TRIANGLES, Point};
+use p21_reader::{Exchange, InstanceRef};
+use std::alloc::{AllocError, Global};
+
+/// The rows of a set, and the place of the list of its points.
+#[derive(Drop)]
+pub struct SetRows {
+    pub list: u32,
+    pub rows: Items<Row>,
+}
+
+/// Where the list of the points of a set stands.
+fn list_of(exchange: &Exchange, set: &InstanceRef<'_>) -> Option<usize> {
+    let id = set.reference_at(0)?;
+    exchange.place_of(id)
+}
+
+/// What is kept of a set. None where it shows a fault.
+fn read_set(
+    alloc: Global,
+    exchange: &Exchange,
+    points: &Pool<Items<Point>>,
+    set: &InstanceRef<'_>,
+) -> Result<Option<SetRows>, AllocError> {
+    let Some(list) = list_of(exchange, set) else {
+        return Ok(None);
+    };
+    let Some(found) = points.get(list) else {
+        return Ok(None);
+    };
+    let Some(rows) = rows_of_set(alloc, exchange, set, found.as_slice())? else {
+        return Ok(None);
+    };
+    if rows.len() == 0 || rows.len() > MOST_TRIANGLES as usize {
+        return Ok(None);
+    }
+    Ok(Some(SetRows {
+        list: list as u32,
+        rows: Items::from_vec(rows),
+    }))
+}
+
+/// Keeps the rows of the set at a place. False where it shows a fault.
+pub fn keep_set(
+    alloc: Global,
+    exchange: &Exchange,
+    points: &Pool<Items<Point>>,
+    set: &InstanceRef<'_>,
+    at: usize,
+    pool: &mut Pool<SetRows>,
+) -> Result<bool, AllocError> {
+    let Some(made) = read_set(alloc, exchange, points, set)? else {
+        return Ok(false);
+    };
+    pool.put(at, made)?;
+    Ok(true)
+}

@@ -1,0 +1,84 @@
+//! What the instances that are used show, by their kinds: each is looked at once.
+use bim_model::{Mode, Point};
+use faceset::{MOST_CORNERS, is_set, outline, place_of};
+use ifc_elements::{is_mapped_item, spelled_items};
+use ifc_instances::Entity;
+use ifc_schema::is_body;
+use ifc_units::{Scale, fault_of_points};
+use p21_reader::{Exchange, InstanceRef, ValueRef, Values};
+use placement::{Axes, Axis, Frame, axes_of, axis_frame, operator_axes};
+
+/// Whether an item leads to a face set or, where that may be, to a mapped item.
+fn is_read(exchange: &Exchange, value: &ValueRef<'_>, mapped: bool) -> bool {
+    match exchange.target(value) {
+        Some(item) => is_set(&item) || (!mapped && is_mapped_item(&item)),
+        None => false,
+    }
+}
+
+/// Whether all items do.
+fn are_read(exchange: &Exchange, values: &Values<'_>, mapped: bool) -> bool {
+    for value in values.iter() {
+        if !is_read(exchange, &value, mapped) {
+            return false;
+        }
+    }
+    true
+}
+
+/// Whether the items of a representation are read, where they are looked at.
+fn has_read_items(exchange: &Exchange, representation: &InstanceRef<'_>, mapped: bool) -> bool {
+    (!mapped && !is_body(representation))
+        || are_read(exchange, &spelled_items(representation), mapped)
+}
+
+/// Whether the scale of an operator is 1 (IFC4 ADD2 TC1, IfcCartesianTransformationOperator3D, Scale), or it has none.
+fn has_plain_scale(operator: &InstanceRef<'_>) -> bool {
+    match operator.attribute(3) {
+        Some(scale) => scale.number().is_none() || place_of(&scale, 1).is_some(),
+        None => true,
+    }
+}
+
+/// Whether a mapped item is mapped by an operator.
+fn has_operator(exchange: &Exchange, item: &InstanceRef<'_>) -> bool {
+    match exchange.target_at(item, 1) {
+        Some(operator) => Entity::Operator.includes(&operator),
+        None => false,
+    }
+}
+
+/// Whether the mapping origin of a representation map is the identity.
+fn has_plain_origin(exchange: &Exchange, map: &InstanceRef<'_>, scale: Scale, mode: Mode) -> bool {
+    let Some(origin) = map.reference_at(0) else {
+        return false;
+    };
+    match axis_frame(exchange, origin, scale, mode) {
+        Some(frame) => frame == Frame::identity(),
+        None => false,
+    }
+}
+
+/// Whether an instance that is used, and has its form, shows no fault by itself. Whether it is mapped is given.
+pub fn shows_none(
+    exchange: &Exchange,
+    instance: &InstanceRef<'_>,
+    entity: Entity,
+    mapped: bool,
+    scale: Scale,
+    mode: Mode,
+) -> bool {
+    match entity {
+        Entity::Representation => has_read_items(exchange, instance, mapped),
+        Entity::AxisPlacement => axes_of(exchange, instance.id()).is_some(),
+        Entity::Operator => {
+            has_plain_scale(instance) && operator_axes(exchange, instance.id()).is_some()
+        }
+        Entity::MappedItem => has_operator(exchange, instance),
+        Entity::RepresentationMap => has_plain_origin(exchange, instance, scale, mode),
+        Entity::Point => fault_of_points(instance, scale, mode).is_none(),
+        Entity::Face => outline(instance).len() <= MOST_CORNERS,
+        Entity::FaceWithVoids => false,
+        _ => true,
+    }
+}
