@@ -3,26 +3,9 @@ use crate::pool::Pool;
 use bim_model::{Items, Mode, Point};
 use ifc_instances::Entity;
 use ifc_schema::Mark;
-use ifc_units::{Scale, point};
-use p21_reader::{Exchange, InstanceRef, Values};
+use ifc_units::{Scale, points};
+use p21_reader::{Exchange, InstanceRef};
 use std::alloc::{AllocError, Global};
-
-/// The points of values. None where one of them is none on the grid.
-fn points_read(
-    alloc: Global,
-    values: &Values<'_>,
-    scale: Scale,
-    mode: Mode,
-) -> Result<Option<Vec<Point>>, AllocError> {
-    let mut made = Vec::new(alloc);
-    for value in values.iter() {
-        match point(&value, scale, mode) {
-            Ok(point) => made.push(point)?,
-            Err(_error) => return Ok(None),
-        }
-    }
-    Ok(Some(made))
-}
 
 /// The points of a list of points (IFC4 ADD2 TC1, IfcCartesianPointList3D). None where it has none, or a number that isn't on the grid.
 fn points_of(
@@ -31,13 +14,15 @@ fn points_of(
     scale: Scale,
     mode: Mode,
 ) -> Result<Option<Vec<Point>>, AllocError> {
-    let Some(points) = points_read(alloc, &list.listed(0), scale, mode)? else {
-        return Ok(None);
-    };
-    if points.len() == 0 {
-        return Ok(None);
+    match points(alloc, &list.listed(0), scale, mode)? {
+        Ok(found) => {
+            if found.len() == 0 {
+                return Ok(None);
+            }
+            Ok(Some(found))
+        }
+        Err(_error) => Ok(None),
     }
-    Ok(Some(points))
 }
 
 /// Keeps the points of the instance at a place, where it is a list of points. False where they aren't on the grid.
@@ -52,10 +37,10 @@ fn keep_points(
     if !Entity::PointList.includes(list) {
         return Ok(true);
     }
-    let Some(points) = points_of(alloc, list, scale, mode)? else {
+    let Some(found) = points_of(alloc, list, scale, mode)? else {
         return Ok(false);
     };
-    pool.put(at, Items::from_vec(points))?;
+    pool.put(at, Items::from_vec(found))?;
     Ok(true)
 }
 

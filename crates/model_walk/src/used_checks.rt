@@ -40,10 +40,10 @@ fn has_plain_scale(operator: &InstanceRef<'_>) -> bool {
     }
 }
 
-/// Whether a mapped item is mapped by an operator.
+/// Whether a mapped item is mapped by an operator with no scale but 1.
 fn has_operator(exchange: &Exchange, item: &InstanceRef<'_>) -> bool {
     match exchange.target_at(item, 1) {
-        Some(operator) => Entity::Operator.includes(&operator),
+        Some(operator) => Entity::Operator.includes(&operator) && has_plain_scale(&operator),
         None => false,
     }
 }
@@ -71,9 +71,7 @@ pub fn shows_none(
     match entity {
         Entity::Representation => has_read_items(exchange, instance, mapped),
         Entity::AxisPlacement => axes_of(exchange, instance.id()).is_some(),
-        Entity::Operator => {
-            has_plain_scale(instance) && operator_axes(exchange, instance.id()).is_some()
-        }
+        Entity::Operator => operator_axes(exchange, instance.id()).is_some(),
         Entity::MappedItem => has_operator(exchange, instance),
         Entity::RepresentationMap => has_plain_origin(exchange, instance, scale, mode),
         Entity::Point => fault_of_points(instance, scale, mode).is_none(),

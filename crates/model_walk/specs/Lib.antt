@@ -1,0 +1,4 @@
+pub mod Pools
+pub mod Rows
+pub mod Clean
+pub mod Walked
