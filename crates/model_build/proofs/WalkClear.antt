@@ -2,7 +2,7 @@
 use Rattle.std.proofs.Common.{◌≡◌, ◌≢◌, ℕ, zero, suc, ◌<◌, ◌≤◌, ◌⊎◌, inl, inr, Bool, true, false, ◌||◌, ℤ, pos, List, [], ◌∷◌, length, filter_map, get_or, Option, Some, None, option_and_then, Contains, IsPermutation, refl, sym, ap, ◌∙◌, subst, arith, sum_by}
 use Rattle.std.specs.Bool.{IsTrue}
 use Rattle.std.specs.Prelude.{◌↔◌, drop}
-use Rattle.std.specs.List.{All, AllPairs, AllZip, Any, slice_get}
+use Rattle.std.specs.List.{All, AllPairs, AllZip, Any, slice_get, cons_option}
 use Rattle.std.specs.List.Sorted.{IsStrictlyIncreasing}
 use Rattle.std.proofs.lemmas.Bool.{cases_Bool}
 use Rattle.std.proofs.lemmas.Slice.Zip.{AllZip-long}
@@ -83,6 +83,11 @@ forms_clear world scale mode c fault f = used_apart world f.id f.flaw (formed_at
 
 -- Global identifiers.
 
+same_default : (xs : List ℕ) (k d e : ℕ) → k < length xs → get_or xs k d ≡ get_or xs k e
+same_default [] k d e lt = absurd (omega (arith, lt))
+same_default (x ∷ xs) zero d e lt = refl
+same_default (x ∷ xs) (suc k) d e lt = same_default xs k d e (omega (arith, lt))
+
 none_repeat : (world : List Instance) (scale : Scale) (mode : Mode) (ids : List ℕ) (elements : List Element) → IsStrictlyIncreasing ids → AllZip (IsNearElement world scale mode) ids elements → Differ elements → NoneRepeats world ids
 none_repeat world scale mode ids elements up z differ id c r =
     let k = c.0 in
@@ -114,11 +119,6 @@ none_repeat world scale mode ids elements up z differ id c r =
         any_default : (k : ℕ) → k < length ids → get_or ids k id ≡ get_or ids k r.lower
         any_default k lt = same_default ids k id r.lower lt
 
-    same_default : (xs : List ℕ) (k d e : ℕ) → k < length xs → get_or xs k d ≡ get_or xs k e
-    same_default [] k d e lt = absurd (omega (arith, lt))
-    same_default (x ∷ xs) zero d e lt = refl
-    same_default (x ∷ xs) (suc k) d e lt = same_default xs k d e (omega (arith, lt))
-
     guid_is : (n : ℕ) (guid : List ℕ) (o : Element) → IsNearElement world scale mode n o → Finds world n (λ i. guid_of i ≡ Some guid) → o.guid.chars ≡ guid
     guid_is n guid o near f =
         let same = same_instance world n near.is_element.instance f.instance near.is_element.found f.found in
@@ -129,8 +129,8 @@ none_repeat world scale mode ids elements up z differ id c r =
 -- Chains of placements.
 
 frame_ends : (world : List Instance) (scale : Scale) (mode : Mode) (id : ℕ) (f : Frame) → FrameOf world scale mode id f → Ends world id
-frame_ends world scale mode id f (outermost id f p own) = here id p
-frame_ends world scale mode id f (within id parent own outer f p o frame c) = above id parent p (frame_ends world scale mode parent outer frame)
+frame_ends world scale mode _ _ (outermost id f p own) = here id p
+frame_ends world scale mode _ _ (within id parent own outer f p o frame c) = above id parent p (frame_ends world scale mode parent outer frame)
 
 no_reference : {A : Type 0} (o : Option Value21) (to : ℕ) → some_passes is_absent o ≡ true → option_and_then reference_of o ≡ Some to → A
 no_reference None to a e = absurd (cc)
@@ -204,10 +204,11 @@ named_item : (world : List Instance) (m : Bool) (vs : List Value21) (id : ℕ) (
 named_item world m [] id target all c found = absurd (let l = c.1 in omega (arith, l))
 named_item world m (v ∷ vs) id target all c found =
     let h = all 0 v (omega arith) in
-    elim (first_or (filter_map reference_of vs) h.to id (subst (λ (ids : List ℕ). Contains ids id) (rw h.refers refl) c)) [
+    let e : filter_map reference_of (v ∷ vs) ≡ h.to ∷ filter_map reference_of vs = ap (λ o. cons_option o (filter_map reference_of vs)) h.refers in
+    elim (first_or (filter_map reference_of vs) h.to id (subst (λ (ids : List ℕ). Contains ids id) e c)) [
       | inl same ↦ (
-          let e : h.item ≡ target = one (look world id) h.item target (subst (λ (n : ℕ). look world n ≡ Some h.item) same h.found) found in
-          (subst (λ (i : Instance). is_item i ≡ true) e h.read, λ t. subst (λ (i : Instance). is_mapped_item i ≡ false) e (h.plain t)))
+          let there : h.item ≡ target = one (look world id) h.item target (subst (λ (n : ℕ). look world n ≡ Some h.item) same h.found) found in
+          (subst (λ (i : Instance). is_item i ≡ true) there h.read, λ t. subst (λ (i : Instance). is_mapped_item i ≡ false) there (h.plain t)))
       | inr later ↦ named_item world m vs id target (λ k d lt. all (suc k) d (omega (arith, lt))) later found
     ]
   where
@@ -264,7 +265,7 @@ has_target world scale mode from id c h =
     let there = one (look world id) o.2.instance t.instance (subst (λ (n : ℕ). look world n ≡ Some o.2.instance) same o.2.found) t.found in
     let plain = subst (λ (i : Instance). (is_a entity.Operator i ≡ true) × HasPlainScale i) there o.2.holds in
     elim t.holds [
-      | inl no ↦ (let yes = plain.0 in cc)
+      | inl other ↦ (let yes = plain.0 in cc)
       | inr s ↦ s.2.other (plain.1 s.0 s.2.bytes s.1 s.2.number)
     ]
 

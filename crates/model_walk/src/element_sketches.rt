@@ -30,6 +30,7 @@ pub struct Stock {
 }
 
 /// What is read of a file once, for all elements.
+#[derive(Drop)]
 pub struct Told<'a> {
     pub exchange: &'a Exchange,
     pub tree: &'a Tree,
@@ -40,6 +41,7 @@ pub struct Told<'a> {
 }
 
 /// How an element is placed: by a frame or not at all.
+#[derive(Clone, Copy)]
 enum Placing {
     Free,
     By(Frame),

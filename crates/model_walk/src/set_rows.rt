@@ -8,6 +8,7 @@ use p21_reader::{Exchange, InstanceRef, Values};
 use std::alloc::{AllocError, Global};
 
 /// The attribute with the numbers of the points (PnIndex): a list, or nothing.
+#[derive(Drop)]
 enum Numbering<'a> {
     Absent,
     Listed(Values<'a>),
