@@ -1,1 +1,3 @@
+mod EarRows
 mod Pooled
+pub mod RowsNamed

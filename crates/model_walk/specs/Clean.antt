@@ -9,7 +9,9 @@ use Rattle.p21_reader.specs.declared.value.Instance.{Instance}
 use Rattle.p21_reader.specs.Values.{number_of, reference_of}
 use Rattle.p21_reader.specs.Looking.{look}
 use Rattle.p21_reader.specs.Attributes.{reference_at}
-use Rattle.ifc_instances.specs.declared.entity.Entity.TheVariants.{Representation, AxisPlacement, Operator, RepresentationMap, Face, FaceWithVoids}
+use Rattle.ifc_instances.specs.declared.entity.Entity.{Entity}
+use Rattle.ifc_instances.specs.declared.entity.Entity.TheVariants.{Representation, AxisPlacement, Operator, MappedItem, RepresentationMap, Point, Face, FaceWithVoids}
+use Rattle.std.specs.Bool.{⊤}
 use Rattle.ifc_instances.specs.Looking.{is_a}
 use Rattle.ifc_schema.specs.Bodies.{is_body}
 use Rattle.ifc_schema.specs.Flaws.{InstanceFlaw}
@@ -70,6 +72,18 @@ HasPlainOrigin world scale mode map = (origin : ℕ) × (reference_at map 0 ≡ 
     × AxisFrame world scale mode origin identity
 
 -- Of any instance.
+
+-- what an instance of that entity shows beside its form
+abbrev pub Shows : List Instance → Scale → Mode → Bool → Entity → Instance → Type 0
+Shows world scale mode mapped Representation i = HasReadItems world mapped i
+Shows world scale mode mapped AxisPlacement i = (axes : Axes) × HasAxes world i.id axes
+Shows world scale mode mapped Operator i = (axes : Axes) × HasOperatorAxes world i.id axes
+Shows world scale mode mapped MappedItem i = HasOperator world i
+Shows world scale mode mapped RepresentationMap i = HasPlainOrigin world scale mode i
+Shows world scale mode mapped Point i = (fault : GridFault) → InstanceRefused scale mode i fault → ⊥
+Shows world scale mode mapped Face i = length (outline i) ≤ most_corners
+Shows world scale mode mapped FaceWithVoids i = ⊥
+Shows world scale mode mapped _ i = ⊤
 
 -- The instance of that number has the form of its row, and by its kind nothing of it is a fault. Whether it is mapped is given.
 pub record IsClean (world : List Instance) (scale : Scale) (mode : Mode) (mapped : Bool) (id : ℕ)

@@ -1,4 +1,8 @@
 //! Triangles by the places of their corners in a list of points.
+ghost use Rattle.std.specs.Prelude.{◌≡◌};
+ghost use Rattle.ear_cut.specs.Areas.{point_at};
+ghost use Rattle.model_walk.specs.Rows.{triangle_at};
+
 use bim_model::{Point, Triangle};
 
 /// A triangle by the places of its corners in a list of points, from 0.
@@ -10,7 +14,9 @@ pub struct Row {
 }
 
 /// The point at a place.
-pub fn point_at(points: &[Point], place: u32) -> Point {
+pub fn point_at(points: &[Point], place: u32) -> Point
+    ensures { result ≡ point_at points.now place }
+{
     match points.get(place as usize) {
         Some(point) => *point,
         None => Point { x: 0, y: 0, z: 0 },
@@ -18,7 +24,9 @@ pub fn point_at(points: &[Point], place: u32) -> Point {
 }
 
 /// The triangle whose corners stand there.
-pub fn triangle_at(points: &[Point], row: Row) -> Triangle {
+pub fn triangle_at(points: &[Point], row: Row) -> Triangle
+    ensures { result ≡ triangle_at points.now row }
+{
     Triangle {
         a: point_at(points, row.a),
         b: point_at(points, row.b),
