@@ -4,8 +4,7 @@ ghost use Rattle.std.specs.Prelude.{◌≡◌, ◌<◌};
 use bim_model::{
     Author, Bytes, ClassTest, Duplicate, Element, ElementKey, Extent, FARTHEST, Found, Guid, Items,
     Model, ModelTest, Moment, NamedModel, Pair, Point, Rule, RuleKind, Rules, Shared, Snapshot,
-    Steps, StoreyTest, Text, Triangle, extent_of, greatest_distance, id_of, keys_rise,
-    names_tell_models, rule_of, serial_of, smallest_boxes_are_unique,
+    Steps, StoreyTest, Text, Triangle, extent_of, greatest_distance, id_of, rule_of, serial_of,
 };
 use std::alloc::{AllocError, Global};
 use std::marker::Brand;
@@ -195,13 +194,6 @@ fn rules_are_changed(rt: HostRuntime) -> Result<(), Fail> {
     let ruled = empty.with_rules(alloc, Shared::new(alloc, one_rule(alloc)?)?)?;
     assert_eq!(rt; ruled.rules().list().len(), 1);
     Ok(())
-}
-
-#[test]
-fn laws_are_called() {
-    keys_rise();
-    names_tell_models();
-    smallest_boxes_are_unique();
 }
 
 fn one_rule(alloc: Global) -> Result<Rules, AllocError> {

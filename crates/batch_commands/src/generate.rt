@@ -20,7 +20,7 @@ use model_build::build_owned;
 use model_generator::Pieces;
 use std::alloc::{AllocError, Global};
 
-// Puts all pieces, one after the other. They come to an end.
+// Puts all pieces, one after the other.
 fn put_pieces<K: Sink>(
     alloc: Global,
     sink: &mut K,
@@ -29,13 +29,10 @@ fn put_pieces<K: Sink>(
 ) -> Result<(), Stop>
     ensures { Puts (K.seen sink.old) (K.seen sink.new) block.old.items block.new.items pieces result }
 {
-    'asks: for _ in 0..u64::MAX {
-        match pieces.next(alloc)? {
-            Some(piece) => put(sink, block, piece.as_str())?,
-            None => return Ok(()),
-        }
+    'asks: while let Some(piece) = pieces.next(alloc)? {
+        put(sink, block, piece.as_str())?;
     }
-    Err(Stop::Memory)
+    Ok(())
 }
 
 // Prints the file, piece by piece.
@@ -53,13 +50,10 @@ fn all_bytes(alloc: Global, mut pieces: Pieces) -> Result<Vec<u8>, AllocError>
     ensures { IfOk result (λ bytes. bytes.items ≡ pieces) }
 {
     let mut bytes = Vec::new(alloc);
-    'asks: for _ in 0..u64::MAX {
-        match pieces.next(alloc)? {
-            Some(piece) => bytes.extend_from_slice(piece.as_bytes())?,
-            None => return Ok(bytes),
-        }
+    'asks: while let Some(piece) = pieces.next(alloc)? {
+        bytes.extend_from_slice(piece.as_bytes())?;
     }
-    Err(AllocError)
+    Ok(bytes)
 }
 
 // The bytes of the file.

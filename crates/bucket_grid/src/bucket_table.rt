@@ -113,13 +113,15 @@ fn add_slab(
     Ok(())
 }
 
-/// The buckets of all boxes with these spans. The numbers of cells are counted from `low`.
+/// The buckets of all boxes with these spans. The numbers of cells are counted from `low`. Room is taken at once for
+/// so many members of all.
 pub fn table_of(
     alloc: Global,
     low: Cell,
     numbers: &[u32],
     axes: &Axes,
     counts: (usize, usize, usize),
+    memberships: usize,
 ) -> Result<Vec<Bucket>, AllocError>
     requires among_x { IsAmong axes.now.x numbers.now counts.0 }
     requires among_y { IsAmong axes.now.y numbers.now counts.1 }
@@ -136,7 +138,7 @@ pub fn table_of(
     let mut xs = Lists::of(alloc, counts.0)?;
     let mut ys = Lists::of(alloc, counts.1)?;
     let mut zs = Lists::of(alloc, counts.2)?;
-    let mut buckets = Buckets::new(alloc);
+    let mut buckets = Buckets::with_room(alloc, memberships)?;
     deal(&mut xs, numbers, axes.x.as_slice())?;
     for place in 0..xs.count() {
         let slab = with_x(low, place);

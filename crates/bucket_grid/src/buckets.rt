@@ -38,14 +38,14 @@ impl Model for Buckets {
 }
 
 impl Buckets {
-    /// No bucket.
-    pub fn new(alloc: Global) -> Buckets
-        ensures { result ≡ [] }
+    /// No bucket, with room for so many members of all.
+    pub fn with_room(alloc: Global, count: usize) -> Result<Buckets, AllocError>
+        ensures { IfOk result (λ made. made ≡ []) }
     {
-        Buckets {
+        Ok(Buckets {
             slots: Vec::new(alloc),
-            members: Vec::new(alloc),
-        }
+            members: Vec::with_capacity(alloc, count)?,
+        })
     }
 
     /// Adds the cell, where it has two members or more.

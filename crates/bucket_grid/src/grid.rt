@@ -128,8 +128,12 @@ fn corner(x: Range, y: Range, z: Range) -> Cell
     }
 }
 
-// The buckets of the boxes.
-fn buckets_of(alloc: Global, boxes: &[Extent]) -> Result<Vec<Bucket>, AllocError>
+// The buckets of the boxes, with room taken for so many members of all.
+fn buckets_of(
+    alloc: Global,
+    boxes: &[Extent],
+    memberships: usize,
+) -> Result<Vec<Bucket>, AllocError>
     requires near { All IsGridBox boxes.now }
     requires few { length boxes.now ≤ MOST_ELEMENTS }
     ensures { IfOk result (λ made. IsTable boxes.now made.items) }
@@ -144,7 +148,14 @@ fn buckets_of(alloc: Global, boxes: &[Extent]) -> Result<Vec<Bucket>, AllocError
     };
     let low = corner(x, y, z);
     let numbers = numbers_upto(alloc, boxes.len())?;
-    let buckets = table_of(alloc, low, &numbers, &axes, (x.count, y.count, z.count))?;
+    let buckets = table_of(
+        alloc,
+        low,
+        &numbers,
+        &axes,
+        (x.count, y.count, z.count),
+        memberships,
+    )?;
     Ok(buckets)
 }
 
@@ -164,7 +175,7 @@ impl Grid {
         if count > MOST_MEMBERSHIPS {
             return Err(GridError::TooSpread { count });
         }
-        let buckets = buckets_of(alloc, &boxes)?;
+        let buckets = buckets_of(alloc, &boxes, count as usize)?;
         Ok(Grid {
             snapshot,
             places,

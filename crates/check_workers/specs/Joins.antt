@@ -1,5 +1,8 @@
 -- What a pass knows when others were joined into it, or when it has worked; and what workers are before and after.
-use Rattle.std.specs.Prelude.{◌≡◌, ◌≢◌, ◌≤◌, ◌<◌, ◌⊎◌, ℕ, ◌+◌, List, [], ◌∷◌, true, false, None, All}
+use Rattle.std.specs.Prelude.{◌≡◌, ◌≢◌, ◌≤◌, ◌<◌, ◌⊎◌, ℕ, ◌+◌, List, [], ◌∷◌, true, false, Option, None, Some, All}
+use Rattle.std.specs.Option.{option_or}
+use Rattle.book_turn.specs.declared.call_fault.CallFault.{CallFault}
+use Rattle.book_turn.specs.declared.call_fault.CallFault.TheVariants.{Memory, PassSpent}
 use Rattle.book_turn.specs.Numbers.{has}
 use Rattle.book_turn.specs.Entries.{AllBefore, calls_by, up_to}
 use Rattle.book_turn.specs.Passes.{TurnState, IsSingle}
@@ -12,6 +15,16 @@ use Rattle.check_workers.specs.declared.workers.Lack.{Lack}
 -- nothing was lacked yet
 abbrev pub nothing_lacked : Lack
 nothing_lacked = record { memory = false; spent = None }
+
+-- what the fault of a call is noted as
+abbrev pub lacked_by : CallFault → Lack
+lacked_by Memory = record { memory = true; spent = None }
+lacked_by (PassSpent pass) = record { memory = false; spent = Some pass }
+
+-- the first pass of these that had made all its turns
+abbrev pub first_spent : List Lack → Option ℕ
+first_spent [] = None
+first_spent (l ∷ ls) = option_or l.spent (first_spent ls)
 
 -- ---- entries
 

@@ -1,12 +1,13 @@
 //! Workers in threads of their own, over one book.
 ghost use Rattle.std.specs.Prelude.{◌≡◌, ◌⊎◌, ◌+◌, ◌||◌, ◌++◌, All, IfOk, OnOk, true, IsSome, vec_len, map};
 ghost use Rattle.std.specs.List.{list_any};
+ghost use Rattle.std.specs.Option.{option_or};
 ghost use Rattle.book_turn.specs.Entries.{AllBefore};
 ghost use Rattle.book_turn.specs.Passes.{BelongsTo, new_passes};
 ghost use Rattle.book_history.specs.History.{left_all};
 ghost use Rattle.book_passes.specs.Lessons.{caller_of, turn_of};
 ghost use Rattle.check_workers.specs.Working.{Teaches};
-ghost use Rattle.check_workers.specs.Joins.{IsNewWorker, WorkerOver, HasEach, ExtendsByWork, nothing_lacked};
+ghost use Rattle.check_workers.specs.Joins.{IsNewWorker, WorkerOver, HasEach, ExtendsByWork, nothing_lacked, lacked_by, first_spent};
 
 use crate::work::work_loop;
 use bim_net::Gate;
@@ -42,7 +43,8 @@ impl Lack {
 
     /// A call got no reply.
     pub fn of(fault: CallFault) -> Lack
-        ensures { (result.memory ≡ true) ⊎ IsSome result.spent }
+        ensures is { result ≡ lacked_by fault }
+        ensures some { (result.memory ≡ true) ⊎ IsSome result.spent }
     {
         match fault {
             CallFault::Memory => Lack {
@@ -59,6 +61,7 @@ impl Lack {
     /// What kept something else from being done is noted too.
     pub fn add(&mut self, other: Lack)
         ensures memory { self.new.memory ≡ (self.old.memory || other.memory) }
+        ensures spent { self.new.spent ≡ option_or self.old.spent other.spent }
         ensures kept { IsSome self.old.spent → IsSome self.new.spent }
         ensures added { IsSome other.spent → IsSome self.new.spent }
     {
@@ -193,6 +196,7 @@ pub fn join_workers(turn: &Turn<Book>, into: &mut Pass<Book>, workers: Vec<Worke
     ensures extends { ExtendsByWork into.old into.new }
     ensures numbers { into.new.numbers ≡ into.old.numbers ++ map (λ w. w.pass.number) workers.items }
     ensures memory { result.memory ≡ list_any (λ w. w.lack.memory) workers.items }
+    ensures spent { result.spent ≡ first_spent (map (λ w. w.lack) workers.items) }
 {
     let mut lack = Lack::none();
     let mut workers = VecDeque::from_vec(workers);

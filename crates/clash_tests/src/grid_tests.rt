@@ -1,10 +1,7 @@
 //! Versions of few boxes, worked out by another program.
 use crate::sample_pipes::{corner, named};
 use bim_model::{Element, Guid, Items, NamedModel, Rules, Shared, Snapshot, Text, Triangle};
-use bucket_grid::{
-    Cell, Grid, GridError, Member, cells_are_counted, cells_hold_points, close_boxes_have_an_owner,
-    has_few_elements, memberships_are_one, near_elements_have_an_owner, owners_are_one,
-};
+use bucket_grid::{Cell, Grid, GridError, Member, has_few_elements};
 use std::alloc::Global;
 use std::process::Abort;
 use std::test::Fail;
@@ -137,14 +134,4 @@ fn buckets_are_found_for_elements(rt: HostRuntime) -> Result<(), Fail> {
     assert_eq!(rt; grid.rules().list().len(), 0);
     assert_eq!(rt; grid.snapshot().models().len(), 2);
     Ok(())
-}
-
-#[test]
-fn laws_are_called() {
-    memberships_are_one();
-    owners_are_one();
-    cells_hold_points();
-    cells_are_counted();
-    close_boxes_have_an_owner();
-    near_elements_have_an_owner();
 }

@@ -2,8 +2,8 @@
 use Rattle.std.proofs.Common.{◌≡◌, ℕ, inl, inr, Bool, true, false, List, Option, Some, None, Result, Ok, Err, IfOk, length, Any, sym, subst}
 use Rattle.std.specs.Bool.{MatchBool}
 use Rattle.std.specs.Option.{IfSome, IfNone, MatchOption}
-use Rattle.p21_reader.specs.declared.value.Value21.{Value21}
-use Rattle.p21_reader.specs.declared.value.Instance.{Instance}
+use Rattle.p21_values.specs.declared.value.Value21.{Value21}
+use Rattle.p21_values.specs.declared.value.Instance.{Instance}
 use Rattle.faceset.specs.Indexes.{PointsAt, PointsNowhere}
 use Rattle.faceset.specs.Sets.{numbering, spelled_points, counted_by, rows_of, HasBadNumber, HasBadIndex, IsMisnamed, NamesPoint}
 

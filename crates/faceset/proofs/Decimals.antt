@@ -7,8 +7,8 @@ use Rattle.std.specs.Option.{IfSome, IfNone, unwrap_or}
 use Rattle.bim_text.specs.Numbers.{written}
 use Rattle.bim_text.specs.Decimals.{value_of, Reads, WritesWhole}
 use Rattle.bim_text.proofs.Parts.{parts_only}
-use Rattle.p21_reader.specs.declared.value.Value21.{Value21}
-use Rattle.p21_reader.specs.Values.{number_of}
+use Rattle.p21_values.specs.declared.value.Value21.{Value21}
+use Rattle.p21_values.specs.Values.{number_of}
 use Rattle.faceset.specs.Indexes.{PointsNowhere}
 use Rattle.faceset.proofs.Values.{none_negative, none_fraction, many_digits, high_power, whole_product, same_trans}
 

@@ -1,10 +1,10 @@
 -- The triangles of the faces that references lead to, value by value.
 use Rattle.std.proofs.Common.{◌≡◌, ℕ, ◌+◌, ◌<◌, List, [], ◌∷◌, ◌++◌, length, take, drop, get_or, sum_by, Any, ◌∙◌, ap, arith}
 use Rattle.std.proofs.lemmas.List.{length-append}
-use Rattle.p21_reader.specs.declared.value.Value21.{Value21}
-use Rattle.p21_reader.specs.declared.value.Instance.{Instance}
+use Rattle.p21_values.specs.declared.value.Value21.{Value21}
+use Rattle.p21_values.specs.declared.value.Instance.{Instance}
 use Rattle.bim_model.specs.declared.geometry.Triangle.{Triangle}
-use Rattle.p21_reader.specs.Attributes.{led_to}
+use Rattle.p21_values.specs.Attributes.{led_to}
 use Rattle.faceset.specs.Sets.{face_count, Joined}
 use Rattle.faceset.proofs.Anys.{any_left, any_right}
 use Rattle.ifc_instances.proofs.LedTo.{led_append, led_more, led_parts}

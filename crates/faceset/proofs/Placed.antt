@@ -2,7 +2,7 @@
 use Rattle.std.proofs.Common.{◌≡◌, List, length, Option, Some, None, MatchOption, option_map, option_copied, Vec, Global, Bor, ◌∙◌, ap}
 use Rattle.std.specs.Option.{IsSomeAnd}
 use Rattle.std.specs.Vec.{vec_len}
-use Rattle.p21_reader.specs.declared.value.Value21.{Value21}
+use Rattle.p21_values.specs.declared.value.Value21.{Value21}
 
 shown_items : (found : Option (Vec Value21 Global)) (shown : Option (Bor (List Value21)))
     → MatchOption found (shown ≡ None) (λ x. IsSomeAnd shown (λ y. (y.now ≡ x.items) × (length y.now ≡ vec_len x))) → option_copied shown ≡ option_map (λ x. x.items) found

@@ -5,13 +5,13 @@ use Rattle.std.specs.List.Sorted.{IsStrictlyIncreasing}
 use Rattle.std.proofs.lemmas.List.{get_or-take, length-take}
 use Rattle.std.proofs.lemmas.List.Elements.{All-contains, Contains-get_or}
 use Rattle.std.proofs.lemmas.Option.{same_Some}
-use Rattle.p21_reader.specs.declared.value.Value21.{Value21}
-use Rattle.p21_reader.specs.declared.value.Instance.{Instance}
+use Rattle.p21_values.specs.declared.value.Value21.{Value21}
+use Rattle.p21_values.specs.declared.value.Instance.{Instance}
 use Rattle.bim_model.specs.declared.geometry.Point.{Point}
-use Rattle.p21_reader.specs.Looking.{look}
-use Rattle.p21_reader.specs.Values.{reference_of}
+use Rattle.p21_values.specs.Looking.{look}
+use Rattle.p21_values.specs.Values.{reference_of}
 use Rattle.faceset.specs.Sets.{IsStuck, IsOutlined, IsCorner, outline, face_ids, is_polygonal, numbering, HasStuck}
-use Rattle.p21_reader.specs.Attributes.{listed}
+use Rattle.p21_values.specs.Attributes.{listed}
 use Rattle.ifc_instances.specs.Least.{IsLeast, LeastOf}
 use Rattle.ifc_instances.proofs.Rising.{before}
 use Rattle.faceset.specs.Cuts.{HasMisnamed}

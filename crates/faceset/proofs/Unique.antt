@@ -4,11 +4,11 @@ use Rattle.std.specs.Bool.{MatchBool}
 use Rattle.std.specs.List.{slice_get}
 use Rattle.std.proofs.lemmas.Bool.{MatchBool-at_true}
 use Rattle.std.proofs.lemmas.Option.{same_Some, none-some}
-use Rattle.p21_reader.specs.declared.value.Value21.{Value21}
-use Rattle.p21_reader.specs.declared.value.Instance.{Instance}
+use Rattle.p21_values.specs.declared.value.Value21.{Value21}
+use Rattle.p21_values.specs.declared.value.Instance.{Instance}
 use Rattle.bim_model.specs.declared.geometry.Point.{Point}
 use Rattle.bim_model.specs.declared.geometry.Triangle.{Triangle}
-use Rattle.p21_reader.specs.Looking.{look}
+use Rattle.p21_values.specs.Looking.{look}
 use Rattle.ear_cut.specs.Removal.{cut_of}
 use Rattle.bim_text.specs.Decimals.{WritesWhole}
 use Rattle.faceset.specs.Indexes.{PointsAt}

@@ -1,8 +1,8 @@
 -- What the cutting of faces answers. No public contract cites it.
 use Rattle.std.specs.Prelude.{◌≡◌, ◌⊎◌, List, length, map, Option, Some, Any}
 use Rattle.std.specs.Bool.{⊤}
-use Rattle.p21_reader.specs.declared.value.Value21.{Value21}
-use Rattle.p21_reader.specs.declared.value.Instance.{Instance}
+use Rattle.p21_values.specs.declared.value.Value21.{Value21}
+use Rattle.p21_values.specs.declared.value.Instance.{Instance}
 use Rattle.bim_model.specs.declared.geometry.Point.{Point}
 use Rattle.bim_model.specs.declared.geometry.Triangle.{Triangle}
 use Rattle.ear_cut.specs.declared.ears.Ear.{Ear}

@@ -1,8 +1,8 @@
 -- The indexes of face sets (IFC4 ADD2 TC1, IfcTriangulatedFaceSet): they count the points of a list from 1.
 use Rattle.std.specs.Prelude.{◌≡◌, ℕ, suc, ◌<◌, pos, List, Some}
-use Rattle.p21_reader.specs.declared.value.Value21.{Value21}
+use Rattle.p21_values.specs.declared.value.Value21.{Value21}
 use Rattle.bim_text.specs.Decimals.{WritesWhole}
-use Rattle.p21_reader.specs.Values.{number_of}
+use Rattle.p21_values.specs.Values.{number_of}
 
 -- a value is the index of the k-th of so many points, counted from 0
 pub record PointsAt (count : ℕ) (v : Value21) (k : ℕ) : Type 0 where

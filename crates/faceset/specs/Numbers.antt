@@ -1,9 +1,9 @@
 -- Faces by their numbers, each looked at once. No public contract cites it.
 use Rattle.std.specs.Prelude.{◌≡◌, ℕ, List, Option, Some, Contains}
-use Rattle.p21_reader.specs.declared.value.Value21.{Value21}
-use Rattle.p21_reader.specs.declared.value.Instance.{Instance}
+use Rattle.p21_values.specs.declared.value.Value21.{Value21}
+use Rattle.p21_values.specs.declared.value.Instance.{Instance}
 use Rattle.bim_model.specs.declared.geometry.Point.{Point}
-use Rattle.p21_reader.specs.Looking.{look}
+use Rattle.p21_values.specs.Looking.{look}
 use Rattle.faceset.specs.Sets.{IsStuck}
 
 -- the same numbers stand in both lists, each as often as it may

@@ -2,15 +2,15 @@
 use Rattle.std.specs.Prelude.{◌≡◌, ℕ, ◌<◌, ◌≤◌, ◌-◌, ◌⊎◌, Bool, true, ◌||◌, if◌then◌else◌, List, [], ◌∷◌, ◌++◌, length, map, filter_map, sum_by, Option, Some, None, Any, All, Contains, option_and_then, MatchOption}
 use Rattle.std.specs.Bool.{MatchBool}
 use Rattle.std.specs.List.{slice_get, AllZip}
-use Rattle.p21_reader.specs.declared.value.Value21.{Value21}
-use Rattle.p21_reader.specs.declared.value.Instance.{Instance}
+use Rattle.p21_values.specs.declared.value.Value21.{Value21}
+use Rattle.p21_values.specs.declared.value.Instance.{Instance}
 use Rattle.bim_model.specs.declared.geometry.Point.{Point}
 use Rattle.bim_model.specs.declared.geometry.Triangle.{Triangle}
 use Rattle.ifc_instances.specs.declared.entity.Entity.TheVariants.{TriangulatedFaceSet, PolygonalFaceSet}
-use Rattle.p21_reader.specs.Looking.{look}
+use Rattle.p21_values.specs.Looking.{look}
 use Rattle.ifc_instances.specs.Looking.{is_a}
-use Rattle.p21_reader.specs.Values.{reference_of, items_of}
-use Rattle.p21_reader.specs.Attributes.{items_in, listed, target_at, led_to}
+use Rattle.p21_values.specs.Values.{reference_of, items_of}
+use Rattle.p21_values.specs.Attributes.{items_in, listed, target_at, led_to}
 use Rattle.ear_cut.specs.declared.ears.Ear.{Ear}
 use Rattle.ear_cut.specs.Areas.{point_at}
 use Rattle.ear_cut.specs.Removal.{cut_of}

@@ -2,14 +2,14 @@
 ghost use Rattle.std.specs.Prelude.{◌≡◌, ◌<◌, ◌^◌, ◌∷◌, [], map, Any, IfOk, OnOk};
 ghost use Rattle.std.specs.Bool.{MatchBool};
 ghost use Rattle.faceset.specs.Indexes.{PointsNowhere};
-ghost use Rattle.p21_reader.specs.Attributes.{items_in, led_to};
+ghost use Rattle.p21_values.specs.Attributes.{items_in, led_to};
 ghost use Rattle.faceset.specs.Sets.{outline, rows_of, HasBadNumber, HasBadIndex, counted_by};
 ghost use Rattle.faceset.specs.Reaches.{AreReaches};
 
 use crate::indexes::place_of;
 use crate::reaches::{FaceReaches, reach_of};
 use crate::sets::{is_polygonal, numbering, outline, spelled_points};
-use p21_reader::{Exchange, InstanceRef, ValueRef, Values};
+use p21_table::{Exchange, InstanceRef, ValueRef, Values};
 use std::alloc::AllocError;
 
 /// Whether one of the values counts none of so many things.

@@ -1,10 +1,10 @@
 //! How many triangles sets have.
 ghost use Rattle.std.specs.Prelude.{◌≡◌, ◌<◌, ◌≤◌, ◌+◌, ◌∷◌, [], sum_by, IfSome, IfNone};
-ghost use Rattle.p21_reader.specs.Attributes.{led_to};
+ghost use Rattle.p21_values.specs.Attributes.{led_to};
 ghost use Rattle.faceset.specs.Sets.{face_count, triangle_count};
 
 use crate::sets::{is_polygonal, outline};
-use p21_reader::{Exchange, InstanceRef, ValueRef, Values};
+use p21_table::{Exchange, InstanceRef, ValueRef, Values};
 
 /// How many triangles the face has that a value refers to.
 #[tactic(auto, using(ifc_instances::proofs::LedTo::led_none, ifc_instances::proofs::LedTo::led_nowhere, ifc_instances::proofs::LedTo::led_one))]

@@ -10,7 +10,7 @@ use crate::naming::corner;
 use crate::sets::outline;
 use bim_model::{Point, Triangle};
 use ear_cut::{CutFault, Ear, cut};
-use p21_reader::{InstanceRef, ValueRef, Values};
+use p21_table::{InstanceRef, ValueRef, Values};
 use std::alloc::{AllocError, Global};
 
 /// The most corners that a face may have.

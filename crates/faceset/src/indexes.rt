@@ -5,7 +5,7 @@ ghost use Rattle.bim_text.specs.Decimals.{value_of, WritesWhole};
 ghost use Rattle.faceset.specs.Indexes.{PointsAt, PointsNowhere};
 
 use bim_text::{Decimal, small_whole};
-use p21_reader::ValueRef;
+use p21_table::ValueRef;
 
 const LIMIT: u128 = 10_000_000_000_000_000_000;
 

@@ -5,7 +5,7 @@ ghost use Rattle.faceset.specs.Sets.{NamesPoint, IsCorner, IsMisnamed};
 
 use crate::indexes::place_of;
 use bim_model::Point;
-use p21_reader::ValueRef;
+use p21_table::ValueRef;
 
 /// Which of so many points, counted from 0, an index names by the numbers of the points.
 fn place_numbered(value: &ValueRef<'_>, numbers: &[ValueRef<'_>], count: usize) -> Option<usize>

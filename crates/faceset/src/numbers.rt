@@ -1,10 +1,10 @@
 //! The numbers that values refer to.
 ghost use Rattle.std.specs.Prelude.{◌≡◌, ◌++◌, ◌∷◌, [], filter_map, IfOk, OnOk};
 ghost use Rattle.std.specs.List.Sorted.{IsStrictlyIncreasing};
-ghost use Rattle.p21_reader.specs.Values.{reference_of};
+ghost use Rattle.p21_values.specs.Values.{reference_of};
 ghost use Rattle.faceset.specs.Numbers.{HaveSame};
 
-use p21_reader::{ValueRef, Values};
+use p21_table::{ValueRef, Values};
 use std::alloc::{AllocError, Global};
 
 /// Adds the number that a value refers to.

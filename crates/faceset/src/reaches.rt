@@ -5,7 +5,7 @@ ghost use Rattle.faceset.specs.Indexes.{PointsNowhere};
 ghost use Rattle.faceset.specs.Reaches.{CountsFrom, PutsReach, IsWithin, reach_in};
 
 use crate::indexes::place_of;
-use p21_reader::Values;
+use p21_table::Values;
 use std::alloc::{AllocError, Global};
 use std::collections::BTreeMap;
 use std::marker::Model;

@@ -2,7 +2,7 @@
 ghost use Rattle.std.specs.Prelude.{◌≡◌, ℕ, List, ◌∷◌, [], length, sum_by, All, Any, IfOk, IfSome, IfNone, MatchOption, option_copied};
 ghost use Rattle.bim_model.specs.declared.geometry.Triangle.{Triangle};
 ghost use Rattle.bim_model.specs.Points.{IsGridPoint};
-ghost use Rattle.p21_reader.specs.Attributes.{led_to};
+ghost use Rattle.p21_values.specs.Attributes.{led_to};
 ghost use Rattle.faceset.specs.Sets.{Joined, IsCut, SetTriangles, IsSound, HasStuck, face_count, triangle_count};
 ghost use Rattle.faceset.specs.Cuts.{IsLoose};
 
@@ -10,7 +10,7 @@ use crate::faces::{Outcome, cut_face};
 use crate::sets::{is_polygonal, placed_numbering};
 use crate::triangulated::triangles;
 use bim_model::{Point, Triangle};
-use p21_reader::{Exchange, InstanceRef, ValueRef, Values};
+use p21_table::{Exchange, InstanceRef, ValueRef, Values};
 use std::alloc::{AllocError, Global};
 
 /// The triangles of the face that a value refers to; none where it refers to none. None where it isn't cut.

@@ -3,7 +3,7 @@ ghost use Rattle.std.specs.Prelude.{◌≡◌, IfOk, option_map};
 ghost use Rattle.faceset.specs.Sets.{spelled_points, is_polygonal, is_set, numbering, outline};
 
 use ifc_instances::Entity;
-use p21_reader::{Exchange, InstanceRef, ValueRef, Values};
+use p21_table::{Exchange, InstanceRef, ValueRef, Values};
 use std::alloc::{AllocError, Global};
 
 /// Whether it is a polygonal face set (IFC4 ADD2 TC1, IfcPolygonalFaceSet).

@@ -11,7 +11,7 @@ use crate::faces::{Outcome, cut_face};
 use crate::numbers::distinct_numbers;
 use crate::sets::{is_polygonal, placed_numbering};
 use bim_model::Point;
-use p21_reader::{Exchange, InstanceRef, ValueRef};
+use p21_table::{Exchange, InstanceRef, ValueRef};
 use std::alloc::{AllocError, Global};
 
 /// Whether the face of that number can't be cut.

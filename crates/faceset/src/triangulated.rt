@@ -1,11 +1,11 @@
 //! The triangles of triangulated sets.
 ghost use Rattle.std.specs.Prelude.{◌∷◌, [], length, All, Any, IfOk, MatchOption, option_copied};
 ghost use Rattle.faceset.specs.Sets.{IsTriangle, AreTriangles, HasThree, IsMisnamed, IsCorner};
-ghost use Rattle.p21_reader.specs.Attributes.{items_in};
+ghost use Rattle.p21_values.specs.Attributes.{items_in};
 
 use crate::naming::corner;
 use bim_model::{Point, Triangle};
-use p21_reader::{ValueRef, Values};
+use p21_table::{ValueRef, Values};
 use std::alloc::{AllocError, Global};
 
 /// The triangle of three indexes.

@@ -1,10 +1,7 @@
 //! Telling streams, in pieces of several sizes.
 ghost use Rattle.std.specs.Prelude.{◌<◌};
 
-use http_frame::{
-    FrameError, FrameStep, Framer, HttpRequest, a_whole_line_may_become_a_head,
-    answers_are_the_events, bytes_have_one_reading, readings_stay,
-};
+use http_frame::{FrameError, FrameStep, Framer, HttpRequest};
 use std::alloc::{AllocError, Global};
 use std::process::Abort;
 use std::test::Fail;
@@ -198,12 +195,30 @@ fn chunks_tell(
     tells(rt, alloc, text.as_str(), wanted)
 }
 
+// What is told of the bytes, without the word for how they end.
+fn told(alloc: Global, bytes: &[u8]) -> Result<String, AllocError> {
+    let mut framer = Framer::new(alloc)?;
+    let mut text = String::new(alloc);
+    framer.feed(bytes)?;
+    drain(alloc, &mut framer, &mut text)?;
+    Ok(text)
+}
+
+/// Cut at each of its bytes, a stream is answered the first events of the whole.
 #[test]
-fn laws_can_be_called(_rt: HostRuntime) {
-    bytes_have_one_reading();
-    readings_stay();
-    a_whole_line_may_become_a_head();
-    answers_are_the_events();
+fn what_a_front_is_answered_stays(rt: HostRuntime) -> Result<(), Fail> {
+    let alloc = rt.alloc();
+    let bytes =
+        b"\r\nGET /a HTTP/1.1\r\nHost: h\r\n\r\nPOST /b HTTP/1.1\r\nHost: h\r\nExpect: 100-continue\r\nTransfer-Encoding: chunked\r\n\r\n2\r\nok\r\n0\r\n\r\nGET /c HTTP/2.0\r\nHost: h\r\n\r\n";
+    let whole = told(alloc, bytes)?;
+    let wanted =
+        "GET /a 1.1 anonymous false false ;continue;POST /b 1.1 anonymous false false ok;Version";
+    assert_eq!(rt; whole.as_str(), wanted);
+    for end in 0..bytes.len() {
+        let front = told(alloc, &bytes[..end])?;
+        assert!(rt; wanted.starts_with(front.as_str()));
+    }
+    Ok(())
 }
 
 // A head of so many bytes, with so many fields beside the first.

@@ -1,9 +1,9 @@
 -- The bodies of an element are those of its shape, also where they are kept.
 use Rattle.std.proofs.Common.{◌≡◌, ℕ, List, Some, sym, ap, ◌∙◌, subst}
 use Rattle.std.specs.Option.{option_and_then}
-use Rattle.p21_reader.specs.declared.value.Instance.{Instance}
-use Rattle.p21_reader.specs.Looking.{look}
-use Rattle.p21_reader.specs.Attributes.{reference_at, target_at}
+use Rattle.p21_values.specs.declared.value.Instance.{Instance}
+use Rattle.p21_values.specs.Looking.{look}
+use Rattle.p21_values.specs.Attributes.{reference_at, target_at}
 use Rattle.ifc_elements.specs.Items.{listed_by, bodies_among, bodies_of, bodies}
 use Rattle.ifc_elements.specs.Finding.{Number}
 use Rattle.ifc_elements.specs.Shapes.{AreShapes, bodies_in}

@@ -17,10 +17,10 @@ use Rattle.bim_model.specs.Models.{IsInReach}
 use Rattle.bim_model.specs.declared.element.Element.{Element}
 use Rattle.bim_model.specs.declared.geometry.Triangle.{Triangle}
 use Rattle.bim_model.specs.declared.upload.Mode.{Mode}
-use Rattle.p21_reader.specs.declared.value.Value21.{Value21}
-use Rattle.p21_reader.specs.declared.value.Instance.{Instance}
-use Rattle.p21_reader.specs.Values.{reference_of, is_absent}
-use Rattle.p21_reader.specs.Looking.{look}
+use Rattle.p21_values.specs.declared.value.Value21.{Value21}
+use Rattle.p21_values.specs.declared.value.Instance.{Instance}
+use Rattle.p21_values.specs.Values.{reference_of, is_absent}
+use Rattle.p21_values.specs.Looking.{look}
 use Rattle.ifc_units.specs.declared.scale.Scale.{Scale}
 use Rattle.placement.specs.declared.frame.Frame.{Frame}
 use Rattle.placement.specs.Placed.{AreFrames}
@@ -32,7 +32,7 @@ use Rattle.ifc_elements.specs.Framed.{AllFramed}
 use Rattle.ifc_elements.specs.Making.{IsStanding, IsReady, IsFrameOf, IsNearSurface, IsNearElement, Lacks, LacksAt, IsFirstLacking}
 use Rattle.ifc_elements.specs.declared.lack.Lack.{Lack}
 use Rattle.ifc_elements.specs.declared.lack.Lack.TheVariants.{Beyond, Unready}
-use Rattle.p21_reader.proofs.ValueLemmas.{one}
+use Rattle.p21_values.proofs.ValueLemmas.{one}
 use Rattle.ifc_elements.proofs.OneSet.{same_triangle}
 use Rattle.ifc_elements.proofs.OneSurface.{same_map}
 use Rattle.ifc_instances.proofs.Rising.{earlier}

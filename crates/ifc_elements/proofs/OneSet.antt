@@ -4,8 +4,8 @@ use Rattle.std.specs.Bool.{MatchBool}
 use Rattle.bim_model.specs.declared.geometry.Point.{Point}
 use Rattle.bim_model.specs.declared.geometry.Triangle.{Triangle}
 use Rattle.bim_model.specs.declared.upload.Mode.{Mode}
-use Rattle.p21_reader.specs.declared.value.Instance.{Instance}
-use Rattle.p21_reader.specs.Looking.{look}
+use Rattle.p21_values.specs.declared.value.Instance.{Instance}
+use Rattle.p21_values.specs.Looking.{look}
 use Rattle.ifc_units.specs.declared.scale.Scale.{Scale}
 use Rattle.ifc_units.specs.Lengths.{ArePoints}
 use Rattle.ifc_units.proofs.PointFacts.{one_points}
@@ -15,11 +15,11 @@ use Rattle.placement.proofs.Operating.{one_frame}
 use Rattle.faceset.specs.Sets.{points_of, listed_in, spelled_points, SetTriangles, HasStuck}
 use Rattle.faceset.proofs.Joins.{joined_same}
 use Rattle.faceset.proofs.Unique.{set_triangles_same, never_stuck}
-use Rattle.p21_reader.specs.Attributes.{reference_at}
+use Rattle.p21_values.specs.Attributes.{reference_at}
 use Rattle.ifc_elements.specs.PointTables.{ListsPoints}
 use Rattle.ifc_elements.specs.Items.{is_mapped_item, mapped_sets}
 use Rattle.ifc_elements.specs.Surfaces.{SetPoints, SetSurface, moved, MappedSurface, ItemSurface}
-use Rattle.p21_reader.proofs.ValueLemmas.{one}
+use Rattle.p21_values.proofs.ValueLemmas.{one}
 
 -- triangles are equal by their corners
 pub same_triangle : (t u : Triangle) → t.a ≡ u.a → t.b ≡ u.b → t.c ≡ u.c → t ≡ u

@@ -4,18 +4,18 @@ use Rattle.std.specs.List.{slice_get}
 use Rattle.bim_model.specs.declared.geometry.Point.{Point}
 use Rattle.bim_model.specs.declared.geometry.Triangle.{Triangle}
 use Rattle.bim_model.specs.declared.upload.Mode.{Mode}
-use Rattle.p21_reader.specs.declared.value.Value21.{Value21}
-use Rattle.p21_reader.specs.declared.value.Instance.{Instance}
-use Rattle.p21_reader.specs.Values.{reference_of, is_absent}
+use Rattle.p21_values.specs.declared.value.Value21.{Value21}
+use Rattle.p21_values.specs.declared.value.Instance.{Instance}
+use Rattle.p21_values.specs.Values.{reference_of, is_absent}
 use Rattle.ifc_instances.specs.Looking.{some_passes}
 use Rattle.ifc_units.specs.declared.scale.Scale.{Scale}
 use Rattle.placement.specs.declared.frame.Frame.{Frame}
 use Rattle.placement.specs.Placed.{FrameOf}
 use Rattle.faceset.proofs.Joins.{joined_same}
-use Rattle.p21_reader.specs.Attributes.{reference_at}
+use Rattle.p21_values.specs.Attributes.{reference_at}
 use Rattle.ifc_elements.specs.Items.{body_items}
 use Rattle.ifc_elements.specs.Surfaces.{ItemSurface, IsPlacedBy, carried_by, placed_by, IsSurface}
-use Rattle.p21_reader.proofs.ValueLemmas.{one, refers_absent}
+use Rattle.p21_values.proofs.ValueLemmas.{one, refers_absent}
 use Rattle.placement.proofs.OneFrame.{one_carried}
 use Rattle.ifc_elements.proofs.OneSet.{same_triangle, one_item}
 

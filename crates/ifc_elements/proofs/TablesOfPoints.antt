@@ -6,11 +6,11 @@ use Rattle.std.proofs.lemmas.Option.{slice_get-get_or}
 use Rattle.std.proofs.lemmas.Slice.Zip.{AllZip-left, AllZip-long, all_zipped_more}
 use Rattle.bim_model.specs.declared.upload.Mode.{Mode}
 use Rattle.bim_model.specs.declared.geometry.Point.{Point}
-use Rattle.p21_reader.specs.declared.value.Value21.{Value21}
-use Rattle.p21_reader.specs.declared.value.Instance.{Instance}
-use Rattle.p21_reader.specs.Looking.{look}
-use Rattle.p21_reader.specs.Places.{IsPlaceOf}
-use Rattle.p21_reader.proofs.PlaceLemmas.{found_at, some_instance, same_instance}
+use Rattle.p21_values.specs.declared.value.Value21.{Value21}
+use Rattle.p21_values.specs.declared.value.Instance.{Instance}
+use Rattle.p21_values.specs.Looking.{look}
+use Rattle.p21_values.specs.Places.{IsPlaceOf}
+use Rattle.p21_values.proofs.PlaceLemmas.{found_at, some_instance, same_instance}
 use Rattle.ifc_units.specs.declared.scale.Scale.{Scale}
 use Rattle.ifc_units.specs.Lengths.{ArePoints, PointsRefused, Fails}
 use Rattle.ifc_units.specs.declared.length_error.LengthError.{LengthError}

@@ -2,8 +2,8 @@
 use Rattle.std.specs.Prelude.{◌≡◌, ℕ, List, Some}
 use Rattle.bim_model.specs.declared.upload.Mode.{Mode}
 use Rattle.bim_model.specs.declared.element.Element.{Element}
-use Rattle.p21_reader.specs.declared.value.Instance.{Instance}
-use Rattle.p21_reader.specs.Looking.{look}
+use Rattle.p21_values.specs.declared.value.Instance.{Instance}
+use Rattle.p21_values.specs.Looking.{look}
 use Rattle.ifc_units.specs.declared.scale.Scale.{Scale}
 use Rattle.ifc_elements.specs.Texts.{guid_of, name_of}
 use Rattle.ifc_elements.specs.Storeys.{IsStoreyName}

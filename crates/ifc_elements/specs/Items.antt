@@ -1,12 +1,12 @@
 -- The items of bodies (IFC4 ADD2 TC1, IfcProduct, IfcShapeRepresentation, IfcMappedItem, IfcRepresentationMap).
 use Rattle.std.specs.Prelude.{ℕ, ◌||◌, Bool, List, [], filter, flat_map, sum_by, Option, Some, None, option_and_then, if◌then◌else◌}
-use Rattle.p21_reader.specs.declared.value.Value21.{Value21}
-use Rattle.p21_reader.specs.declared.value.Instance.{Instance}
+use Rattle.p21_values.specs.declared.value.Value21.{Value21}
+use Rattle.p21_values.specs.declared.value.Instance.{Instance}
 use Rattle.ifc_instances.specs.declared.entity.Entity.TheVariants.{MappedItem}
-use Rattle.p21_reader.specs.Looking.{look}
+use Rattle.p21_values.specs.Looking.{look}
 use Rattle.ifc_instances.specs.Looking.{is_a}
 use Rattle.ifc_schema.specs.Bodies.{is_body_representation}
-use Rattle.p21_reader.specs.Attributes.{listed, target_at, led_to}
+use Rattle.p21_values.specs.Attributes.{listed, target_at, led_to}
 use Rattle.faceset.specs.Sets.{is_set, triangle_count}
 
 -- the list of an instance at a place, where there is an instance

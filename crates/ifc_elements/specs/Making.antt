@@ -7,9 +7,9 @@ use Rattle.bim_model.specs.declared.geometry.Triangle.{Triangle}
 use Rattle.bim_model.specs.Guids.{IsGuid}
 use Rattle.bim_model.specs.Boxes.{corners_of}
 use Rattle.bim_model.specs.Models.{IsInReach}
-use Rattle.p21_reader.specs.declared.value.Value21.{Value21}
-use Rattle.p21_reader.specs.declared.value.Instance.{Instance}
-use Rattle.p21_reader.specs.Values.{reference_of, is_absent}
+use Rattle.p21_values.specs.declared.value.Value21.{Value21}
+use Rattle.p21_values.specs.declared.value.Instance.{Instance}
+use Rattle.p21_values.specs.Values.{reference_of, is_absent}
 use Rattle.ifc_units.specs.declared.scale.Scale.{Scale}
 use Rattle.placement.specs.declared.frame.Frame.{Frame}
 use Rattle.ifc_elements.specs.Finding.{Finds}

@@ -9,17 +9,17 @@ use Rattle.bim_model.specs.declared.geometry.Point.{Point}
 use Rattle.bim_model.specs.declared.geometry.Triangle.{Triangle}
 use Rattle.bim_model.specs.Boxes.{corners_of}
 use Rattle.bim_model.specs.Models.{IsInReach}
-use Rattle.p21_reader.specs.declared.value.Value21.{Value21}
-use Rattle.p21_reader.specs.declared.value.Instance.{Instance}
-use Rattle.p21_reader.specs.Looking.{look}
-use Rattle.p21_reader.specs.Values.{reference_of}
+use Rattle.p21_values.specs.declared.value.Value21.{Value21}
+use Rattle.p21_values.specs.declared.value.Instance.{Instance}
+use Rattle.p21_values.specs.Looking.{look}
+use Rattle.p21_values.specs.Values.{reference_of}
 use Rattle.ifc_units.specs.declared.scale.Scale.{Scale}
 use Rattle.placement.specs.declared.frame.Frame.{Frame}
 use Rattle.placement.specs.Frames.{carried, IsFrame, AreWithin, most}
 use Rattle.placement.specs.Operators.{OperatorFrame}
 use Rattle.faceset.specs.Sets as sets
 use Rattle.ifc_elements.specs.Finding.{Finds}
-use Rattle.p21_reader.specs.Attributes.{reference_at}
+use Rattle.p21_values.specs.Attributes.{reference_at}
 use Rattle.ifc_elements.specs.PointTables.{ListsPoints}
 use Rattle.ifc_elements.specs.Items.{is_mapped_item, spelled_items, spelled_sets, mapped_sets, item_count}
 use Rattle.ifc_elements.specs.Surfaces.{carried_by, SetSurface, MappedSurface, ItemSurface}

@@ -1,6 +1,6 @@
 -- The storeys that elements stand in (IFC4 ADD2 TC1, IfcBuildingStorey).
 use Rattle.std.specs.Prelude.{◌≡◌, ℕ, List, Option, Some, None}
-use Rattle.p21_reader.specs.declared.value.Instance.{Instance}
+use Rattle.p21_values.specs.declared.value.Instance.{Instance}
 use Rattle.spatial_tree.specs.Trees.{StoreyOf}
 use Rattle.ifc_elements.specs.Texts.{name_at}
 

@@ -4,9 +4,9 @@ use Rattle.std.specs.List.{slice_get}
 use Rattle.bim_model.specs.declared.guid.Guid.{Guid}
 use Rattle.bim_model.specs.Guids.{IsGuid}
 use Rattle.bim_text.specs.Texts.{text_of_spelling}
-use Rattle.p21_reader.specs.declared.value.Instance.{Instance}
-use Rattle.p21_reader.specs.Looking.{look}
-use Rattle.p21_reader.specs.Values.{words_of}
+use Rattle.p21_values.specs.declared.value.Instance.{Instance}
+use Rattle.p21_values.specs.Looking.{look}
+use Rattle.p21_values.specs.Values.{words_of}
 
 -- the text that is the attribute of that number, if there is one
 abbrev pub text_at : Instance → ℕ → Option (List ℕ)

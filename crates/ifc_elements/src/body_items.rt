@@ -1,6 +1,6 @@
 //! The items of bodies.
 ghost use Rattle.std.specs.Prelude.{◌≡◌, ◌++◌, ◌∷◌, [], map, Some, IfOk, OnOk};
-ghost use Rattle.p21_reader.specs.Looking.{look};
+ghost use Rattle.p21_values.specs.Looking.{look};
 ghost use Rattle.ifc_schema.specs.Bodies.{is_body_representation};
 ghost use Rattle.ifc_elements.specs.Items.{spelled_items, is_mapped_item, is_item, spelled_sets, bodies_among, bodies_of};
 ghost use Rattle.ifc_elements.specs.Finding.{Number};
@@ -8,7 +8,7 @@ ghost use Rattle.ifc_elements.specs.Finding.{Number};
 use faceset::is_set;
 use ifc_instances::Entity;
 use ifc_schema::is_body;
-use p21_reader::{Exchange, InstanceRef, ValueRef, Values};
+use p21_table::{Exchange, InstanceRef, ValueRef, Values};
 use std::alloc::{AllocError, Global};
 
 /// Whether it is a shape representation whose identifier is `Body`.

@@ -10,7 +10,7 @@ use crate::points::points_at;
 use bim_model::{Items, Mode, Point, Triangle};
 use faceset::{is_set, set_triangles};
 use ifc_units::Scale;
-use p21_reader::{Exchange, InstanceRef};
+use p21_table::{Exchange, InstanceRef};
 use std::alloc::{AllocError, Global};
 use std::collections::BTreeMap;
 use std::marker::Model;

@@ -8,7 +8,7 @@ ghost use Rattle.ifc_elements.specs.PointTables.{kept_at, Tabled, IsTable, Lists
 use bim_model::{Items, Mode, Point};
 use ifc_instances::Entity;
 use ifc_units::{Scale, points};
-use p21_reader::{Exchange, InstanceRef, Instances};
+use p21_table::{Exchange, InstanceRef, Instances};
 use std::alloc::{AllocError, Global};
 
 /// The points of an instance that is a list of points on the grid.

@@ -7,7 +7,7 @@ ghost use Rattle.ifc_elements.specs.Shapes.{AreShapes, PutsBodies, bodies_in};
 use crate::body_items::bodies_of;
 use bim_model::Items;
 use ifc_instances::Entity;
-use p21_reader::{Exchange, InstanceRef};
+use p21_table::{Exchange, InstanceRef};
 use std::alloc::{AllocError, Global};
 use std::collections::BTreeMap;
 use std::marker::Model;

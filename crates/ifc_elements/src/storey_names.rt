@@ -5,7 +5,7 @@ ghost use Rattle.ifc_elements.specs.Names.{AreNames, PutsName, name_in};
 use crate::texts::name_of;
 use bim_model::Text;
 use ifc_instances::Entity;
-use p21_reader::Exchange;
+use p21_table::Exchange;
 use std::alloc::{AllocError, Global};
 use std::collections::BTreeMap;
 use std::marker::Model;

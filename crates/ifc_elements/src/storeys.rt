@@ -7,7 +7,7 @@ ghost use Rattle.ifc_elements.specs.Storeys.{IsStoreyName};
 use crate::storey_names::Names;
 use crate::texts::name_of;
 use bim_model::{Duplicate, Text};
-use p21_reader::Exchange;
+use p21_table::Exchange;
 use spatial_tree::Tree;
 use std::alloc::{AllocError, Global};
 

@@ -3,11 +3,11 @@ ghost use Rattle.std.specs.Prelude.{◌≡◌, ℕ, ◌∷◌, ◌++◌, [], Lis
 ghost use Rattle.std.specs.Bool.{MatchBool};
 ghost use Rattle.bim_model.specs.Boxes.{corners_of};
 ghost use Rattle.bim_model.specs.Models.{IsInReach};
-ghost use Rattle.p21_reader.specs.declared.value.Instance.{Instance};
+ghost use Rattle.p21_values.specs.declared.value.Instance.{Instance};
 ghost use Rattle.placement.specs.Frames.{IsFrame, AreWithin, most};
 ghost use Rattle.ifc_units.specs.Lengths.{reach};
 ghost use Rattle.faceset.specs.Sets.{Joined};
-ghost use Rattle.p21_reader.specs.Attributes.{led_to};
+ghost use Rattle.p21_values.specs.Attributes.{led_to};
 ghost use Rattle.ifc_elements.specs.Items.{items_of, item_count, body_items, bodies};
 ghost use Rattle.ifc_elements.specs.Finding.{Number};
 ghost use Rattle.ifc_elements.specs.Shapes.{AreShapes};
@@ -19,7 +19,7 @@ use crate::kept_sets::Sets;
 use crate::shapes::{Shapes, bodies};
 use bim_model::{Mode, Triangle};
 use ifc_units::Scale;
-use p21_reader::{Exchange, InstanceRef, ValueRef, Values};
+use p21_table::{Exchange, InstanceRef, ValueRef, Values};
 use placement::{Frame, operator_frame};
 use std::alloc::{AllocError, Global};
 

@@ -4,7 +4,7 @@ ghost use Rattle.ifc_elements.specs.Texts.{text_at, name_of, IsRead, IsUnread};
 
 use bim_model::{Guid, Text};
 use bim_text::text_of;
-use p21_reader::InstanceRef;
+use p21_table::InstanceRef;
 use std::alloc::{AllocError, Global};
 
 /// The text that is the attribute of that number, from 0; none where there is no text.

@@ -3,11 +3,11 @@ use Rattle.std.proofs.Common.{◌≡◌, ℕ, ◌+◌, ◌<◌, List, [], ◌∷
 use Rattle.std.specs.List.{cons_option}
 use Rattle.std.proofs.lemmas.List.{take_more, take-append-drop}
 use Rattle.std.proofs.lemmas.List.Elements.{filter_map-append}
-use Rattle.p21_reader.specs.declared.value.Value21.{Value21}
-use Rattle.p21_reader.specs.declared.value.Instance.{Instance}
-use Rattle.p21_reader.specs.Looking.{look}
-use Rattle.p21_reader.specs.Values.{reference_of}
-use Rattle.p21_reader.specs.Attributes.{led_to}
+use Rattle.p21_values.specs.declared.value.Value21.{Value21}
+use Rattle.p21_values.specs.declared.value.Instance.{Instance}
+use Rattle.p21_values.specs.Looking.{look}
+use Rattle.p21_values.specs.Values.{reference_of}
+use Rattle.p21_values.specs.Attributes.{led_to}
 
 pub led_append : (world : List Instance) (xs ys : List Value21) → led_to world (xs ++ ys) ≡ led_to world xs ++ led_to world ys
 led_append world xs ys = ap (filter_map (look world)) (filter_map-append reference_of xs ys) ∙ filter_map-append (look world) (filter_map reference_of xs) (filter_map reference_of ys)

@@ -4,7 +4,7 @@ ghost use Rattle.std.specs.List.{list_any};
 ghost use Rattle.std.specs.Str.{bytes_eq};
 ghost use Rattle.ifc_instances.specs.Entities.{is_of, entity_of, subjects};
 
-use p21_reader::{InstanceRef, Keyword};
+use p21_table::{InstanceRef, Keyword};
 
 /// The entities whose attributes are followed (IFC4 ADD2 TC1).
 #[derive(Clone, Copy)]

@@ -4,16 +4,16 @@ use Rattle.std.proofs.lemmas.Bool.Decides.{nat_tests}
 use Rattle.std.proofs.lemmas.List.{get_or-set_same, get_or-set_other, get_or_default, length-set, length_push}
 use Rattle.std.proofs.lemmas.List.Sums.{sum_by-set}
 use Rattle.std.proofs.lemmas.List.Elements.{Contains-append_left, Contains-push, Contains-push_cases}
-use Rattle.p21_reader.specs.declared.value.Instance.{Instance}
+use Rattle.p21_values.specs.declared.value.Instance.{Instance}
 use Rattle.ifc_schema.specs.declared.form.Targets.{Targets}
 use Rattle.ifc_schema.specs.declared.worklist.Mark.{Mark}
 use Rattle.ifc_schema.specs.declared.worklist.Mark.TheVariants.{Unseen, Used as Met, Mapped}
 use Rattle.ifc_schema.specs.declared.worklist.Work.{Work}
 use Rattle.ifc_schema.specs.Forms.{holds}
-use Rattle.p21_reader.specs.Places.{IsPlaceOf}
+use Rattle.p21_values.specs.Places.{IsPlaceOf}
 use Rattle.ifc_schema.specs.Used.{LeadsTo}
 use Rattle.ifc_schema.specs.Marks.{rank, rank_at, mark_at, SoundAt, Grows, IsMarked}
-use Rattle.p21_reader.proofs.PlaceLemmas.{found_at, place_once}
+use Rattle.p21_values.proofs.PlaceLemmas.{found_at, place_once}
 
 pub grows_trans : (world : List Instance) (a b c : Work) → Grows world a b → Grows world b c → Grows world a c
 grows_trans world a b c p q = record {

@@ -4,10 +4,10 @@ use Rattle.std.specs.Bool.{MatchBool}
 use Rattle.std.specs.Option.{MatchOption, is_some}
 use Rattle.std.specs.List.{slice_get}
 use Rattle.bim_model.specs.declared.upload.UploadFault.{UploadFault}
-use Rattle.p21_reader.specs.declared.value.Value21.{Value21}
-use Rattle.p21_reader.specs.declared.value.Instance.{Instance}
-use Rattle.p21_reader.proofs.Strict.{trichotomy}
-use Rattle.p21_reader.specs.Values.{number_of, words_of, reference_of, items_of, is_enumeration}
+use Rattle.p21_values.specs.declared.value.Value21.{Value21}
+use Rattle.p21_values.specs.declared.value.Instance.{Instance}
+use Rattle.p21_values.proofs.PlaceLemmas.{trichotomy}
+use Rattle.p21_values.specs.Values.{number_of, words_of, reference_of, items_of, is_enumeration}
 use Rattle.ifc_instances.specs.Looking.{some_passes}
 use Rattle.ifc_schema.specs.declared.flaw.Flaw.{Flaw}
 use Rattle.ifc_schema.specs.declared.flaw.Flaw.TheVariants.{Dangling, BadShape}

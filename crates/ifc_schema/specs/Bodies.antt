@@ -2,14 +2,14 @@
 -- instances that lack their own form (IFC4 ADD2 TC1, IfcProduct, IfcProductDefinitionShape, IfcShapeRepresentation).
 use Rattle.std.specs.Prelude.{◌&&◌, ◌||◌, Bool, true, List, map, option_and_then}
 use Rattle.std.specs.List.{list_any, slice_get}
-use Rattle.p21_reader.specs.declared.value.Value21.{Value21}
-use Rattle.p21_reader.specs.declared.value.Instance.{Instance}
+use Rattle.p21_values.specs.declared.value.Value21.{Value21}
+use Rattle.p21_values.specs.declared.value.Instance.{Instance}
 use Rattle.ifc_instances.specs.declared.entity.Entity.TheVariants.{ProductShape, Representation}
 use Rattle.ifc_schema.specs.declared.form.When.{When}
 use Rattle.ifc_schema.specs.declared.form.When.TheVariants.{Always, WithBody, WithItems}
 use Rattle.ifc_schema.specs.Words.{says_body}
-use Rattle.p21_reader.specs.Values.{words_of, reference_of, items_of}
-use Rattle.p21_reader.specs.Looking.{look}
+use Rattle.p21_values.specs.Values.{words_of, reference_of, items_of}
+use Rattle.p21_values.specs.Looking.{look}
 use Rattle.ifc_instances.specs.Looking.{is_a, some_passes}
 
 -- the identifier of a representation is `Body`

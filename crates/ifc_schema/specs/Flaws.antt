@@ -2,8 +2,8 @@
 use Rattle.std.specs.Prelude.{◌≡◌, ℕ, ◌<◌, ◌&&◌, Bool, if◌then◌else◌, List, length, Option, Some, None, is_some, MatchOption, All}
 use Rattle.std.specs.Bool.{MatchBool}
 use Rattle.std.specs.List.{HoldsAt, slice_get}
-use Rattle.p21_reader.specs.declared.value.Value21.{Value21}
-use Rattle.p21_reader.specs.declared.value.Instance.{Instance}
+use Rattle.p21_values.specs.declared.value.Value21.{Value21}
+use Rattle.p21_values.specs.declared.value.Instance.{Instance}
 use Rattle.ifc_schema.specs.declared.flaw.Flaw.{Flaw}
 use Rattle.ifc_schema.specs.declared.flaw.Flaw.TheVariants.{Dangling, BadShape}
 use Rattle.ifc_schema.specs.declared.form.Attribute.{Attribute}
@@ -16,8 +16,8 @@ use Rattle.ifc_schema.specs.declared.form.Shape.TheVariants as shape
 use Rattle.ifc_schema.specs.declared.form.Need.{Need}
 use Rattle.ifc_schema.specs.Words.{IsNumber, IsNoNumber, IsWhole, IsNotWhole, says_guid}
 use Rattle.ifc_schema.specs.Forms.{fits, holds, allows_absent, allows_missing}
-use Rattle.p21_reader.specs.Values.{number_of, words_of, reference_of, items_of, is_enumeration, is_absent}
-use Rattle.p21_reader.specs.Looking.{look}
+use Rattle.p21_values.specs.Values.{number_of, words_of, reference_of, items_of, is_enumeration, is_absent}
+use Rattle.p21_values.specs.Looking.{look}
 use Rattle.ifc_instances.specs.Looking.{some_passes}
 use Rattle.ifc_schema.specs.Table.{row_at}
 use Rattle.ifc_schema.specs.Bodies.{applies}

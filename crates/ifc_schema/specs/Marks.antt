@@ -1,14 +1,14 @@
 -- What the survey keeps while it follows the rows: a mark for each place, and the places whose rows are still to be followed.
 use Rattle.std.specs.Prelude.{◌≡◌, ℕ, ◌+◌, ◌-◌, ◌*◌, ◌<◌, ◌≤◌, ◌⊎◌, Bool, true, false, List, length, Some, Contains, sum_by, slice_index_or}
 use Rattle.std.specs.List.{slice_get}
-use Rattle.p21_reader.specs.declared.value.Instance.{Instance}
+use Rattle.p21_values.specs.declared.value.Instance.{Instance}
 use Rattle.ifc_schema.specs.declared.worklist.Mark.{Mark}
 use Rattle.ifc_schema.specs.declared.worklist.Mark.TheVariants.{Unseen, Used as Met, Mapped}
 use Rattle.ifc_schema.specs.declared.worklist.Work.{Work}
 use Rattle.ifc_schema.specs.Used.{is_root, Used, IsMapped, Names, Maps}
-use Rattle.p21_reader.specs.Looking.{look}
+use Rattle.p21_values.specs.Looking.{look}
 use Rattle.ifc_instances.specs.Looking.{entity_at}
-use Rattle.p21_reader.specs.Places.{IsPlaceOf}
+use Rattle.p21_values.specs.Places.{IsPlaceOf}
 
 -- how far an instance has been followed
 abbrev pub rank : Mark → ℕ

@@ -1,9 +1,9 @@
 -- What the parts of the survey answer, place by place.
 use Rattle.std.specs.Prelude.{◌≡◌, ℕ, ◌<◌, List, Option, Some, None}
 use Rattle.bim_model.specs.declared.upload.UploadFault.{UploadFault}
-use Rattle.p21_reader.specs.declared.value.Instance.{Instance}
+use Rattle.p21_values.specs.declared.value.Instance.{Instance}
 use Rattle.ifc_schema.specs.declared.flaw.Flaw.{Flaw}
-use Rattle.p21_reader.specs.Places.{IsPlaceOf}
+use Rattle.p21_values.specs.Places.{IsPlaceOf}
 use Rattle.ifc_schema.specs.Used.{Used}
 use Rattle.ifc_schema.specs.Surveys.{UsedFlaw, SurveyFault, fault_of}
 

@@ -3,7 +3,7 @@ use Rattle.std.specs.Prelude.{◌≡◌, ℕ, ◌<◌, ◌&&◌, Bool, true, fal
 use Rattle.std.specs.List.Sorted.{IsStrictlyIncreasing}
 use Rattle.bim_model.specs.declared.upload.UploadFault.{UploadFault}
 use Rattle.bim_model.specs.declared.upload.UploadFault.TheVariants as fault
-use Rattle.p21_reader.specs.declared.value.Instance.{Instance}
+use Rattle.p21_values.specs.declared.value.Instance.{Instance}
 use Rattle.bim_model.specs.declared.upload.BuildError.{BuildError}
 use Rattle.bim_model.specs.declared.upload.BuildError.TheVariants.{Fault, Memory}
 use Rattle.ifc_instances.specs.declared.entity.Entity.{Entity}
@@ -11,7 +11,7 @@ use Rattle.ifc_instances.specs.declared.entity.Entity.TheVariants.{Subject}
 use Rattle.ifc_schema.specs.declared.flaw.Flaw.{Flaw}
 use Rattle.ifc_schema.specs.declared.flaw.Flaw.TheVariants.{Dangling, BadShape}
 use Rattle.ifc_schema.specs.declared.outcome.Survey.{Survey}
-use Rattle.p21_reader.specs.Looking.{look}
+use Rattle.p21_values.specs.Looking.{look}
 use Rattle.ifc_instances.specs.Looking.{entity_at}
 use Rattle.ifc_schema.specs.Bodies.{has_body}
 use Rattle.ifc_schema.specs.Flaws.{InstanceFlaw}

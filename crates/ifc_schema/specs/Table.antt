@@ -1,7 +1,7 @@
 -- The attributes that are followed, by rising number, and their forms (IFC4 ADD2 TC1, after the definitions of the entities). An instance may
 -- have more attributes than its row names.
 use Rattle.std.specs.Prelude.{ℕ, List, [], ◌∷◌, Option, Some, None}
-use Rattle.p21_reader.specs.declared.value.Instance.{Instance}
+use Rattle.p21_values.specs.declared.value.Instance.{Instance}
 use Rattle.ifc_instances.specs.declared.entity.Entity.{Entity}
 use Rattle.ifc_instances.specs.declared.entity.Entity.TheVariants as entity
 use Rattle.ifc_instances.specs.Looking.{entity_at}

@@ -1,8 +1,8 @@
 -- The instances that a model is read from.
 use Rattle.std.specs.Prelude.{◌≡◌, ℕ, Bool, true, false, List, Option, Some, MatchOption, Contains, Any}
 use Rattle.std.specs.List.{slice_get}
-use Rattle.p21_reader.specs.declared.value.Value21.{Value21}
-use Rattle.p21_reader.specs.declared.value.Instance.{Instance}
+use Rattle.p21_values.specs.declared.value.Value21.{Value21}
+use Rattle.p21_values.specs.declared.value.Instance.{Instance}
 use Rattle.ifc_instances.specs.declared.entity.Entity.{Entity}
 use Rattle.ifc_instances.specs.declared.entity.Entity.TheVariants.{Project, Storey, Aggregates, Containment, Subject, RepresentationMap, Representation}
 use Rattle.ifc_schema.specs.declared.form.Attribute.{Attribute}
@@ -11,8 +11,8 @@ use Rattle.ifc_schema.specs.declared.form.Targets.TheVariants as targets
 use Rattle.ifc_schema.specs.declared.form.Shape.{Shape}
 use Rattle.ifc_schema.specs.declared.form.Shape.TheVariants as shape
 use Rattle.ifc_schema.specs.Forms.{holds, followed}
-use Rattle.p21_reader.specs.Values.{reference_of, items_of}
-use Rattle.p21_reader.specs.Looking.{look}
+use Rattle.p21_values.specs.Values.{reference_of, items_of}
+use Rattle.p21_values.specs.Looking.{look}
 use Rattle.ifc_instances.specs.Looking.{entity_at}
 use Rattle.ifc_schema.specs.Table.{row_at}
 use Rattle.ifc_schema.specs.Bodies.{applies}

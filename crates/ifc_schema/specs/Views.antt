@@ -1,7 +1,7 @@
 -- The attributes of an instance as the fields of a view (IFC4 ADD2 TC1, after the definitions of the entities).
 use Rattle.std.specs.Prelude.{◌≡◌, ℕ, Bool, true, false, List, Some, None}
 use Rattle.std.specs.List.{slice_get}
-use Rattle.p21_reader.specs.declared.value.Instance.{Instance}
+use Rattle.p21_values.specs.declared.value.Instance.{Instance}
 use Rattle.ifc_instances.specs.declared.entity.Entity.{Entity}
 use Rattle.ifc_schema.specs.declared.views.ElementView.{ElementView}
 use Rattle.ifc_schema.specs.declared.views.PlacementView.{PlacementView}
@@ -11,7 +11,7 @@ use Rattle.ifc_schema.specs.declared.views.RepresentationView.{RepresentationVie
 use Rattle.ifc_schema.specs.declared.views.FacesetView.{FacesetView}
 use Rattle.ifc_schema.specs.declared.views.FaceView.{FaceView}
 use Rattle.ifc_schema.specs.declared.views.MappedView.{MappedView}
-use Rattle.p21_reader.specs.Looking.{look}
+use Rattle.p21_values.specs.Looking.{look}
 use Rattle.ifc_instances.specs.Looking.{entity_at}
 use Rattle.ifc_schema.specs.Flaws.{InstanceFlaw}
 

@@ -4,7 +4,7 @@ ghost use Rattle.ifc_schema.specs.Table.{row_of, row_at};
 
 use crate::form::{Attribute, Count, Leaf, Need, Shape, Targets, When};
 use ifc_instances::Entity;
-use p21_reader::InstanceRef;
+use p21_table::InstanceRef;
 
 const PROJECT: [Attribute; 1] = [Attribute {
     at: 8,

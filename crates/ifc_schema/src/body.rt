@@ -1,12 +1,12 @@
 //! Which elements have a body.
 ghost use Rattle.std.specs.Prelude.{◌≡◌, Bool, List, IfOk, length, map};
-ghost use Rattle.p21_reader.specs.declared.value.Instance.{Instance};
+ghost use Rattle.p21_values.specs.declared.value.Instance.{Instance};
 ghost use Rattle.ifc_schema.specs.Bodies.{is_body, is_body_representation, target_passes, lists_body, is_body_shape, body_shapes, has_body, applies};
 
 use crate::form::When;
 use crate::words::says_body;
 use ifc_instances::Entity;
-use p21_reader::{Exchange, InstanceRef, ValueRef, Values};
+use p21_table::{Exchange, InstanceRef, ValueRef, Values};
 use std::alloc::{AllocError, Global};
 
 /// Whether the identifier of a representation is `Body`.

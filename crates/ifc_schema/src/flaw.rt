@@ -19,13 +19,13 @@ ghost use Rattle.ifc_schema.specs.Flaws.{
 ghost use Rattle.ifc_schema.specs.Words.{says_guid};
 ghost use Rattle.ifc_instances.specs.Looking.{some_passes};
 ghost use Rattle.ifc_schema.specs.Bodies.{has_body};
-ghost use Rattle.p21_reader.specs.Values.{words_of, reference_of};
+ghost use Rattle.p21_values.specs.Values.{words_of, reference_of};
 
 use crate::attribute_table::row_at;
 use crate::body::applies;
 use crate::form::{Attribute, Count, Leaf, Shape, Targets};
 use crate::words::{is_number, is_whole, says_guid};
-use p21_reader::{Exchange, InstanceRef, ValueRef, Values};
+use p21_table::{Exchange, InstanceRef, ValueRef, Values};
 
 /// What is wrong with an instance that lacks the form of its row.
 #[derive(Clone, Copy)]

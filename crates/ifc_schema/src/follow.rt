@@ -1,6 +1,6 @@
 //! Rows are followed: what they name is marked.
 ghost use Rattle.std.specs.Prelude.{◌≡◌, ◌≤◌, ℕ, length, OnOk, Any};
-ghost use Rattle.p21_reader.specs.Places.{IsPlaceOf};
+ghost use Rattle.p21_values.specs.Places.{IsPlaceOf};
 ghost use Rattle.ifc_schema.specs.Used.{Used, IsMapped, RefersTo, SomeItem, StandsIn, LeadsTo, NamesBy, Maps};
 ghost use Rattle.ifc_schema.specs.Bodies.{has_body};
 ghost use Rattle.ifc_schema.specs.Marks.{Grows, IsMarked, SoundAt, rank, rank_at};
@@ -9,7 +9,7 @@ use crate::body::applies;
 use crate::form::{Attribute, Shape, Targets};
 use crate::worklist::{Mark, Work};
 use ifc_instances::Entity;
-use p21_reader::{Exchange, InstanceRef, ValueRef, Values};
+use p21_table::{Exchange, InstanceRef, ValueRef, Values};
 use std::alloc::AllocError;
 
 /// Gives an instance this mark, or leaves it a higher one, where it is of one of these entities.

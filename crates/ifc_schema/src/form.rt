@@ -3,7 +3,7 @@ ghost use Rattle.std.specs.Prelude.{◌≡◌};
 ghost use Rattle.ifc_schema.specs.Forms.{is_nothing, holds, fits, followed, allows_absent, allows_missing};
 
 use ifc_instances::Entity;
-use p21_reader::Keyword;
+use p21_table::Keyword;
 
 /// The instances that a reference may lead to, by their entities.
 #[derive(Clone, Copy)]

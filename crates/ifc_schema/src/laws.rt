@@ -1,7 +1,7 @@
 //! What callers may rely on beyond one call.
 ghost use Rattle.std.specs.Prelude.{◌≡◌, List};
 ghost use Rattle.bim_model.specs.declared.upload.UploadFault.{UploadFault};
-ghost use Rattle.p21_reader.specs.declared.value.Instance.{Instance};
+ghost use Rattle.p21_values.specs.declared.value.Instance.{Instance};
 ghost use Rattle.ifc_schema.specs.declared.outcome.Survey.{Survey};
 ghost use Rattle.ifc_schema.specs.Surveys.{SurveyFault, Surveyed};
 

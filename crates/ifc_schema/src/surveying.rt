@@ -1,7 +1,7 @@
 //! The survey of a file: whether all that is used has the form of its row.
 ghost use Rattle.std.specs.Prelude.{◌≡◌, ◌+◌, ◌<◌, ℕ, length, IfOk, IfErr, OnOk};
-ghost use Rattle.p21_reader.specs.Places.{IsPlaceOf};
-ghost use Rattle.p21_reader.specs.Uploads.{Rises};
+ghost use Rattle.p21_values.specs.Places.{IsPlaceOf};
+ghost use Rattle.p21_values.specs.Places.{Rises};
 ghost use Rattle.ifc_schema.specs.Used.{Used, IsMapped};
 ghost use Rattle.ifc_schema.specs.Bodies.{body_shapes};
 ghost use Rattle.ifc_schema.specs.Marks.{Known, rank_at};
@@ -15,7 +15,7 @@ use crate::visit::mark_used;
 use crate::worklist::Work;
 use bim_model::{BuildError, UploadFault};
 use ifc_instances::Entity;
-use p21_reader::{Exchange, InstanceRef};
+use p21_table::{Exchange, InstanceRef};
 use std::alloc::{AllocError, Global};
 
 /// The fault of an instance that has this flaw.

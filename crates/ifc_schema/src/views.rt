@@ -3,7 +3,7 @@
 ghost use Rattle.std.specs.Prelude.{◌≡◌, ◌<◌, ◌⊎◌, false, Some, None, MatchOption, length};
 ghost use Rattle.std.specs.List.{slice_get};
 ghost use Rattle.std.specs.Bool.{MatchBool};
-ghost use Rattle.p21_reader.specs.declared.value.Instance.{Instance};
+ghost use Rattle.p21_values.specs.declared.value.Instance.{Instance};
 ghost use Rattle.ifc_instances.specs.declared.entity.Entity.TheVariants.{Subject, Placement, AxisPlacement, Operator, Representation, TriangulatedFaceSet, PolygonalFaceSet, Face, FaceWithVoids, MappedItem};
 ghost use Rattle.ifc_schema.specs.Bodies.{is_body_representation, target_passes, lists_body, is_body_shape, has_body};
 ghost use Rattle.ifc_schema.specs.Flaws.{InstanceFlaw};
@@ -26,7 +26,7 @@ ghost use Rattle.ifc_schema.specs.Views.{
 use crate::body::is_body_representation;
 use crate::flaw::instance_flaw;
 use ifc_instances::Entity;
-use p21_reader::{Exchange, InstanceRef, ValueRef, Values};
+use p21_table::{Exchange, InstanceRef, ValueRef, Values};
 
 /// An element.
 #[derive(Drop)]

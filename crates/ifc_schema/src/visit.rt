@@ -1,9 +1,9 @@
 //! The instances that are used are met, one after another.
 ghost use Rattle.std.specs.Prelude.{◌≡◌, ◌<◌, ◌≤◌, ℕ, [], length, OnOk, IfOk, Any, slice_index_or};
 ghost use Rattle.std.specs.Bool.{OnTrue, OnFalse};
-ghost use Rattle.p21_reader.specs.declared.value.Instance.{Instance};
-ghost use Rattle.p21_reader.specs.Places.{IsPlaceOf};
-ghost use Rattle.p21_reader.specs.Uploads.{Rises};
+ghost use Rattle.p21_values.specs.declared.value.Instance.{Instance};
+ghost use Rattle.p21_values.specs.Places.{IsPlaceOf};
+ghost use Rattle.p21_values.specs.Places.{Rises};
 ghost use Rattle.ifc_schema.specs.Used.{Used, IsMapped, Maps, NamesBy, is_root};
 ghost use Rattle.ifc_schema.specs.Bodies.{body_shapes};
 ghost use Rattle.ifc_schema.specs.Marks.{Grows, SoundAt, mark_at, rank_at, is_mapped, IsFollowed, FollowedAt, IsRootAt, Going, Known};
@@ -14,7 +14,7 @@ use crate::body::has_body;
 use crate::follow::{follow_attributes, follow_map};
 use crate::worklist::{Mark, Work};
 use ifc_instances::Entity;
-use p21_reader::{Exchange, InstanceRef};
+use p21_table::{Exchange, InstanceRef};
 use std::alloc::{AllocError, Global};
 
 /// Marks what an instance names.

@@ -4,12 +4,12 @@ use Rattle.std.specs.List.{filter, find}
 use Rattle.std.proofs.lemmas.List.Elements.{All-filter}
 use Rattle.bim_model.specs.declared.upload.UploadFault.{UploadFault}
 use Rattle.bim_model.specs.declared.upload.UploadFault.TheVariants.{LengthUnit}
-use Rattle.p21_reader.specs.declared.value.Value21.{Value21}
-use Rattle.p21_reader.specs.declared.value.Instance.{Instance}
-use Rattle.p21_reader.specs.Uploads.{Rises}
-use Rattle.p21_reader.specs.Attributes.{listed}
-use Rattle.p21_reader.specs.Looking.{look}
-use Rattle.p21_reader.proofs.PlaceLemmas.{rising}
+use Rattle.p21_values.specs.declared.value.Value21.{Value21}
+use Rattle.p21_values.specs.declared.value.Instance.{Instance}
+use Rattle.p21_values.specs.Places.{Rises}
+use Rattle.p21_values.specs.Attributes.{listed}
+use Rattle.p21_values.specs.Looking.{look}
+use Rattle.p21_values.proofs.PlaceLemmas.{rising}
 use Rattle.ifc_units.specs.declared.scale.Scale.{Scale}
 use Rattle.ifc_units.specs.Units.{unit_power, projects, assignment_of, IsUnitAmong, IsOnly, RefersToOther, AssignsPower, IsLengthUnit, IsLeastNumber, LengthUnitFault}
 

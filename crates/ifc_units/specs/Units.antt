@@ -5,13 +5,13 @@ use Rattle.std.specs.List.{slice_get, filter, find}
 use Rattle.std.specs.Str.{bytes_eq}
 use Rattle.bim_model.specs.declared.upload.UploadFault.{UploadFault}
 use Rattle.bim_model.specs.declared.upload.UploadFault.TheVariants.{LengthUnit}
-use Rattle.p21_reader.specs.declared.value.Value21.{Value21}
-use Rattle.p21_reader.specs.declared.value.Instance.{Instance}
+use Rattle.p21_values.specs.declared.value.Value21.{Value21}
+use Rattle.p21_values.specs.declared.value.Instance.{Instance}
 use Rattle.ifc_instances.specs.declared.entity.Entity.TheVariants as entity
-use Rattle.p21_reader.specs.Attributes.{listed, target_at}
-use Rattle.p21_reader.specs.Looking.{look}
+use Rattle.p21_values.specs.Attributes.{listed, target_at}
+use Rattle.p21_values.specs.Looking.{look}
 use Rattle.ifc_instances.specs.Looking.{is_a, some_passes}
-use Rattle.p21_reader.specs.Values.{reference_of, enumeration_of, is_absent}
+use Rattle.p21_values.specs.Values.{reference_of, enumeration_of, is_absent}
 use Rattle.ifc_units.specs.declared.scale.Scale.{Scale}
 
 -- What values say.

@@ -8,7 +8,7 @@ use crate::lengths::{point, points_fault};
 use crate::scale::Scale;
 use bim_model::Mode;
 use ifc_instances::Entity;
-use p21_reader::{InstanceRef, ValueRef};
+use p21_table::{InstanceRef, ValueRef};
 
 // The fault of a value that is to be a point.
 fn point_fault(value: &ValueRef<'_>, scale: Scale, mode: Mode) -> Option<GridFault>

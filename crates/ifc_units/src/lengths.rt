@@ -2,7 +2,7 @@
 ghost use Rattle.std.specs.Prelude.{◌∷◌, [], IfOk, MatchOption, MatchResult};
 ghost use Rattle.std.specs.List.{AllZip};
 ghost use Rattle.bim_model.specs.declared.geometry.Point.{Point};
-ghost use Rattle.p21_reader.specs.declared.value.Value21.{Value21};
+ghost use Rattle.p21_values.specs.declared.value.Value21.{Value21};
 ghost use Rattle.ifc_units.specs.declared.length_error.GridFault.{GridFault};
 ghost use Rattle.ifc_units.specs.Lengths.{IsLength, HasLength, LengthRefused, FirstRefused, IsPoint, PointRefused, ArePoints, PointsRefused, Fails};
 
@@ -11,7 +11,7 @@ use crate::length_error::{GridFault, LengthError};
 use crate::scale::Scale;
 use bim_model::{Mode, Point};
 use bim_text::Decimal;
-use p21_reader::{ValueRef, Values};
+use p21_table::{ValueRef, Values};
 use std::alloc::{AllocError, Global};
 
 /// The grid number of a value that is a number (IFC4 ADD2 TC1, IfcLengthMeasure). Unread where it isn't one that is read.

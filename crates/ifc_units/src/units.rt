@@ -2,7 +2,7 @@
 ghost use Rattle.std.specs.Prelude.{◌≡◌, ◌∷◌, [], ℕ, ℤ, Some, Any, length, IfOk, IfErr, IfSome, IfNone, find};
 ghost use Rattle.std.specs.Bool.{MatchBool};
 ghost use Rattle.bim_model.specs.declared.upload.UploadFault.{UploadFault};
-ghost use Rattle.p21_reader.specs.declared.value.Instance.{Instance};
+ghost use Rattle.p21_values.specs.declared.value.Instance.{Instance};
 ghost use Rattle.ifc_instances.specs.declared.entity.Entity.TheVariants.{Project};
 ghost use Rattle.ifc_instances.specs.Looking.{is_a};
 ghost use Rattle.ifc_units.specs.declared.scale.Scale.{Scale};
@@ -11,7 +11,7 @@ ghost use Rattle.ifc_units.specs.Units.{says, is_length_unit, prefix_power, powe
 use crate::scale::Scale;
 use bim_model::UploadFault;
 use ifc_instances::Entity;
-use p21_reader::{Exchange, InstanceRef, Instances, ValueRef, Values};
+use p21_table::{Exchange, InstanceRef, Instances, ValueRef, Values};
 
 // Whether the attribute is the enumeration of those letters.
 fn says(word: &str, instance: &InstanceRef<'_>, at: usize) -> bool

@@ -4,8 +4,8 @@ use Rattle.std.specs.Bool.{MatchBool}
 use Rattle.std.specs.Option.{MatchOption}
 use Rattle.std.specs.List.{slice_get, All}
 use Rattle.std.proofs.lemmas.List.Elements.{All-contains}
-use Rattle.p21_reader.specs.declared.value.Value21.{Value21}
-use Rattle.p21_reader.specs.declared.value.Instance.{Instance}
+use Rattle.p21_values.specs.declared.value.Value21.{Value21}
+use Rattle.p21_values.specs.declared.value.Instance.{Instance}
 use Rattle.ifc_instances.specs.declared.entity.Entity.{Entity}
 use Rattle.ifc_schema.specs.declared.flaw.Flaw.{Flaw}
 use Rattle.ifc_schema.specs.declared.flaw.Flaw.TheVariants.{Dangling, BadShape}
@@ -21,8 +21,8 @@ use Rattle.ifc_schema.specs.declared.form.When.{When}
 use Rattle.ifc_schema.specs.Words.{IsNumber, IsWhole}
 use Rattle.ifc_schema.specs.Forms.{fits, holds, followed}
 use Rattle.ifc_schema.specs.Table.{row_of, attribute, row_at, row_or_none}
-use Rattle.p21_reader.specs.Values.{number_of, reference_of, items_of, is_absent}
-use Rattle.p21_reader.specs.Looking.{look}
+use Rattle.p21_values.specs.Values.{number_of, reference_of, items_of, is_absent}
+use Rattle.p21_values.specs.Looking.{look}
 use Rattle.ifc_instances.specs.Looking.{entity_at, is_a}
 use Rattle.ifc_schema.specs.Bodies.{applies}
 use Rattle.ifc_schema.specs.Flaws.{LeafFlaw, NumberFlaw, WholeFlaw, ItemsFlaw, ListFlaw, ShapeFlaw, PlaceFlaw, AttributeFlaw, InstanceFlaw, bad_unless, target_flaw, wanted_flaw, any_flaw, reference_flaw}

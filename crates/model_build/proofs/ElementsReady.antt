@@ -9,17 +9,17 @@ use Rattle.std.proofs.lemmas.Slice.Zip.{AllZip-long}
 use Rattle.bim_model.specs.declared.upload.Mode.{Mode}
 use Rattle.bim_model.specs.declared.upload.UploadFault.{UploadFault}
 use Rattle.bim_model.specs.declared.geometry.Point.{Point}
-use Rattle.p21_reader.specs.declared.value.Value21.{Value21}
-use Rattle.p21_reader.specs.declared.value.Instance.{Instance}
+use Rattle.p21_values.specs.declared.value.Value21.{Value21}
+use Rattle.p21_values.specs.declared.value.Instance.{Instance}
 use Rattle.ifc_instances.specs.declared.entity.Entity.TheVariants as entity
 use Rattle.ifc_schema.specs.declared.form.Count.TheVariants.{AtLeast}
-use Rattle.p21_reader.specs.Values.{reference_of, items_of}
-use Rattle.p21_reader.specs.Looking.{look}
+use Rattle.p21_values.specs.Values.{reference_of, items_of}
+use Rattle.p21_values.specs.Looking.{look}
 use Rattle.ifc_instances.specs.Looking.{entity_at, is_a}
 use Rattle.ifc_schema.specs.Used.{Used}
 use Rattle.ifc_schema.specs.Surveys.{IsModelElement, used_ids, element_ids, is_subject}
 use Rattle.ifc_schema.proofs.Listing.{element_used}
-use Rattle.p21_reader.proofs.PlaceLemmas.{place_found}
+use Rattle.p21_values.proofs.PlaceLemmas.{place_found}
 use Rattle.ifc_units.specs.declared.scale.Scale.{Scale}
 use Rattle.ifc_units.specs.declared.length_error.GridFault.{GridFault}
 use Rattle.ifc_units.specs.Lengths.{IsPoint, ArePoints, PointRefused, PointsRefused, ListRefused}
@@ -27,7 +27,7 @@ use Rattle.placement.specs.declared.frame.Frame.{Frame}
 use Rattle.placement.specs.Frames.{lengths_of, frame_at}
 use Rattle.placement.specs.Operators.{IsOrigin, OperatorFrame}
 use Rattle.faceset.specs.Sets.{is_set, is_polygonal, points_of, spelled_points, spelled_triangles, faces_of, listed_in, HasThree, IsOutlined}
-use Rattle.p21_reader.specs.Attributes.{listed, reference_at}
+use Rattle.p21_values.specs.Attributes.{listed, reference_at}
 use Rattle.model_build.specs.declared.judged_file.File.{File}
 use Rattle.model_build.specs.Stages.{IsUsed}
 use Rattle.ifc_elements.specs.PointTables.{IsTable, ListsPoints, kept_at}

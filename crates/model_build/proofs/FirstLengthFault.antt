@@ -4,18 +4,18 @@ use Rattle.std.specs.Option.{MatchOption, unwrap_or, option_and_then}
 use Rattle.std.specs.List.{slice_get}
 use Rattle.bim_model.specs.declared.upload.Mode.{Mode}
 use Rattle.bim_model.specs.declared.geometry.Point.{Point}
-use Rattle.p21_reader.specs.declared.value.Value21.{Value21}
-use Rattle.p21_reader.specs.declared.value.Instance.{Instance}
-use Rattle.p21_reader.specs.Values.{items_of}
-use Rattle.p21_reader.specs.Looking.{look}
-use Rattle.p21_reader.specs.Places.{IsPlaceOf}
-use Rattle.p21_reader.proofs.PlaceLemmas.{found_at, same_instance}
+use Rattle.p21_values.specs.declared.value.Value21.{Value21}
+use Rattle.p21_values.specs.declared.value.Instance.{Instance}
+use Rattle.p21_values.specs.Values.{items_of}
+use Rattle.p21_values.specs.Looking.{look}
+use Rattle.p21_values.specs.Places.{IsPlaceOf}
+use Rattle.p21_values.proofs.PlaceLemmas.{found_at, same_instance}
 use Rattle.ifc_units.specs.declared.scale.Scale.{Scale}
 use Rattle.ifc_units.specs.declared.length_error.GridFault.{GridFault}
 use Rattle.ifc_units.specs.Lengths.{ArePoints, PointsRefused, ListRefused, InstanceRefused}
 use Rattle.ifc_units.proofs.PointFacts.{points_apart}
 use Rattle.ifc_units.proofs.InstanceFacts.{not_both}
-use Rattle.p21_reader.specs.Attributes.{listed}
+use Rattle.p21_values.specs.Attributes.{listed}
 use Rattle.ifc_elements.specs.PointTables.{IsListOf, Tabled, IsTable, kept_at}
 use Rattle.model_build.specs.LengthFaults.{Refuses}
 use Rattle.ifc_elements.proofs.TablesOfPoints.{at_place}

@@ -11,7 +11,7 @@ use Rattle.std.proofs.lemmas.List.{get_or_default}
 use Rattle.std.proofs.lemmas.List.Kept.{AllPairs-from_increasing}
 use Rattle.std.proofs.lemmas.List.Elements.{Contains-get_or}
 use Rattle.std.proofs.lemmas.Map.Lookups.{exact_bytes}
-use Rattle.p21_reader.specs.declared.value.Instance.{Instance}
+use Rattle.p21_values.specs.declared.value.Instance.{Instance}
 use Rattle.ifc_instances.proofs.Rising.{earlier, below_next}
 use Rattle.ifc_elements.specs.Texts.{guid_of}
 use Rattle.model_build.specs.Guids.{HasGuid, RepeatsGuid, IsIdentified, HasNoGuid, NoneRepeats, IsFirstRepeated}

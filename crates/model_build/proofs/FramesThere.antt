@@ -2,14 +2,14 @@
 use Rattle.std.proofs.Common.{◌≡◌, ℕ, inl, inr, Bool, true, false, List, Option, Some, None, option_and_then, option_map, Contains, refl, sym, ap, ◌∙◌, subst, if◌then◌else◌}
 use Rattle.std.specs.Option.{MatchOption}
 use Rattle.std.specs.List.{slice_get}
-use Rattle.p21_reader.proofs.PlaceLemmas.{same_instance}
+use Rattle.p21_values.proofs.PlaceLemmas.{same_instance}
 use Rattle.bim_model.specs.declared.upload.Mode.{Mode}
 use Rattle.bim_model.specs.declared.geometry.Point.{Point}
-use Rattle.p21_reader.specs.declared.value.Value21.{Value21}
-use Rattle.p21_reader.specs.declared.value.Instance.{Instance}
+use Rattle.p21_values.specs.declared.value.Value21.{Value21}
+use Rattle.p21_values.specs.declared.value.Instance.{Instance}
 use Rattle.ifc_instances.specs.declared.entity.Entity.TheVariants as entity
 use Rattle.model_build.specs.declared.judged_file.File.{File}
-use Rattle.p21_reader.specs.Values.{reference_of, is_absent}
+use Rattle.p21_values.specs.Values.{reference_of, is_absent}
 use Rattle.ifc_schema.specs.Surveys.{IsModelElement, element_ids}
 use Rattle.ifc_schema.proofs.Listing.{element_used}
 use Rattle.ifc_units.specs.declared.scale.Scale.{Scale}
@@ -18,7 +18,7 @@ use Rattle.placement.specs.declared.frame.Frame.{Frame}
 use Rattle.placement.specs.Frames.{lengths_of, frame_at}
 use Rattle.placement.specs.Chains.{named_by, parent_in, parent_of, Reached}
 use Rattle.placement.specs.Chains.Reached.{directly, further}
-use Rattle.p21_reader.specs.Attributes.{referred_at, reference_at}
+use Rattle.p21_values.specs.Attributes.{referred_at, reference_at}
 use Rattle.placement.specs.Placed.{IsLocation, OwnFrame, LacksFrame}
 use Rattle.model_build.specs.Stages.{IsUsed}
 use Rattle.model_build.specs.LengthFaults.{told_of}
@@ -26,7 +26,7 @@ use Rattle.model_build.specs.Named.{IsNamed}
 use Rattle.model_build.specs.Outcomes.{IsMeasured}
 use Rattle.model_build.proofs.AttributesFormed.{Shaped}
 use Rattle.model_build.proofs.UsedFormed.{point_numbers, location_used, parent_used, axes_used, placement_used}
-use Rattle.p21_reader.proofs.ValueLemmas.{refers_absent}
+use Rattle.p21_values.proofs.ValueLemmas.{refers_absent}
 use Rattle.model_build.proofs.ItemsSupported.{element_is}
 use Rattle.model_build.proofs.NumbersReadable.{readable_point}
 use Rattle.model_build.proofs.ElementsReady.{Measured, Squared}

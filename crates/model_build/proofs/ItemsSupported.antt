@@ -5,20 +5,20 @@ use Rattle.std.specs.List.{All, cons_option}
 use Rattle.std.proofs.lemmas.List.Elements.{All-nil, All-head, All-tail, All-append}
 use Rattle.std.proofs.lemmas.List.Sums.{sum_by-cons}
 use Rattle.bim_model.specs.declared.upload.Mode.{Mode}
-use Rattle.p21_reader.specs.declared.value.Value21.{Value21}
-use Rattle.p21_reader.specs.declared.value.Instance.{Instance}
+use Rattle.p21_values.specs.declared.value.Value21.{Value21}
+use Rattle.p21_values.specs.declared.value.Instance.{Instance}
 use Rattle.ifc_instances.specs.declared.entity.Entity.TheVariants as entity
 use Rattle.ifc_schema.specs.declared.form.Targets.TheVariants as targets
 use Rattle.ifc_schema.specs.declared.form.Count.TheVariants.{AtLeast}
-use Rattle.p21_reader.specs.Values.{reference_of}
-use Rattle.p21_reader.specs.Looking.{look}
+use Rattle.p21_values.specs.Values.{reference_of}
+use Rattle.p21_values.specs.Looking.{look}
 use Rattle.ifc_instances.specs.Looking.{entity_at, is_a}
 use Rattle.ifc_schema.specs.Bodies.{has_body, is_body, is_body_representation}
 use Rattle.ifc_schema.specs.Used.{Used, mapped, IsMapped}
 use Rattle.ifc_schema.specs.Surveys.{IsModelElement, is_subject}
 use Rattle.ifc_schema.proofs.Listing.{element_used}
 use Rattle.ifc_units.specs.declared.scale.Scale.{Scale}
-use Rattle.p21_reader.specs.Attributes.{listed, reference_at, target_at, led_to}
+use Rattle.p21_values.specs.Attributes.{listed, reference_at, target_at, led_to}
 use Rattle.faceset.specs.Sets.{is_set, is_polygonal, faces_of, outline, spelled_triangles, face_count, triangle_count, HasThree, IsOutlined}
 use Rattle.ifc_elements.specs.Finding.{Finds}
 use Rattle.model_build.specs.Stages.{IsUsed}

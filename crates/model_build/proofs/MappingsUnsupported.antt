@@ -6,15 +6,15 @@ use Rattle.std.proofs.Math.Bool.{beq}
 use Rattle.std.proofs.lemmas.Bool.{eqb-true}
 use Rattle.model_build.proofs.OneKeyword.{both}
 use Rattle.bim_model.specs.declared.upload.Mode.{Mode}
-use Rattle.p21_reader.specs.declared.value.Value21.{Value21}
-use Rattle.p21_reader.specs.declared.value.Instance.{Instance}
-use Rattle.p21_reader.specs.Values.{number_of}
-use Rattle.p21_reader.specs.Looking.{look}
+use Rattle.p21_values.specs.declared.value.Value21.{Value21}
+use Rattle.p21_values.specs.declared.value.Instance.{Instance}
+use Rattle.p21_values.specs.Values.{number_of}
+use Rattle.p21_values.specs.Looking.{look}
 use Rattle.ifc_units.specs.declared.scale.Scale.{Scale}
 use Rattle.placement.specs.declared.axis.Axis.{Axis}
 use Rattle.placement.specs.declared.axes.Axes.{Axes}
 use Rattle.placement.specs.Directions.{HasAxes, HasDirections, Oblique}
-use Rattle.p21_reader.specs.Attributes.{referred_at}
+use Rattle.p21_values.specs.Attributes.{referred_at}
 use Rattle.placement.proofs.Square.{square}
 use Rattle.bim_text.specs.Decimals.{WritesWhole}
 use Rattle.faceset.specs.Indexes.{PointsAt, PointsNowhere}

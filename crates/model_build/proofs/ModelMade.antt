@@ -8,11 +8,11 @@ use Rattle.std.proofs.lemmas.List.Elements.{Contains-get_or}
 use Rattle.std.proofs.lemmas.List.Sorted.{All-permutation, sum_by-IsPermutation}
 use Rattle.bim_model.specs.declared.element.Element.{Element}
 use Rattle.bim_model.specs.Models.{IsModel, IsModelled, triangle_count, IsInReach}
-use Rattle.p21_reader.specs.declared.value.Instance.{Instance}
+use Rattle.p21_values.specs.declared.value.Instance.{Instance}
 use Rattle.model_build.specs.Guids.{HasGuid, NoneRepeats}
 use Rattle.model_build.specs.Order.{Differ, Rise}
 use Rattle.std.proofs.lemmas.List.Sums.{sum_by-cons}
-use Rattle.p21_reader.proofs.PlaceLemmas.{same_instance}
+use Rattle.p21_values.proofs.PlaceLemmas.{same_instance}
 use Rattle.bim_model.specs.declared.upload.Mode.{Mode}
 use Rattle.bim_model.specs.declared.upload.UploadFault.TheVariants as faults
 use Rattle.bim_model.specs.declared.geometry.Point.{Point}

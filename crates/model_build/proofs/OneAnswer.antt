@@ -15,9 +15,9 @@ use Rattle.bim_model.specs.declared.upload.UploadFault.TheVariants as faults
 use Rattle.bim_model.specs.declared.guid.Guid.{Guid}
 use Rattle.bim_model.specs.declared.element.Element.{Element}
 use Rattle.bim_model.specs.Models.{is_below}
-use Rattle.p21_reader.specs.declared.value.Instance.{Instance}
+use Rattle.p21_values.specs.declared.value.Instance.{Instance}
 use Rattle.p21_reader.proofs.OneAnswer.{one_exchange, refused, one_fault}
-use Rattle.p21_reader.proofs.Strict.{trichotomy}
+use Rattle.p21_values.proofs.PlaceLemmas.{trichotomy}
 use Rattle.ifc_schema.specs.Surveys.{IsModelElement}
 use Rattle.ifc_schema.specs.Used.{Used}
 use Rattle.ifc_schema.proofs.OneFlaw.{one_survey_fault}

@@ -2,8 +2,8 @@
 use Rattle.std.proofs.Common.{◌≡◌, ℕ, ◌⊎◌, inl, inr, Bool, true, false, List, Option, Some, None, Contains, refl, arith}
 use Rattle.std.specs.Bool.{⊤, MatchBool}
 use Rattle.std.specs.List.{slice_get}
-use Rattle.p21_reader.specs.declared.value.Value21.{Value21}
-use Rattle.p21_reader.specs.declared.value.Instance.{Instance}
+use Rattle.p21_values.specs.declared.value.Value21.{Value21}
+use Rattle.p21_values.specs.declared.value.Instance.{Instance}
 use Rattle.ifc_instances.specs.declared.entity.Entity.TheVariants as entity
 use Rattle.ifc_schema.specs.declared.form.Attribute.{Attribute}
 use Rattle.ifc_schema.specs.declared.form.Targets.TheVariants as targets
@@ -15,8 +15,8 @@ use Rattle.ifc_schema.specs.declared.form.Need.TheVariants.{OrMissing}
 use Rattle.ifc_schema.specs.declared.form.When.{When}
 use Rattle.ifc_schema.specs.declared.form.When.TheVariants.{Always}
 use Rattle.ifc_schema.specs.Table.{row_of, attribute, row_at}
-use Rattle.p21_reader.specs.Values.{is_absent}
-use Rattle.p21_reader.specs.Looking.{look}
+use Rattle.p21_values.specs.Values.{is_absent}
+use Rattle.p21_values.specs.Looking.{look}
 use Rattle.ifc_schema.specs.Flaws.{LeafFlaw, ShapeFlaw, PlaceFlaw}
 use Rattle.ifc_schema.specs.Used.{Used}
 use Rattle.placement.specs.declared.direction.Direction.{Direction}

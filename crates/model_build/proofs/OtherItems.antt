@@ -2,10 +2,10 @@
 use Rattle.std.proofs.Common.{◌≡◌, ℕ, ◌⊎◌, inl, inr, true, List, [], ◌∷◌, ◌++◌, filter_map, Option, Some, None, Contains, refl, sym, subst, arith}
 use Rattle.std.specs.List.{cons_option}
 use Rattle.std.proofs.lemmas.List.Elements.{Contains-append_left, Contains-append_right, Contains-append_cases, filter_map-append}
-use Rattle.p21_reader.specs.declared.value.Value21.{Value21}
-use Rattle.p21_reader.specs.declared.value.Instance.{Instance}
-use Rattle.p21_reader.specs.Looking.{look}
-use Rattle.p21_reader.specs.Values.{reference_of}
+use Rattle.p21_values.specs.declared.value.Value21.{Value21}
+use Rattle.p21_values.specs.declared.value.Instance.{Instance}
+use Rattle.p21_values.specs.Looking.{look}
+use Rattle.p21_values.specs.Values.{reference_of}
 use Rattle.ifc_schema.specs.Bodies.{is_body_representation}
 use Rattle.ifc_elements.specs.Finding.{Finds}
 use Rattle.ifc_elements.specs.Items.{spelled_items}

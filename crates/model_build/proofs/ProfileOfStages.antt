@@ -5,7 +5,7 @@ use Rattle.bim_model.specs.declared.upload.Mode.{Mode}
 use Rattle.bim_model.specs.declared.upload.BuildError.{BuildError}
 use Rattle.bim_model.specs.declared.upload.BuildError.TheVariants as errors
 use Rattle.bim_model.specs.declared.element.Element.{Element}
-use Rattle.p21_reader.specs.declared.value.Instance.{Instance}
+use Rattle.p21_values.specs.declared.value.Instance.{Instance}
 use Rattle.p21_reader.specs.Uploads.{SpellsExchange}
 use Rattle.p21_reader.specs.Uploads as reader
 use Rattle.model_build.specs.Faults.{IsClear}

@@ -1,6 +1,6 @@
 -- Each element has a global identifier, and the first one that stands twice is the fault of its stage.
 use Rattle.std.proofs.Common.{ℕ, List, Contains, refl}
-use Rattle.p21_reader.specs.declared.value.Instance.{Instance}
+use Rattle.p21_values.specs.declared.value.Instance.{Instance}
 use Rattle.ifc_schema.specs.declared.outcome.Survey.{Survey}
 use Rattle.ifc_schema.specs.Surveys.{Surveyed, element_ids, Lists}
 use Rattle.ifc_schema.proofs.Listing.{element_used}

@@ -2,8 +2,8 @@
 use Rattle.std.proofs.Common.{ℕ, List, subst}
 use Rattle.bim_model.specs.declared.upload.Mode.{Mode}
 use Rattle.bim_model.specs.declared.geometry.Triangle.{Triangle}
-use Rattle.p21_reader.specs.declared.value.Instance.{Instance}
-use Rattle.p21_reader.specs.Looking.{look}
+use Rattle.p21_values.specs.declared.value.Instance.{Instance}
+use Rattle.p21_values.specs.Looking.{look}
 use Rattle.ifc_schema.specs.Used.{Used}
 use Rattle.ifc_schema.specs.Surveys.{Lists}
 use Rattle.ifc_units.specs.declared.scale.Scale.{Scale}
@@ -13,7 +13,7 @@ use Rattle.ifc_elements.specs.Surfaces.{SetSurface}
 use Rattle.ifc_elements.specs.Sound.{AreSets, IsUncut}
 use Rattle.model_build.specs.Stages.{StuckStage}
 use Rattle.model_build.specs.Outcomes.{AreSound}
-use Rattle.p21_reader.proofs.ValueLemmas.{one}
+use Rattle.p21_values.proofs.ValueLemmas.{one}
 use Rattle.ifc_elements.proofs.OneSet.{own_points, set_unstuck}
 
 -- where the sets that are used are cut, none of their faces can't be

@@ -3,8 +3,8 @@ use Rattle.std.proofs.Common.{◌≡◌, ℕ, ◌<◌, ◌≤◌, ◌⊎◌, inl
 use Rattle.std.specs.List.{slice_get, All, Any}
 use Rattle.std.proofs.lemmas.List.{get_or_default}
 use Rattle.std.proofs.lemmas.Bool.Decides.{nat_tests}
-use Rattle.p21_reader.specs.declared.value.Value21.{Value21}
-use Rattle.p21_reader.specs.declared.value.Instance.{Instance}
+use Rattle.p21_values.specs.declared.value.Value21.{Value21}
+use Rattle.p21_values.specs.declared.value.Instance.{Instance}
 use Rattle.ifc_instances.specs.declared.entity.Entity.TheVariants as entity
 use Rattle.ifc_schema.specs.declared.form.Attribute.{Attribute}
 use Rattle.ifc_schema.specs.declared.form.Targets.{Targets}
@@ -18,13 +18,13 @@ use Rattle.ifc_schema.specs.declared.form.When.TheVariants.{Always, WithItems}
 use Rattle.ifc_instances.specs.Entities.{is_of, entity_of}
 use Rattle.ifc_schema.specs.Forms.{holds, followed}
 use Rattle.ifc_schema.specs.Table.{row_of, attribute, row_at}
-use Rattle.p21_reader.specs.Values.{reference_of, items_of}
-use Rattle.p21_reader.specs.Looking.{look}
+use Rattle.p21_values.specs.Values.{reference_of, items_of}
+use Rattle.p21_values.specs.Looking.{look}
 use Rattle.ifc_instances.specs.Looking.{entity_at, is_a, is_keyword_of}
 use Rattle.ifc_schema.specs.Bodies.{applies, is_body}
 use Rattle.ifc_schema.specs.Flaws.{LeafFlaw, ShapeFlaw, InstanceFlaw, bad_unless, target_flaw, wanted_flaw, reference_flaw}
 use Rattle.ifc_schema.specs.Used.{Used, IsMapped, LeadsTo, RefersTo, StandsIn}
-use Rattle.p21_reader.specs.Attributes.{listed}
+use Rattle.p21_values.specs.Attributes.{listed}
 use Rattle.faceset.specs.Sets.{is_polygonal, is_set, outline}
 use Rattle.ifc_elements.specs.Items.{is_mapped_item, is_item}
 use Rattle.model_build.specs.Faces.{is_face}

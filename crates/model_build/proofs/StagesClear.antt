@@ -1,7 +1,7 @@
 -- What is known after a check that found nothing says that its stage has no fault.
 use Rattle.std.proofs.Common.{ℕ, List, Contains}
 use Rattle.bim_model.specs.declared.upload.Mode.{Mode}
-use Rattle.p21_reader.specs.declared.value.Instance.{Instance}
+use Rattle.p21_values.specs.declared.value.Instance.{Instance}
 use Rattle.ifc_schema.specs.Used.{Used}
 use Rattle.ifc_schema.specs.Surveys.{Lists, Surveyed}
 use Rattle.ifc_units.specs.declared.scale.Scale.{Scale}

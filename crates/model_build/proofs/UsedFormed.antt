@@ -4,8 +4,8 @@ use Rattle.std.specs.Option.{unwrap_or}
 use Rattle.std.specs.List.{slice_get, list_all, All}
 use Rattle.std.proofs.lemmas.Bool.{eqb-true}
 use Rattle.std.proofs.lemmas.Bool.Decides.{nat_tests}
-use Rattle.p21_reader.specs.declared.value.Value21.{Value21}
-use Rattle.p21_reader.specs.declared.value.Instance.{Instance}
+use Rattle.p21_values.specs.declared.value.Value21.{Value21}
+use Rattle.p21_values.specs.declared.value.Instance.{Instance}
 use Rattle.bim_model.specs.Guids.{IsGuid, is_guid_char}
 use Rattle.bim_text.specs.Texts.{text_of_spelling}
 use Rattle.ifc_instances.specs.declared.entity.Entity.{Entity}
@@ -22,8 +22,8 @@ use Rattle.ifc_schema.specs.declared.form.When.TheVariants.{Always, WithBody}
 use Rattle.ifc_schema.specs.Words.{IsNumber, says_guid}
 use Rattle.bim_text.specs.Says.{is_guid}
 use Rattle.ifc_schema.specs.Table.{row_of, attribute, row_at}
-use Rattle.p21_reader.specs.Values.{words_of, reference_of, items_of}
-use Rattle.p21_reader.specs.Looking.{look}
+use Rattle.p21_values.specs.Values.{words_of, reference_of, items_of}
+use Rattle.p21_values.specs.Looking.{look}
 use Rattle.ifc_instances.specs.Looking.{entity_at, is_a, some_passes}
 use Rattle.ifc_schema.specs.Bodies.{applies, has_body}
 use Rattle.ifc_schema.specs.Flaws.{LeafFlaw, ListFlaw, ShapeFlaw, bad_unless}
@@ -31,7 +31,7 @@ use Rattle.ifc_schema.specs.Used.{Used}
 use Rattle.ifc_schema.specs.Surveys.{is_subject}
 use Rattle.placement.specs.declared.direction.Direction.{Direction}
 use Rattle.placement.specs.Directions.{Spelled, coordinates, three_numbers, IsDirection, Directs, HasDirections}
-use Rattle.p21_reader.specs.Attributes.{listed, reference_at}
+use Rattle.p21_values.specs.Attributes.{listed, reference_at}
 use Rattle.faceset.specs.Sets.{spelled_triangles, HasThree}
 use Rattle.model_build.specs.Stages.{IsUsed}
 use Rattle.ifc_elements.specs.Texts.{guid_of}

@@ -11,13 +11,13 @@ use Rattle.bim_model.specs.declared.upload.Mode.{Mode}
 use Rattle.bim_model.specs.declared.element.Element.{Element}
 use Rattle.bim_model.specs.declared.geometry.Point.{Point}
 use Rattle.bim_model.specs.Models.{IsModel}
-use Rattle.p21_reader.specs.declared.value.Value21.{Value21}
-use Rattle.p21_reader.specs.declared.value.Instance.{Instance}
-use Rattle.p21_reader.specs.Values.{reference_of, is_absent}
-use Rattle.p21_reader.specs.Looking.{look}
-use Rattle.p21_reader.specs.Attributes.{reference_at, referred_at, value_at}
-use Rattle.p21_reader.proofs.ValueLemmas.{one, refers_absent}
-use Rattle.p21_reader.proofs.PlaceLemmas.{same_instance}
+use Rattle.p21_values.specs.declared.value.Value21.{Value21}
+use Rattle.p21_values.specs.declared.value.Instance.{Instance}
+use Rattle.p21_values.specs.Values.{reference_of, is_absent}
+use Rattle.p21_values.specs.Looking.{look}
+use Rattle.p21_values.specs.Attributes.{reference_at, referred_at, value_at}
+use Rattle.p21_values.proofs.ValueLemmas.{one, refers_absent}
+use Rattle.p21_values.proofs.PlaceLemmas.{same_instance}
 use Rattle.ifc_instances.specs.declared.entity.Entity.TheVariants as entity
 use Rattle.ifc_instances.specs.Looking.{is_a, some_passes}
 use Rattle.ifc_schema.specs.Bodies.{is_body, is_body_representation}

@@ -1,6 +1,6 @@
 -- The least of numbers of which something holds.
 use Rattle.std.specs.Prelude.{◌≡◌, ℕ, ◌<◌, ◌⊎◌, true, List, Contains}
-use Rattle.p21_reader.specs.declared.value.Instance.{Instance}
+use Rattle.p21_values.specs.declared.value.Instance.{Instance}
 use Rattle.ifc_instances.specs.declared.entity.Entity.TheVariants.{AxisPlacement, Operator, FaceWithVoids}
 use Rattle.ifc_instances.specs.Looking.{is_a}
 use Rattle.faceset.specs.Sets.{is_set, HasBadIndex}

@@ -1,8 +1,8 @@
 -- The placements that elements name (IFC4 ADD2 TC1, IfcProduct).
 use Rattle.std.specs.Prelude.{◌≡◌, ℕ, List, Some, Contains}
-use Rattle.p21_reader.specs.declared.value.Instance.{Instance}
+use Rattle.p21_values.specs.declared.value.Instance.{Instance}
 use Rattle.ifc_elements.specs.Finding.{Finds}
-use Rattle.p21_reader.specs.Attributes.{reference_at}
+use Rattle.p21_values.specs.Attributes.{reference_at}
 
 -- one of them names that placement
 pub record IsNamed (world : List Instance) (Of : ℕ → Type 0) (placement : ℕ) : Type 0 where

@@ -4,7 +4,7 @@ use Rattle.bim_model.specs.declared.upload.Mode.{Mode}
 use Rattle.bim_model.specs.declared.upload.UploadFault.{UploadFault}
 use Rattle.bim_model.specs.declared.upload.BuildError.{BuildError}
 use Rattle.bim_model.specs.declared.upload.BuildError.TheVariants as errors
-use Rattle.p21_reader.specs.declared.value.Instance.{Instance}
+use Rattle.p21_values.specs.declared.value.Instance.{Instance}
 use Rattle.ifc_schema.specs.Surveys.{Surveyed, used_ids, element_ids}
 use Rattle.ifc_units.specs.Units.{IsLengthUnit}
 use Rattle.ifc_units.specs.declared.scale.Scale.{Scale}
@@ -14,7 +14,7 @@ use Rattle.model_build.specs.declared.judged_file.File.{File}
 use Rattle.model_build.specs.Faults.{Stage, IsClear}
 use Rattle.model_build.specs.Stages.{UnitStage}
 use Rattle.ifc_elements.specs.Finding.{Finds}
-use Rattle.p21_reader.specs.Attributes.{reference_at}
+use Rattle.p21_values.specs.Attributes.{reference_at}
 use Rattle.model_build.specs.Guids.{NoneRepeats}
 use Rattle.model_build.specs.Least.{NoneOf, IsVoided, IsBadSet, IsOblique}
 use Rattle.ifc_elements.specs.PointTables.{ListsPoints}
@@ -24,7 +24,7 @@ use Rattle.model_build.specs.Faces.{HasManyCorners}
 use Rattle.faceset.specs.Sets.{is_set, HasStuck}
 use Rattle.bim_model.specs.declared.geometry.Point.{Point}
 use Rattle.bim_model.specs.declared.geometry.Triangle.{Triangle}
-use Rattle.p21_reader.specs.Looking.{look}
+use Rattle.p21_values.specs.Looking.{look}
 use Rattle.model_build.specs.Named.{ListsNamed}
 use Rattle.ifc_elements.specs.Items.{count_of}
 use Rattle.ifc_elements.specs.Sound.{IsSoundSet, AreSets}

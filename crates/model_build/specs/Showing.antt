@@ -1,15 +1,15 @@
 -- What the search for unsupported items knows. No public contract cites it.
 use Rattle.std.specs.Prelude.{◌≡◌, ℕ, ◌⊎◌, nat_lt, Bool, true, false, if◌then◌else◌, ℤ, pos, List, filter_map, Option, Some, None, Contains}
 use Rattle.bim_model.specs.declared.upload.Mode.{Mode}
-use Rattle.p21_reader.specs.declared.value.Value21.{Value21}
-use Rattle.p21_reader.specs.declared.value.Instance.{Instance}
-use Rattle.p21_reader.specs.Values.{reference_of}
+use Rattle.p21_values.specs.declared.value.Value21.{Value21}
+use Rattle.p21_values.specs.declared.value.Instance.{Instance}
+use Rattle.p21_values.specs.Values.{reference_of}
 use Rattle.ifc_schema.specs.Bodies.{is_body_representation}
 use Rattle.ifc_units.specs.declared.scale.Scale.{Scale}
 use Rattle.model_build.specs.declared.mapping.Lies.{Lies}
 use Rattle.model_build.specs.declared.mapping.Lies.TheVariants.{AtZero, OffZero, Between}
 use Rattle.ifc_elements.specs.Finding.{Finds}
-use Rattle.p21_reader.specs.Attributes.{reference_at}
+use Rattle.p21_values.specs.Attributes.{reference_at}
 use Rattle.ifc_elements.specs.Items.{spelled_items, is_item, is_mapped_item}
 use Rattle.model_build.specs.Unsupported.{IsNoTarget, HasNoTarget, HasGridNumber, IsSome, IsShifted}
 

@@ -5,11 +5,11 @@ use Rattle.std.specs.List.{AllZip, slice_get}
 use Rattle.bim_model.specs.declared.upload.Mode.{Mode}
 use Rattle.bim_text.specs.declared.decimal.Decimal.{Decimal}
 use Rattle.bim_text.specs.Decimals.{Reads, WritesWhole}
-use Rattle.p21_reader.specs.declared.value.Value21.{Value21}
-use Rattle.p21_reader.specs.declared.value.Instance.{Instance}
+use Rattle.p21_values.specs.declared.value.Value21.{Value21}
+use Rattle.p21_values.specs.declared.value.Instance.{Instance}
 use Rattle.ifc_instances.specs.declared.entity.Entity.TheVariants.{Operator}
 use Rattle.ifc_instances.specs.Looking.{is_a}
-use Rattle.p21_reader.specs.Values.{number_of, reference_of, items_of}
+use Rattle.p21_values.specs.Values.{number_of, reference_of, items_of}
 use Rattle.ifc_schema.specs.Bodies.{is_body_representation}
 use Rattle.ifc_schema.specs.Used.{Used, IsMapped}
 use Rattle.ifc_units.specs.declared.scale.Scale.{Scale}
@@ -17,7 +17,7 @@ use Rattle.ifc_units.specs.Grid.{IsGridNumber, length_of}
 use Rattle.ifc_units.specs.Lengths.{units}
 use Rattle.placement.specs.declared.axes.Axes.{Axes}
 use Rattle.placement.specs.Directions.{HasAxes}
-use Rattle.p21_reader.specs.Attributes.{referred_at, value_at, reference_at}
+use Rattle.p21_values.specs.Attributes.{referred_at, value_at, reference_at}
 use Rattle.ifc_elements.specs.Finding.{Finds}
 use Rattle.ifc_elements.specs.Items.{spelled_items, is_item, is_mapped_item}
 

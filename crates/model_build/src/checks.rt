@@ -26,7 +26,7 @@ use bim_model::{BuildError, Items, Many, Mode, Point, UploadFault};
 use ifc_elements::Shapes;
 use ifc_schema::Survey;
 use ifc_units::Scale;
-use p21_reader::Exchange;
+use p21_table::Exchange;
 use placement::Chains;
 use std::alloc::{AllocError, Global};
 

@@ -1,7 +1,7 @@
 //! How many triangles a model has.
 ghost use Rattle.std.specs.Prelude.{◌≤◌, ◌+◌, ◌∷◌, [], sum_by, IfOk};
 ghost use Rattle.faceset.specs.Sets.{triangle_count};
-ghost use Rattle.p21_reader.specs.Attributes.{led_to};
+ghost use Rattle.p21_values.specs.Attributes.{led_to};
 ghost use Rattle.ifc_elements.specs.Items.{item_count, count_of};
 ghost use Rattle.model_build.specs.Triangles.{most_triangles, CountsTo, body_count};
 ghost use Rattle.ifc_elements.specs.Shapes.{AreShapes};
@@ -9,7 +9,7 @@ ghost use Rattle.ifc_elements.specs.Shapes.{AreShapes};
 use bim_model::MOST_TRIANGLES;
 use faceset::triangle_count;
 use ifc_elements::{Shapes, bodies, is_mapped_item, spelled_items, spelled_sets};
-use p21_reader::{Exchange, InstanceRef, ValueRef, Values};
+use p21_table::{Exchange, InstanceRef, ValueRef, Values};
 use std::alloc::{AllocError, Global};
 
 /// The number of triangles so far and of a set. None where it is more than a model may have, as in all that follows.

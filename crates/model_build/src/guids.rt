@@ -5,7 +5,7 @@ ghost use Rattle.model_build.specs.Guids.{HasNoGuid, HasThatGuid, IsIdentified, 
 
 use bim_model::Guid;
 use ifc_elements::guid_of;
-use p21_reader::Exchange;
+use p21_table::Exchange;
 use std::alloc::{AllocError, Global};
 use std::collections::BTreeSet;
 

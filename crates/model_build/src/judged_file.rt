@@ -3,7 +3,7 @@
 use bim_model::Mode;
 use ifc_schema::Survey;
 use ifc_units::Scale;
-use p21_reader::Exchange;
+use p21_table::Exchange;
 use placement::Chains;
 use spatial_tree::Tree;
 

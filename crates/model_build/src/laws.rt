@@ -3,7 +3,7 @@ ghost use Rattle.std.specs.Prelude.{◌≡◌, ℕ, List, Result, IsPermutation}
 ghost use Rattle.bim_model.specs.declared.upload.Mode.{Mode};
 ghost use Rattle.bim_model.specs.declared.upload.UploadFault.{UploadFault};
 ghost use Rattle.bim_model.specs.declared.element.Element.{Element};
-ghost use Rattle.p21_reader.specs.declared.value.Instance.{Instance};
+ghost use Rattle.p21_values.specs.declared.value.Instance.{Instance};
 ghost use Rattle.bim_model.specs.Models.{IsModel};
 ghost use Rattle.model_walk.specs.Walked.{IsWalked};
 ghost use Rattle.model_build.specs.Faults.{IsClear};

@@ -9,7 +9,7 @@ ghost use Rattle.model_build.specs.Least.{IsLeastOf, NoneOf, IsBadSet, IsAxisPla
 
 use faceset::{FaceReaches, has_bad_index, is_set};
 use ifc_instances::Entity;
-use p21_reader::Exchange;
+use p21_table::Exchange;
 use placement::{axes_of, operator_axes};
 use std::alloc::{AllocError, Global};
 

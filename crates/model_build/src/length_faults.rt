@@ -11,7 +11,7 @@ ghost use Rattle.model_build.specs.LengthFaults.{Refuses, LengthFault, told_of};
 use bim_model::{Items, Mode, Point, UploadFault};
 use ifc_elements::kept_at;
 use ifc_units::{GridFault, Scale, fault_of_points};
-use p21_reader::{Exchange, InstanceRef};
+use p21_table::{Exchange, InstanceRef};
 
 /// Which fault the lengths of an instance have, whose points are kept where it is a list of points on the grid.
 fn fault_of(

@@ -12,7 +12,7 @@ use faceset::place_of;
 use ifc_elements::is_mapped_item;
 use ifc_instances::Entity;
 use ifc_units::{GridFault, LengthError, Scale, length};
-use p21_reader::{Exchange, InstanceRef, ValueRef};
+use p21_table::{Exchange, InstanceRef, ValueRef};
 use placement::{Axes, Axis, axes_of};
 
 /// The axes of the grid.

@@ -2,7 +2,7 @@
 ghost use Rattle.std.specs.Prelude.{IfOk, MatchOption};
 ghost use Rattle.model_build.specs.Named.{NamesPlacement, NamesNone, ListsNamed};
 
-use p21_reader::Exchange;
+use p21_table::Exchange;
 use std::alloc::{AllocError, Global};
 
 /// The number of the placement that an element names.

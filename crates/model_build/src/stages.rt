@@ -1,8 +1,5 @@
 //! The model of a file, or its first fault: the checks in their order.
-ghost use Rattle.std.specs.Prelude.{◌≡◌, ◌⊎◌, List, Ok, IfOk, IfErr};
-ghost use Rattle.p21_reader.specs.declared.value.Instance.{Instance};
-ghost use Rattle.p21_reader.specs.Uploads.{SpellsExchange};
-ghost use Rattle.p21_reader.specs.Uploads as uploads;
+ghost use Rattle.std.specs.Prelude.{◌≡◌, Ok, IfOk, IfErr};
 ghost use Rattle.ifc_schema.specs.Surveys.{used_ids, element_ids};
 ghost use Rattle.placement.specs.Placed.{AreFrames, frame_in};
 ghost use Rattle.ifc_elements.specs.Names.{AreNames};
@@ -25,7 +22,8 @@ use bim_model::{BuildError, Bytes, Items, Mode, Model, Point, UploadFault};
 use ifc_elements::{Lack, Names, Sets, Shapes, elements_of, table_of};
 use ifc_schema::survey;
 use ifc_units::length_unit;
-use p21_reader::{Exchange, read};
+use p21_reader::{read, read_owned};
+use p21_table::Exchange;
 use placement::Frames;
 use spatial_tree::tree;
 use std::alloc::{AllocError, Global};
@@ -261,18 +259,7 @@ pub fn build(alloc: Global, bytes: &[u8], mode: Mode) -> Result<Model, BuildErro
     }
 }
 
-/// The instances that bytes spell, which it lets go.
-fn read_owned(alloc: Global, bytes: Bytes) -> Result<Exchange, BuildError>
-    ensures exchange { IfOk result (λ exchange. SpellsExchange bytes exchange) }
-    ensures fault { IfErr result (λ error. uploads.IsCause bytes error) }
-    ensures refused { IfErr result
-        (λ error. error ≡ BuildError.Memory
-        ⊎ ((instances : List Instance) → SpellsExchange bytes instances → ⊥)) }
-{
-    read(alloc, bytes.as_slice())
-}
-
-/// The same of bytes that it owns. They are let go before the model is made.
+/// The same of bytes that it owns.
 pub fn build_owned(alloc: Global, bytes: Bytes, mode: Mode) -> Result<Model, BuildError>
     ensures model { IfOk result (λ model. Profile bytes mode (Ok model)) }
     ensures fault { IfErr result (λ error. IsCause bytes mode error) }

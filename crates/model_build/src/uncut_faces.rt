@@ -10,7 +10,7 @@ use bim_model::{Items, Mode, Point};
 use faceset::{is_set, least_stuck};
 use ifc_elements::points_at;
 use ifc_units::Scale;
-use p21_reader::Exchange;
+use p21_table::Exchange;
 use std::alloc::{AllocError, Global};
 
 /// The least number of a face that can't be cut, of the set of that number. None where it is no set or refers to no points on the grid.

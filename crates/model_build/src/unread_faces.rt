@@ -10,7 +10,7 @@ ghost use Rattle.model_build.specs.Least.{IsLeastOf, NoneOf, IsVoided};
 
 use faceset::{MOST_CORNERS, outline};
 use ifc_instances::Entity;
-use p21_reader::{Exchange, InstanceRef};
+use p21_table::{Exchange, InstanceRef};
 
 fn is_voided(exchange: &Exchange, id: u64) -> bool
     ensures { MatchBool result (IsVoided exchange.now id) (IsVoided exchange.now id → ⊥) }

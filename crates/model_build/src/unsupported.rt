@@ -7,7 +7,7 @@ ghost use Rattle.model_build.specs.Least.{ShownBy};
 ghost use Rattle.model_build.specs.Showing.{lesser, HasOther, HasInner, BodyShows, MapShows};
 
 use ifc_elements::{is_body_representation, is_item, is_mapped_item, spelled_items};
-use p21_reader::{Exchange, ValueRef, Values};
+use p21_table::{Exchange, ValueRef, Values};
 
 /// The lesser of two numbers that may lack.
 pub fn lesser(a: Option<u64>, b: Option<u64>) -> Option<u64>

@@ -1,5 +1,5 @@
 //! A generated file, piece by piece.
-ghost use Rattle.std.specs.Prelude.{◌≡◌, ◌≤◌, ◌<◌, ◌+◌, ◌*◌, ◌++◌, [], ℕ, string_bytes, IfOk, MatchOption, OnErr};
+ghost use Rattle.std.specs.Prelude.{◌≡◌, ◌≤◌, ◌<◌, ◌+◌, ◌*◌, ◌++◌, [], ℕ, length, string_bytes, IfOk, IfSome, MatchOption, OnErr};
 ghost use Rattle.model_generator.specs.Numbers.{state_at};
 ghost use Rattle.model_generator.specs.Cuboids.{cuboid_of};
 ghost use Rattle.model_generator.specs.Lines.{element_lines};
@@ -76,10 +76,11 @@ impl Pieces {
     }
 
     /// The next piece, none where nothing is left. An `Err` leaves the pieces as they were.
-    #[tactic(auto, using(crate::proofs::Rest::rest_after))]
+    #[tactic(auto, using(crate::proofs::Rest::rest_after, crate::proofs::Rest::lines_some))]
     pub fn next(&mut self, alloc: Global) -> Result<Option<String>, AllocError>
         ensures piece { IfOk result (λ piece.
             MatchOption piece (self.old ≡ []) (λ text. self.old ≡ string_bytes text ++ self.new)) }
+        ensures some { IfOk result (λ piece. IfSome piece (λ text. 0 < length (string_bytes text))) }
         ensures kept { OnErr result (self.new ≡ self.old) }
     {
         match self.stage {

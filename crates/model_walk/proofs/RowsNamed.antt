@@ -5,7 +5,7 @@ use Rattle.std.proofs.lemmas.Option.{slice_get-get_or, slice_get_within}
 use Rattle.std.proofs.lemmas.List.{get_or_past}
 use Rattle.bim_model.specs.declared.geometry.Point.{Point}
 use Rattle.bim_model.specs.declared.geometry.Triangle.{Triangle}
-use Rattle.p21_reader.specs.declared.value.Value21.{Value21}
+use Rattle.p21_values.specs.declared.value.Value21.{Value21}
 use Rattle.ear_cut.specs.Areas.{point_at}
 use Rattle.faceset.specs.Indexes.{PointsAt}
 use Rattle.faceset.specs.Sets.{NamesPoint, IsCorner, AreCorners, IsTriangle, AreTriangles}

@@ -4,11 +4,11 @@ use Rattle.std.specs.List.{slice_get}
 use Rattle.bim_model.specs.declared.upload.Mode.{Mode}
 use Rattle.bim_model.specs.declared.geometry.Triangle.{Triangle}
 use Rattle.bim_text.specs.Decimals.{WritesWhole}
-use Rattle.p21_reader.specs.declared.value.Value21.{Value21}
-use Rattle.p21_reader.specs.declared.value.Instance.{Instance}
-use Rattle.p21_reader.specs.Values.{number_of, reference_of}
-use Rattle.p21_reader.specs.Looking.{look}
-use Rattle.p21_reader.specs.Attributes.{reference_at}
+use Rattle.p21_values.specs.declared.value.Value21.{Value21}
+use Rattle.p21_values.specs.declared.value.Instance.{Instance}
+use Rattle.p21_values.specs.Values.{number_of, reference_of}
+use Rattle.p21_values.specs.Looking.{look}
+use Rattle.p21_values.specs.Attributes.{reference_at}
 use Rattle.ifc_instances.specs.declared.entity.Entity.{Entity}
 use Rattle.ifc_instances.specs.declared.entity.Entity.TheVariants.{Representation, AxisPlacement, Operator, MappedItem, RepresentationMap, Point, Face, FaceWithVoids}
 use Rattle.std.specs.Bool.{⊤}

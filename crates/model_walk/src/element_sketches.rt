@@ -7,7 +7,7 @@ use crate::triangle_rows::Row;
 use bim_model::{Element, Guid, Items, MOST_TRIANGLES, Mode, Point};
 use ifc_elements::{Names, guid_of, name_of, storey_name};
 use ifc_units::Scale;
-use p21_reader::{Exchange, InstanceRef};
+use p21_table::{Exchange, InstanceRef};
 use placement::{Frame, Frames};
 use spatial_tree::Tree;
 use std::alloc::{AllocError, Global};

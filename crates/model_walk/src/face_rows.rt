@@ -3,8 +3,8 @@ ghost use Rattle.std.specs.Prelude.{◌≡◌, ◌<◌, ◌≤◌, ◌^◌, ◌+
 ghost use Rattle.std.specs.Bool.{OnTrue};
 ghost use Rattle.std.specs.List.{AllZip};
 ghost use Rattle.bim_model.specs.Points.{IsGridPoint};
-ghost use Rattle.p21_reader.specs.declared.value.Value21.{Value21};
-ghost use Rattle.p21_reader.specs.Attributes.{led_to};
+ghost use Rattle.p21_values.specs.declared.value.Value21.{Value21};
+ghost use Rattle.p21_values.specs.Attributes.{led_to};
 ghost use Rattle.ear_cut.specs.Areas.{point_at};
 ghost use Rattle.faceset.specs.Sets.{NamesPoint, IsCut, Joined, most_corners};
 ghost use Rattle.model_walk.specs.Rows.{AreNumbers, AddsRows, place_at, row_at, triangles_at};
@@ -15,7 +15,7 @@ use bim_model::Point;
 use ear_cut::{CutFault, Ear, cut};
 use faceset::{MOST_CORNERS, outline};
 use ifc_instances::Entity;
-use p21_reader::{Exchange, InstanceRef, ValueRef, Values};
+use p21_table::{Exchange, InstanceRef, ValueRef, Values};
 use std::alloc::{AllocError, Global};
 
 /// Which points the corners of a face are. None where an index names none, or they are too many.

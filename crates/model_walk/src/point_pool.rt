@@ -4,7 +4,7 @@ use bim_model::{Items, Mode, Point};
 use ifc_instances::Entity;
 use ifc_schema::Mark;
 use ifc_units::{Scale, points};
-use p21_reader::{Exchange, InstanceRef};
+use p21_table::{Exchange, InstanceRef};
 use std::alloc::{AllocError, Global};
 
 /// The points of a list of points (IFC4 ADD2 TC1, IfcCartesianPointList3D). None where it has none, or a number that isn't on the grid.

@@ -1,14 +1,14 @@
 //! Which points the indexes of a set name, read once each (IFC4 ADD2 TC1, IfcTriangulatedFaceSet, CoordIndex and PnIndex).
 ghost use Rattle.std.specs.Prelude.{◌<◌, ◌^◌, List, Option, IfOk, IfSome, option_copied};
 ghost use Rattle.std.specs.List.{AllZip};
-ghost use Rattle.p21_reader.specs.declared.value.Value21.{Value21};
+ghost use Rattle.p21_values.specs.declared.value.Value21.{Value21};
 ghost use Rattle.faceset.specs.Indexes.{PointsAt};
 ghost use Rattle.faceset.specs.Sets.{NamesPoint};
 ghost use Rattle.model_walk.specs.Rows.{AreNumbers, IsRowOf};
 
 use crate::triangle_rows::Row;
 use faceset::place_of;
-use p21_reader::{ValueRef, Values};
+use p21_table::{ValueRef, Values};
 use std::alloc::{AllocError, Global};
 
 /// Which of so many points, counted from 0, an index names.

@@ -3,7 +3,7 @@ use crate::pool::Pool;
 use crate::set_rows::rows_of_set;
 use crate::triangle_rows::Row;
 use bim_model::{Items, MOST_TRIANGLES, Point};
-use p21_reader::{Exchange, InstanceRef};
+use p21_table::{Exchange, InstanceRef};
 use std::alloc::{AllocError, Global};
 
 /// The rows of a set, and the place of the list of its points.

@@ -4,7 +4,7 @@ use crate::row_places::{places_named, rows_of};
 use crate::triangle_rows::Row;
 use bim_model::{MOST_TRIANGLES, Point};
 use faceset::is_polygonal;
-use p21_reader::{Exchange, InstanceRef, Values};
+use p21_table::{Exchange, InstanceRef, Values};
 use std::alloc::{AllocError, Global};
 
 /// The attribute with the numbers of the points (PnIndex): a list, or nothing.

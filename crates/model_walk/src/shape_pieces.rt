@@ -4,7 +4,7 @@ use crate::set_pool::SetRows;
 use bim_model::{MOST_TRIANGLES, Mode};
 use ifc_elements::{is_body_representation, is_mapped_item, spelled_items, spelled_sets};
 use ifc_units::Scale;
-use p21_reader::{Exchange, InstanceRef, ValueRef, Values};
+use p21_table::{Exchange, InstanceRef, ValueRef, Values};
 use placement::{Frame, operator_frame};
 use std::alloc::AllocError;
 

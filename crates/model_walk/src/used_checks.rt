@@ -10,7 +10,7 @@ use ifc_elements::{is_item, is_mapped_item, spelled_items};
 use ifc_instances::Entity;
 use ifc_schema::is_body;
 use ifc_units::{Scale, fault_of_points};
-use p21_reader::{Exchange, InstanceRef, ValueRef, Values};
+use p21_table::{Exchange, InstanceRef, ValueRef, Values};
 use placement::{Axis, Frame, axes_of, axis_frame, operator_axes};
 
 /// Whether an item leads to a face set or, where that may be, to a mapped item.

@@ -11,7 +11,7 @@ use ifc_elements::Names;
 use ifc_instances::Entity;
 use ifc_schema::{Mark, Work, body_shapes, has_body, instance_flaw, list_elements, mark_used};
 use ifc_units::{Scale, length_unit};
-use p21_reader::{Exchange, InstanceRef};
+use p21_table::{Exchange, InstanceRef};
 use placement::{Chains, Frames};
 use spatial_tree::{Tree, tree};
 use std::alloc::{AllocError, Global};

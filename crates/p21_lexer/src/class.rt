@@ -1,7 +1,7 @@
 //! Classes of bytes.
 ghost use Rattle.std.specs.Prelude.{◌≡◌};
 ghost use Rattle.p21_lexer.specs.Gaps.{is_blank as gap_blank};
-ghost use Rattle.p21_lexer.specs.Spelling.{is_digit, is_letter, is_word_byte, is_letter_or_digit, is_hexadecimal, is_sign, is_single};
+ghost use Rattle.p21_lexer.specs.Spelling.{is_digit, is_letter, is_word_byte, is_letter_or_digit, is_hexadecimal, is_sign};
 
 /// Whether a byte is a blank: a space, a tab or an end of line.
 pub fn is_blank(byte: u8) -> bool
@@ -50,11 +50,4 @@ pub fn is_sign(byte: u8) -> bool
     ensures { result ≡ is_sign byte }
 {
     byte == b'+' || byte == b'-'
-}
-
-/// Whether a byte is a token by itself.
-pub fn is_single(byte: u8) -> bool
-    ensures { result ≡ is_single byte }
-{
-    matches!(byte, b'(' | b')' | b',' | b';' | b'=' | b'$' | b'*')
 }

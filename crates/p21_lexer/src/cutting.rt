@@ -3,7 +3,6 @@ ghost use Rattle.std.specs.Prelude.{◌≡◌, ◌+◌, ◌<◌, ◌≤◌, leng
 ghost use Rattle.p21_lexer.specs.Cutting.{CutsFrom};
 ghost use Rattle.p21_lexer.specs.Kinds.{kind_of, span};
 
-use crate::class::{is_digit, is_letter, is_sign, is_single};
 use crate::gaps::skip;
 use crate::spelling::{bits_end, enumeration_end, name_end, number_end, text_end, word_end};
 use crate::token::{LexFault, Token, TokenKind};
@@ -12,22 +11,15 @@ use crate::token::{LexFault, Token, TokenKind};
 fn kind_at(byte: u8) -> Option<TokenKind>
     ensures { result ≡ kind_of byte }
 {
-    if is_single(byte) {
-        Some(TokenKind::Single)
-    } else if is_digit(byte) || is_sign(byte) {
-        Some(TokenKind::Number)
-    } else if byte == b'#' {
-        Some(TokenKind::Name)
-    } else if is_letter(byte) || byte == b'!' {
-        Some(TokenKind::Word)
-    } else if byte == b'\'' {
-        Some(TokenKind::Words)
-    } else if byte == b'.' {
-        Some(TokenKind::Enumeration)
-    } else if byte == b'"' {
-        Some(TokenKind::Bits)
-    } else {
-        None
+    match byte {
+        b'0'..=b'9' | b'+' | b'-' => Some(TokenKind::Number),
+        b'#' => Some(TokenKind::Name),
+        b'(' | b')' | b',' | b';' | b'=' | b'$' | b'*' => Some(TokenKind::Single),
+        b'A'..=b'Z' | b'a'..=b'z' | b'_' | b'!' => Some(TokenKind::Word),
+        b'\'' => Some(TokenKind::Words),
+        b'.' => Some(TokenKind::Enumeration),
+        b'"' => Some(TokenKind::Bits),
+        _ => None,
     }
 }
 

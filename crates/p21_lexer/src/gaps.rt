@@ -49,8 +49,22 @@ fn comment_end(bytes: &[u8], from: usize) -> Option<usize>
     None
 }
 
-/// Past all blanks and whole comments from `from` on. A comment that nothing closes is none.
+/// Past all blanks and whole comments from `from` on. A comment that nothing closes is none. Most tokens stand right behind one another.
+#[inline(always)]
 pub fn skip(bytes: &[u8], from: usize) -> usize
+    requires { from ≤ length bytes.now }
+    ensures skips { Skips (drop from bytes.now) (drop result bytes.now) }
+    ensures within { result ≤ length bytes.now }
+    ensures on { from ≤ result }
+{
+    if from < bytes.len() && bytes[from] > b' ' && bytes[from] != b'/' {
+        return from;
+    }
+    skip_any(bytes, from)
+}
+
+/// The same where blanks or a comment may stand there.
+fn skip_any(bytes: &[u8], from: usize) -> usize
     requires { from ≤ length bytes.now }
     ensures skips { Skips (drop from bytes.now) (drop result bytes.now) }
     ensures within { result ≤ length bytes.now }

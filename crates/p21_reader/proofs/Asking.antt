@@ -7,33 +7,25 @@ use Rattle.std.proofs.lemmas.Bool.{cases_Bool}
 use Rattle.p21_lexer.specs.declared.token.Token.{Token}
 use Rattle.p21_lexer.specs.declared.token.TokenKind.{TokenKind}
 use Rattle.p21_lexer.specs.declared.token.TokenKind.TheVariants as tokens
-use Rattle.p21_lexer.specs.declared.token.LexFault.TheVariants as lex
 use Rattle.p21_lexer.specs.Cutting.{CutsFrom, start_of}
-use Rattle.p21_lexer.proofs.OneCut.{one_answer}
-use Rattle.p21_reader.specs.declared.fault.ReadFault.{ReadFault}
-use Rattle.p21_reader.specs.declared.fault.ReadFault.TheVariants as faults
-use Rattle.p21_reader.specs.declared.piece.Kind.{Kind}
-use Rattle.p21_reader.specs.declared.piece.Kind.TheVariants as kinds
-use Rattle.p21_reader.specs.declared.piece.Piece.{Piece}
-use Rattle.p21_reader.specs.Grammar.{Inside, T, Word, Iso, Semi}
+use Rattle.p21_values.specs.declared.piece.Kind.{Kind}
+use Rattle.p21_values.specs.declared.piece.Kind.TheVariants as kinds
+use Rattle.p21_values.specs.declared.piece.Piece.{Piece}
+use Rattle.p21_values.specs.Grammar.{Inside, T, Word, Iso, Semi}
 use Rattle.p21_reader.specs.Machine.{run}
-use Rattle.p21_reader.specs.Lexemes.{Lexeme, Opening, Closing, Ending, WordsOf, KeywordOf, says, single_says, lexeme_of, class_of, classes, Cuts}
-use Rattle.p21_reader.specs.Reading.{Goes, NoToken, IsPiece, IsSign, sign_says, kind_of}
+use Rattle.p21_values.specs.Lexemes.{Lexeme, Opening, Closing, Ending, WordsOf, KeywordOf, says, single_says, lexeme_of, class_of, classes, Cuts}
+use Rattle.p21_reader.specs.Reading.{Goes, sign_says}
+use Rattle.p21_values.specs.Pieces.{IsPiece, IsSign, kind_of}
 use Rattle.p21_reader.specs.Schema.{Statement, IsIfc4}
 use Rattle.p21_reader.specs.Heading.{OnlyText, OnlyIfc4}
 use Rattle.p21_reader.specs.Uploads.{BeginsPart21, BeginsAt}
 use Rattle.p21_reader.proofs.Steps.{cuts_append}
-use Rattle.p21_reader.proofs.FileLemmas.{one_token}
+use Rattle.p21_values.proofs.Tokens.{one_token}
 use Rattle.p21_reader.proofs.OneReading.{one_list}
 use Rattle.p21_reader.proofs.Statements.{is_schema}
-use Rattle.p21_reader.proofs.Contents.{keyword_says, word_kind}
+use Rattle.p21_values.proofs.Contents.{keyword_says, word_kind}
 
 -- What stands next.
-
-pub no_token : (bytes : List ℕ) (at : ℕ) (f : ReadFault) → NoToken bytes at f → (t : Token) → CutsFrom bytes at (Ok (Some t)) → ⊥
-no_token bytes at (faults.BadToken p) h t k = let e = one_answer bytes at (Err (lex.BadToken p)) (Ok (Some t)) h k in cc
-no_token bytes at (faults.BadStatement p) h t k = let e = one_answer bytes at (Ok None) (Ok (Some t)) h.0 k in cc
-no_token bytes at faults.Memory h t k = absurd h
 
 sign_kind : (w : Kind) → IsSign w → kind_of (class_of (sign_says w)) ≡ w
 sign_kind kinds.Simple h = absurd h

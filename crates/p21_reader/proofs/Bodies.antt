@@ -2,18 +2,17 @@
 use Rattle.std.proofs.Common.{◌≡◌, ℕ, List, [], ◌∷◌, ◌++◌, Some, None, Result, Ok, Err, refl, sym, ap, ◌∙◌, ◌-◌}
 use Rattle.p21_lexer.specs.declared.token.Token.{Token}
 use Rattle.p21_lexer.specs.Cutting.{CutsFrom}
-use Rattle.p21_reader.specs.declared.limits.TheConstants.{MOST_DEPTH}
-use Rattle.p21_reader.specs.declared.fault.ReadFault.{ReadFault}
-use Rattle.p21_reader.specs.declared.piece.Kind.{Kind}
-use Rattle.p21_reader.specs.declared.piece.Kind.TheVariants as kinds
-use Rattle.p21_reader.specs.declared.value.Value21.{Value21}
-use Rattle.p21_reader.specs.declared.instance.Made.{Made}
-use Rattle.p21_reader.specs.Grammar.{Class, Open, Semi, Equals, Word, Sign, T, AnyWord, Body, Ones, Inside, Derives}
+use Rattle.p21_values.specs.declared.limits.TheConstants.{MOST_DEPTH}
+use Rattle.p21_values.specs.declared.fault.ReadFault.{ReadFault}
+use Rattle.p21_values.specs.declared.piece.Kind.{Kind}
+use Rattle.p21_values.specs.declared.piece.Kind.TheVariants as kinds
+use Rattle.p21_values.specs.declared.value.Instance.{Instance}
+use Rattle.p21_values.specs.Grammar.{Class, Open, Semi, Equals, Word, Sign, T, AnyWord, Body, Ones, Inside, Derives}
 use Rattle.p21_reader.specs.Machine.{run, next}
-use Rattle.p21_reader.specs.Lexemes.{Lexeme, lexeme_of, class_of, Opening, Closing, Ending, Assigning, KeywordOf, ReferenceTo}
-use Rattle.p21_reader.specs.Printing.{print_all}
-use Rattle.p21_reader.specs.Reading.{Goes, Fails, kind_of, classes}
-use Rattle.p21_reader.specs.Instances.{Passes, StartsBody, MakesInstance}
+use Rattle.p21_values.specs.Lexemes.{Lexeme, lexeme_of, class_of, Opening, Closing, Ending, Assigning, ReferenceTo}
+use Rattle.p21_reader.specs.Reading.{Goes, Fails, classes}
+use Rattle.p21_values.specs.Pieces.{kind_of}
+use Rattle.p21_reader.specs.Instances.{Passes, SpellsBody, SpellsInstance}
 use Rattle.p21_reader.proofs.Viable.{sound}
 use Rattle.p21_reader.proofs.Steps.{goes_one, goes_trans, goes_under, fails_after, fails_under}
 
@@ -26,12 +25,6 @@ opens_goes d bytes at opened end ls h k =
 pub opens_fails : (d : ℕ) (bytes : List ℕ) (at opened : ℕ) (f : ReadFault) → Goes (T Open ∷ []) [] bytes at opened (Opening ∷ []) → Fails (Inside (Some d) ∷ []) bytes opened f → Fails (T Open ∷ Inside (Some d) ∷ []) bytes at f
 opens_fails d bytes at opened f h k =
     fails_after (T Open ∷ Inside (Some d) ∷ []) (Inside (Some d) ∷ []) bytes at opened (Opening ∷ []) f (goes_under (T Open ∷ []) [] (Inside (Some d) ∷ []) bytes at opened (Opening ∷ []) h) k
-
-pub plain_is : (l : Lexeme) (w : List ℕ) (vs old new found : List Value21) → KeywordOf w ≡ l → old ≡ [] → new ≡ old ++ vs → found ≡ new
-    → l ∷ Opening ∷ (print_all vs ++ Closing ∷ []) ≡ KeywordOf w ∷ Opening ∷ (print_all found ++ Closing ∷ [])
-plain_is l w vs old new found h e f g =
-    let same : found ≡ vs = g ∙ f ∙ ap (λ x. x ++ vs) e in
-    ap (λ x. x ∷ Opening ∷ (print_all vs ++ Closing ∷ [])) (sym h) ∙ ap (λ x. KeywordOf w ∷ Opening ∷ (print_all x ++ Closing ∷ [])) (sym same)
 
 -- Complex instances.
 
@@ -114,52 +107,43 @@ complex_passes bytes at mid t (Err f) h n p q =
 
 -- What stands between the equals sign and the semicolon.
 
-body_derives : (l : Lexeme) (σ : List Sign) (ls : List Lexeme) → next Body (class_of l) ≡ Some σ → run (σ ++ []) (classes ls) ≡ Some [] → Derives (Body ∷ []) (classes (l ∷ ls))
+pub body_derives : (l : Lexeme) (σ : List Sign) (ls : List Lexeme) → next Body (class_of l) ≡ Some σ → run (σ ++ []) (classes ls) ≡ Some [] → Derives (Body ∷ []) (classes (l ∷ ls))
 body_derives l σ ls n h = sound (Body ∷ []) (classes (l ∷ ls)) (rw n h)
 
-pub body_complex : (id : ℕ) (bytes : List ℕ) (t : Token) (made : Made) → made.instance.id ≡ id → made.instance.keyword ≡ None → made.instance.values ≡ [] → lexeme_of bytes t ≡ Opening
-    → next Body (class_of (lexeme_of bytes t)) ≡ Some (AnyWord ∷ T Open ∷ Inside (Some (MOST_DEPTH - 2)) ∷ Ones ∷ []) → Passes (AnyWord ∷ T Open ∷ Inside (Some (MOST_DEPTH - 2)) ∷ Ones ∷ []) bytes t.end (Ok made.end)
-    → StartsBody id bytes t (Ok made)
-body_complex id bytes t made i k v l n p = (
-  i,
-  AnyWord ∷ T Open ∷ Inside (Some (MOST_DEPTH - 2)) ∷ Ones ∷ [],
-  p.0,
-  n,
-  rw k (v, p.0, ap (λ x. x ∷ p.0) l, body_derives (lexeme_of bytes t) (AnyWord ∷ T Open ∷ Inside (Some (MOST_DEPTH - 2)) ∷ Ones ∷ []) p.0 n (p.1.leads [])),
-  p.1,
-)
-
 -- A whole instance.
-
-abbrev whole : List Sign
-whole = T Equals ∷ Body ∷ T Semi ∷ []
 
 pub instance_first : (bytes : List ℕ) (at opened : ℕ) (f : ReadFault) → Goes (T Equals ∷ []) [] bytes at opened (Assigning ∷ []) → Fails (Body ∷ []) bytes opened f → Fails (T Equals ∷ Body ∷ T Semi ∷ []) bytes at f
 instance_first bytes at opened f h k =
     fails_after (T Equals ∷ Body ∷ T Semi ∷ []) (Body ∷ T Semi ∷ []) bytes at opened (Assigning ∷ []) f (goes_under (T Equals ∷ []) [] (Body ∷ T Semi ∷ []) bytes at opened (Assigning ∷ []) h)
     (fails_under (Body ∷ []) (T Semi ∷ []) bytes opened f k)
 
-body_goes : (bytes : List ℕ) (opened : ℕ) (id : ℕ) (t : Token) (made : Made) (s : StartsBody id bytes t (Ok made)) → CutsFrom bytes opened (Ok (Some t)) → Goes (Body ∷ []) [] bytes opened made.end (lexeme_of bytes t ∷ s.2)
-body_goes bytes opened id t made s h = goes_trans (Body ∷ []) s.1 [] bytes opened t.end made.end (lexeme_of bytes t ∷ []) s.2 (goes_one Body s.1 bytes opened t h s.3) s.5
+-- what stands between the equals sign and the semicolon, whose first token is given, and leads on like that
+body_goes : (bytes : List ℕ) (opened end : ℕ) (t : Token) (σ : List Sign) (rest : List Lexeme) → next Body (class_of (lexeme_of bytes t)) ≡ Some σ → Goes σ [] bytes t.end end rest → CutsFrom bytes opened (Ok (Some t))
+    → Goes (Body ∷ []) [] bytes opened end (lexeme_of bytes t ∷ rest)
+body_goes bytes opened end t σ rest n g h = goes_trans (Body ∷ []) σ [] bytes opened t.end end (lexeme_of bytes t ∷ []) rest (goes_one Body σ bytes opened t h n) g
 
-pub instance_end : (bytes : List ℕ) (at opened : ℕ) (id : ℕ) (t : Token) (made : Made) (f : ReadFault) → Goes (T Equals ∷ []) [] bytes at opened (Assigning ∷ []) → CutsFrom bytes opened (Ok (Some t))
-    → StartsBody id bytes t (Ok made) → Fails (T Semi ∷ []) bytes made.end f → Fails (T Equals ∷ Body ∷ T Semi ∷ []) bytes at f
-instance_end bytes at opened id t made f h k s x =
+pub instance_end : (bytes : List ℕ) (at opened end : ℕ) (t : Token) (σ : List Sign) (rest : List Lexeme) (f : ReadFault) → Goes (T Equals ∷ []) [] bytes at opened (Assigning ∷ []) → CutsFrom bytes opened (Ok (Some t))
+    → next Body (class_of (lexeme_of bytes t)) ≡ Some σ → Goes σ [] bytes t.end end rest → Fails (T Semi ∷ []) bytes end f → Fails (T Equals ∷ Body ∷ T Semi ∷ []) bytes at f
+instance_end bytes at opened end t σ rest f h k n g x =
     fails_after (T Equals ∷ Body ∷ T Semi ∷ []) (Body ∷ T Semi ∷ []) bytes at opened (Assigning ∷ []) f (goes_under (T Equals ∷ []) [] (Body ∷ T Semi ∷ []) bytes at opened (Assigning ∷ []) h)
-    (fails_after (Body ∷ T Semi ∷ []) (T Semi ∷ []) bytes opened made.end (lexeme_of bytes t ∷ s.2) f
-    (goes_under (Body ∷ []) [] (T Semi ∷ []) bytes opened made.end (lexeme_of bytes t ∷ s.2) (body_goes bytes opened id t made s k)) x)
+    (fails_after (Body ∷ T Semi ∷ []) (T Semi ∷ []) bytes opened end (lexeme_of bytes t ∷ rest) f
+    (goes_under (Body ∷ []) [] (T Semi ∷ []) bytes opened end (lexeme_of bytes t ∷ rest) (body_goes bytes opened end t σ rest n g k)) x)
 
-pub instance_made : (bytes : List ℕ) (name : Lexeme) (at opened end : ℕ) (id : ℕ) (t : Token) (made : Made) → ReferenceTo id ≡ name → Goes (T Equals ∷ []) [] bytes at opened (Assigning ∷ []) → CutsFrom bytes opened (Ok (Some t))
-    → StartsBody id bytes t (Ok made) → Goes (T Semi ∷ []) [] bytes made.end end (Ending ∷ []) → MakesInstance name bytes at (Ok (record { instance = made.instance; end = end }))
-instance_made bytes name at opened end id t made e h k s x = (
-  Assigning ∷ ((lexeme_of bytes t ∷ s.2) ++ Ending ∷ []),
-  record {
-    body = lexeme_of bytes t ∷ s.2;
-    whole = ap (λ l. l ∷ Assigning ∷ ((lexeme_of bytes t ∷ s.2) ++ Ending ∷ [])) (sym e ∙ ap ReferenceTo (sym s.0));
-    is_body = s.4;
-  },
-  goes_trans (T Equals ∷ Body ∷ T Semi ∷ []) (Body ∷ T Semi ∷ []) [] bytes at opened end (Assigning ∷ []) ((lexeme_of bytes t ∷ s.2) ++ Ending ∷ [])
+-- an instance stands behind its name
+pub record Named (name : Lexeme) (bytes : List ℕ) (at end : ℕ) (i : Instance) : Type 0 where
+  pub rest : List Lexeme
+  pub spelled : SpellsInstance i (name ∷ rest)
+  pub goes : Goes (T Equals ∷ Body ∷ T Semi ∷ []) [] bytes at end rest
+
+pub instance_named : (bytes : List ℕ) (name : Lexeme) (at opened mid end : ℕ) (i : Instance) (t : Token) (σ : List Sign) (rest : List Lexeme) → ReferenceTo i.id ≡ name → Goes (T Equals ∷ []) [] bytes at opened (Assigning ∷ [])
+    → CutsFrom bytes opened (Ok (Some t)) → next Body (class_of (lexeme_of bytes t)) ≡ Some σ → SpellsBody i.keyword i.values (lexeme_of bytes t ∷ rest) → Goes σ [] bytes t.end mid rest → Goes (T Semi ∷ []) [] bytes mid end (Ending ∷ [])
+    → Named name bytes at end i
+instance_named bytes name at opened mid end i t σ rest e h k n b g x = record {
+  rest = Assigning ∷ ((lexeme_of bytes t ∷ rest) ++ Ending ∷ []);
+  spelled = record { body = lexeme_of bytes t ∷ rest; whole = ap (λ l. l ∷ Assigning ∷ ((lexeme_of bytes t ∷ rest) ++ Ending ∷ [])) (sym e); is_body = b };
+  goes =
+      goes_trans (T Equals ∷ Body ∷ T Semi ∷ []) (Body ∷ T Semi ∷ []) [] bytes at opened end (Assigning ∷ []) ((lexeme_of bytes t ∷ rest) ++ Ending ∷ [])
       (goes_under (T Equals ∷ []) [] (Body ∷ T Semi ∷ []) bytes at opened (Assigning ∷ []) h)
-      (goes_trans (Body ∷ T Semi ∷ []) (T Semi ∷ []) [] bytes opened made.end end (lexeme_of bytes t ∷ s.2) (Ending ∷ [])
-      (goes_under (Body ∷ []) [] (T Semi ∷ []) bytes opened made.end (lexeme_of bytes t ∷ s.2) (body_goes bytes opened id t made s k)) x),
-)
+      (goes_trans (Body ∷ T Semi ∷ []) (T Semi ∷ []) [] bytes opened mid end (lexeme_of bytes t ∷ rest) (Ending ∷ [])
+      (goes_under (Body ∷ []) [] (T Semi ∷ []) bytes opened mid (lexeme_of bytes t ∷ rest) (body_goes bytes opened mid t σ rest n g k)) x);
+}

@@ -7,11 +7,11 @@ use Rattle.bim_model.specs.declared.upload.UploadFault.TheVariants as uploads
 use Rattle.bim_model.specs.declared.upload.Many.TheVariants as many
 use Rattle.bim_model.specs.declared.upload.BuildError.{BuildError}
 use Rattle.bim_model.specs.declared.upload.BuildError.TheVariants as errors
-use Rattle.p21_reader.specs.declared.fault.ReadFault.TheVariants as faults
-use Rattle.p21_reader.specs.declared.value.Instance.{Instance}
-use Rattle.p21_reader.specs.Counting.{size, values_of, times}
-use Rattle.p21_reader.specs.Uploads.{IsIfc4Upload, IsLeastDouble, IsTooMany, Rises, SpellsExchange, HasFault, IsCause}
-use Rattle.p21_reader.specs.declared.limits.TheConstants.{MOST_VALUES, MOST_INSTANCES}
+use Rattle.p21_values.specs.declared.value.Instance.{Instance}
+use Rattle.p21_values.specs.Counting.{size, values_of, times}
+use Rattle.p21_reader.specs.Uploads.{IsIfc4Upload, IsLeastDouble, IsTooMany, SpellsExchange, HasFault, IsCause}
+use Rattle.p21_values.specs.Places.{Rises}
+use Rattle.p21_values.specs.declared.limits.TheConstants.{MOST_VALUES, MOST_INSTANCES}
 use Rattle.p21_reader.proofs.OneAnswer.{refused}
 
 -- What is answered for an upload.

@@ -2,25 +2,24 @@
 use Rattle.std.proofs.Common.{◌≡◌, ℕ, inl, inr, List, [], ◌∷◌, ◌++◌, Option, Some, None, Result, Ok, Err, refl, sym, ap, subst, ◌∙◌, append_assoc}
 use Rattle.std.specs.Prelude.{IsSome}
 use Rattle.p21_lexer.specs.declared.token.Token.{Token}
-use Rattle.p21_lexer.specs.declared.token.LexFault.{LexFault}
-use Rattle.p21_lexer.specs.declared.token.LexFault.TheVariants as lex
-use Rattle.p21_lexer.proofs.OneCut.{one_answer}
 use Rattle.p21_lexer.specs.Cutting.{CutsFrom, start_of}
-use Rattle.p21_reader.specs.declared.fault.ReadFault.{ReadFault}
-use Rattle.p21_reader.specs.declared.fault.ReadFault.TheVariants as faults
-use Rattle.p21_reader.specs.declared.piece.Kind.TheVariants as kinds
-use Rattle.p21_reader.specs.declared.value.Instance.{Instance}
-use Rattle.p21_reader.specs.declared.instance.Made.{Made}
-use Rattle.p21_reader.specs.Grammar.{Class, Name, Semi, Equals, Word, EndSec, EndIso, Sign, T, Body, Statements, Iso, Header, Instances, IsViable, file}
+use Rattle.p21_values.specs.declared.fault.ReadFault.{ReadFault}
+use Rattle.p21_values.specs.declared.fault.ReadFault.TheVariants as faults
+use Rattle.p21_values.specs.declared.piece.Kind.TheVariants as kinds
+use Rattle.p21_values.specs.declared.value.Instance.{Instance}
+use Rattle.p21_values.specs.Grammar.{Class, Name, Semi, Equals, Word, EndSec, EndIso, Sign, T, Body, Statements, Iso, Header, Instances, IsViable, file}
 use Rattle.p21_reader.specs.Machine.{run, next, bind}
-use Rattle.p21_reader.specs.Lexemes.{Lexeme, lexeme_of, class_of, Ending}
-use Rattle.p21_reader.specs.Reading.{Cuts, classes, Goes, Fails, kind_of, Expects}
+use Rattle.p21_values.specs.Lexemes.{Lexeme, lexeme_of, class_of, Ending}
+use Rattle.p21_reader.specs.Reading.{Cuts, classes, Goes, Fails, Expects}
+use Rattle.p21_values.specs.Pieces.{kind_of}
 use Rattle.p21_reader.specs.Heading.{ReadsHeader}
 use Rattle.p21_reader.specs.declared.header.Head.{Head}
 use Rattle.p21_reader.specs.Uploads.{BeginsAt, Judges}
-use Rattle.p21_reader.specs.Instances.{SpellsInstance, SpellsAll, MakesInstance}
+use Rattle.p21_reader.specs.Instances.{SpellsInstance, SpellsAll}
 use Rattle.p21_reader.specs.Files.{Reaches, FaultAt, ReadsClosing, ReadsWord, ReadsSection}
 use Rattle.p21_reader.proofs.Viable.{run_append, sound, viable_iff, file_iff}
+use Rattle.p21_values.proofs.Tokens.{one_token}
+use Rattle.p21_reader.proofs.Bodies.{Named}
 use Rattle.p21_reader.proofs.Steps.{classes_append, goes_one, goes_trans, goes_under, fails_after, fails_under, after_fails, fails_past}
 
 -- Instances one after another.
@@ -46,16 +45,16 @@ class_name c h = cc
 pub instances_name : (l : Lexeme) → kinds.Name ≡ kind_of (class_of l) → next Instances (class_of l) ≡ Some (T Equals ∷ Body ∷ T Semi ∷ Instances ∷ [])
 instances_name l h = class_name (class_of l) (sym h)
 
-pub many_step : (bytes : List ℕ) (from at : ℕ) (t : Token) (found now : List Instance) (made : Made) → Many bytes from at found → CutsFrom bytes at (Ok (Some t)) → next Instances (class_of (lexeme_of bytes t)) ≡ Some (T Equals ∷ Body ∷ T Semi ∷ Instances ∷ [])
-    → MakesInstance (lexeme_of bytes t) bytes t.end (Ok made) → now ≡ found ++ made.instance ∷ [] → Many bytes from made.end now
-many_step bytes from at t found now made m h n i e =
+pub many_step : (bytes : List ℕ) (from at end : ℕ) (t : Token) (found : List Instance) (i : Instance) → Many bytes from at found → CutsFrom bytes at (Ok (Some t)) → next Instances (class_of (lexeme_of bytes t)) ≡ Some (T Equals ∷ Body ∷ T Semi ∷ Instances ∷ [])
+    → Named (lexeme_of bytes t) bytes t.end end i → Many bytes from end (found ++ i ∷ [])
+many_step bytes from at end t found i m h n d =
     let one = goes_one Instances (T Equals ∷ Body ∷ T Semi ∷ Instances ∷ []) bytes at t h n in
-    let two = goes_under (T Equals ∷ Body ∷ T Semi ∷ []) [] (Instances ∷ []) bytes t.end made.end i.0 i.2 in
-    let both = goes_trans (Instances ∷ []) (T Equals ∷ Body ∷ T Semi ∷ Instances ∷ []) (Instances ∷ []) bytes at t.end made.end (lexeme_of bytes t ∷ []) i.0 one two in
+    let two = goes_under (T Equals ∷ Body ∷ T Semi ∷ []) [] (Instances ∷ []) bytes t.end end d.rest d.goes in
+    let both = goes_trans (Instances ∷ []) (T Equals ∷ Body ∷ T Semi ∷ Instances ∷ []) (Instances ∷ []) bytes at t.end end (lexeme_of bytes t ∷ []) d.rest one two in
     record {
-      said = m.said ++ lexeme_of bytes t ∷ i.0;
-      spelled = rw e (spells_more found made.instance m.said (lexeme_of bytes t ∷ i.0) m.spelled i.1);
-      goes = goes_trans (Instances ∷ []) (Instances ∷ []) (Instances ∷ []) bytes from at made.end m.said (lexeme_of bytes t ∷ i.0) m.goes both;
+      said = m.said ++ lexeme_of bytes t ∷ d.rest;
+      spelled = spells_more found i m.said (lexeme_of bytes t ∷ d.rest) m.spelled d.spelled;
+      goes = goes_trans (Instances ∷ []) (Instances ∷ []) (Instances ∷ []) bytes from at end m.said (lexeme_of bytes t ∷ d.rest) m.goes both;
     }
 
 pub many_fails : (bytes : List ℕ) (from at : ℕ) (found : List Instance) (f : ReadFault) → Many bytes from at found → Fails (Instances ∷ []) bytes at f → Fails (Instances ∷ []) bytes from f
@@ -194,14 +193,6 @@ fault_at bytes (faults.BadStatement p) k = (
 fault_at bytes faults.Memory k = tt
 
 -- Tokens from one place.
-
-token_or : Token → Result (Option Token) LexFault → Token
-token_or d (Ok (Some t)) = t
-token_or d r = d
-
-pub one_token : (bytes : List ℕ) (at : ℕ) (t u : Token) → CutsFrom bytes at (Ok (Some t)) → CutsFrom bytes at (Ok (Some u)) → t ≡ u
-unfolding token_or
-one_token bytes at t u h k = (let e = one_answer bytes at (Ok (Some t)) (Ok (Some u)) h k in ap (λ (r : Result (Option Token) LexFault). token_or t r) e)
 
 -- of two lists of tokens from one place, one is a front of the other
 pub data Fronts (bytes : List ℕ) (ls ms : List Lexeme) (mid : ℕ) : Type 0 where

@@ -2,10 +2,10 @@
 use Rattle.std.proofs.Common.{◌≡◌, ℕ, inl, inr, List, [], ◌∷◌, ◌++◌, Some, None, Ok, refl, sym, ap, ◌∙◌, append_assoc}
 use Rattle.p21_lexer.specs.declared.token.Token.{Token}
 use Rattle.p21_lexer.specs.Cutting.{CutsFrom}
-use Rattle.p21_reader.specs.declared.fault.ReadFault.{ReadFault}
+use Rattle.p21_values.specs.declared.fault.ReadFault.{ReadFault}
 use Rattle.p21_reader.specs.declared.nested.Want.{Want}
-use Rattle.p21_reader.specs.Grammar.{Sign, Inside}
-use Rattle.p21_reader.specs.Lexemes.{Lexeme, lexeme_of, class_of}
+use Rattle.p21_values.specs.Grammar.{Sign, Inside}
+use Rattle.p21_values.specs.Lexemes.{Lexeme, lexeme_of, class_of}
 use Rattle.p21_reader.specs.Reading.{Goes, Fails}
 use Rattle.p21_reader.specs.Heading.{sign_of, signs_of, Follows, FollowsNot}
 use Rattle.p21_reader.proofs.Steps.{goes_one, goes_trans, goes_under, fails_after, fails_refused}

@@ -1,11 +1,11 @@
 -- The words that the grammar names.
-use Rattle.std.proofs.Common.{◌≡◌, [], Some, None, refl, ap, subst}
+use Rattle.std.proofs.Common.{◌≡◌, [], Some, None, refl, ap}
 use Rattle.p21_reader.specs.declared.word.Mark.{Mark}
 use Rattle.p21_reader.specs.declared.word.Mark.TheVariants as marks
 use Rattle.p21_reader.specs.declared.word.Seen.{Seen}
 use Rattle.p21_reader.specs.declared.word.Seen.TheVariants as seen
-use Rattle.p21_reader.specs.Grammar as grammar
-use Rattle.p21_reader.specs.Grammar.{Class, Word, Iso, Header, Data, EndSec, EndIso, Other, T}
+use Rattle.p21_values.specs.Grammar as grammar
+use Rattle.p21_values.specs.Grammar.{Class, Word, Iso, Header, Data, EndSec, EndIso, Other, T}
 use Rattle.p21_reader.specs.Machine.{next}
 use Rattle.p21_reader.specs.Heading.{mark_seen, class_seen}
 

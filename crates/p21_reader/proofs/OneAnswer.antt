@@ -9,22 +9,24 @@ use Rattle.p21_lexer.specs.declared.token.Token.{Token}
 use Rattle.p21_lexer.specs.declared.token.LexFault.TheVariants as lex
 use Rattle.p21_lexer.specs.Cutting.{CutsFrom, start_of}
 use Rattle.p21_lexer.proofs.OneCut.{one_answer}
-use Rattle.p21_reader.specs.declared.value.Instance.{Instance}
-use Rattle.p21_reader.specs.Grammar.{Class, Iso, Header, Semi, Word, IsFile, IsViable, file}
+use Rattle.p21_values.specs.declared.value.Instance.{Instance}
+use Rattle.p21_values.specs.Grammar.{Class, Iso, Header, Semi, Word, IsFile, IsViable, file}
 use Rattle.p21_reader.specs.Machine.{run, bind}
-use Rattle.p21_reader.specs.Lexemes.{Lexeme, lexeme_of, class_of, Cuts, classes}
+use Rattle.p21_values.specs.Lexemes.{Lexeme, lexeme_of, class_of, Cuts, classes}
 use Rattle.p21_reader.specs.Schema.{Statement, NamesIfc4}
-use Rattle.p21_reader.specs.Counting.{size, values_of, times}
-use Rattle.p21_reader.specs.Saying.{content, contents, saying}
+use Rattle.p21_values.specs.Counting.{size, values_of, times}
+use Rattle.p21_values.specs.Saying.{content, contents, saying}
 use Rattle.p21_reader.specs.Files.{HoldsFile, Reaches, NoneThere, WrongThere}
 use Rattle.p21_reader.specs.Uploads.{BeginsPart21, IsUpload, IsIfc4Upload, IsLeastDouble, SpellsExchange, HasFault}
 use Rattle.p21_reader.proofs.Viable.{run_append, file_iff}
 use Rattle.p21_reader.proofs.Steps.{classes_append}
-use Rattle.p21_reader.proofs.FileLemmas.{one_token, longer, shorter, fronts}
+use Rattle.p21_values.proofs.Tokens.{one_token}
+use Rattle.p21_reader.proofs.FileLemmas.{longer, shorter, fronts}
 use Rattle.p21_reader.proofs.OneReading.{one_header, one_saying}
-use Rattle.p21_reader.proofs.SameSaying.{same_instances}
-use Rattle.p21_reader.proofs.Sizes.{sized_all, sizes_are}
-use Rattle.p21_reader.proofs.Strict.{strict_from, same_strict, rises_once, trichotomy}
+use Rattle.p21_values.proofs.SameSaying.{same_instances}
+use Rattle.p21_values.proofs.Sizes.{sized_all, sizes_are}
+use Rattle.p21_values.proofs.PlaceLemmas.{trichotomy}
+use Rattle.p21_reader.proofs.Strict.{strict_from, same_strict, rises_once}
 use Rattle.p21_reader.proofs.Doubles.{times_cons}
 
 -- The place where bytes can't go on to a file is one.

@@ -6,24 +6,25 @@ use Rattle.std.proofs.lemmas.List.{map-append}
 use Rattle.std.proofs.lemmas.List.Elements.{filter-append}
 use Rattle.p21_lexer.specs.declared.token.Token.{Token}
 use Rattle.p21_lexer.specs.Cutting.{CutsFrom}
-use Rattle.p21_reader.specs.declared.fault.ReadFault.{ReadFault}
-use Rattle.p21_reader.specs.declared.piece.Kind.{Kind}
-use Rattle.p21_reader.specs.declared.piece.Kind.TheVariants as kinds
+use Rattle.p21_values.specs.declared.fault.ReadFault.{ReadFault}
+use Rattle.p21_values.specs.declared.piece.Kind.{Kind}
+use Rattle.p21_values.specs.declared.piece.Kind.TheVariants as kinds
 use Rattle.p21_reader.specs.declared.schema.Schema.{Schema}
 use Rattle.p21_reader.specs.declared.schema.Schema.TheVariants as said
-use Rattle.p21_reader.specs.Grammar.{Class, Mark, Word, Iso, Header, Data, EndSec, EndIso, Other, Open, Semi, Sign, T, Statements, AfterEnd, Inside, Derives}
+use Rattle.p21_values.specs.Grammar.{Class, Mark, Word, Iso, Header, Data, EndSec, EndIso, Other, Open, Semi, Sign, T, Statements, AfterEnd, Inside, Derives}
 use Rattle.p21_reader.specs.Machine.{run, next}
-use Rattle.p21_reader.specs.Lexemes.{Lexeme, Opening, Closing, Ending, WordsOf, KeywordOf, lexeme_of, class_of, classes, Cuts}
-use Rattle.p21_reader.specs.Reading.{Goes, Fails, NoToken, Expects, IsPiece, kind_of}
+use Rattle.p21_values.specs.Lexemes.{Lexeme, Opening, Closing, Ending, WordsOf, KeywordOf, lexeme_of, class_of, classes, Cuts}
+use Rattle.p21_reader.specs.Reading.{Goes, Fails, Expects}
+use Rattle.p21_values.specs.Pieces.{NoToken, IsPiece, kind_of}
 use Rattle.p21_reader.specs.Instances.{Passes}
 use Rattle.p21_reader.specs.Files.{ReadsWord}
 use Rattle.p21_reader.specs.Schema.{Statement, SpellsStatement, SpellsStatements, schemas, NamesIfc4}
 use Rattle.p21_reader.specs.Heading.{OnlyText, OnlyIfc4, IsStatementAt, SaysSchema, ReadsData, ReadsPart, ReadsStatements, ReadsHeader}
-use Rattle.p21_reader.specs.declared.fault.ReadFault.TheVariants as faults
+use Rattle.p21_values.specs.declared.fault.ReadFault.TheVariants as faults
 use Rattle.p21_reader.specs.declared.header.Part.TheVariants as parts
 use Rattle.p21_reader.specs.declared.header.Head.{Head}
-use Rattle.p21_reader.specs.declared.piece.Piece.{Piece}
-use Rattle.p21_reader.proofs.Seen.{sign_said}
+use Rattle.p21_values.specs.declared.piece.Piece.{Piece}
+use Rattle.p21_reader.proofs.Signs.{sign_said}
 use Rattle.p21_reader.proofs.Viable.{complete, sound}
 use Rattle.p21_reader.proofs.Steps.{goes_one, goes_trans, goes_under, fails_after, fails_under, fails_none, fails_refused, cuts_on}
 use Rattle.p21_reader.proofs.OneReading.{one_list}

@@ -3,15 +3,16 @@ use Rattle.std.proofs.Common.{◌≡◌, ℕ, ◌-◌, ◌<◌, ◌≤◌, inl, 
 use Rattle.p21_lexer.specs.declared.token.Token.{Token}
 use Rattle.p21_lexer.specs.Cutting.{CutsFrom, StopsAt, IsFirst}
 use Rattle.p21_lexer.specs.Gaps.{Passes}
-use Rattle.p21_reader.specs.declared.fault.ReadFault.{ReadFault}
-use Rattle.p21_reader.specs.declared.fault.ReadFault.TheVariants as faults
-use Rattle.p21_reader.specs.Grammar.{Sign, T}
-use Rattle.p21_reader.specs.declared.piece.Kind.{Kind}
-use Rattle.std.specs.Prelude.{IsErrAnd, IfOk}
-use Rattle.p21_reader.proofs.Seen.{sign_said, sign_led}
+use Rattle.p21_values.specs.declared.fault.ReadFault.{ReadFault}
+use Rattle.p21_values.specs.declared.fault.ReadFault.TheVariants as faults
+use Rattle.p21_values.specs.Grammar.{Sign, T}
+use Rattle.p21_values.specs.declared.piece.Kind.{Kind}
+use Rattle.std.specs.Prelude.{IsErrAnd}
+use Rattle.p21_reader.proofs.Signs.{sign_said, sign_led}
 use Rattle.p21_reader.specs.Machine.{run, next, bind}
-use Rattle.p21_reader.specs.Lexemes.{Lexeme, lexeme_of, class_of}
-use Rattle.p21_reader.specs.Reading.{Cuts, classes, Goes, Stops, Fails, NoToken, StopsAfter, FailsAfter, IsSign, kind_of, sign_class, sign_says}
+use Rattle.p21_values.specs.Lexemes.{Lexeme, lexeme_of, class_of}
+use Rattle.p21_reader.specs.Reading.{Cuts, classes, Goes, Stops, Fails, StopsAfter, FailsAfter, sign_class, sign_says}
+use Rattle.p21_values.specs.Pieces.{NoToken, IsSign, kind_of}
 use Rattle.p21_reader.proofs.Viable.{run_append}
 
 pub classes_append : (ls ms : List Lexeme) → classes (ls ++ ms) ≡ classes ls ++ classes ms
@@ -121,10 +122,6 @@ expected w bytes at t s h e =
     let l : lexeme_of bytes t ≡ sign_says w = sign_said w (lexeme_of bytes t) s e in
     let n : next (T (sign_class w)) (class_of (lexeme_of bytes t)) ≡ Some [] = ap (λ x. next (T (sign_class w)) (class_of x)) l ∙ sign_led w s in
     rw l at (goes_one (T (sign_class w)) [] bytes at t h n)
-
-pub ok_on : (a b : ℕ) (r : Result ℕ ReadFault) → a ≤ b → IfOk r (λ n. b ≤ n) → IfOk r (λ n. a ≤ n)
-ok_on a b (Ok n) h k = omega (arith, h, k)
-ok_on a b (Err f) h k = tt
 
 -- Places rise.
 

@@ -1,18 +1,15 @@
 -- Instances whose numbers rise are one list.
-use Rattle.std.proofs.Common.{◌≡◌, ℕ, ◌+◌, ◌<◌, ◌≤◌, ◌⊎◌, inl, inr, zero, suc, List, [], ◌∷◌, map, length, get_or, IsPermutation, Contains, arith, refl, sym, ap, subst, ◌∙◌}
+use Rattle.std.proofs.Common.{◌≡◌, ℕ, ◌<◌, ◌≤◌, ◌⊎◌, inl, inr, zero, suc, List, [], ◌∷◌, map, length, get_or, IsPermutation, Contains, arith, refl, sym, ap, ◌∙◌}
 use Rattle.std.proofs.lemmas.List.Sorted.{IsPermutation-sym, Contains-permutation}
 use Rattle.std.specs.Ordering.{nat_cmp}
 use Rattle.std.specs.List.{AllByRecursion}
 use Rattle.std.specs.List.Sorted.{IsStrictlySortedBy}
 use Rattle.std.specs.declared.cmp.Ordering.TheVariants.{Less}
-use Rattle.p21_reader.specs.declared.value.Instance.{Instance}
-use Rattle.p21_reader.specs.Saying.{saying}
-use Rattle.p21_reader.specs.Counting.{times}
-use Rattle.p21_reader.specs.Uploads.{Rises}
+use Rattle.p21_values.specs.declared.value.Instance.{Instance}
+use Rattle.p21_values.specs.Saying.{saying}
+use Rattle.p21_values.specs.Counting.{times}
+use Rattle.p21_values.specs.Places.{Rises}
 use Rattle.p21_reader.proofs.Doubles.{less_is, times_same, times_other, equal_or}
-
-pub trichotomy : (a b : ℕ) → (a < b) ⊎ ((a ≡ b) ⊎ (b < a))
-trichotomy a b = grind arith
 
 -- Lists that strictly rise by a number have one order.
 

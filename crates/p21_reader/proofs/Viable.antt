@@ -1,8 +1,8 @@
 -- The table of signs is the grammar: it leads through exactly the tokens that are a file or begin one.
 use Rattle.std.proofs.Common.{◌≡◌, ℕ, List, [], ◌∷◌, ◌++◌, Option, Some, None, option_map, Bool, true, false, cond, refl, sym, ap, subst, ◌∙◌, append_assoc, ◌-◌}
 use Rattle.std.specs.Prelude.{IsSome, ◌↔◌}
-use Rattle.p21_reader.specs.declared.limits.TheConstants.{MOST_DEPTH}
-use Rattle.p21_reader.specs.Grammar.{Mark, Iso, Header, Data, EndSec, EndIso, Other, Class, Simple, Name, Open, Close, Comma, Semi, Equals, Word, Sign, T, AnyWord, Statements, AfterEnd, Instances, Body, Ones, Value, Inside, After, down, file, Rule, simple, name, list, typed, empty, first, last, more, statement, ending, again, content, instance, finish, plain, complex, closed, one, Derives, done, token, word, rule, IsFile, IsViable, IsPlainMark}
+use Rattle.p21_values.specs.declared.limits.TheConstants.{MOST_DEPTH}
+use Rattle.p21_values.specs.Grammar.{Mark, Iso, Header, Data, EndSec, EndIso, Other, Class, Simple, Name, Open, Close, Comma, Semi, Equals, Word, Sign, T, AnyWord, Statements, AfterEnd, Instances, Body, Ones, Value, Inside, After, down, file, Rule, simple, name, list, typed, empty, first, last, more, statement, ending, again, content, instance, finish, plain, complex, closed, one, Derives, done, token, word, rule, IsFile, IsViable, IsPlainMark}
 use Rattle.p21_reader.specs.Machine.{same, same_mark, bind, deeper, next, next_value, step, run}
 
 same_mark_refl : (m : Mark) → same_mark m m ≡ true

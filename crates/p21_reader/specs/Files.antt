@@ -2,14 +2,11 @@ use Rattle.std.specs.Prelude.{◌≡◌, ℕ, List, [], ◌∷◌, ◌++◌, Som
 use Rattle.p21_lexer.specs.declared.token.Token.{Token}
 use Rattle.p21_lexer.specs.declared.token.LexFault.TheVariants as lex
 use Rattle.p21_lexer.specs.Cutting.{CutsFrom, start_of}
-use Rattle.p21_reader.specs.declared.fault.ReadFault.{ReadFault}
-use Rattle.p21_reader.specs.declared.fault.ReadFault.TheVariants as faults
-use Rattle.p21_reader.specs.declared.value.Instance.{Instance}
-use Rattle.bim_model.specs.declared.upload.BuildError.{BuildError}
-use Rattle.bim_model.specs.declared.upload.BuildError.TheVariants as errors
-use Rattle.bim_model.specs.declared.upload.UploadFault.TheVariants as uploads
-use Rattle.p21_reader.specs.Grammar.{Mark, T, Word, EndSec, EndIso, Semi, Instances, IsFile, IsViable}
-use Rattle.p21_reader.specs.Lexemes.{Lexeme, lexeme_of, class_of}
+use Rattle.p21_values.specs.declared.fault.ReadFault.{ReadFault}
+use Rattle.p21_values.specs.declared.fault.ReadFault.TheVariants as faults
+use Rattle.p21_values.specs.declared.value.Instance.{Instance}
+use Rattle.p21_values.specs.Grammar.{Mark, T, Word, EndSec, EndIso, Semi, Instances, IsFile, IsViable}
+use Rattle.p21_values.specs.Lexemes.{Lexeme, lexeme_of, class_of}
 use Rattle.p21_reader.specs.Reading.{Cuts, classes, Goes, Fails, FailsAfter}
 use Rattle.p21_reader.specs.Instances.{SpellsAll}
 use Rattle.p21_reader.specs.Schema.{Statement, SpellsHeading}
@@ -82,9 +79,3 @@ ReadsSection bytes at found (Ok end) =
     × (classes closing ≡ Word EndSec ∷ Semi ∷ Word EndIso ∷ Semi ∷ [])
     × Goes (Instances ∷ []) [] bytes at end (ls ++ closing)
 ReadsSection bytes at found (Err fault) = Fails (Instances ∷ []) bytes at fault
-
--- what a reader's fault says of an upload
-abbrev pub error_of : ReadFault → BuildError
-error_of (faults.BadToken p) = errors.Fault (uploads.BadToken p)
-error_of (faults.BadStatement p) = errors.Fault (uploads.BadStatement p)
-error_of faults.Memory = errors.Memory

@@ -1,7 +1,7 @@
 use Rattle.std.specs.Prelude.{◌≡◌, ℕ, ◌<◌, ◌≤◌, List, [], ◌∷◌, ◌++◌, length, Some, None, Result, Ok, Err, ◌⊎◌, IsTrue, ◌↔◌}
 use Rattle.p21_lexer.specs.declared.token.Token.{Token}
-use Rattle.p21_reader.specs.declared.fault.ReadFault.{ReadFault}
-use Rattle.p21_reader.specs.declared.fault.ReadFault.TheVariants as faults
+use Rattle.p21_values.specs.declared.fault.ReadFault.{ReadFault}
+use Rattle.p21_values.specs.declared.fault.ReadFault.TheVariants as faults
 use Rattle.p21_reader.specs.declared.word.Mark.{Mark}
 use Rattle.p21_reader.specs.declared.word.Mark.TheVariants as marks
 use Rattle.p21_reader.specs.declared.word.Seen.{Seen}
@@ -13,13 +13,14 @@ use Rattle.p21_reader.specs.declared.schema.Schema.TheVariants as said
 use Rattle.p21_reader.specs.declared.header.Part.{Part}
 use Rattle.p21_reader.specs.declared.header.Part.TheVariants as parts
 use Rattle.p21_reader.specs.declared.header.Head.{Head}
-use Rattle.p21_reader.specs.declared.piece.Kind.TheVariants as kinds
-use Rattle.p21_reader.specs.Grammar as grammar
-use Rattle.p21_reader.specs.Grammar.{Class, Sign, T, Derives}
+use Rattle.p21_values.specs.declared.piece.Kind.TheVariants as kinds
+use Rattle.p21_values.specs.Grammar as grammar
+use Rattle.p21_values.specs.Grammar.{Class, Sign, T, Derives}
 use Rattle.p21_reader.specs.Machine.{next}
-use Rattle.p21_reader.specs.Lexemes.{Lexeme, Opening, Closing, WordsOf, KeywordOf, lexeme_of, class_of, classes, Cuts}
+use Rattle.p21_values.specs.Lexemes.{Lexeme, Opening, Closing, WordsOf, KeywordOf, lexeme_of, class_of, classes, Cuts}
 use Rattle.p21_reader.specs.Schema.{Statement, SpellsStatement, SpellsStatements, NamesIfc4, IsIfc4, schemas}
-use Rattle.p21_reader.specs.Reading.{Goes, Fails, IsPiece}
+use Rattle.p21_reader.specs.Reading.{Goes, Fails}
+use Rattle.p21_values.specs.Pieces.{IsPiece}
 
 -- What the code's words for marks, tokens and what is wanted stand for.
 

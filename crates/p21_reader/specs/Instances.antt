@@ -1,14 +1,11 @@
 use Rattle.std.specs.Prelude.{◌≡◌, ℕ, List, [], ◌∷◌, ◌++◌, Option, Some, None, Result, Ok, Err}
-use Rattle.p21_lexer.specs.declared.token.Token.{Token}
-use Rattle.p21_reader.specs.declared.fault.ReadFault.{ReadFault}
-use Rattle.p21_reader.specs.declared.value.Value21.{Value21}
-use Rattle.p21_reader.specs.declared.value.Instance.{Instance}
-use Rattle.p21_reader.specs.declared.instance.Made.{Made}
-use Rattle.p21_reader.specs.Grammar.{Sign, T, Equals, Semi, Body, Derives}
-use Rattle.p21_reader.specs.Lexemes.{Lexeme, Opening, Closing, Ending, Assigning, KeywordOf, ReferenceTo, lexeme_of, class_of}
-use Rattle.p21_reader.specs.Machine.{next}
-use Rattle.p21_reader.specs.Printing.{print_all}
-use Rattle.p21_reader.specs.Reading.{Goes, Fails, FailsAfter, classes}
+use Rattle.p21_values.specs.declared.fault.ReadFault.{ReadFault}
+use Rattle.p21_values.specs.declared.value.Value21.{Value21}
+use Rattle.p21_values.specs.declared.value.Instance.{Instance}
+use Rattle.p21_values.specs.Grammar.{Sign, Body, Derives}
+use Rattle.p21_values.specs.Lexemes.{Lexeme, Opening, Closing, Ending, Assigning, KeywordOf, ReferenceTo}
+use Rattle.p21_values.specs.Printing.{print_all}
+use Rattle.p21_reader.specs.Reading.{Goes, Fails, classes}
 
 -- What stands between the equals sign of an instance and its semicolon. A complex instance is passed over: several keywords with their
 -- values in parentheses, of which nothing is kept.
@@ -36,29 +33,7 @@ abbrev pub ReadsBody : List Sign → Lexeme → List ℕ → ℕ → Option (Lis
 ReadsBody σ first bytes at keyword values end =
     (rest : List Lexeme) × SpellsBody keyword values (first ∷ rest) × Goes σ [] bytes at end rest
 
--- an instance of this number is read so, or what fails
-abbrev pub MakesBody : ℕ → List Sign → Lexeme → List ℕ → ℕ → Result Made ReadFault → Type 0
-MakesBody id σ first bytes at (Ok made) =
-    (made.instance.id ≡ id) × ReadsBody σ first bytes at made.instance.keyword made.instance.values made.end
-MakesBody id σ first bytes at (Err fault) = Fails σ bytes at fault
-
 -- signs of the grammar are passed over at a place: where they end, or what fails
 abbrev pub Passes : List Sign → List ℕ → ℕ → Result ℕ ReadFault → Type 0
 Passes σ bytes at (Ok end) = (ls : List Lexeme) × Goes σ [] bytes at end ls
 Passes σ bytes at (Err fault) = Fails σ bytes at fault
-
--- what stands between the equals sign and the semicolon, whose first token is given
-abbrev pub StartsBody : ℕ → List ℕ → Token → Result Made ReadFault → Type 0
-StartsBody id bytes t (Ok made) =
-    (made.instance.id ≡ id) × (wanted : List Sign) × (rest : List Lexeme)
-    × (next Body (class_of (lexeme_of bytes t)) ≡ Some wanted)
-    × SpellsBody made.instance.keyword made.instance.values (lexeme_of bytes t ∷ rest)
-    × Goes wanted [] bytes t.end made.end rest
-StartsBody id bytes t (Err fault) = FailsAfter Body bytes t fault
-
--- an instance whose name is given
-abbrev pub MakesInstance : Lexeme → List ℕ → ℕ → Result Made ReadFault → Type 0
-MakesInstance name bytes at (Ok made) =
-    (rest : List Lexeme) × SpellsInstance made.instance (name ∷ rest)
-    × Goes (T Equals ∷ Body ∷ T Semi ∷ []) [] bytes at made.end rest
-MakesInstance name bytes at (Err fault) = Fails (T Equals ∷ Body ∷ T Semi ∷ []) bytes at fault

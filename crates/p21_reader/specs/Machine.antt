@@ -1,6 +1,6 @@
 use Rattle.std.specs.Prelude.{ℕ, List, [], ◌∷◌, ◌++◌, Option, Some, None, option_map, Bool, true, false, cond, ◌-◌}
-use Rattle.p21_reader.specs.declared.limits.TheConstants.{MOST_DEPTH}
-use Rattle.p21_reader.specs.Grammar.{Mark, Iso, Header, Data, EndSec, EndIso, Other, Class, Simple, Name, Open, Close, Comma, Semi, Equals, Word, Sign, T, AnyWord, Statements, AfterEnd, Instances, Body, Ones, Value, Inside, After, down}
+use Rattle.p21_values.specs.declared.limits.TheConstants.{MOST_DEPTH}
+use Rattle.p21_values.specs.Grammar.{Mark, Iso, Header, Data, EndSec, EndIso, Other, Class, Simple, Name, Open, Close, Comma, Semi, Equals, Word, Sign, T, AnyWord, Statements, AfterEnd, Instances, Body, Ones, Value, Inside, After, down}
 
 -- What is wanted next, as a table: what the code follows. Public contracts speak of the rules alone.
 

@@ -1,19 +1,17 @@
-use Rattle.std.specs.Prelude.{◌≡◌, ℕ, ◌<◌, ◌≤◌, List, [], ◌∷◌, ◌++◌, length, map, take, drop, Some, None, Result, Ok, Err, ◌⊎◌, slice_range}
+use Rattle.std.specs.Prelude.{◌≡◌, ℕ, List, [], ◌∷◌, ◌++◌, length, Some, None, Result, Ok, Err, ◌⊎◌}
 use Rattle.p21_lexer.specs.declared.token.Token.{Token}
 use Rattle.p21_lexer.specs.declared.token.LexFault.TheVariants as lex
 use Rattle.p21_lexer.specs.Cutting.{CutsFrom}
-use Rattle.p21_lexer.specs.Spelling.{Spells}
-use Rattle.p21_reader.specs.declared.fault.ReadFault.{ReadFault}
-use Rattle.p21_reader.specs.declared.fault.ReadFault.TheVariants as faults
-use Rattle.p21_reader.specs.declared.piece.Kind.{Kind}
-use Rattle.p21_reader.specs.declared.piece.Kind.TheVariants as kinds
-use Rattle.p21_reader.specs.declared.piece.Piece.{Piece}
-use Rattle.p21_reader.specs.declared.value.Value21.{Value21}
-use Rattle.p21_reader.specs.Grammar.{Class, Simple, Name, Open, Close, Comma, Semi, Equals, Word, Sign, T, Value, Inside, After}
+use Rattle.p21_values.specs.declared.fault.ReadFault.{ReadFault}
+use Rattle.p21_values.specs.declared.fault.ReadFault.TheVariants as faults
+use Rattle.p21_values.specs.declared.piece.Kind.{Kind}
+use Rattle.p21_values.specs.declared.piece.Kind.TheVariants as kinds
+use Rattle.p21_values.specs.declared.value.Value21.{Value21}
+use Rattle.p21_values.specs.Grammar.{Class, Simple, Open, Close, Comma, Semi, Equals, Sign, T, Value}
 use Rattle.p21_reader.specs.Machine.{run, next}
-use Rattle.p21_reader.specs.Lexemes.{Lexeme, Absence, Opening, Closing, Separator, Ending, Assigning, lexeme_of, class_of}
-pub use Rattle.p21_reader.specs.Lexemes.{Cuts, classes}
-use Rattle.p21_reader.specs.Printing.{print, print_all, behind}
+use Rattle.p21_values.specs.Lexemes.{Lexeme, Absence, Opening, Closing, Separator, Ending, Assigning, lexeme_of, class_of}
+pub use Rattle.p21_values.specs.Lexemes.{Cuts, classes}
+use Rattle.p21_values.specs.Printing.{print}
 
 -- What the functions promise one another. Public contracts speak of Files alone.
 
@@ -48,37 +46,6 @@ abbrev pub Fails : List Sign → List ℕ → ℕ → ReadFault → Type 0
 Fails σ bytes at (faults.BadToken p) = Stops σ bytes at (faults.BadToken p)
 Fails σ bytes at (faults.BadStatement p) = Stops σ bytes at (faults.BadStatement p)
 Fails σ bytes at faults.Memory = Unit {0}
-
--- no token is cut there
-abbrev pub NoToken : List ℕ → ℕ → ReadFault → Type 0
-NoToken bytes at (faults.BadToken p) = CutsFrom bytes at (Err (lex.BadToken p))
-NoToken bytes at (faults.BadStatement p) = CutsFrom bytes at (Ok None) × (p ≡ length bytes)
-NoToken bytes at faults.Memory = ⊥
-
--- the kind of a class
-abbrev pub kind_of : Class → Kind
-kind_of Simple = kinds.Simple
-kind_of Name = kinds.Name
-kind_of (Word m) = kinds.Word
-kind_of Open = kinds.Open
-kind_of Close = kinds.Close
-kind_of Comma = kinds.Comma
-kind_of Semi = kinds.Semicolon
-kind_of Equals = kinds.Equals
-
--- a token within the bytes, and what the grammar sees of it
-pub record IsPiece (bytes : List ℕ) (piece : Piece) : Type 0 where
-  pub some : piece.token.start < piece.token.end
-  pub within : piece.token.end ≤ length bytes
-  pub spelled : Spells piece.token.kind (slice_range bytes piece.token.start piece.token.end)
-  pub seen : piece.kind ≡ kind_of (class_of (lexeme_of bytes piece.token))
-
--- one of the five signs
-abbrev pub IsSign : Kind → Type 0
-IsSign kinds.Simple = ⊥
-IsSign kinds.Name = ⊥
-IsSign kinds.Word = ⊥
-IsSign _ = Unit {0}
 
 -- the class of a kind of one byte
 abbrev pub sign_class : Kind → Class
@@ -123,47 +90,3 @@ abbrev pub FailsAfter : Sign → List ℕ → Token → ReadFault → Type 0
 FailsAfter s bytes t (faults.BadToken p) = StopsAfter s bytes t (faults.BadToken p)
 FailsAfter s bytes t (faults.BadStatement p) = StopsAfter s bytes t (faults.BadStatement p)
 FailsAfter s bytes t faults.Memory = Unit {0}
-
--- a value is read and stands on the stack
-abbrev pub PushesValue : ℕ → List ℕ → Token → List Value21 → List Value21 → Result ℕ ReadFault → Type 0
-PushesValue depth bytes t old new (Ok end) =
-    (v : Value21) × (new ≡ old ++ v ∷ []) × ReadsValue depth bytes t end v
-PushesValue depth bytes t old new (Err fault) = FailsAfter (Value (Some depth)) bytes t fault
-
--- the same of the values behind an opening parenthesis, up to and with the closing one
-abbrev pub PushesInside : ℕ → List ℕ → ℕ → List Value21 → List Value21 → Result ℕ ReadFault → Type 0
-PushesInside depth bytes at old new (Ok end) =
-    (vs : List Value21) × (new ≡ old ++ vs)
-    × Goes (Inside (Some depth) ∷ []) [] bytes at end (print_all vs ++ Closing ∷ [])
-PushesInside depth bytes at old new (Err fault) = Fails (Inside (Some depth) ∷ []) bytes at fault
-
--- a value of one token
-abbrev pub IsPlain : Kind → Type 0
-IsPlain kinds.Simple = Unit {0}
-IsPlain kinds.Name = Unit {0}
-IsPlain _ = ⊥
-
--- A value is made and stands on the stack: its first token says this, and the others, from that place on, are what was wanted.
-abbrev pub PushesMade : List Sign → Lexeme → List ℕ → ℕ → List Value21 → List Value21 → Result ℕ ReadFault
-    → Type 0
-PushesMade σ first bytes at old new (Ok end) =
-    (v : Value21) × (new ≡ old ++ v ∷ []) × (rest : List Lexeme) × (print v ≡ first ∷ rest)
-    × Goes σ [] bytes at end rest
-PushesMade σ first bytes at old new (Err fault) = Fails σ bytes at fault
-
--- the values of a list behind its first one, up to and with the closing parenthesis
-abbrev pub PushesMore : ℕ → List ℕ → ℕ → List Value21 → List Value21 → Result ℕ ReadFault → Type 0
-PushesMore depth bytes at old new (Ok end) =
-    (vs : List Value21) × (new ≡ old ++ vs)
-    × Goes (After (Some depth) ∷ []) [] bytes at end (behind (map print vs) ++ Closing ∷ [])
-PushesMore depth bytes at old new (Err fault) = Fails (After (Some depth) ∷ []) bytes at fault
-
--- the values from a place on become one list
-abbrev pub IsListed : ℕ → List Value21 → List Value21 → Type 0
-IsListed start old new = (v : Value21) × (new ≡ take start old ++ v ∷ [])
-    × (print v ≡ Opening ∷ (print_all (drop start old) ++ Closing ∷ []))
-
--- the last value is put into a typed one
-abbrev pub IsWrapped : Lexeme → List Value21 → List Value21 → Type 0
-IsWrapped word old new = (front : List Value21) (v : Value21) → old ≡ front ++ v ∷ []
-    → (u : Value21) × (new ≡ front ++ u ∷ []) × (print u ≡ word ∷ Opening ∷ (print v ++ Closing ∷ []))

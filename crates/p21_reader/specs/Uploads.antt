@@ -1,21 +1,23 @@
-use Rattle.std.specs.Prelude.{◌≡◌, ℕ, ◌<◌, ◌≤◌, Bool, IsTrue, List, [], ◌∷◌, map, length, IsPermutation, ◌↔◌}
-use Rattle.std.specs.Ordering.{nat_cmp}
-use Rattle.std.specs.List.Sorted.{IsStrictlySortedBy}
+use Rattle.std.specs.Prelude.{◌≡◌, ℕ, ◌<◌, ◌≤◌, Bool, IsTrue, List, [], ◌∷◌, length, IsPermutation, ◌↔◌}
 use Rattle.bim_model.specs.declared.upload.UploadFault.{UploadFault}
 use Rattle.bim_model.specs.declared.upload.UploadFault.TheVariants as faults
 use Rattle.bim_model.specs.declared.upload.BuildError.{BuildError}
 use Rattle.bim_model.specs.declared.upload.BuildError.TheVariants as errors
 use Rattle.bim_model.specs.declared.upload.Many.TheVariants as many
 use Rattle.p21_lexer.specs.Cutting.{start_of}
-use Rattle.p21_reader.specs.declared.limits.TheConstants.{MOST_INSTANCES, MOST_VALUES}
+use Rattle.p21_values.specs.declared.limits.TheConstants.{MOST_INSTANCES, MOST_VALUES}
 use Rattle.bim_model.specs.declared.limits.TheConstants.{MOST_UPLOAD}
-use Rattle.p21_reader.specs.declared.value.Instance.{Instance}
-use Rattle.p21_reader.specs.Grammar.{Iso, Semi, Word, T}
-use Rattle.p21_reader.specs.Lexemes.{Lexeme, Cuts, classes}
+use Rattle.p21_values.specs.declared.value.Instance.{Instance}
+use Rattle.p21_values.specs.Grammar.{Iso, Semi, Word, T}
+use Rattle.p21_values.specs.Lexemes.{Lexeme, Cuts, classes}
 use Rattle.p21_reader.specs.Reading.{Goes}
 use Rattle.p21_reader.specs.Schema.{Statement, NamesIfc4}
-use Rattle.p21_reader.specs.Counting.{values_of, times}
+use Rattle.p21_values.specs.Counting.{values_of, times}
+use Rattle.p21_values.specs.Places.{Rises}
+use Rattle.p21_values.specs.Tables.{Holds}
 use Rattle.p21_reader.specs.Files.{HoldsFile, NoneThere, WrongThere}
+use Rattle.p21_reader.specs.declared.table.Table.{Table}
+use Rattle.p21_reader.specs.Tabling.{Counts}
 
 -- What an upload's bytes spell, and the first fault that they have.
 
@@ -36,10 +38,6 @@ IsIfc4Upload bytes found = (statements : List Statement) × IsUpload bytes state
 -- two instances have this id, and no lesser one
 abbrev pub IsLeastDouble : ℕ → List Instance → Type 0
 IsLeastDouble id found = (2 ≤ times id found) × ((other : ℕ) → other < id → times other found ≤ 1)
-
--- each instance's id is below the ids of those after it
-abbrev pub Rises : List Instance → Type 0
-Rises instances = IsStrictlySortedBy nat_cmp (map (λ i. i.id) instances)
 
 -- The instances that the bytes spell: those of DATA in the order of their ids, which differ, of a file within the limits whose header
 -- names IFC4.
@@ -86,6 +84,18 @@ IsTooMany _ _ = ⊥
 abbrev pub Judges : List ℕ → List Instance → Bool → Type 0
 Judges bytes found is_ifc4 = (statements : List Statement) × HoldsFile bytes statements found
     × (IsTrue is_ifc4 ↔ NamesIfc4 statements)
+
+-- a file whose instances the table tells, one after another, and whose values it counts, and whether its header names IFC4
+abbrev pub TablesFile : List ℕ → Table → Bool → Type 0
+TablesFile bytes table is_ifc4 =
+    (found : List Instance) × Judges bytes found is_ifc4
+    × Holds bytes table.starts.items table.heads.items found × Counts 0 table.values (values_of found)
+
+-- the same of a file that names IFC4
+abbrev pub TablesUpload : List ℕ → Table → Type 0
+TablesUpload bytes table =
+    (found : List Instance) × IsIfc4Upload bytes found
+    × Holds bytes table.starts.items table.heads.items found × Counts 0 table.values (values_of found)
 
 -- the first two tokens of a file end here
 abbrev pub BeginsAt : List ℕ → ℕ → Type 0

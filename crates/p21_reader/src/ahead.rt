@@ -2,15 +2,16 @@
 ghost use Rattle.std.specs.Prelude.{◌≡◌, ◌≤◌, ◌∷◌, [], ℕ, List, length, Some, Ok, IfSome, IfNone};
 ghost use Rattle.p21_lexer.specs.Cutting.{CutsFrom};
 ghost use Rattle.p21_lexer.specs.declared.token.Token.{Token};
-ghost use Rattle.p21_reader.specs.Grammar.{Word};
-ghost use Rattle.p21_reader.specs.Lexemes.{lexeme_of, class_of, Opening, Closing, WordsOf};
+ghost use Rattle.p21_values.specs.Grammar.{Word};
+ghost use Rattle.p21_values.specs.Lexemes.{lexeme_of, class_of, Opening, Closing, WordsOf};
 ghost use Rattle.p21_reader.specs.Heading.{mark_seen, OnlyText};
-ghost use Rattle.p21_reader.specs.Reading.{Cuts, IsPiece, IsSign, sign_says};
+ghost use Rattle.p21_reader.specs.Reading.{Cuts, sign_says};
+ghost use Rattle.p21_values.specs.Pieces.{IsPiece, IsSign};
 
-use crate::piece::{Kind, Piece, take};
-use crate::simple::inner;
 use crate::word::{Mark, Seen, look};
 use p21_lexer::{Token, TokenKind};
+use p21_table::inner;
+use p21_values::{Kind, Piece, take};
 
 /// The next token; none where the bytes end or no token begins.
 fn next_piece(bytes: &[u8], at: usize) -> Option<Piece>

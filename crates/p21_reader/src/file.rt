@@ -1,22 +1,21 @@
 //! A whole file, from the word that begins it to the one that ends it.
 ghost use Rattle.std.specs.Prelude.{◌≡◌, ◌≤◌, length, IfOk, IfErr, IfSome, IfNone};
+ghost use Rattle.bim_model.specs.declared.limits.TheConstants.{MOST_UPLOAD};
 ghost use Rattle.p21_lexer.specs.Cutting.{start_of};
 ghost use Rattle.p21_reader.specs.Files.{FaultAt};
-ghost use Rattle.p21_reader.specs.Uploads.{BeginsPart21, BeginsAt, Judges};
+ghost use Rattle.p21_reader.specs.Uploads.{BeginsPart21, BeginsAt, TablesFile};
 
 use crate::ahead::{sign_end, word_end};
-use crate::fault::ReadFault;
 use crate::header::header;
-use crate::piece::Kind;
-use crate::section::section;
-use crate::value::Instance;
+use crate::table::{Table, table_section};
 use crate::word::Mark;
+use p21_values::{Kind, ReadFault};
 use std::alloc::Global;
 
-/// The instances of a file's DATA section, in its order, and whether its header names IFC4.
+/// The table of a file's DATA section, in its order, and whether its header names IFC4.
 #[derive(Drop)]
 pub struct File {
-    pub instances: Vec<Instance>,
+    pub table: Table,
     pub is_ifc4: bool,
 }
 
@@ -45,16 +44,17 @@ pub fn begin(bytes: &[u8]) -> Option<usize>
 
 /// Reads a file from behind its first two tokens on. Bytes after its last semicolon aren't looked at.
 pub fn read_file(alloc: Global, bytes: &[u8], begun: usize) -> Result<File, ReadFault>
+    requires short { length bytes.now ≤ MOST_UPLOAD }
     requires begun { BeginsAt bytes.now begun }
     requires within { begun ≤ length bytes.now }
-    ensures file { IfOk result (λ file. Judges bytes.now file.instances.items file.is_ifc4) }
+    ensures file { IfOk result (λ file. TablesFile bytes.now file.table file.is_ifc4) }
     ensures fault { IfErr result (λ fault. FaultAt bytes.now fault) }
 {
-    let mut instances = Vec::new(alloc);
+    let mut table = Table::new(alloc);
     let head = header(alloc, bytes, begun)?;
-    section(alloc, bytes, head.end, &mut instances)?;
+    table_section(bytes, head.end, &mut table)?;
     Ok(File {
-        instances,
+        table,
         is_ifc4: head.is_ifc4,
     })
 }

@@ -1,13 +1,12 @@
 //! The header section, and the schema that it names.
 ghost use Rattle.std.specs.Prelude.{◌≡◌, ◌≤◌, length, IfOk};
 ghost use Rattle.p21_reader.specs.Heading.{ReadsData, ReadsPart, ReadsStatements, ReadsHeader};
-ghost use Rattle.p21_reader.specs.Reading.{IsPiece};
+ghost use Rattle.p21_values.specs.Pieces.{IsPiece};
 
-use crate::fault::ReadFault;
 use crate::nested::pass_values;
-use crate::piece::{Kind, Piece, expect, refused, take};
 use crate::schema::{Schema, judge};
-use crate::word::{Mark, Seen, expect_word, look};
+use crate::word::{Mark, Seen, expect, expect_word, look};
+use p21_values::{Kind, Piece, ReadFault, refused, take};
 use std::alloc::Global;
 
 /// What stands next among the statements of a header.

@@ -1,13 +1,13 @@
 //! Laws for callers: the table is the grammar, files have one reading, uploads one answer.
 ghost use Rattle.std.specs.Prelude.{◌≡◌, ℕ, List, [], Some, IsSome, ◌↔◌};
-ghost use Rattle.p21_reader.specs.Grammar.{Class, IsFile, IsViable, file};
+ghost use Rattle.p21_values.specs.Grammar.{Class, IsFile, IsViable, file};
 ghost use Rattle.p21_reader.specs.Machine.{run};
-ghost use Rattle.p21_reader.specs.Lexemes.{Lexeme};
+ghost use Rattle.p21_values.specs.Lexemes.{Lexeme};
 ghost use Rattle.p21_reader.specs.Files.{HoldsFile};
 ghost use Rattle.p21_reader.specs.Schema.{Statement};
 ghost use Rattle.p21_reader.specs.Uploads.{HasFault, SpellsExchange};
 ghost use Rattle.bim_model.specs.declared.upload.UploadFault.{UploadFault};
-ghost use Rattle.p21_reader.specs.declared.value.Instance.{Instance};
+ghost use Rattle.p21_values.specs.declared.value.Instance.{Instance};
 
 /// Tokens are a file, or begin one, exactly where the reader's table leads through them.
 pub fn table_is_grammar()

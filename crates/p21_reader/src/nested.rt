@@ -1,16 +1,15 @@
 //! The values of a header statement, which are passed over.
 ghost use Rattle.std.specs.Prelude.{◌≡◌, ◌≤◌, ◌∷◌, [], length, Some, None, IfOk, IfErr, OnOk, MatchOption};
 ghost use Rattle.std.specs.Prelude.{true, false};
-ghost use Rattle.p21_reader.specs.Grammar.{Inside};
+ghost use Rattle.p21_values.specs.Grammar.{Inside};
 ghost use Rattle.p21_reader.specs.Machine.{next};
-ghost use Rattle.p21_reader.specs.Lexemes.{lexeme_of, class_of};
-ghost use Rattle.p21_reader.specs.Reading.{IsPiece};
+ghost use Rattle.p21_values.specs.Lexemes.{lexeme_of, class_of};
+ghost use Rattle.p21_values.specs.Pieces.{IsPiece};
 ghost use Rattle.p21_reader.specs.Instances.{Passes};
 ghost use Rattle.p21_reader.specs.Heading.{sign_of, signs_of, class_seen, Follows, FollowsNot};
 
-use crate::fault::ReadFault;
-use crate::piece::{Piece, refused, take};
 use crate::word::{Seen, look};
+use p21_values::{Piece, ReadFault, refused, take};
 use std::alloc::Global;
 
 /// What is wanted next within a header statement.

@@ -2,13 +2,12 @@
 ghost use Rattle.std.specs.Prelude.{◌≡◌, ◌≤◌, ◌∷◌, [], ◌++◌, List, length, IsTrue, ◌↔◌, IfOk, IfErr};
 ghost use Rattle.p21_reader.specs.Schema.{Statement, IsIfc4};
 ghost use Rattle.p21_reader.specs.Heading.{SaysSchema, OnlyIfc4, IsStatementAt};
-ghost use Rattle.p21_reader.specs.Reading.{IsPiece};
+ghost use Rattle.p21_values.specs.Pieces.{IsPiece};
 
 use crate::ahead::only_text;
-use crate::fault::ReadFault;
-use crate::piece::{Kind, Piece};
-use crate::word::is_word;
 use bim_text::text_of;
+use p21_table::is_word;
+use p21_values::{Kind, Piece, ReadFault};
 use std::alloc::{AllocError, Global};
 
 /// What the statements of a header say of the schema so far.

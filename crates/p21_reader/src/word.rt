@@ -1,14 +1,14 @@
 //! The words that structure a file.
-ghost use Rattle.std.specs.Prelude.{◌≡◌, ◌≤◌, length, map, IfOk};
+ghost use Rattle.std.specs.Prelude.{◌≡◌, ◌<◌, ◌≤◌, length, map, IfOk};
 ghost use Rattle.std.specs.Char.{to_ascii_uppercase};
-ghost use Rattle.std.specs.Str.{bytes_eq};
-ghost use Rattle.p21_reader.specs.Lexemes.{lexeme_of, class_of, mark_of};
-ghost use Rattle.p21_reader.specs.Reading.{IsPiece};
+ghost use Rattle.p21_values.specs.Lexemes.{lexeme_of, class_of, mark_of};
+ghost use Rattle.p21_values.specs.Pieces.{IsPiece, IsSign};
+ghost use Rattle.p21_reader.specs.Reading.{Expects};
 ghost use Rattle.p21_reader.specs.Heading.{mark_seen, class_seen};
 ghost use Rattle.p21_reader.specs.Files.{ReadsWord};
 
-use crate::fault::ReadFault;
-use crate::piece::{Kind, Piece, refused, take};
+use p21_table::is_word;
+use p21_values::{Kind, Piece, ReadFault, refused, take};
 
 /// The words that the grammar names; each other word is `Other`.
 #[derive(Clone, Copy, PartialEq, Eq)]
@@ -34,25 +34,8 @@ pub enum Seen {
     Equals,
 }
 
-/// Whether the bytes are this word, in letters of either case.
-pub fn is_word(bytes: &[u8], word: &[u8]) -> bool
-    ensures { result ≡ bytes_eq (map to_ascii_uppercase bytes.now) word.now }
-{
-    if bytes.len() != word.len() {
-        return false;
-    }
-    let mut at = 0;
-    while at < bytes.len() {
-        if bytes[at].to_ascii_uppercase() != word[at] {
-            return false;
-        }
-        at += 1;
-    }
-    true
-}
-
 /// Which word it is.
-#[tactic(auto, unfolding(crate::specs::Lexemes::mark_of))]
+#[tactic(auto, unfolding(p21_values::specs::Lexemes::mark_of))]
 fn mark_at(bytes: &[u8]) -> Mark
     ensures { mark_seen result ≡ mark_of (map to_ascii_uppercase bytes.now) }
 {
@@ -96,6 +79,22 @@ pub fn expect_word(bytes: &[u8], at: usize, wanted: Mark) -> Result<usize, ReadF
 {
     let piece = take(bytes, at)?;
     if look(bytes, piece) == Seen::Word(wanted) {
+        Ok(piece.token.end)
+    } else {
+        Err(refused(piece))
+    }
+}
+
+/// The end of a sign that is wanted.
+pub fn expect(bytes: &[u8], at: usize, wanted: Kind) -> Result<usize, ReadFault>
+    requires sign { IsSign wanted }
+    requires at { at ≤ length bytes.now }
+    ensures expects { Expects wanted bytes.now at result }
+    ensures on { IfOk result (λ end. at < end) }
+    ensures within { IfOk result (λ end. end ≤ length bytes.now) }
+{
+    let piece = take(bytes, at)?;
+    if piece.kind == wanted {
         Ok(piece.token.end)
     } else {
         Err(refused(piece))

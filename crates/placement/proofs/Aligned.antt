@@ -1,8 +1,8 @@
 -- A vector lies along one axis at most.
 use Rattle.std.proofs.Common.{◌≡◌, ◌≢◌, ℕ, zero, suc, ◌<◌, ◌⊎◌, inl, inr, Bool, true, false, pos, refl, sym, ap, ◌∙◌, subst, arith, List, Option, Some, None}
-use Rattle.p21_reader.specs.declared.value.Value21.{Value21}
-use Rattle.p21_reader.specs.declared.value.Instance.{Instance}
-use Rattle.p21_reader.specs.Values.{reference_of, is_absent}
+use Rattle.p21_values.specs.declared.value.Value21.{Value21}
+use Rattle.p21_values.specs.declared.value.Instance.{Instance}
+use Rattle.p21_values.specs.Values.{reference_of, is_absent}
 use Rattle.placement.specs.declared.axis.Axis.{Axis}
 use Rattle.placement.specs.declared.axes.Axes.{Axes}
 use Rattle.placement.specs.declared.direction.Direction.{Direction}

@@ -2,12 +2,12 @@
 use Rattle.std.proofs.Common.{◌≡◌, ℕ, List, Option, Some, None, refl, sym, ap, ◌∙◌, subst}
 use Rattle.bim_model.specs.declared.geometry.Point.{Point}
 use Rattle.bim_model.specs.declared.upload.Mode.{Mode}
-use Rattle.p21_reader.specs.declared.value.Value21.{Value21}
-use Rattle.p21_reader.specs.declared.value.Instance.{Instance}
+use Rattle.p21_values.specs.declared.value.Value21.{Value21}
+use Rattle.p21_values.specs.declared.value.Instance.{Instance}
 use Rattle.ifc_units.specs.declared.scale.Scale.{Scale}
 use Rattle.ifc_units.specs.Lengths.{IsPoint}
 use Rattle.ifc_units.proofs.PointFacts.{one_point}
-use Rattle.p21_reader.proofs.ValueLemmas.{one}
+use Rattle.p21_values.proofs.ValueLemmas.{one}
 use Rattle.placement.specs.declared.axis.Axis.{Axis}
 use Rattle.placement.specs.declared.axes.Axes.{Axes}
 use Rattle.placement.specs.declared.direction.Vector.{Vector}
@@ -16,7 +16,7 @@ use Rattle.placement.specs.Frames.{carried, lengths_of, frame_at}
 use Rattle.placement.specs.Chains.{parent_of}
 use Rattle.placement.specs.Directions.{HasAxes, LiesAlong, without, cross, unit, first_direction, second_direction}
 use Rattle.placement.specs.Placed.{IsLocation, AxisFrame, OwnFrame, IsComposed, FrameOf, outermost, within}
-use Rattle.p21_reader.specs.Attributes.{referred_at, value_at}
+use Rattle.p21_values.specs.Attributes.{referred_at, value_at}
 use Rattle.placement.proofs.Aligned.{one_axis}
 use Rattle.placement.proofs.Square.{same_directions}
 

@@ -4,13 +4,13 @@ use Rattle.std.specs.List.{slice_get}
 use Rattle.std.proofs.lemmas.Bool.Decides.{nat_tests}
 use Rattle.bim_model.specs.declared.geometry.Point.{Point}
 use Rattle.bim_model.specs.declared.upload.Mode.{Mode}
-use Rattle.p21_reader.specs.declared.value.Value21.{Value21}
-use Rattle.p21_reader.specs.declared.value.Instance.{Instance}
+use Rattle.p21_values.specs.declared.value.Value21.{Value21}
+use Rattle.p21_values.specs.declared.value.Instance.{Instance}
 use Rattle.ifc_units.specs.declared.scale.Scale.{Scale}
 use Rattle.ifc_units.specs.declared.length_error.LengthError.{LengthError}
 use Rattle.ifc_units.specs.Lengths.{IsPoint, PointRefused, Fails}
 use Rattle.ifc_units.proofs.PointFacts.{one_point}
-use Rattle.p21_reader.proofs.ValueLemmas.{one, refers_absent}
+use Rattle.p21_values.proofs.ValueLemmas.{one, refers_absent}
 use Rattle.placement.specs.declared.axis.Axis.{Axis}
 use Rattle.placement.specs.declared.axes.Axes.{Axes}
 use Rattle.placement.specs.declared.direction.Direction.{Direction}
@@ -18,7 +18,7 @@ use Rattle.placement.specs.declared.direction.Vector.{Vector}
 use Rattle.placement.specs.declared.frame.Frame.{Frame}
 use Rattle.placement.specs.Frames.{lengths_of, frame_at}
 use Rattle.placement.specs.Directions.{Directs, LiesAlong, without, first_direction, second_direction}
-use Rattle.p21_reader.specs.Attributes.{referred_at, value_at}
+use Rattle.p21_values.specs.Attributes.{referred_at, value_at}
 use Rattle.placement.specs.Operators.{MayDirect, OperatorDirections, HasOperatorDirections, GiveOperatorAxes, HasOperatorAxes, ObliqueOperator, third_direction, IsOrigin, OperatorFrame}
 use Rattle.placement.proofs.Aligned.{one_axis}
 use Rattle.placement.proofs.Square.{same_vector, GiveSame, same_directs}

@@ -2,8 +2,8 @@
 use Rattle.std.proofs.Common.{◌≡◌, ℕ, List, Option, Some, None, MatchOption, sym, ◌∙◌, subst}
 use Rattle.bim_model.specs.declared.geometry.Point.{Point}
 use Rattle.bim_model.specs.declared.upload.Mode.{Mode}
-use Rattle.p21_reader.specs.declared.value.Value21.{Value21}
-use Rattle.p21_reader.specs.declared.value.Instance.{Instance}
+use Rattle.p21_values.specs.declared.value.Value21.{Value21}
+use Rattle.p21_values.specs.declared.value.Instance.{Instance}
 use Rattle.ifc_units.specs.declared.scale.Scale.{Scale}
 use Rattle.ifc_units.specs.declared.length_error.LengthError.{LengthError}
 use Rattle.ifc_units.specs.declared.length_error.LengthError.TheVariants.{Unread, Refused}
@@ -12,7 +12,7 @@ use Rattle.ifc_units.proofs.PointFacts.{point_apart}
 use Rattle.placement.specs.declared.frame.Frame.{Frame}
 use Rattle.placement.specs.Directions.{HasDirections, Oblique}
 use Rattle.placement.specs.Placed.{IsLocation, AxisFrame, OwnFrame}
-use Rattle.p21_reader.specs.Attributes.{referred_at, value_at}
+use Rattle.p21_values.specs.Attributes.{referred_at, value_at}
 use Rattle.placement.proofs.Square.{square}
 
 one : {X : Type 0} (o : Option X) (a b : X) → o ≡ Some a → o ≡ Some b → a ≡ b

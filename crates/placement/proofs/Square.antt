@@ -6,10 +6,10 @@ use Rattle.bim_text.specs.declared.decimal.Decimal.{Decimal}
 use Rattle.bim_text.specs.Values.{Scaled, signed, raised, size_order}
 use Rattle.bim_text.specs.Decimals.{Reads, value_of}
 use Rattle.bim_text.proofs.Unique.{one_decimal}
-use Rattle.p21_reader.specs.declared.value.Value21.{Value21}
-use Rattle.p21_reader.specs.declared.value.Instance.{Instance}
-use Rattle.p21_reader.specs.Values.{reference_of}
-use Rattle.p21_reader.proofs.ValueLemmas.{one, refers_absent}
+use Rattle.p21_values.specs.declared.value.Value21.{Value21}
+use Rattle.p21_values.specs.declared.value.Instance.{Instance}
+use Rattle.p21_values.specs.Values.{reference_of}
+use Rattle.p21_values.proofs.ValueLemmas.{one, refers_absent}
 use Rattle.placement.specs.declared.axis.Axis.{Axis}
 use Rattle.placement.specs.declared.axes.Axes.{Axes}
 use Rattle.placement.specs.declared.direction.Direction.{Direction}

@@ -4,10 +4,10 @@ use Rattle.std.proofs.lemmas.Bool.Decides.{nat_tests}
 use Rattle.std.proofs.lemmas.List.{get_or-set_same, get_or-set_other, get_or_default, get_or_append_left, get_or_push, get_or_past, length_push, length-set, take-append-le, take_at}
 use Rattle.std.proofs.lemmas.List.Sums.{sum_by-set}
 use Rattle.std.proofs.lemmas.Bool.{cases_lt}
-use Rattle.p21_reader.specs.declared.value.Instance.{Instance}
-use Rattle.p21_reader.specs.Looking.{look}
-use Rattle.p21_reader.specs.Places.{IsPlaceOf}
-use Rattle.p21_reader.proofs.PlaceLemmas.{some_instance}
+use Rattle.p21_values.specs.declared.value.Instance.{Instance}
+use Rattle.p21_values.specs.Looking.{look}
+use Rattle.p21_values.specs.Places.{IsPlaceOf}
+use Rattle.p21_values.proofs.PlaceLemmas.{some_instance}
 use Rattle.placement.specs.Chains.{parent_in, parent_of, Ends, here, above, StandsIn, ParentsFirst}
 use Rattle.placement.specs.Walks.{rank_at, is_new, Ranked, Climbs, Climbed, Outcome}
 

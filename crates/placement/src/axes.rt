@@ -8,7 +8,7 @@ ghost use Rattle.placement.specs.Directions.{Directs, Directions, HasDirections,
 use crate::axis::Axis;
 use crate::direction::{Direction, Vector};
 use crate::read::direction_of;
-use p21_reader::{Exchange, ValueRef};
+use p21_table::{Exchange, ValueRef};
 
 /// Three axes along those of the grid.
 #[derive(Clone, Copy, Debug, PartialEq, Eq)]

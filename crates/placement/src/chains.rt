@@ -4,7 +4,7 @@ ghost use Rattle.placement.specs.Chains.{AreChains, IsLoopCause};
 
 use crate::walk::Walk;
 use bim_model::{BuildError, UploadFault};
-use p21_reader::Exchange;
+use p21_table::Exchange;
 use std::alloc::Global;
 use std::marker::Model;
 
@@ -16,7 +16,7 @@ pub struct Chains {
 
 impl Model for Chains {
     ghost use Rattle.std.specs.Prelude.{List, ℕ, length, ◌≤◌};
-    ghost use Rattle.p21_reader.specs.declared.limits.TheConstants.{MOST_INSTANCES};
+    ghost use Rattle.p21_values.specs.declared.limits.TheConstants.{MOST_INSTANCES};
 
     ghost Value = { List ℕ };
 
@@ -26,7 +26,7 @@ impl Model for Chains {
 }
 
 impl Chains {
-    ghost use Rattle.p21_reader.specs.declared.limits.TheConstants.{MOST_INSTANCES};
+    ghost use Rattle.p21_values.specs.declared.limits.TheConstants.{MOST_INSTANCES};
     ghost use Rattle.std.specs.Prelude.{◌≡◌, ◌≤◌, length};
 
     /// The placements that are named and all in which they stand (IFC4 ADD2 TC1, IfcLocalPlacement). A fault is `PlacementLoop`, with the

@@ -10,7 +10,7 @@ use crate::own::own_frame;
 use crate::walk::standing_of;
 use bim_model::Mode;
 use ifc_units::Scale;
-use p21_reader::Exchange;
+use p21_table::Exchange;
 use std::alloc::{AllocError, Global};
 use std::collections::BTreeMap;
 use std::marker::Model;

@@ -2,7 +2,7 @@
 ghost use Rattle.std.specs.Prelude.{◌≡◌, ℕ, List};
 ghost use Rattle.bim_model.specs.declared.geometry.Point.{Point};
 ghost use Rattle.bim_model.specs.declared.upload.Mode.{Mode};
-ghost use Rattle.p21_reader.specs.declared.value.Instance.{Instance};
+ghost use Rattle.p21_values.specs.declared.value.Instance.{Instance};
 ghost use Rattle.ifc_units.specs.declared.scale.Scale.{Scale};
 ghost use Rattle.placement.specs.declared.axes.Axes.{Axes};
 ghost use Rattle.placement.specs.declared.frame.Frame.{Frame};

@@ -15,7 +15,7 @@ use crate::direction::{Direction, Vector};
 use crate::frame::{Frame, lengths_of};
 use bim_model::{Mode, Point};
 use ifc_units::{Scale, point};
-use p21_reader::{Exchange, InstanceRef};
+use p21_table::{Exchange, InstanceRef};
 
 /// The three directions of an operator, each of which may be absent.
 #[derive(Clone, Copy)]

@@ -10,7 +10,7 @@ use crate::axes::axes_of;
 use crate::frame::{Frame, lengths_of};
 use bim_model::{Mode, Point};
 use ifc_units::{Scale, point};
-use p21_reader::Exchange;
+use p21_table::Exchange;
 
 /// The location of the axis placement of that number (IFC4 ADD2 TC1, IfcPlacement), in grid numbers. None where its three numbers have
 /// none within 800 metres, and where it can't be read. Takes no memory.

@@ -1,13 +1,13 @@
 //! What a file says of points and directions.
 ghost use Rattle.std.specs.Prelude.{◌≡◌, ℕ, IfSome, IfNone, option_map};
-ghost use Rattle.p21_reader.specs.declared.value.Value21.{Value21};
+ghost use Rattle.p21_values.specs.declared.value.Value21.{Value21};
 ghost use Rattle.placement.specs.Directions.{IsDirection, three_numbers, coordinates, numbers_of};
 ghost use Rattle.placement.specs.Seen.{spelled_of};
 ghost use Rattle.placement.specs.declared.direction.Direction.{Direction};
 
 use crate::direction::Direction;
 use bim_text::Decimal;
-use p21_reader::{Exchange, InstanceRef, Values};
+use p21_table::{Exchange, InstanceRef, Values};
 
 /// The spelled numbers of a point or a direction.
 #[derive(Clone, Copy)]

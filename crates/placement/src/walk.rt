@@ -1,11 +1,11 @@
 //! Chains of placements are walked up, each part once.
 ghost use Rattle.std.specs.Prelude.{◌≡◌, ◌+◌, ◌<◌, ◌≤◌, ◌^◌, ◌++◌, ◌∷◌, ◌⊎◌, [], ℕ, List, Option, Some, None, IfSome, IfNone, IfOk, OnOk, Contains, length, slice_index, slice_set, replicate};
-ghost use Rattle.p21_reader.specs.declared.value.Instance.{Instance};
-ghost use Rattle.p21_reader.specs.declared.limits.TheConstants.{MOST_INSTANCES};
+ghost use Rattle.p21_values.specs.declared.value.Instance.{Instance};
+ghost use Rattle.p21_values.specs.declared.limits.TheConstants.{MOST_INSTANCES};
 ghost use Rattle.placement.specs.Chains.{parent_in, parent_of, named_by};
 ghost use Rattle.placement.specs.Walks.{Ranked, Outcome, Rest, Settling, Settled, Visited, StandsAt, IsFrom};
 
-use p21_reader::{Exchange, InstanceRef, ValueRef};
+use p21_table::{Exchange, InstanceRef, ValueRef};
 use std::alloc::{AllocError, Global};
 
 /// Where a placement is among the instances, and the number of the one that it stands in.

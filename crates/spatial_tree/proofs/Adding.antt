@@ -4,7 +4,7 @@ use Rattle.std.proofs.lemmas.List.{get_or_default}
 use Rattle.std.proofs.lemmas.List.Elements.{Contains-append_left, Contains-push, Contains-push_cases}
 use Rattle.std.specs.List.Sorted.{IsPermutation}
 use Rattle.std.proofs.lemmas.List.Sorted.{Contains-permutation, IsPermutation-sym}
-use Rattle.p21_reader.proofs.Turns.{one_more}
+use Rattle.p21_values.proofs.Turns.{one_more}
 use Rattle.spatial_tree.specs.declared.relations.Link.{Link}
 use Rattle.spatial_tree.specs.Onlys.{Adds, ListsLinks, link}
 

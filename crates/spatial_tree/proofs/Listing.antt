@@ -5,8 +5,8 @@ use Rattle.std.specs.List.Sorted.{IsPermutation}
 use Rattle.std.proofs.lemmas.Option.{slice_get-get_or, slice_get_within, get_or_from_slice_get}
 use Rattle.std.proofs.lemmas.List.Sorted.{Contains-permutation, IsPermutation-sym}
 use Rattle.std.proofs.lemmas.List.Elements.{Contains-append_left, Contains-push, Contains-push_cases}
-use Rattle.p21_reader.specs.declared.value.Instance.{Instance}
-use Rattle.p21_reader.proofs.Turns.{one_more}
+use Rattle.p21_values.specs.declared.value.Instance.{Instance}
+use Rattle.p21_values.proofs.Turns.{one_more}
 use Rattle.ifc_instances.specs.declared.entity.Entity.TheVariants.{Storey}
 use Rattle.ifc_instances.specs.Looking.{is_a}
 use Rattle.spatial_tree.specs.declared.step.Step.{Step}

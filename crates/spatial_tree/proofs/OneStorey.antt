@@ -2,8 +2,8 @@
 use Rattle.std.proofs.Common.{◌≡◌, ℕ, ◌<◌, ◌⊎◌, inl, inr, List, refl, sym, ap, ◌∙◌, subst, arith}
 use Rattle.bim_model.specs.declared.upload.UploadFault.{UploadFault}
 use Rattle.bim_model.specs.declared.upload.UploadFault.TheVariants as faults
-use Rattle.p21_reader.specs.declared.value.Instance.{Instance}
-use Rattle.p21_reader.proofs.Strict.{trichotomy}
+use Rattle.p21_values.specs.declared.value.Instance.{Instance}
+use Rattle.p21_values.proofs.PlaceLemmas.{trichotomy}
 use Rattle.spatial_tree.specs.Relations.{HasContainer, HasWhole, IsStorey}
 use Rattle.spatial_tree.specs.Climbing.{IsNext, IsFirstStorey}
 use Rattle.spatial_tree.specs.Climbing as climbing

@@ -1,7 +1,7 @@
 -- The table of a file's objects says what its relations say.
 use Rattle.std.proofs.Common.{◌≡◌, ℕ, ◌<◌, inl, inr, List, length, get_or, Contains, Option, Some, None, refl, sym, ap, subst, arith}
 use Rattle.bim_model.specs.declared.upload.UploadFault.TheVariants as faults
-use Rattle.p21_reader.specs.declared.value.Instance.{Instance}
+use Rattle.p21_values.specs.declared.value.Instance.{Instance}
 use Rattle.spatial_tree.specs.declared.relations.Link.{Link}
 use Rattle.spatial_tree.specs.declared.step.Step.{Step}
 use Rattle.spatial_tree.specs.declared.mark.Mark.{Mark}

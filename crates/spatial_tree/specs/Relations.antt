@@ -2,13 +2,13 @@
 -- and an object is a number, whatever it leads to.
 use Rattle.std.specs.Prelude.{◌≡◌, ℕ, true, List, Some, Any, option_and_then}
 use Rattle.std.specs.List.{slice_get}
-use Rattle.p21_reader.specs.declared.value.Value21.{Value21}
-use Rattle.p21_reader.specs.declared.value.Instance.{Instance}
+use Rattle.p21_values.specs.declared.value.Value21.{Value21}
+use Rattle.p21_values.specs.declared.value.Instance.{Instance}
 use Rattle.ifc_instances.specs.declared.entity.Entity.{Entity}
 use Rattle.ifc_instances.specs.declared.entity.Entity.TheVariants.{Aggregates, Containment, Storey}
-use Rattle.p21_reader.specs.Values.{reference_of, items_of}
+use Rattle.p21_values.specs.Values.{reference_of, items_of}
 use Rattle.ifc_instances.specs.Looking.{is_a}
-use Rattle.p21_reader.specs.Attributes.{reference_at}
+use Rattle.p21_values.specs.Attributes.{reference_at}
 
 -- An instance of the entity says that the object has that one above it: its attribute `many` is a list with a reference to the object, and its
 -- attribute `one` is a reference to the one above. Attributes count from 0.

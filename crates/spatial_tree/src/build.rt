@@ -10,7 +10,7 @@ use crate::step::{Step, table_of};
 use crate::storey_tree::{Tree, placed_by};
 use bim_model::{BuildError, UploadFault};
 use ifc_instances::Entity;
-use p21_reader::{Exchange, Instances};
+use p21_table::{Exchange, Instances};
 use std::alloc::{AllocError, Global};
 
 /// The storeys, by rising number.

@@ -2,12 +2,12 @@
 ghost use Rattle.std.specs.Prelude.{◌≡◌, ℕ, Contains, option_and_then, IfOk, OnOk, IsSortedByKey, Any};
 ghost use Rattle.std.specs.List.{slice_get};
 ghost use Rattle.std.specs.Ordering.{nat_cmp};
-ghost use Rattle.p21_reader.specs.Values.{reference_of, items_of};
+ghost use Rattle.p21_values.specs.Values.{reference_of, items_of};
 ghost use Rattle.spatial_tree.specs.Relations.{Relates, IsRelated};
 ghost use Rattle.spatial_tree.specs.Onlys.{ListsLinks, Adds, link};
 
 use ifc_instances::Entity;
-use p21_reader::{Exchange, InstanceRef, Instances, Values};
+use p21_table::{Exchange, InstanceRef, Instances, Values};
 use std::alloc::{AllocError, Global};
 
 /// An object, and one above it.

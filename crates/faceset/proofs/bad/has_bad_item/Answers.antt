@@ -1,5 +1,5 @@
 use Rattle.std.proofs.Common.{rules}
-use Rattle.p21_reader.proofs.Turns.{ended}
+use Rattle.p21_values.proofs.Turns.{ended}
 use Rattle.ifc_instances.proofs.Scans.{any_past, any_next}
 use Rattle.faceset.specs.Indexes.{PointsNowhere}
 use Rattle.faceset.proofs.bad.has_bad_item.Goals as goal

@@ -1,6 +1,6 @@
 use Rattle.std.proofs.Common.{rules, Any}
-use Rattle.p21_reader.specs.Attributes.{items_in}
-use Rattle.p21_reader.proofs.Turns.{turn, ended}
+use Rattle.p21_values.specs.Attributes.{items_in}
+use Rattle.p21_values.proofs.Turns.{turn, ended}
 use Rattle.ifc_instances.proofs.Scans.{any_past, any_next}
 use Rattle.faceset.specs.Indexes.{PointsNowhere}
 use Rattle.faceset.proofs.Anys.{any_mapped, any_unmap}

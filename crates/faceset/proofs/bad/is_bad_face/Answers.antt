@@ -1,6 +1,6 @@
 use Rattle.std.proofs.Common.{List, All, sym, subst}
 use Rattle.std.specs.List.{Any}
-use Rattle.p21_reader.specs.declared.value.Value21.{Value21}
+use Rattle.p21_values.specs.declared.value.Value21.{Value21}
 use Rattle.faceset.specs.Indexes.{PointsNowhere}
 use Rattle.faceset.specs.Reaches.{CountsFrom}
 use Rattle.faceset.proofs.Reaching.{face_bad, face_reached, face_within, reaches_more}

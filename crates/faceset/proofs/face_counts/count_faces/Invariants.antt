@@ -1,5 +1,5 @@
 use Rattle.std.proofs.Common.{◌≡◌, ◌≤◌, sum_by}
-use Rattle.p21_reader.specs.Attributes.{led_to}
+use Rattle.p21_values.specs.Attributes.{led_to}
 use Rattle.faceset.specs.Sets.{face_count}
 use Rattle.faceset.proofs.face_counts.count_faces.Given as goal
 

@@ -1,8 +1,8 @@
 use Rattle.std.proofs.Common.{option_copied, List, subst}
-use Rattle.p21_reader.specs.declared.value.Value21.{Value21}
+use Rattle.p21_values.specs.declared.value.Value21.{Value21}
 use Rattle.bim_model.specs.Points.{IsGridPoint}
 use Rattle.faceset.specs.Sets.{AreCorners}
-use Rattle.p21_reader.proofs.Turns.{ended}
+use Rattle.p21_values.proofs.Turns.{ended}
 use Rattle.faceset.proofs.Corners.{corners_more}
 use Rattle.faceset.proofs.faces.corners_of.Goals as goal
 

@@ -1,6 +1,6 @@
 use Rattle.std.proofs.Common.{filter_map, ap, ◌∙◌}
-use Rattle.p21_reader.specs.Values.{reference_of}
-use Rattle.p21_reader.proofs.Turns.{ended}
+use Rattle.p21_values.specs.Values.{reference_of}
+use Rattle.p21_values.proofs.Turns.{ended}
 use Rattle.faceset.proofs.Numbered.{numbers_more}
 use Rattle.faceset.proofs.numbers.numbers_of.Goals as goal
 

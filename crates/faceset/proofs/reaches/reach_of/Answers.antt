@@ -1,6 +1,6 @@
 use Rattle.std.proofs.Common.{arith, All, subst}
 use Rattle.faceset.specs.Reaches.{CountsFrom}
-use Rattle.p21_reader.proofs.Turns.{ended}
+use Rattle.p21_values.proofs.Turns.{ended}
 use Rattle.faceset.proofs.Reaching.{reach_more}
 use Rattle.faceset.proofs.reaches.reach_of.Goals as goal
 

@@ -1,7 +1,7 @@
 use Rattle.std.proofs.Common.{List, map, Some, ap, ◌∙◌}
-use Rattle.p21_reader.specs.declared.value.Value21.{Value21}
-use Rattle.p21_reader.specs.Looking.{look}
-use Rattle.p21_reader.proofs.Turns.{ended}
+use Rattle.p21_values.specs.declared.value.Value21.{Value21}
+use Rattle.p21_values.specs.Looking.{look}
+use Rattle.p21_values.proofs.Turns.{ended}
 use Rattle.ifc_elements.specs.Items.{bodies_among}
 use Rattle.ifc_elements.proofs.BodiesCollected.{bodies_more}
 use Rattle.ifc_elements.proofs.body_items.bodies_among.Goals as goal

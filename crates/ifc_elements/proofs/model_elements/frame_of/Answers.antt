@@ -1,6 +1,6 @@
 use Rattle.std.proofs.Common.{◌≡◌, Some, false, sym, ◌∙◌}
 use Rattle.std.specs.List.{slice_get}
-use Rattle.p21_reader.specs.Values.{is_absent}
+use Rattle.p21_values.specs.Values.{is_absent}
 use Rattle.placement.specs.Placed.{frame_in}
 use Rattle.ifc_elements.proofs.ElementsMade.{placed_told}
 use Rattle.ifc_elements.proofs.model_elements.frame_of.Goals as goal

@@ -1,7 +1,7 @@
 use Rattle.std.proofs.Common.{List, Vec, Global, sym, subst}
 use Rattle.std.specs.Result.{MatchResult}
 use Rattle.bim_model.specs.declared.geometry.Point.{Point}
-use Rattle.p21_reader.specs.declared.value.Value21.{Value21}
+use Rattle.p21_values.specs.declared.value.Value21.{Value21}
 use Rattle.ifc_units.specs.Lengths.{ArePoints, PointsRefused, Fails}
 use Rattle.ifc_elements.proofs.TablesOfPoints.{failed_none}
 use Rattle.ifc_elements.proofs.points.points_of.Goals as goal

@@ -1,6 +1,6 @@
 use Rattle.std.proofs.Common.{List, subst}
-use Rattle.p21_reader.specs.declared.value.Instance.{Instance}
-use Rattle.p21_reader.proofs.Turns.{ended}
+use Rattle.p21_values.specs.declared.value.Instance.{Instance}
+use Rattle.p21_values.proofs.Turns.{ended}
 use Rattle.ifc_elements.specs.PointTables.{IsTable}
 use Rattle.ifc_elements.proofs.TablesOfPoints.{tabled_more}
 use Rattle.ifc_elements.proofs.points.table_of.Goals as goal

@@ -1,13 +1,13 @@
 use Rattle.std.proofs.Common.{◌≡◌, ℕ, Bool, false, List, map, get_or, Some, option_and_then, sym, ap, ◌∙◌}
 use Rattle.std.proofs.lemmas.List.{get_or-map}
-use Rattle.p21_reader.specs.declared.value.Value21.{Value21}
-use Rattle.p21_reader.specs.declared.value.Instance.{Instance}
-use Rattle.p21_reader.specs.Places.{IsPlaceOf}
-use Rattle.p21_reader.specs.Values.{reference_of}
-use Rattle.p21_reader.specs.Looking.{look}
+use Rattle.p21_values.specs.declared.value.Value21.{Value21}
+use Rattle.p21_values.specs.declared.value.Instance.{Instance}
+use Rattle.p21_values.specs.Places.{IsPlaceOf}
+use Rattle.p21_values.specs.Values.{reference_of}
+use Rattle.p21_values.specs.Looking.{look}
 use Rattle.ifc_instances.specs.Looking.{some_passes}
 use Rattle.ifc_schema.specs.Bodies.{target_passes}
-use Rattle.p21_reader.proofs.PlaceLemmas.{some_instance, found_at}
+use Rattle.p21_values.proofs.PlaceLemmas.{some_instance, found_at}
 use Rattle.ifc_schema.proofs.body.target_passes.Goals as goal
 
 passes_there : (world : List Instance) (test : Instance → Bool) (answers : List Bool) (v : Value21) (id at : ℕ) → answers ≡ map test world → reference_of v ≡ Some id → IsPlaceOf world id at

@@ -1,5 +1,5 @@
 use Rattle.std.proofs.Common.{sym, ◌∙◌}
-use Rattle.p21_reader.proofs.Turns.{turn, ended}
+use Rattle.p21_values.proofs.Turns.{turn, ended}
 use Rattle.ifc_schema.specs.Flaws.{LeafFlaw}
 use Rattle.ifc_schema.proofs.Firsts.{flawed_next, sound_next, sound_all}
 use Rattle.ifc_schema.proofs.flaw.leaves_flaw.Goals as goal

@@ -1,6 +1,6 @@
 use Rattle.std.proofs.Common.{◌≡◌, get_or, sym, ap, ◌∙◌, true, false}
 use Rattle.std.proofs.lemmas.Option.{get_or_from_slice_get}
-use Rattle.p21_reader.specs.Places.{IsPlaceOf}
+use Rattle.p21_values.specs.Places.{IsPlaceOf}
 use Rattle.ifc_schema.specs.Forms.{holds}
 use Rattle.ifc_schema.specs.Marks.{rank}
 use Rattle.ifc_schema.proofs.Growing.{meant_there, not_meant, reached_there, raise_grows}

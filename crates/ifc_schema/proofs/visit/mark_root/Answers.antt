@@ -1,11 +1,11 @@
 use Rattle.std.proofs.Common.{◌≡◌, ℕ, Bool, true, false, get_or, sym, ap, ◌∙◌}
 use Rattle.std.specs.Bool.{OnTrue, OnFalse}
 use Rattle.std.proofs.lemmas.Option.{get_or_from_slice_get}
-use Rattle.p21_reader.specs.declared.value.Instance.{Instance}
+use Rattle.p21_values.specs.declared.value.Instance.{Instance}
 use Rattle.ifc_schema.specs.declared.worklist.Mark.TheVariants.{Used as Met}
 use Rattle.ifc_schema.specs.Used.{is_root}
 use Rattle.ifc_instances.specs.Looking.{entity_at}
-use Rattle.p21_reader.specs.Places.{IsPlaceOf}
+use Rattle.p21_values.specs.Places.{IsPlaceOf}
 use Rattle.ifc_schema.proofs.Results.{on_ok2}
 use Rattle.ifc_schema.proofs.Growing.{raise_grows}
 use Rattle.ifc_schema.proofs.Following.{no_root, root_sound}

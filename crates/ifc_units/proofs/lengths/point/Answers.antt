@@ -1,5 +1,5 @@
 use Rattle.std.proofs.Common.{◌≡◌, [], ◌∷◌, Some, sym, ap, ◌∙◌}
-use Rattle.p21_reader.specs.Values.{items_of}
+use Rattle.p21_values.specs.Values.{items_of}
 use Rattle.ifc_units.proofs.PointFacts.{point_match}
 use Rattle.ifc_units.proofs.lengths.point.Goals as goal
 

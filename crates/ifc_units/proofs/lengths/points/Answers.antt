@@ -1,5 +1,5 @@
 use Rattle.std.proofs.Common.{subst}
-use Rattle.p21_reader.proofs.Turns.{so_far, turn}
+use Rattle.p21_values.proofs.Turns.{so_far, turn}
 use Rattle.ifc_units.specs.Lengths.{ArePoints}
 use Rattle.ifc_units.proofs.PointFacts.{points_fail, points_more}
 use Rattle.ifc_units.proofs.lengths.points.Goals as goal

@@ -1,5 +1,5 @@
 use Rattle.std.proofs.Common.{refl, ◌++◌, ◌∷◌, []}
-use Rattle.p21_reader.proofs.Turns.{so_far, turn, ended}
+use Rattle.p21_values.proofs.Turns.{so_far, turn, ended}
 use Rattle.ifc_units.proofs.PointFacts.{points_fail, points_more, fault_told, never_told}
 use Rattle.ifc_units.proofs.lengths.points_fault.Goals as goal
 

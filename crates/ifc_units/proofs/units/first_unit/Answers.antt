@@ -1,4 +1,4 @@
-use Rattle.p21_reader.proofs.Turns.{ended}
+use Rattle.p21_values.proofs.Turns.{ended}
 use Rattle.ifc_units.specs.Units.{RefersToUnit}
 use Rattle.ifc_units.proofs.UnitFacts.{none_told}
 use Rattle.ifc_instances.proofs.Scans.{any_past, any_next}

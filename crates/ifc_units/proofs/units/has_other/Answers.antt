@@ -1,4 +1,4 @@
-use Rattle.p21_reader.proofs.Turns.{turn, ended}
+use Rattle.p21_values.proofs.Turns.{turn, ended}
 use Rattle.ifc_units.specs.Units.{RefersToOther}
 use Rattle.ifc_instances.proofs.Scans.{any_turn, any_past, any_next}
 use Rattle.ifc_units.proofs.units.has_other.Goals as goal

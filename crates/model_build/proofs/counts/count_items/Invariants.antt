@@ -1,7 +1,7 @@
 use Rattle.std.proofs.Common.{◌≡◌, ◌≤◌, ◌+◌, sum_by}
 use Rattle.ifc_elements.specs.Items.{item_count}
 use Rattle.model_build.specs.Triangles.{most_triangles}
-use Rattle.p21_reader.specs.Attributes.{led_to}
+use Rattle.p21_values.specs.Attributes.{led_to}
 use Rattle.model_build.proofs.counts.count_items.Given as goal
 
 abbrev pub invariant-loop-value : goal.invariant-loop-value

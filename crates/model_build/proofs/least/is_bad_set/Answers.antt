@@ -1,7 +1,7 @@
 use Rattle.std.proofs.Common.{◌≡◌, ℕ, Bool, true, false, List, Result, Ok, Err, IfOk, Some, subst, sym, ◌∙◌}
 use Rattle.std.specs.Bool.{MatchBool}
-use Rattle.p21_reader.specs.declared.value.Instance.{Instance}
-use Rattle.p21_reader.specs.Looking.{look}
+use Rattle.p21_values.specs.declared.value.Instance.{Instance}
+use Rattle.p21_values.specs.Looking.{look}
 use Rattle.faceset.specs.Sets.{is_set, HasBadIndex}
 use Rattle.model_build.specs.Least.{IsBadSet}
 use Rattle.model_build.proofs.least.is_bad_set.Goals as goal

@@ -1,6 +1,6 @@
 use Rattle.std.proofs.Common.{◌≡◌, [], ◌∷◌, ◌++◌, false, List, Option, ℕ, sym, subst}
-use Rattle.p21_reader.specs.declared.value.Value21.{Value21}
-use Rattle.p21_reader.proofs.Turns.{ended}
+use Rattle.p21_values.specs.declared.value.Value21.{Value21}
+use Rattle.p21_values.proofs.Turns.{ended}
 use Rattle.ifc_elements.specs.Items.{is_item}
 use Rattle.ifc_instances.specs.Least.{LeastOf}
 use Rattle.model_build.specs.Showing.{HasOther}

@@ -1,7 +1,7 @@
 use Rattle.std.proofs.Common.{List, subst}
 use Rattle.std.specs.List.{AllZip}
-use Rattle.p21_reader.specs.declared.value.Value21.{Value21}
-use Rattle.p21_reader.proofs.Turns.{ended}
+use Rattle.p21_values.specs.declared.value.Value21.{Value21}
+use Rattle.p21_values.proofs.Turns.{ended}
 use Rattle.faceset.proofs.Zips.{zip_push}
 use Rattle.model_walk.specs.Rows.{IsRowOf}
 use Rattle.model_walk.proofs.row_places.rows_of.Goals as goal

@@ -1,6 +1,6 @@
 use Rattle.std.proofs.Common.{List, Option, option_copied}
 use Rattle.std.specs.List.{AllZip}
-use Rattle.p21_reader.specs.declared.value.Value21.{Value21}
+use Rattle.p21_values.specs.declared.value.Value21.{Value21}
 use Rattle.model_walk.specs.Rows.{AreNumbers, IsRowOf}
 use Rattle.model_walk.proofs.row_places.rows_of.Given as goal
 

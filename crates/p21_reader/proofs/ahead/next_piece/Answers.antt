@@ -1,4 +1,4 @@
-use Rattle.p21_reader.proofs.Asking.{no_token}
+use Rattle.p21_values.proofs.Tokens.{no_token}
 use Rattle.p21_reader.proofs.ahead.next_piece.Goals as goal
 
 pub returns-in-Err-clause-none : goal.returns-in-Err-clause-none

@@ -1,5 +1,5 @@
 use Rattle.std.proofs.Common.{ap, ◌∙◌, sym}
-use Rattle.p21_reader.specs.Lexemes.{WordsOf}
+use Rattle.p21_values.specs.Lexemes.{WordsOf}
 use Rattle.p21_reader.proofs.Asking.{if_none, text_missing, first_missing, second_missing, text_found, text_says}
 use Rattle.p21_reader.proofs.ahead.only_text.Goals as goal
 

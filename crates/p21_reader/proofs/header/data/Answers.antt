@@ -1,6 +1,5 @@
-use Rattle.std.proofs.Common.{◌∷◌, [], ap, refl, ◌∙◌, Ok}
-use Rattle.p21_reader.specs.Grammar.{T, Word, Semi, Data}
-use Rattle.p21_reader.specs.Lexemes.{Ending}
+use Rattle.std.proofs.Common.{◌∷◌, []}
+use Rattle.p21_values.specs.Grammar.{T, Word, Semi, Data}
 use Rattle.p21_reader.proofs.Steps.{residual, fails_under}
 use Rattle.p21_reader.proofs.Statements.{word_semicolon}
 use Rattle.p21_reader.proofs.header.data.Goals as goal

@@ -1,5 +1,5 @@
 use Rattle.std.proofs.Common.{◌∷◌, [], Ok, Err}
-use Rattle.p21_reader.specs.Grammar.{T, Word, Header, Semi, Statements}
+use Rattle.p21_values.specs.Grammar.{T, Word, Header, Semi, Statements}
 use Rattle.p21_reader.proofs.Steps.{residual, fails_under}
 use Rattle.p21_reader.proofs.Statements.{word_semicolon, header_whole}
 use Rattle.p21_reader.proofs.header.header.Goals as goal

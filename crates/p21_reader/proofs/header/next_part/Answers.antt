@@ -1,10 +1,8 @@
-use Rattle.std.proofs.Common.{◌≡◌, rules, sym, ap, ◌∙◌, []}
-use Rattle.p21_reader.specs.declared.piece.Kind.TheVariants as kinds
+use Rattle.std.proofs.Common.{◌≡◌, rules, sym, ◌∙◌, []}
 use Rattle.p21_reader.specs.declared.word.Seen.TheVariants as seen
 use Rattle.p21_reader.specs.declared.word.Mark.TheVariants as marks
-use Rattle.p21_reader.specs.Grammar.{Statements, Word, EndSec}
-use Rattle.p21_reader.specs.Lexemes.{class_of, lexeme_of}
-use Rattle.p21_reader.specs.Heading.{class_seen}
+use Rattle.p21_values.specs.Grammar.{Statements, Word, EndSec}
+use Rattle.p21_values.specs.Lexemes.{class_of, lexeme_of}
 use Rattle.p21_reader.proofs.Marks.{seen_word}
 use Rattle.p21_reader.proofs.Steps.{residual, fails_none}
 use Rattle.p21_reader.proofs.Statements.{part_refused, part_none, part_stuck, part_values, part_semicolon, part_statement, part_ends, part_data}

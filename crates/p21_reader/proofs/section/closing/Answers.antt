@@ -1,6 +1,6 @@
 use Rattle.std.proofs.Common.{◌≡◌, rules}
-use Rattle.p21_reader.specs.Grammar.{Word, EndSec}
-use Rattle.p21_reader.specs.Lexemes.{lexeme_of, class_of}
+use Rattle.p21_values.specs.Grammar.{Word, EndSec}
+use Rattle.p21_values.specs.Lexemes.{lexeme_of, class_of}
 use Rattle.p21_reader.proofs.Steps.{residual}
 use Rattle.p21_reader.proofs.FileLemmas.{closing_made, closing_semi, closing_word}
 use Rattle.p21_reader.proofs.section.closing.Goals as goal

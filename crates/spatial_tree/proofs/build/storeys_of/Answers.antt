@@ -1,6 +1,6 @@
 use Rattle.std.proofs.Common.{◌≡◌, ◌++◌, ◌∷◌, [], sym, ap, ◌∙◌}
 use Rattle.std.proofs.lemmas.List.Sorted.{IsNonDecreasingBy-from_sort}
-use Rattle.p21_reader.proofs.Turns.{turn, spent}
+use Rattle.p21_values.proofs.Turns.{turn, spent}
 use Rattle.spatial_tree.proofs.Listing.{ids_pushed, ids_passed, ids_all}
 use Rattle.spatial_tree.proofs.build.storeys_of.Goals as goal
 

@@ -1,6 +1,6 @@
 use Rattle.std.proofs.Common.{ℕ}
-use Rattle.p21_reader.specs.declared.value.Instance.{Instance}
-use Rattle.p21_reader.proofs.Turns.{turn, spent}
+use Rattle.p21_values.specs.declared.value.Instance.{Instance}
+use Rattle.p21_values.proofs.Turns.{turn, spent}
 use Rattle.spatial_tree.specs.Relations.{Relates}
 use Rattle.spatial_tree.proofs.Adding.{then_given, all_added}
 use Rattle.spatial_tree.proofs.relations.add_instances.Goals as goal

@@ -1,8 +1,8 @@
 use Rattle.std.proofs.Common.{◌≡◌, ℕ, Some, refl, sym, ◌∙◌}
 use Rattle.std.proofs.lemmas.Option.{same_Some}
-use Rattle.p21_reader.specs.declared.value.Value21.{Value21}
-use Rattle.p21_reader.specs.Values.{reference_of}
-use Rattle.p21_reader.proofs.Turns.{turn, spent}
+use Rattle.p21_values.specs.declared.value.Value21.{Value21}
+use Rattle.p21_values.specs.Values.{reference_of}
+use Rattle.p21_values.proofs.Turns.{turn, spent}
 use Rattle.spatial_tree.proofs.Adding.{one_added, nothing_added, then_given, all_added}
 use Rattle.spatial_tree.proofs.relations.add_items.Goals as goal
 

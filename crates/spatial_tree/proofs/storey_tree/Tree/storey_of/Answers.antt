@@ -1,6 +1,6 @@
 use Rattle.std.proofs.Common.{rules}
 use Rattle.std.proofs.lemmas.List.Sorted.{answers_always}
-use Rattle.p21_reader.proofs.Finding.{found_id, none_id}
+use Rattle.p21_values.proofs.Finding.{found_id, none_id}
 use Rattle.spatial_tree.specs.declared.storey_tree.Placed.{Placed}
 use Rattle.spatial_tree.proofs.Trees.{found_placed, unlisted}
 use Rattle.spatial_tree.proofs.storey_tree.Tree.storey_of.Goals as goal

@@ -1,6 +1,0 @@
-use Rattle.std.proofs.Common.{◌∙◌}
-use Rattle.p21_reader.proofs.Turns.{ended}
-use Rattle.p21_reader.proofs.value_list.Values.to_vec.Goals as goal
-
-pub returns : goal.returns
-returns c = c.loop-value.invariant ∙ ended c.args.self.now c.loop-value.yielded (cc) _ c.loop-value.yielded_by _ c.in-None.is c.next.ensures.steps

@@ -1,0 +1,32 @@
+-- What is wanted where so many parentheses are open, of which some hold the one value of a keyword.
+use Rattle.std.specs.Prelude.{◌≡◌, ℕ, zero, suc, ◌-◌, ◌<◌, List, [], ◌∷◌, Bool, false, if◌then◌else◌, Some, slice_index_or}
+use Rattle.p21_reader.specs.declared.passing.Top.{Top}
+use Rattle.p21_reader.specs.declared.passing.Top.TheVariants as tops
+use Rattle.p21_values.specs.declared.piece.Kind.{Kind}
+use Rattle.p21_values.specs.declared.piece.Kind.TheVariants as kinds
+use Rattle.p21_values.specs.Grammar.{Close, Open, Sign, T, Value, Inside, After}
+
+-- behind a value, the innermost level first
+abbrev pub wanted : ℕ → ℕ → List Bool → List Sign
+wanted most zero typed = []
+wanted most (suc k) typed =
+    (if slice_index_or typed k false then T Close else After (Some (most - suc k))) ∷ wanted most k typed
+
+-- a value, the inside of a list, the opening parenthesis behind a keyword, or what stands behind a value
+abbrev pub signs : ℕ → Top → ℕ → List Bool → List Sign
+signs most tops.Value depth typed = Value (Some (most - depth)) ∷ wanted most depth typed
+signs most tops.Inside depth typed = Inside (Some (most - depth)) ∷ wanted most (depth - 1) typed
+signs most tops.Opening depth typed = T Open ∷ Value (Some (most - depth)) ∷ wanted most depth typed
+signs most tops.Behind depth typed = wanted most depth typed
+
+-- a list is open whose inside is wanted
+abbrev pub IsFit : Top → ℕ → List Bool → Type 0
+IsFit tops.Inside depth typed = (0 < depth) × (slice_index_or typed (depth - 1) false ≡ false)
+IsFit _ depth typed = Unit {0}
+
+-- how many values a token tells: one of one token tells itself; a list and a typed value are told by their opening parenthesis
+abbrev pub tells : Kind → ℕ
+tells kinds.Simple = 1
+tells kinds.Name = 1
+tells kinds.Open = 1
+tells _ = 0

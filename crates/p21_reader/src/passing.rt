@@ -1,0 +1,281 @@
+//! Passing over a value: nothing is built, and nothing recurses.
+ghost use Rattle.std.specs.Prelude.{◌≡◌, true, false, ◌-◌, ◌<◌, ◌≤◌, ◌∷◌, [], length, Some, IfSome, IfOk, option_map};
+ghost use Rattle.p21_values.specs.Grammar.{Class, Value, Inside, T, Open, AnyWord, Ones};
+ghost use Rattle.p21_reader.specs.Instances.{Passes};
+ghost use Rattle.p21_values.specs.declared.limits.TheConstants.{MOST_DEPTH};
+ghost use Rattle.p21_reader.specs.Machine.{step};
+ghost use Rattle.p21_values.specs.Pieces.{IsPiece, kind_of};
+ghost use Rattle.p21_reader.specs.Passing.{wanted, signs, IsFit, tells};
+ghost use Rattle.p21_reader.specs.Tabling.{Counts, PassesValue};
+
+use crate::word::expect;
+use p21_values::{Kind, MOST_DEPTH, Piece, ReadFault, refused, take};
+
+/// What is wanted next.
+#[derive(Clone, Copy)]
+pub enum Top {
+    Value,
+    /// A value, or the end of an empty list.
+    Inside,
+    /// The opening parenthesis behind a keyword.
+    Opening,
+    /// What stands behind a value.
+    Behind,
+}
+
+/// What is wanted next, and how many parentheses are open.
+#[derive(Clone, Copy)]
+pub struct Level {
+    pub top: Top,
+    pub depth: usize,
+}
+
+/// What is wanted after a token, where a value is wanted.
+fn after_value(kind: Kind, most: usize, depth: usize, typed: &mut [bool]) -> Option<Level>
+    requires room { length typed.old ≡ 32 }
+    requires most { most ≤ 32 }
+    requires depth { depth ≤ most }
+    ensures room { length typed.new ≡ 32 }
+    ensures fits { IfSome result (λ l. IsFit l.top l.depth typed.new) }
+    ensures depth { IfSome result (λ l. l.depth ≤ most) }
+    ensures steps { (c : Class) → kind_of c ≡ kind
+        → step (Value (Some (most - depth)) ∷ wanted most depth typed.old) c
+        ≡ option_map (λ l. signs most l.top l.depth typed.new) result }
+{
+    match kind {
+        Kind::Simple | Kind::Name => Some(Level {
+            top: Top::Behind,
+            depth,
+        }),
+        Kind::Open => {
+            if depth == most {
+                return None;
+            }
+            typed[depth] = false;
+            Some(Level {
+                top: Top::Inside,
+                depth: depth + 1,
+            })
+        }
+        Kind::Word => {
+            if depth == most {
+                return None;
+            }
+            typed[depth] = true;
+            Some(Level {
+                top: Top::Opening,
+                depth: depth + 1,
+            })
+        }
+        _ => None,
+    }
+}
+
+/// What is wanted after a token behind a value, where a parenthesis is open.
+fn after_behind(kind: Kind, most: usize, depth: usize, typed: &[bool]) -> Option<Level>
+    requires room { length typed.now ≡ 32 }
+    requires most { most ≤ 32 }
+    requires depth { depth ≤ most }
+    requires open { 0 < depth }
+    ensures fits { IfSome result (λ l. IsFit l.top l.depth typed.now) }
+    ensures depth { IfSome result (λ l. l.depth ≤ most) }
+    ensures steps { (c : Class) → kind_of c ≡ kind → step (wanted most depth typed.now) c
+        ≡ option_map (λ l. signs most l.top l.depth typed.now) result }
+{
+    match kind {
+        Kind::Close => Some(Level {
+            top: Top::Behind,
+            depth: depth - 1,
+        }),
+        Kind::Comma => {
+            if typed[depth - 1] {
+                None
+            } else {
+                Some(Level {
+                    top: Top::Value,
+                    depth,
+                })
+            }
+        }
+        _ => None,
+    }
+}
+
+/// What is wanted after a token inside a list that has just been opened.
+fn after_inside(kind: Kind, most: usize, depth: usize, typed: &mut [bool]) -> Option<Level>
+    requires room { length typed.old ≡ 32 }
+    requires most { most ≤ 32 }
+    requires depth { depth ≤ most }
+    requires fit { IsFit Top.Inside depth typed.old }
+    ensures room { length typed.new ≡ 32 }
+    ensures fits { IfSome result (λ l. IsFit l.top l.depth typed.new) }
+    ensures depth { IfSome result (λ l. l.depth ≤ most) }
+    ensures steps { (c : Class) → kind_of c ≡ kind → step (signs most Top.Inside depth typed.old) c
+        ≡ option_map (λ l. signs most l.top l.depth typed.new) result }
+{
+    match kind {
+        Kind::Close => Some(Level {
+            top: Top::Behind,
+            depth: depth - 1,
+        }),
+        _ => after_value(kind, most, depth, typed),
+    }
+}
+
+/// What is wanted after a token.
+fn after(top: Top, kind: Kind, most: usize, depth: usize, typed: &mut [bool]) -> Option<Level>
+    requires room { length typed.old ≡ 32 }
+    requires most { most ≤ 32 }
+    requires depth { depth ≤ most }
+    requires fit { IsFit top depth typed.old }
+    requires open { top ≡ Top.Behind → 0 < depth }
+    ensures room { length typed.new ≡ 32 }
+    ensures fits { IfSome result (λ l. IsFit l.top l.depth typed.new) }
+    ensures depth { IfSome result (λ l. l.depth ≤ most) }
+    ensures steps { (c : Class) → kind_of c ≡ kind → step (signs most top depth typed.old) c
+        ≡ option_map (λ l. signs most l.top l.depth typed.new) result }
+{
+    match top {
+        Top::Value => after_value(kind, most, depth, typed),
+        Top::Inside => after_inside(kind, most, depth, typed),
+        Top::Opening => match kind {
+            Kind::Open => Some(Level {
+                top: Top::Value,
+                depth,
+            }),
+            _ => None,
+        },
+        Top::Behind => after_behind(kind, most, depth, typed),
+    }
+}
+
+/// Whether a value has ended and no parenthesis is open.
+fn is_over(level: Level) -> bool
+    ensures over { result ≡ true → (level.top ≡ Top.Behind) × (level.depth ≡ 0) }
+    ensures going { result ≡ false → level.top ≡ Top.Behind → 0 < level.depth }
+{
+    match level.top {
+        Top::Behind => level.depth == 0,
+        _ => false,
+    }
+}
+
+/// The count with what a token tells.
+fn counted(so_far: u64, kind: Kind) -> u64
+    ensures { Counts so_far result (tells kind) }
+{
+    match kind {
+        Kind::Simple | Kind::Name | Kind::Open => so_far.saturating_add(1),
+        _ => so_far,
+    }
+}
+
+/// Passes over a list or a typed value whose first token is given.
+#[inline(never)]
+fn pass_nested(bytes: &[u8], first: Piece, most: usize, count: &mut u64) -> Result<usize, ReadFault>
+    requires piece { IsPiece bytes.now first }
+    requires most { most ≤ 32 }
+    ensures passes { PassesValue most bytes.now first.token count.old count.new result }
+    ensures on { IfOk result (λ end. first.token.end ≤ end) }
+    ensures within { IfOk result (λ end. end ≤ length bytes.now) }
+{
+    let mut typed = [false; 32];
+    let mut level = Level {
+        top: Top::Value,
+        depth: 0,
+    };
+    let mut piece = first;
+    loop {
+        let Some(next) = after(level.top, piece.kind, most, level.depth, &mut typed) else {
+            return Err(refused(piece));
+        };
+        *count = counted(*count, piece.kind);
+        if is_over(next) {
+            return Ok(piece.token.end);
+        }
+        level = next;
+        piece = take(bytes, piece.token.end)?;
+    }
+}
+
+/// Passes over the value whose first token is given, whose parentheses may nest that deep, and counts the values that it is.
+pub fn pass_value(
+    bytes: &[u8],
+    first: Piece,
+    most: usize,
+    count: &mut u64,
+) -> Result<usize, ReadFault>
+    requires piece { IsPiece bytes.now first }
+    requires most { most ≤ 32 }
+    ensures passes { PassesValue most bytes.now first.token count.old count.new result }
+    ensures on { IfOk result (λ end. first.token.end ≤ end) }
+    ensures within { IfOk result (λ end. end ≤ length bytes.now) }
+{
+    match first.kind {
+        Kind::Simple | Kind::Name => {
+            *count = counted(*count, first.kind);
+            Ok(first.token.end)
+        }
+        _ => pass_nested(bytes, first, most, count),
+    }
+}
+
+/// Passes over values, from behind the opening parenthesis up to and with the closing one.
+fn pass_inside(bytes: &[u8], at: usize, depth: usize) -> Result<usize, ReadFault>
+    requires at { at ≤ length bytes.now }
+    requires depth { depth ≤ 32 }
+    ensures passes { Passes (Inside (Some depth) ∷ []) bytes.now at result }
+    ensures on { IfOk result (λ end. at ≤ end) }
+    ensures within { IfOk result (λ end. end ≤ length bytes.now) }
+{
+    let mut passed = 0;
+    let first = take(bytes, at)?;
+    if let Kind::Close = first.kind {
+        return Ok(first.token.end);
+    }
+    let mut end = pass_value(bytes, first, depth, &mut passed)?;
+    loop {
+        let next = take(bytes, end)?;
+        match next.kind {
+            Kind::Close => return Ok(next.token.end),
+            Kind::Comma => {
+                let item = take(bytes, next.token.end)?;
+                end = pass_value(bytes, item, depth, &mut passed)?;
+            }
+            _ => return Err(refused(next)),
+        }
+    }
+}
+
+/// Passes over the values of one keyword of a complex instance, from behind the keyword.
+fn pass_one(bytes: &[u8], at: usize) -> Result<usize, ReadFault>
+    requires { at ≤ length bytes.now }
+    ensures passes { Passes (T Open ∷ Inside (Some (MOST_DEPTH - 2)) ∷ []) bytes.now at result }
+    ensures on { IfOk result (λ end. at ≤ end) }
+    ensures within { IfOk result (λ end. end ≤ length bytes.now) }
+{
+    let open = expect(bytes, at, Kind::Open)?;
+    pass_inside(bytes, open, MOST_DEPTH as usize - 2)
+}
+
+/// Passes over a complex instance, from behind its opening parenthesis, up to and with the closing one.
+pub fn pass_complex(bytes: &[u8], at: usize) -> Result<usize, ReadFault>
+    requires { at ≤ length bytes.now }
+    ensures passes { Passes (AnyWord ∷ T Open ∷ Inside (Some (MOST_DEPTH - 2)) ∷ Ones ∷
+        []) bytes.now at result }
+    ensures within { IfOk result (λ end. end ≤ length bytes.now) }
+{
+    let word = take(bytes, at)?;
+    if word.kind != Kind::Word {
+        return Err(refused(word));
+    }
+    let mut end = pass_one(bytes, word.token.end)?;
+    loop {
+        let next = take(bytes, end)?;
+        match next.kind {
+            Kind::Close => return Ok(next.token.end),
+            Kind::Word => end = pass_one(bytes, next.token.end)?,
+            _ => return Err(refused(next)),
+        }
+    }
+}

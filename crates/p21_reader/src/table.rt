@@ -1,0 +1,173 @@
+//! The table of a file: a head for each instance, and for each attribute the place where its value begins.
+ghost use Rattle.std.specs.Prelude.{◌≡◌, ◌<◌, ◌≤◌, ◌+◌, ◌^◌, ◌-◌, ◌∷◌, [], length, Some, IfOk, OnOk};
+ghost use Rattle.bim_model.specs.declared.limits.TheConstants.{MOST_UPLOAD};
+ghost use Rattle.p21_values.specs.declared.limits.TheConstants.{MOST_DEPTH};
+ghost use Rattle.p21_values.specs.Lexemes.{lexeme_of};
+ghost use Rattle.p21_values.specs.Pieces.{IsPiece};
+ghost use Rattle.p21_reader.specs.Tabling.{PutsStart, PutsStarts, PutsBody, PutsInstance, TablesSection};
+
+use crate::passing::{pass_complex, pass_value};
+use crate::section::closing;
+use crate::word::expect;
+use p21_table::name_of;
+use p21_values::{Head, Kind, MOST_DEPTH, Piece, ReadFault, refused, take};
+use std::alloc::Global;
+
+/// The heads of the instances, the starts of their attributes one after another, and how many values they are.
+#[derive(Drop)]
+pub struct Table {
+    pub heads: Vec<Head>,
+    pub starts: Vec<u32>,
+    pub values: u64,
+}
+
+/// Adds the start of the value whose first token is given, and passes over it.
+fn attribute(
+    bytes: &[u8],
+    first: Piece,
+    depth: usize,
+    table: &mut Table,
+) -> Result<usize, ReadFault>
+    requires short { length bytes.now ≤ MOST_UPLOAD }
+    requires piece { IsPiece bytes.now first }
+    requires depth { depth ≤ 32 }
+    ensures start { PutsStart depth bytes.now first.token table.old table.new result }
+    ensures heads { OnOk result (table.new.heads.items ≡ table.old.heads.items) }
+    ensures on { IfOk result (λ end. first.token.end ≤ end) }
+    ensures within { IfOk result (λ end. end ≤ length bytes.now) }
+{
+    let end = pass_value(bytes, first, depth, &mut table.values)?;
+    table.starts.push(first.token.start as u32)?;
+    Ok(end)
+}
+
+/// Adds the starts of the values behind an opening parenthesis, up to and with the closing one.
+fn attributes(bytes: &[u8], at: usize, depth: usize, table: &mut Table) -> Result<usize, ReadFault>
+    requires short { length bytes.now ≤ MOST_UPLOAD }
+    requires at { at ≤ length bytes.now }
+    requires depth { depth ≤ 32 }
+    requires counted { table.old.values < 2 ^ 64 }
+    ensures starts { PutsStarts depth bytes.now at table.old table.new result }
+    ensures few { IfOk result
+        (λ end. length table.new.starts.items + at ≤ length table.old.starts.items + end) }
+    ensures heads { OnOk result (table.new.heads.items ≡ table.old.heads.items) }
+    ensures on { IfOk result (λ end. at ≤ end) }
+    ensures within { IfOk result (λ end. end ≤ length bytes.now) }
+{
+    let first = take(bytes, at)?;
+    if let Kind::Close = first.kind {
+        return Ok(first.token.end);
+    }
+    let mut end = attribute(bytes, first, depth, table)?;
+    loop {
+        let next = take(bytes, end)?;
+        match next.kind {
+            Kind::Close => return Ok(next.token.end),
+            Kind::Comma => {
+                let item = take(bytes, next.token.end)?;
+                end = attribute(bytes, item, depth, table)?;
+            }
+            _ => return Err(refused(next)),
+        }
+    }
+}
+
+/// Adds the starts of what stands between the equals sign of an instance and its semicolon, whose first token is given.
+fn body(bytes: &[u8], first: Piece, table: &mut Table) -> Result<usize, ReadFault>
+    requires short { length bytes.now ≤ MOST_UPLOAD }
+    requires piece { IsPiece bytes.now first }
+    requires counted { table.old.values < 2 ^ 64 }
+    ensures body { PutsBody bytes.now first.token table.old table.new result }
+    ensures few { IfOk result
+        (λ end. length table.new.starts.items + first.token.end ≤ length table.old.starts.items + end) }
+    ensures on { IfOk result (λ end. first.token.end ≤ end) }
+    ensures heads { OnOk result (table.new.heads.items ≡ table.old.heads.items) }
+    ensures within { IfOk result (λ end. end ≤ length bytes.now) }
+{
+    match first.kind {
+        Kind::Word => {
+            let open = expect(bytes, first.token.end, Kind::Open)?;
+            attributes(bytes, open, MOST_DEPTH as usize - 1, table)
+        }
+        Kind::Open => pass_complex(bytes, first.token.end),
+        _ => Err(refused(first)),
+    }
+}
+
+/// Where the keyword ends whose token is given; where it begins, if it is none.
+fn keyword_end(word: Piece) -> usize
+    ensures some { word.kind ≡ Kind.Word → result ≡ word.token.end }
+    ensures none { (word.kind ≡ Kind.Word → ⊥) → result ≡ word.token.start }
+{
+    if word.kind == Kind::Word {
+        word.token.end
+    } else {
+        word.token.start
+    }
+}
+
+/// Adds an instance whose name is given.
+fn entry(bytes: &[u8], name: Piece, table: &mut Table) -> Result<usize, ReadFault>
+    requires short { length bytes.now ≤ MOST_UPLOAD }
+    requires piece { IsPiece bytes.now name }
+    requires name { name.kind ≡ Kind.Name }
+    requires counted { table.old.values < 2 ^ 64 }
+    requires few { length table.old.starts.items ≤ name.token.start }
+    ensures instance { PutsInstance (lexeme_of bytes.now name.token) bytes.now name.token.end
+        table.old table.new result }
+    ensures few { IfOk result (λ end. length table.new.starts.items ≤ end) }
+    ensures on { IfOk result (λ end. name.token.end ≤ end) }
+    ensures within { IfOk result (λ end. end ≤ length bytes.now) }
+{
+    let at = expect(bytes, name.token.end, Kind::Equals)?;
+    let word = take(bytes, at)?;
+    let first = table.starts.len();
+    let end = body(bytes, word, table)?;
+    let count = table.starts.len() - first;
+    let close = expect(bytes, end, Kind::Semicolon)?;
+    table.heads.push(Head {
+        id: name_of(bytes, name),
+        word: word.token.start as u32,
+        word_end: keyword_end(word) as u32,
+        first: first as u32,
+        count: count as u32,
+    })?;
+    Ok(close)
+}
+
+/// Reads the instances of a DATA section, and the end of the file, into an empty table.
+pub fn table_section(bytes: &[u8], at: usize, table: &mut Table) -> Result<usize, ReadFault>
+    requires short { length bytes.now ≤ MOST_UPLOAD }
+    requires at { at ≤ length bytes.now }
+    requires heads { table.old.heads.items ≡ [] }
+    requires starts { table.old.starts.items ≡ [] }
+    requires values { table.old.values ≡ 0 }
+    ensures section { TablesSection bytes.now at table.new result }
+{
+    let mut end = at;
+    loop {
+        let next = take(bytes, end)?;
+        match next.kind {
+            Kind::Name => end = entry(bytes, next, table)?,
+            Kind::Word => return closing(bytes, next),
+            _ => return Err(refused(next)),
+        }
+    }
+}
+
+impl Table {
+    ghost use Rattle.std.specs.Prelude.{◌≡◌, []};
+
+    /// A table of no instances.
+    pub fn new(alloc: Global) -> Table
+        ensures heads { result.heads.items ≡ [] }
+        ensures starts { result.starts.items ≡ [] }
+        ensures values { result.values ≡ 0 }
+    {
+        Table {
+            heads: Vec::new(alloc),
+            starts: Vec::new(alloc),
+            values: 0,
+        }
+    }
+}

@@ -1,0 +1,5 @@
+use Rattle.std.proofs.Common.{◌≡◌, ◌+◌, length}
+use Rattle.p21_table.proofs.value_list.Values.are.Given as goal
+
+abbrev pub invariant-loop : goal.invariant-loop
+invariant-loop l = l.counter + length l.left ≡ length l.self

@@ -1,0 +1,22 @@
+use Rattle.std.proofs.Common.{◌≡◌, true, false, inl, inr, ap, ◌∙◌, slice_range, rules}
+use Rattle.std.proofs.lemmas.Bool.{cases_Bool}
+use Rattle.p21_lexer.specs.declared.token.TokenKind.TheVariants as tokens
+use Rattle.p21_values.specs.Values.{is_enumeration}
+use Rattle.p21_table.proofs.FirstTokens.{enumeration_by, enumeration_here, no_enumeration}
+use Rattle.p21_table.proofs.Handles.{bool_asked}
+use Rattle.p21_table.proofs.value_ref.ValueRef.is_enumeration.Goals as goal
+
+pub returns : goal.returns
+returns c =
+    let i = c.self.inside in
+    let t = i.first.token in
+    let spelled = slice_range i.bytes.now t.start t.end in
+    elim (cases_Bool c.eq.result) [
+      | inl is ↦
+          let kind : t.kind ≡ tokens.Enumeration = search rules in
+          is ∙ bool_asked i.bytes.now t i.says is_enumeration true (λ v b. enumeration_here t.kind spelled kind ∙ enumeration_by i.bytes.now t v b) ∙ ap is_enumeration c.self.view_is
+      | inr isnt ↦
+          isnt
+          ∙ bool_asked i.bytes.now t i.says is_enumeration false (λ v b. no_enumeration t.kind spelled (λ kind. search rules) ∙ enumeration_by i.bytes.now t v b)
+          ∙ ap is_enumeration c.self.view_is
+    ]

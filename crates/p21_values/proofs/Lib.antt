@@ -1,0 +1,14 @@
+pub mod Contents
+pub mod Finding
+pub mod Pieces
+pub mod PlaceLemmas
+pub mod SameSaying
+pub mod Seen
+pub mod SignsThere
+pub mod Sizes
+pub mod Spelled
+pub mod Stood
+pub mod Tokens
+pub mod Told
+pub mod Turns
+pub mod ValueLemmas

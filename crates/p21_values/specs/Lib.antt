@@ -1,0 +1,12 @@
+pub mod Attributes
+pub mod Counting
+pub mod Grammar
+pub mod Lexemes
+pub mod Looking
+pub mod Pieces
+pub mod Places
+pub mod Printing
+pub mod Saying
+pub mod Standing
+pub mod Tables
+pub mod Values
