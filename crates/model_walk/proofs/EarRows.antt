@@ -1,8 +1,9 @@
 -- The rows of the ears of a face say its triangles.
-use Rattle.std.proofs.Common.{◌≡◌, ℕ, zero, suc, ◌<◌, ◌≤◌, ◌^◌, List, [], ◌∷◌, ◌++◌, length, map, get_or, Option, Some, None, refl, sym, ap, ◌∙◌, subst, arith}
-use Rattle.std.specs.List.{AllZip}
+use Rattle.std.proofs.Common.{◌≡◌, ℕ, zero, suc, ◌<◌, ◌≤◌, ◌^◌, pos, List, [], ◌∷◌, ◌++◌, length, map, get_or, Option, Some, None, refl, sym, ap, ◌∙◌, subst, arith}
+use Rattle.std.specs.List.{All, AllZip}
 use Rattle.std.proofs.Math.ListN.{get_or-map}
-use Rattle.std.proofs.lemmas.List.{get_or_past, length-map}
+use Rattle.std.proofs.lemmas.List.{get_or_past, length-map, get_or-map as List-get_or-map}
+use Rattle.bim_model.specs.Points.{IsGridPoint}
 use Rattle.bim_model.specs.declared.geometry.Point.{Point}
 use Rattle.bim_model.specs.declared.geometry.Triangle.{Triangle}
 use Rattle.p21_values.specs.declared.value.Value21.{Value21}
@@ -25,6 +26,21 @@ ear_triangle points places ear few = rw (corner_at points places ear.a few, corn
 ears_triangles : (points : List Point) (places : List ℕ) (ears : List Ear) → length points < 2 ^ 32 → triangles_at points (map (row_at places) ears) ≡ map (triangle_of (map (point_at points) places)) ears
 ears_triangles points places [] few = refl
 ears_triangles points places (ear ∷ ears) few = rw (ear_triangle points places ear few, ears_triangles points places ears few) refl
+
+-- corners are points of the grid
+pub corners_grid : (points : List Point) (places : List ℕ) → All IsGridPoint points → All IsGridPoint (map (point_at points) places)
+corners_grid points places all k d lt =
+    let m = length-map places (point_at points) in
+    let e = List-get_or-map (point_at points) places k 0 d (omega (arith, lt, m)) in
+    subst IsGridPoint (sym e) (at points (get_or places k 0) all)
+  where
+    origin : IsGridPoint (record { x = pos 0; y = pos 0; z = pos 0 })
+    origin = record { x_in = search arith; y_in = search arith; z_in = search arith }
+
+    at : (points : List Point) (place : ℕ) → All IsGridPoint points → IsGridPoint (point_at points place)
+    at [] place all = origin
+    at (p ∷ points) zero all = all 0 p (omega arith)
+    at (p ∷ points) (suc place) all = at points place (λ k d lt. all (suc k) d (omega (arith, lt)))
 
 -- a face that is cut adds the rows of its triangles
 pub face_added : (names : Option (List Value21)) (points : List Point) (face : Instance) (places : List ℕ) (corners : List Point) (ears : List Ear) (old new : List Row) → length points < 2 ^ 32

@@ -1,3 +1,5 @@
 mod EarRows
+pub mod FormsRead
+pub mod IndexesNamed
 mod Pooled
 pub mod RowsNamed

@@ -32,7 +32,7 @@ fn corner_places(
 {
     let mut made = Vec::new(alloc);
     for value in indexes.iter() {
-        if made.len() == MOST_CORNERS {
+        if made.as_slice().len() == MOST_CORNERS {
             return Ok(None);
         }
         match place_named(&value, numbers, count) {

@@ -6,6 +6,9 @@ use bim_model::{Items, MOST_TRIANGLES, Point};
 use p21_table::{Exchange, InstanceRef};
 use std::alloc::{AllocError, Global};
 
+/// A place in a list has 32 bits.
+const MOST_POINTS: usize = 1 << 32;
+
 /// The rows of a set, and the place of the list of its points.
 #[derive(Drop)]
 pub struct SetRows {
@@ -32,6 +35,9 @@ fn read_set(
     let Some(found) = points.get(list) else {
         return Ok(None);
     };
+    if found.len() >= MOST_POINTS {
+        return Ok(None);
+    }
     let Some(rows) = rows_of_set(alloc, exchange, set, found.as_slice())? else {
         return Ok(None);
     };
