@@ -3,7 +3,7 @@ use Rattle.std.proofs.Common.{◌≡◌, ℕ, zero, suc, ◌<◌, ◌⊎◌, inl
 use Rattle.std.specs.Prelude.{MatchOption, nat_le}
 use Rattle.std.specs.Bool.{MatchBool}
 use Rattle.std.specs.List.{All, AllZip, slice_get}
-use Rattle.std.specs.Option.{unwrap_or}
+use Rattle.std.proofs.lemmas.Bool.{le-leb}
 use Rattle.bim_model.specs.declared.upload.Mode.{Mode}
 use Rattle.bim_model.specs.declared.geometry.Point.{Point}
 use Rattle.bim_model.specs.declared.geometry.Triangle.{Triangle}
@@ -78,7 +78,7 @@ table_formed F v vs e some all = subst (λ (o : Option (List Value21)). MatchOpt
 
     by_count : (xs : List Value21) → 0 < length xs → All (λ x. F x None) xs → ItemsFlaw (AtLeast 1) F xs None
     by_count [] some all = absurd (omega (arith, some))
-    by_count (x ∷ xs) some all = all
+    by_count (x ∷ xs) some all = rw (le-leb 1 (length (x ∷ xs)) some) all
 
 -- the rows of a triangulated set have their form
 pub rows_formed : (world : List Instance) (names : Option (List Value21)) (points : List Point) (v : Value21) (vs : List Value21) (ts : List Triangle) → items_of v ≡ Some vs → 0 < length vs → AreTriangles names points vs ts

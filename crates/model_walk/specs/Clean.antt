@@ -19,6 +19,7 @@ use Rattle.ifc_schema.specs.Used.{IsMapped}
 use Rattle.ifc_units.specs.declared.scale.Scale.{Scale}
 use Rattle.ifc_units.specs.declared.length_error.GridFault.{GridFault}
 use Rattle.ifc_units.specs.Lengths.{InstanceRefused}
+use Rattle.placement.specs.declared.axis.Axis.{Axis}
 use Rattle.placement.specs.declared.axes.Axes.{Axes}
 use Rattle.placement.specs.declared.frame.Frame.{Frame}
 use Rattle.placement.specs.Directions.{HasAxes}
@@ -57,12 +58,16 @@ abbrev pub HasOperator : List Instance → Instance → Type 0
 HasOperator world item = (operator : ℕ) × (reference_at item 1 ≡ Some operator)
     × Finds world operator (λ o. (is_a Operator o ≡ true) × HasPlainScale o)
 
+-- that axis of the grid
+abbrev pub grid_axis : ℕ → Axis
+grid_axis direction = record { direction = direction; negative = false }
+
 -- the frame that leaves each point where it is
 abbrev pub identity : Frame
 identity = record {
-  x = record { direction = 0; negative = false };
-  y = record { direction = 1; negative = false };
-  z = record { direction = 2; negative = false };
+  x = grid_axis 0;
+  y = grid_axis 1;
+  z = grid_axis 2;
   offset = record { x = pos 0; y = pos 0; z = pos 0 };
 }
 

@@ -1,8 +1,7 @@
 //! What the instances that are used show, by their kinds: each is looked at once.
-ghost use Rattle.std.specs.Prelude.{◌≡◌, All, Some};
+ghost use Rattle.std.specs.Prelude.{◌≡◌, All};
 ghost use Rattle.std.specs.Bool.{OnTrue};
-ghost use Rattle.ifc_instances.specs.Looking.{entity_at};
-ghost use Rattle.model_walk.specs.Clean.{LeadsToItem, HasReadItems, HasPlainScale, HasOperator, HasPlainOrigin, Shows, identity};
+ghost use Rattle.model_walk.specs.Clean.{LeadsToItem, HasReadItems, HasPlainScale, HasOperator, HasPlainOrigin, Shows, grid_axis, identity};
 
 use bim_model::Mode;
 use faceset::{MOST_CORNERS, is_set, outline, place_of};
@@ -69,8 +68,9 @@ fn has_operator(exchange: &Exchange, item: &InstanceRef<'_>) -> bool
     }
 }
 
+/// Whether it is that axis of the grid.
 fn is_along(axis: Axis, direction: u8) -> bool
-    ensures { OnTrue result (axis ≡ record { direction = direction; negative = false }) }
+    ensures { OnTrue result (axis ≡ grid_axis direction) }
 {
     axis.direction == direction && !axis.negative
 }
