@@ -1,4 +1,15 @@
 //! The rows of the face sets that are used, read once each.
+ghost use Rattle.std.specs.Prelude.{◌≡◌, ◌<◌, ℕ, true, Some, length, IfOk, IfSome};
+ghost use Rattle.std.specs.Bool.{OnTrue};
+ghost use Rattle.bim_model.specs.declared.upload.Mode.{Mode};
+ghost use Rattle.ifc_units.specs.declared.scale.Scale.{Scale};
+ghost use Rattle.p21_values.specs.Attributes.{reference_at};
+ghost use Rattle.p21_values.specs.Places.{IsPlaceOf};
+ghost use Rattle.faceset.specs.Sets.{is_set};
+ghost use Rattle.model_walk.specs.declared.set_pool.SetRows.{SetRows};
+ghost use Rattle.model_walk.specs.Pools.{Pools};
+ghost use Rattle.model_walk.specs.Kept.{ArePooled, IsRead};
+
 use crate::pool::Pool;
 use crate::set_rows::rows_of_set;
 use crate::triangle_rows::Row;
@@ -17,7 +28,9 @@ pub struct SetRows {
 }
 
 /// Where the list of the points of a set stands.
-fn list_of(exchange: &Exchange, set: &InstanceRef<'_>) -> Option<usize> {
+fn list_of(exchange: &Exchange, set: &InstanceRef<'_>) -> Option<usize>
+    ensures { IfSome result (λ at. (id : ℕ) × (reference_at set.now 0 ≡ Some id) × IsPlaceOf exchange.now id at) }
+{
     let id = set.reference_at(0)?;
     exchange.place_of(id)
 }
@@ -28,7 +41,11 @@ fn read_set(
     exchange: &Exchange,
     points: &Pool<Items<Point>>,
     set: &InstanceRef<'_>,
-) -> Result<Option<SetRows>, AllocError> {
+) -> Result<Option<SetRows>, AllocError>
+    requires { is_set set.now ≡ true }
+    ensures { (scale : Scale) (mode : Mode) → ArePooled exchange.now scale mode points.now
+        → IfOk result (λ made. IfSome made (λ kept. IsRead exchange.now scale mode points.now kept set.now)) }
+{
     let Some(list) = list_of(exchange, set) else {
         return Ok(None);
     };
@@ -58,7 +75,13 @@ pub fn keep_set(
     set: &InstanceRef<'_>,
     at: usize,
     pool: &mut Pool<SetRows>,
-) -> Result<bool, AllocError> {
+) -> Result<bool, AllocError>
+    requires set { is_set set.now ≡ true }
+    requires within { at < length pool.old }
+    ensures { (scale : Scale) (mode : Mode) → ArePooled exchange.now scale mode points.now
+        → IfOk result (λ done. OnTrue done ((kept : SetRows) × IsRead exchange.now scale mode points.now kept set.now
+        × Pools pool.old pool.new at kept)) }
+{
     let Some(made) = read_set(alloc, exchange, points, set)? else {
         return Ok(false);
     };

@@ -192,7 +192,7 @@ fn stocked(
     scale: Scale,
     mode: Mode,
 ) -> Result<Option<Stock>, AllocError> {
-    let Some(points) = points_in(alloc, exchange, &work.marks, scale, mode)? else {
+    let Some(points) = points_in(alloc, exchange, work, scale, mode)? else {
         return Ok(None);
     };
     let Some(sets) = sets_in(alloc, exchange, bodied, &work.marks, scale, mode, &points)? else {
