@@ -9,9 +9,7 @@ use Rattle.p21_values.specs.declared.value.Instance.{Instance}
 use Rattle.p21_values.specs.Values.{number_of, reference_of}
 use Rattle.p21_values.specs.Looking.{look}
 use Rattle.p21_values.specs.Attributes.{reference_at}
-use Rattle.ifc_instances.specs.declared.entity.Entity.{Entity}
-use Rattle.ifc_instances.specs.declared.entity.Entity.TheVariants.{Representation, AxisPlacement, Operator, MappedItem, RepresentationMap, Point, Face, FaceWithVoids}
-use Rattle.std.specs.Bool.{⊤}
+use Rattle.ifc_instances.specs.declared.entity.Entity.TheVariants.{Representation, AxisPlacement, Operator, RepresentationMap, Point, Face, FaceWithVoids}
 use Rattle.ifc_instances.specs.Looking.{is_a}
 use Rattle.ifc_schema.specs.Bodies.{is_body}
 use Rattle.ifc_schema.specs.Flaws.{InstanceFlaw}
@@ -78,17 +76,16 @@ HasPlainOrigin world scale mode map = (origin : ℕ) × (reference_at map 0 ≡ 
 
 -- Of any instance.
 
--- what an instance of that entity shows beside its form
-abbrev pub Shows : List Instance → Scale → Mode → Bool → Entity → Instance → Type 0
-Shows world scale mode mapped Representation i = HasReadItems world mapped i
-Shows world scale mode mapped AxisPlacement i = (axes : Axes) × HasAxes world i.id axes
-Shows world scale mode mapped Operator i = (axes : Axes) × HasOperatorAxes world i.id axes
-Shows world scale mode mapped MappedItem i = HasOperator world i
-Shows world scale mode mapped RepresentationMap i = HasPlainOrigin world scale mode i
-Shows world scale mode mapped Point i = (fault : GridFault) → InstanceRefused scale mode i fault → ⊥
-Shows world scale mode mapped Face i = length (outline i) ≤ most_corners
-Shows world scale mode mapped FaceWithVoids i = ⊥
-Shows world scale mode mapped _ i = ⊤
+-- What an instance shows beside its form and the lengths of a list of points, and beside what a face set needs. Whether it is mapped is given.
+pub record ShowsNone (world : List Instance) (scale : Scale) (mode : Mode) (mapped : Bool) (i : Instance) : Type 0 where
+  pub items : is_a Representation i ≡ true → HasReadItems world mapped i
+  pub square : is_a AxisPlacement i ≡ true → (axes : Axes) × HasAxes world i.id axes
+  pub carries : is_a Operator i ≡ true → (axes : Axes) × HasOperatorAxes world i.id axes
+  pub operator : is_mapped_item i ≡ true → HasOperator world i
+  pub origin : is_a RepresentationMap i ≡ true → HasPlainOrigin world scale mode i
+  pub solid : is_a FaceWithVoids i ≡ false
+  pub few : is_a Face i ≡ true → length (outline i) ≤ most_corners
+  pub point : is_a Point i ≡ true → (fault : GridFault) → InstanceRefused scale mode i fault → ⊥
 
 -- The instance of that number has the form of its row, and by its kind nothing of it is a fault. Whether it is mapped is given.
 pub record IsClean (world : List Instance) (scale : Scale) (mode : Mode) (mapped : Bool) (id : ℕ)

@@ -47,7 +47,7 @@ fn rows_by(
 ) -> Result<Option<Vec<Row>>, AllocError>
     requires few { length points.now < 2 ^ 32 }
     requires in_grid { All IsGridPoint points.now }
-    requires numbers { AreNumbers (length points.now) (numbering set.now) (option_copied numbers.entry) }
+    requires numbers { AreNumbers (length points.now) (numbering set.now) (option_copied numbers) }
     ensures { IfOk result (λ found. IfSome found
         (λ rows. SetTriangles exchange.now points.now set.now (triangles_at points.now rows.items))) }
 {

@@ -1,7 +1,16 @@
 //! What the instances that are used show, by their kinds: each is looked at once.
-ghost use Rattle.std.specs.Prelude.{◌≡◌, All};
+ghost use Rattle.std.specs.Prelude.{◌≡◌, ◌≤◌, true, false, length, All};
 ghost use Rattle.std.specs.Bool.{OnTrue};
-ghost use Rattle.model_walk.specs.Clean.{LeadsToItem, HasReadItems, HasPlainScale, HasOperator, HasPlainOrigin, Shows, grid_axis, identity};
+ghost use Rattle.ifc_instances.specs.declared.entity.Entity.TheVariants.{Representation, AxisPlacement, Operator, RepresentationMap, Point, Face, FaceWithVoids};
+ghost use Rattle.ifc_instances.specs.Looking.{is_a};
+ghost use Rattle.ifc_units.specs.declared.length_error.GridFault.{GridFault};
+ghost use Rattle.ifc_units.specs.Lengths.{InstanceRefused};
+ghost use Rattle.placement.specs.declared.axes.Axes.{Axes};
+ghost use Rattle.placement.specs.Directions.{HasAxes};
+ghost use Rattle.placement.specs.Operators.{HasOperatorAxes};
+ghost use Rattle.faceset.specs.Sets.{outline, most_corners};
+ghost use Rattle.ifc_elements.specs.Items.{is_mapped_item};
+ghost use Rattle.model_walk.specs.Clean.{LeadsToItem, HasReadItems, HasPlainScale, HasOperator, HasPlainOrigin, ShowsNone, grid_axis, identity};
 
 use bim_model::Mode;
 use faceset::{MOST_CORNERS, is_set, outline, place_of};
@@ -101,26 +110,83 @@ fn has_plain_origin(exchange: &Exchange, map: &InstanceRef<'_>, scale: Scale, mo
     }
 }
 
-/// Whether an instance that is used, and has its form, shows no fault by itself. Whether it is mapped is given.
+/// Whether a representation has items that are read.
+fn shows_items(exchange: &Exchange, instance: &InstanceRef<'_>, mapped: bool) -> bool
+    ensures { OnTrue result (is_a Representation instance.now ≡ true → HasReadItems exchange.now mapped instance.now) }
+{
+    !Entity::Representation.includes(instance) || has_read_items(exchange, instance, mapped)
+}
+
+/// Whether an axis placement has axes along the grid's.
+fn shows_axes(exchange: &Exchange, instance: &InstanceRef<'_>) -> bool
+    ensures { OnTrue result (is_a AxisPlacement instance.now ≡ true
+        → (axes : Axes) × HasAxes exchange.now instance.now.id axes) }
+{
+    !Entity::AxisPlacement.includes(instance) || axes_of(exchange, instance.id()).is_some()
+}
+
+/// Whether an operator has axes along the grid's.
+fn shows_operator_axes(exchange: &Exchange, instance: &InstanceRef<'_>) -> bool
+    ensures { OnTrue result (is_a Operator instance.now ≡ true
+        → (axes : Axes) × HasOperatorAxes exchange.now instance.now.id axes) }
+{
+    !Entity::Operator.includes(instance) || operator_axes(exchange, instance.id()).is_some()
+}
+
+/// Whether a mapped item is mapped by an operator that is read.
+fn shows_operator(exchange: &Exchange, instance: &InstanceRef<'_>) -> bool
+    ensures { OnTrue result (is_mapped_item instance.now ≡ true → HasOperator exchange.now instance.now) }
+{
+    !is_mapped_item(instance) || has_operator(exchange, instance)
+}
+
+/// Whether a representation map has the identity as its origin.
+fn shows_origin(exchange: &Exchange, instance: &InstanceRef<'_>, scale: Scale, mode: Mode) -> bool
+    ensures { OnTrue result (is_a RepresentationMap instance.now ≡ true
+        → HasPlainOrigin exchange.now scale mode instance.now) }
+{
+    !Entity::RepresentationMap.includes(instance)
+        || has_plain_origin(exchange, instance, scale, mode)
+}
+
+/// Whether it is no face with voids.
+fn is_solid(instance: &InstanceRef<'_>) -> bool
+    ensures { OnTrue result (is_a FaceWithVoids instance.now ≡ false) }
+{
+    !Entity::FaceWithVoids.includes(instance)
+}
+
+/// Whether a face has not too many corners.
+fn has_few_corners(instance: &InstanceRef<'_>) -> bool
+    ensures { OnTrue result (is_a Face instance.now ≡ true → length (outline instance.now) ≤ most_corners) }
+{
+    !Entity::Face.includes(instance) || outline(instance).len() <= MOST_CORNERS
+}
+
+/// Whether the lengths of a point are on the grid and in reach.
+fn is_measured(instance: &InstanceRef<'_>, scale: Scale, mode: Mode) -> bool
+    ensures { OnTrue result (is_a Point instance.now ≡ true → (fault : GridFault)
+        → InstanceRefused scale mode instance.now fault → ⊥) }
+{
+    !Entity::Point.includes(instance) || fault_of_points(instance, scale, mode).is_none()
+}
+
+/// Whether an instance that is used shows no fault by itself, by its kind. Whether it is mapped is given.
 pub fn shows_none(
     exchange: &Exchange,
     instance: &InstanceRef<'_>,
-    entity: Entity,
     mapped: bool,
     scale: Scale,
     mode: Mode,
 ) -> bool
-    ensures { OnTrue result (Shows exchange.now scale mode mapped entity instance.now) }
+    ensures { OnTrue result (ShowsNone exchange.now scale mode mapped instance.now) }
 {
-    match entity {
-        Entity::Representation => has_read_items(exchange, instance, mapped),
-        Entity::AxisPlacement => axes_of(exchange, instance.id()).is_some(),
-        Entity::Operator => operator_axes(exchange, instance.id()).is_some(),
-        Entity::MappedItem => has_operator(exchange, instance),
-        Entity::RepresentationMap => has_plain_origin(exchange, instance, scale, mode),
-        Entity::Point => fault_of_points(instance, scale, mode).is_none(),
-        Entity::Face => outline(instance).len() <= MOST_CORNERS,
-        Entity::FaceWithVoids => false,
-        _ => true,
-    }
+    shows_items(exchange, instance, mapped)
+        && shows_axes(exchange, instance)
+        && shows_operator_axes(exchange, instance)
+        && shows_operator(exchange, instance)
+        && shows_origin(exchange, instance, scale, mode)
+        && is_solid(instance)
+        && has_few_corners(instance)
+        && is_measured(instance, scale, mode)
 }

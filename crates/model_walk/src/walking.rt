@@ -23,24 +23,15 @@ pub struct Walked {
     stock: Stock,
 }
 
-/// Whether an instance that is used, and is no list of points nor a set, has its form and shows no fault by itself.
-fn is_clean(
+/// Whether an instance that is used, and is no list of points nor a set, has the form of its row.
+fn is_formed(
     exchange: &Exchange,
     bodied: &[bool],
-    mark: Mark,
+    mapped: bool,
     instance: &InstanceRef<'_>,
-    scale: Scale,
-    mode: Mode,
 ) -> bool {
-    let mapped = mark.is_mapped();
     let bodied = has_body(exchange, bodied, instance);
-    if instance_flaw(exchange, bodied, mapped, instance).is_some() {
-        return false;
-    }
-    match Entity::at(instance) {
-        Some(entity) => shows_none(exchange, instance, entity, mapped, scale, mode),
-        None => true,
-    }
+    instance_flaw(exchange, bodied, mapped, instance).is_none()
 }
 
 /// Looks at the instance at a place, which is used. False where it shows a fault.
@@ -56,13 +47,17 @@ fn look_at(
     sets: &mut Pool<SetRows>,
 ) -> Result<bool, AllocError> {
     let instance = exchange.instance(at);
+    let mapped = mark.is_mapped();
+    if !shows_none(exchange, &instance, mapped, scale, mode) {
+        return Ok(false);
+    }
     if Entity::PointList.includes(&instance) {
         return Ok(true);
     }
     if is_set(&instance) {
         return keep_set(alloc, exchange, points, &instance, at, sets);
     }
-    Ok(is_clean(exchange, bodied, mark, &instance, scale, mode))
+    Ok(is_formed(exchange, bodied, mapped, &instance))
 }
 
 /// The rows of the sets that are used, where nothing that is used shows a fault.
