@@ -1,3 +1,4 @@
+pub mod CleanShown
 mod EarRows
 pub mod FormsRead
 pub mod IndexesNamed

@@ -51,11 +51,11 @@ fn look_at(
     if !shows_none(exchange, &instance, mapped, scale, mode) {
         return Ok(false);
     }
-    if Entity::PointList.includes(&instance) {
-        return Ok(true);
-    }
     if is_set(&instance) {
         return keep_set(alloc, exchange, points, &instance, at, sets);
+    }
+    if Entity::PointList.includes(&instance) {
+        return Ok(true);
     }
     Ok(is_formed(exchange, bodied, mapped, &instance))
 }
