@@ -77,3 +77,10 @@ set_rows_good world points set ts are any = by_kind (is_polygonal set) refl
 pub set_good : (world : List Instance) (points : List Point) (set : Instance) (ts : List Triangle) → length points ≡ length (spelled_points world set) → NamesPoints (length points) (numbering set) → SetTriangles world points set ts → HasBadIndex world set → ⊥
 set_good world points set ts long names are (inl bad) = numbers_good (length points) (numbering set) names (subst (λ (n : ℕ). HasBadNumber (numbering set) n) (sym long) bad)
 set_good world points set ts long names are (inr bad) = set_rows_good world points set ts are (subst (λ (n : ℕ). Any (Any (PointsNowhere (counted_by (numbering set) n))) (rows_of world set)) (sym long) bad)
+
+-- numbers that are read each name a point
+pub each_names : (count : ℕ) (vs : List Value21) (places : List ℕ) → AllZip (PointsAt count) vs places → All (NamesOne count) vs
+each_names count [] places z k d lt = absurd (omega (arith, lt))
+each_names count (v ∷ vs) [] z k d lt = absurd z
+each_names count (v ∷ vs) (p ∷ places) z zero d lt = (p, z.0)
+each_names count (v ∷ vs) (p ∷ places) z (suc k) d lt = each_names count vs places z.1 k d (omega (arith, lt))
