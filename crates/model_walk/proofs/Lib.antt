@@ -4,3 +4,4 @@ pub mod FormsRead
 pub mod IndexesNamed
 mod Pooled
 pub mod RowsNamed
+mod SetsRead
