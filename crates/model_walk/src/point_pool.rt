@@ -30,7 +30,7 @@ fn points_of(
 {
     match points(alloc, &list.listed(0), scale, mode)? {
         Ok(found) => {
-            if found.len() == 0 {
+            if found.as_slice().len() == 0 {
                 return Ok(None);
             }
             Ok(Some(found))
