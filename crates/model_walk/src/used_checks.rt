@@ -181,12 +181,26 @@ pub fn shows_none(
 ) -> bool
     ensures { OnTrue result (ShowsNone exchange.now scale mode mapped instance.now) }
 {
-    shows_items(exchange, instance, mapped)
-        && shows_axes(exchange, instance)
-        && shows_operator_axes(exchange, instance)
-        && shows_operator(exchange, instance)
-        && shows_origin(exchange, instance, scale, mode)
-        && is_solid(instance)
-        && has_few_corners(instance)
-        && is_measured(instance, scale, mode)
+    if !shows_items(exchange, instance, mapped) {
+        return false;
+    }
+    if !shows_axes(exchange, instance) {
+        return false;
+    }
+    if !shows_operator_axes(exchange, instance) {
+        return false;
+    }
+    if !shows_operator(exchange, instance) {
+        return false;
+    }
+    if !shows_origin(exchange, instance, scale, mode) {
+        return false;
+    }
+    if !is_solid(instance) {
+        return false;
+    }
+    if !has_few_corners(instance) {
+        return false;
+    }
+    is_measured(instance, scale, mode)
 }
