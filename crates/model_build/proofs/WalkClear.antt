@@ -116,6 +116,7 @@ none_repeat world scale mode ids elements up z differ id c r =
       where
         earlier : (a b : ℕ) → (a < b) ⊎ ((a ≡ b) ⊎ (b < a))
         earlier a b = grind arith
+
         any_default : (k : ℕ) → k < length ids → get_or ids k id ≡ get_or ids k r.lower
         any_default k lt = same_default ids k id r.lower lt
 

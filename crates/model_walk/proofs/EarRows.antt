@@ -47,8 +47,7 @@ pub face_added : (names : Option (List Value21)) (points : List Point) (face : I
     → AllZip (NamesPoint names (length points)) (outline face) places → length places ≤ most_corners → 2 < length places → corners ≡ map (point_at points) places → cut_of corners ≡ Some ears
     → new ≡ old ++ map (row_at places) ears → AddsRows points (IsCut names points face) old new
 face_added names points face places corners ears old new few named most least same cut added =
-    let l = zip_long (NamesPoint names (length points)) (outline face) places named in
-    (
+    let l = zip_long (NamesPoint names (length points)) (outline face) places named in (
       map (row_at places) ears,
       record {
         outlined = (omega (arith, least, l), omega (arith, most, l));

@@ -94,7 +94,14 @@ fn add_mapped(
     let Some(frame) = operator_frame(exchange, operator, scale, mode) else {
         return Ok(None);
     };
-    add_sets(exchange, sets, &spelled_sets(exchange, item), frame, so_far, out)
+    add_sets(
+        exchange,
+        sets,
+        &spelled_sets(exchange, item),
+        frame,
+        so_far,
+        out,
+    )
 }
 
 /// .. of the item that a value refers to.

@@ -48,7 +48,12 @@ fn is_piece_near(stock: &Stock, piece: &Piece, frame: &Frame) -> bool {
         return false;
     };
     match stock.points.get(set.list as usize) {
-        Some(points) => are_rows_near(points.as_slice(), set.rows.as_slice(), &piece.operator, frame),
+        Some(points) => are_rows_near(
+            points.as_slice(),
+            set.rows.as_slice(),
+            &piece.operator,
+            frame,
+        ),
         None => false,
     }
 }
@@ -77,9 +82,7 @@ fn are_unmapped(stock: &Stock, range: Range) -> bool {
 pub fn are_near(stock: &Stock, range: Range, frame: Option<Frame>) -> bool {
     match frame {
         Some(frame) => are_pieces_near(stock, range, &frame),
-        None => {
-            are_unmapped(stock, range) || are_pieces_near(stock, range, &Frame::identity())
-        }
+        None => { are_unmapped(stock, range) || are_pieces_near(stock, range, &Frame::identity()) }
     }
 }
 
