@@ -22,4 +22,5 @@ pub use model_elements::elements_of;
 pub use points::{kept_at, points_at, table_of};
 pub use shapes::{Shapes, bodies};
 pub use storey_names::Names;
-pub use texts::guid_of;
+pub use storeys::storey_name;
+pub use texts::{guid_of, name_of};

@@ -15,12 +15,15 @@ mod visit;
 mod words;
 mod worklist;
 
-pub use body::is_body;
+pub use body::{body_shapes, has_body, is_body};
+pub use flaw::{Flaw, instance_flaw};
 pub use laws::one_survey_fault;
 pub use outcome::Survey;
-pub use surveying::survey;
+pub use surveying::{list_elements, survey};
 pub use views::{
     AxisView, ElementView, FaceView, FacesetView, MappedView, OperatorView, PlacementView,
     RepresentationView, axis_placement, element, faceset, mapped_item, operator, placement,
     polygon_face, representation,
 };
+pub use visit::mark_used;
+pub use worklist::{Mark, Work};

@@ -183,7 +183,7 @@ fn push_element(
 }
 
 /// The numbers of the elements that have a body.
-fn list_elements(
+pub fn list_elements(
     alloc: Global,
     exchange: &Exchange,
     bodied: &[bool],

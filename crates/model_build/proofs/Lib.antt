@@ -32,3 +32,4 @@ pub mod StuckFaces
 pub mod TrianglesCounted
 pub mod UnsupportedLeast
 pub mod UsedFormed
+pub mod WalkClear

@@ -16,5 +16,5 @@ mod uncut_faces;
 mod unread_faces;
 mod unsupported;
 
-pub use laws::{instances_have_one_answer, profile_has_one_answer};
+pub use laws::{instances_have_one_answer, profile_has_one_answer, walks_tell_models};
 pub use stages::{build, build_owned};
