@@ -11,8 +11,8 @@ use Rattle.ifc_units.specs.declared.scale.Scale.{Scale}
 use Rattle.faceset.specs.Sets.{is_set, HasBadIndex}
 use Rattle.ifc_elements.specs.PointTables.{IsListOf}
 use Rattle.model_walk.specs.declared.set_pool.SetRows.{SetRows}
-use Rattle.model_walk.specs.Pools.{pooled}
-use Rattle.model_walk.specs.Rows.{AreRowsOf}
+use Rattle.walk_rows.specs.Pools.{pooled}
+use Rattle.walk_rows.specs.Rows.{AreRowsOf}
 
 -- an instance is a list of points on the grid, these are they, and it has one
 abbrev pub HasPoints : Scale → Mode → List Point → Instance → Type 0

@@ -9,8 +9,8 @@ use Rattle.model_walk.specs.declared.element_sketches.Stock.{Stock}
 use Rattle.model_walk.specs.declared.set_pool.SetRows.{SetRows}
 use Rattle.model_walk.specs.declared.shape_pieces.Piece.{Piece}
 use Rattle.model_walk.specs.declared.shape_pieces.Range.{Range}
-use Rattle.model_walk.specs.Pools.{pooled}
-use Rattle.model_walk.specs.Rows.{triangles_at}
+use Rattle.walk_rows.specs.Pools.{pooled}
+use Rattle.walk_rows.specs.Rows.{triangles_at}
 
 -- the triangles of rows, where their points are there
 abbrev pub rows_with : Option (List Point) → SetRows → List Triangle

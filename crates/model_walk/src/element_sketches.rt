@@ -1,9 +1,9 @@
 //! What is known of each element once its file is read: all but its surface, and of what that will be made.
-use crate::pool::Pool;
+use walk_rows::Pool;
 use crate::set_pool::SetRows;
 use crate::shape_pieces::{Piece, Range, add_shape};
 use crate::sketched_surfaces::are_near;
-use crate::triangle_rows::Row;
+use walk_rows::Row;
 use bim_model::{Element, Guid, Items, MOST_TRIANGLES, Mode, Point};
 use ifc_elements::{Names, guid_of, name_of, storey_name};
 use ifc_units::Scale;

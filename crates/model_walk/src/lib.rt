@@ -3,15 +3,10 @@
 #![tactic(auto)]
 
 mod element_sketches;
-mod face_rows;
 mod point_pool;
-mod pool;
-mod row_places;
 mod set_pool;
-mod set_rows;
 mod shape_pieces;
 mod sketched_surfaces;
-mod triangle_rows;
 mod used_checks;
 mod walking;
 

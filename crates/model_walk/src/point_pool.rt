@@ -7,10 +7,10 @@ ghost use Rattle.ifc_instances.specs.Looking.{is_a};
 ghost use Rattle.ifc_schema.specs.Marks.{Known, rank_at};
 ghost use Rattle.ifc_units.specs.Lengths.{ArePoints};
 ghost use Rattle.p21_values.specs.Attributes.{listed};
-ghost use Rattle.model_walk.specs.Pools.{Pools};
+ghost use Rattle.walk_rows.specs.Pools.{Pools};
 ghost use Rattle.model_walk.specs.Kept.{HasPoints, ArePooled, HasLists};
 
-use crate::pool::Pool;
+use walk_rows::Pool;
 use bim_model::{Items, Mode, Point};
 use ifc_instances::Entity;
 use ifc_schema::Work;

@@ -7,12 +7,12 @@ ghost use Rattle.p21_values.specs.Attributes.{reference_at};
 ghost use Rattle.p21_values.specs.Places.{IsPlaceOf};
 ghost use Rattle.faceset.specs.Sets.{is_set};
 ghost use Rattle.model_walk.specs.declared.set_pool.SetRows.{SetRows};
-ghost use Rattle.model_walk.specs.Pools.{Pools};
+ghost use Rattle.walk_rows.specs.Pools.{Pools};
 ghost use Rattle.model_walk.specs.Kept.{ArePooled, IsRead};
 
-use crate::pool::Pool;
-use crate::set_rows::rows_of_set;
-use crate::triangle_rows::Row;
+use walk_rows::Pool;
+use walk_rows::rows_of_set;
+use walk_rows::Row;
 use bim_model::{Items, MOST_TRIANGLES, Point};
 use p21_table::{Exchange, InstanceRef};
 use std::alloc::{AllocError, Global};

@@ -1,5 +1,5 @@
 //! The items of the bodies of a product shape, each as the rows of a set and an operator (IFC4 ADD2 TC1, IfcProductDefinitionShape).
-use crate::pool::Pool;
+use walk_rows::Pool;
 use crate::set_pool::SetRows;
 use bim_model::{MOST_TRIANGLES, Mode};
 use ifc_elements::{is_body_representation, is_mapped_item, spelled_items, spelled_sets};

@@ -1,7 +1,7 @@
 //! The surfaces of elements, made of rows.
 use crate::element_sketches::{Sketch, Stock};
 use crate::shape_pieces::{Piece, Range};
-use crate::triangle_rows::{Row, triangle_at};
+use walk_rows::{Row, triangle_at};
 use bim_model::{Element, Items, Point, Triangle};
 use placement::Frame;
 use std::alloc::{AllocError, Global};

@@ -1,7 +1,7 @@
 //! The walk over what is used of a file.
 use crate::element_sketches::{Sketch, Stock, Told, sketches_of};
 use crate::point_pool::points_in;
-use crate::pool::Pool;
+use walk_rows::Pool;
 use crate::set_pool::{SetRows, keep_set};
 use crate::sketched_surfaces::elements_of;
 use crate::used_checks::shows_none;

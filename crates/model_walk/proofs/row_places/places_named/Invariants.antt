@@ -1,6 +1,0 @@
-use Rattle.std.specs.List.{AllZip}
-use Rattle.faceset.specs.Indexes.{PointsAt}
-use Rattle.model_walk.proofs.row_places.places_named.Given as goal
-
-abbrev pub invariant-loop-value : goal.invariant-loop-value
-invariant-loop-value l = AllZip (PointsAt l.count) l.yielded l.made.items

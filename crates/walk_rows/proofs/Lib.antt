@@ -1,0 +1,5 @@
+mod EarRows
+pub mod IndexesNamed
+mod Pooled
+pub mod RowsNamed
+mod SetsRead
