@@ -21,5 +21,5 @@ pub use faces::MOST_CORNERS;
 pub use indexes::place_of;
 pub use learnt::Learnt;
 pub use set_surface::set_triangles;
-pub use sets::{is_polygonal, is_set, outline};
+pub use sets::{is_polygonal, is_set, numbering, outline};
 pub use stuck::least_stuck;

@@ -40,7 +40,7 @@ pub(crate) fn spelled_points<'a>(exchange: &'a Exchange, set: &InstanceRef<'_>) 
 
 /// The numbers of the points that the set's indexes name, where it has them (PnIndex).
 #[tactic(auto, unfolding(crate::specs::Sets::numbering))]
-pub(crate) fn numbering<'a>(set: &InstanceRef<'a>) -> Option<Values<'a>>
+pub fn numbering<'a>(set: &InstanceRef<'a>) -> Option<Values<'a>>
     ensures { result ≡ numbering set.now }
 {
     let at = if is_polygonal(set) { 3 } else { 4 };
