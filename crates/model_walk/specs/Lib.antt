@@ -1,4 +1,5 @@
 pub mod Kept
 pub mod Sketches
 pub mod Clean
+pub mod Stocked
 pub mod Walked
