@@ -10,9 +10,10 @@ use Rattle.ifc_schema.specs.Flaws.{InstanceFlaw}
 use Rattle.ifc_units.specs.declared.scale.Scale.{Scale}
 use Rattle.faceset.specs.Sets.{is_set, HasBadIndex}
 use Rattle.ifc_elements.specs.PointTables.{IsListOf}
+use Rattle.ifc_elements.specs.Sound.{IsKept}
 use Rattle.model_walk.specs.declared.set_pool.SetRows.{SetRows}
 use Rattle.walk_rows.specs.Pools.{pooled}
-use Rattle.walk_rows.specs.Rows.{AreRowsOf}
+use Rattle.walk_rows.specs.Rows.{triangles_at}
 
 -- an instance is a list of points on the grid, these are they, and it has one
 abbrev pub HasPoints : Scale → Mode → List Point → Instance → Type 0
@@ -34,7 +35,7 @@ pub record IsRead (world : List Instance) (scale : Scale) (mode : Mode) (points 
   pub kind : is_set set ≡ true
   pub found : List Point
   pub there : pooled points kept.list ≡ Some found
-  pub rows : AreRowsOf world scale mode found set kept.rows
+  pub rows : IsKept world scale mode (triangles_at found kept.rows) set
   pub some : 0 < length kept.rows
   pub indexed : HasBadIndex world set → ⊥
   pub formed : (mapped : Bool) → InstanceFlaw world mapped set None

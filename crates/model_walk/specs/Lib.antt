@@ -1,6 +1,6 @@
 pub mod Kept
-pub mod Pieces
 pub mod Sketches
-pub mod Carried
+pub mod Pieces
 pub mod Clean
+pub mod Stocked
 pub mod Walked

@@ -1,15 +1,16 @@
 //! The items of the bodies of a product shape, each as the rows of a set and an operator (IFC4 ADD2 TC1, IfcProductDefinitionShape).
-ghost use Rattle.std.specs.Prelude.{◌≡◌, ◌≤◌, ◌∷◌, [], ℕ, List, Option, Some, All, IfOk, OnOk, IfSome, flat_map};
+ghost use Rattle.std.specs.Prelude.{◌≡◌, ◌≤◌, ◌∷◌, [], List, Option, Some, IfOk, IfSome, flat_map};
 ghost use Rattle.bim_model.specs.declared.limits.TheConstants.{MOST_TRIANGLES};
 ghost use Rattle.bim_model.specs.declared.geometry.Point.{Point};
 ghost use Rattle.bim_model.specs.declared.upload.Mode.{Mode};
 ghost use Rattle.p21_values.specs.Attributes.{led_to};
 ghost use Rattle.ifc_units.specs.declared.scale.Scale.{Scale};
 ghost use Rattle.faceset.specs.Sets.{Joined};
-ghost use Rattle.ifc_elements.specs.Items.{items_of, bodies_among, bodies_of};
-ghost use Rattle.ifc_elements.specs.Sound.{KeptSet, KeptMapped, KeptItem};
+ghost use Rattle.ifc_elements.specs.Items.{items_of, bodies_among};
+ghost use Rattle.ifc_elements.specs.Sound.{KeptSet, KeptMapped};
 ghost use Rattle.model_walk.specs.Kept.{AreReadSets};
-ghost use Rattle.model_walk.specs.Pieces.{AddsPieces, CarriedBy, IsOperator, IsOperated};
+ghost use Rattle.model_walk.specs.Pieces.{AddsShown, Carried, IsOperator};
+ghost use Rattle.model_walk.specs.Stocked.{AddsPieces, shape_items};
 
 use walk_rows::Pool;
 use crate::set_pool::SetRows;
@@ -48,11 +49,10 @@ fn add_set(
     requires few { so_far ≤ MOST_TRIANGLES }
     requires operator { IsOperator operator }
     ensures few { IfOk result (λ found. IfSome found (λ count. count ≤ MOST_TRIANGLES)) }
-    ensures operated { All IsOperated out.old.items → OnOk result (All IsOperated out.new.items) }
     ensures added { (scale : Scale) (mode : Mode) (points : List (Option (List Point)))
         → AreReadSets exchange.now scale mode points sets.now
-        → IfOk result (λ found. IfSome found (AddsPieces points sets.now
-        (CarriedBy operator (Joined (KeptSet exchange.now scale mode) (led_to exchange.now (value.now ∷ []))))
+        → IfOk result (λ found. IfSome found (AddsShown points sets.now
+        (Carried operator (Joined (KeptSet exchange.now scale mode) (led_to exchange.now (value.now ∷ []))))
         out.old.items out.new.items so_far)) }
 {
     let Some(id) = value.reference() else {
@@ -83,13 +83,11 @@ fn add_sets(
 ) -> Result<Option<u64>, AllocError>
     requires few { so_far ≤ MOST_TRIANGLES }
     requires operator { IsOperator (Some operator) }
-    requires operator { IsOperator operator }
     ensures few { IfOk result (λ found. IfSome found (λ count. count ≤ MOST_TRIANGLES)) }
-    ensures operated { All IsOperated out.old.items → OnOk result (All IsOperated out.new.items) }
     ensures added { (scale : Scale) (mode : Mode) (points : List (Option (List Point)))
         → AreReadSets exchange.now scale mode points sets.now
-        → IfOk result (λ found. IfSome found (AddsPieces points sets.now
-        (CarriedBy (Some operator) (Joined (KeptSet exchange.now scale mode) (led_to exchange.now values.now)))
+        → IfOk result (λ found. IfSome found (AddsShown points sets.now
+        (Carried (Some operator) (Joined (KeptSet exchange.now scale mode) (led_to exchange.now values.now)))
         out.old.items out.new.items so_far)) }
 {
     let mut count = so_far;
@@ -114,10 +112,9 @@ fn add_mapped(
 ) -> Result<Option<u64>, AllocError>
     requires few { so_far ≤ MOST_TRIANGLES }
     ensures few { IfOk result (λ found. IfSome found (λ count. count ≤ MOST_TRIANGLES)) }
-    ensures operated { All IsOperated out.old.items → OnOk result (All IsOperated out.new.items) }
     ensures added { (points : List (Option (List Point)))
         → AreReadSets exchange.now scale mode points sets.now
-        → IfOk result (λ found. IfSome found (AddsPieces points sets.now
+        → IfOk result (λ found. IfSome found (AddsShown points sets.now
         (KeptMapped exchange.now scale mode item.now)
         out.old.items out.new.items so_far)) }
 {
@@ -149,12 +146,10 @@ fn add_item(
 ) -> Result<Option<u64>, AllocError>
     requires few { so_far ≤ MOST_TRIANGLES }
     ensures few { IfOk result (λ found. IfSome found (λ count. count ≤ MOST_TRIANGLES)) }
-    ensures operated { All IsOperated out.old.items → OnOk result (All IsOperated out.new.items) }
     ensures added { (points : List (Option (List Point)))
         → AreReadSets exchange.now scale mode points sets.now
-        → IfOk result (λ found. IfSome found (AddsPieces points sets.now
-        (Joined (KeptItem exchange.now scale mode) (led_to exchange.now (value.now ∷ [])))
-        out.old.items out.new.items so_far)) }
+        → IfOk result (λ found. IfSome found (AddsPieces exchange.now scale mode points sets.now
+        (led_to exchange.now (value.now ∷ [])) out.old.items out.new.items so_far)) }
 {
     let Some(item) = exchange.target(value) else {
         return Ok(None);
@@ -177,12 +172,10 @@ fn add_items(
 ) -> Result<Option<u64>, AllocError>
     requires few { so_far ≤ MOST_TRIANGLES }
     ensures few { IfOk result (λ found. IfSome found (λ count. count ≤ MOST_TRIANGLES)) }
-    ensures operated { All IsOperated out.old.items → OnOk result (All IsOperated out.new.items) }
     ensures added { (points : List (Option (List Point)))
         → AreReadSets exchange.now scale mode points sets.now
-        → IfOk result (λ found. IfSome found (AddsPieces points sets.now
-        (Joined (KeptItem exchange.now scale mode) (items_of exchange.now representation.now))
-        out.old.items out.new.items so_far)) }
+        → IfOk result (λ found. IfSome found (AddsPieces exchange.now scale mode points sets.now
+        (items_of exchange.now representation.now) out.old.items out.new.items so_far)) }
 {
     let mut count = so_far;
     for value in spelled_items(representation) {
@@ -206,12 +199,10 @@ fn add_body(
 ) -> Result<Option<u64>, AllocError>
     requires few { so_far ≤ MOST_TRIANGLES }
     ensures few { IfOk result (λ found. IfSome found (λ count. count ≤ MOST_TRIANGLES)) }
-    ensures operated { All IsOperated out.old.items → OnOk result (All IsOperated out.new.items) }
     ensures added { (points : List (Option (List Point)))
         → AreReadSets exchange.now scale mode points sets.now
-        → IfOk result (λ found. IfSome found (AddsPieces points sets.now
-        (Joined (KeptItem exchange.now scale mode)
-        (flat_map (items_of exchange.now) (bodies_among exchange.now (value.now ∷ []))))
+        → IfOk result (λ found. IfSome found (AddsPieces exchange.now scale mode points sets.now
+        (flat_map (items_of exchange.now) (bodies_among exchange.now (value.now ∷ [])))
         out.old.items out.new.items so_far)) }
 {
     let Some(representation) = exchange.target(value) else {
@@ -233,13 +224,10 @@ pub fn add_shape(
     out: &mut Vec<Piece>,
 ) -> Result<Option<u64>, AllocError>
     ensures few { IfOk result (λ found. IfSome found (λ count. count ≤ MOST_TRIANGLES)) }
-    ensures operated { All IsOperated out.old.items → OnOk result (All IsOperated out.new.items) }
     ensures added { (points : List (Option (List Point)))
         → AreReadSets exchange.now scale mode points sets.now
-        → IfOk result (λ found. IfSome found (AddsPieces points sets.now
-        (Joined (KeptItem exchange.now scale mode)
-        (flat_map (items_of exchange.now) (bodies_of exchange.now shape.now)))
-        out.old.items out.new.items 0)) }
+        → IfOk result (λ found. IfSome found (AddsPieces exchange.now scale mode points sets.now
+        (shape_items exchange.now shape.now) out.old.items out.new.items 0)) }
 {
     let mut count = 0;
     for value in shape.listed(2) {

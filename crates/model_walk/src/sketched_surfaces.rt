@@ -1,16 +1,14 @@
 //! The surfaces of elements, made of rows.
-ghost use Rattle.std.specs.Prelude.{◌≡◌, ◌≤◌, ◌++◌, ◌∷◌, [], List, Some, None, All, OnOk, IfOk, map, flat_map};
+ghost use Rattle.std.specs.Prelude.{◌≡◌, ◌++◌, ◌∷◌, [], Some, All, OnOk, IfOk, IfSome, map};
 ghost use Rattle.std.specs.Bool.{OnTrue};
 ghost use Rattle.bim_model.specs.Boxes.{corners_of};
 ghost use Rattle.bim_model.specs.Models.{IsInReach};
-ghost use Rattle.placement.specs.Frames.{carried, IsFrame, AreWithin};
-ghost use Rattle.ifc_units.specs.Lengths.{reach};
+ghost use Rattle.placement.specs.Frames.{carried};
 ghost use Rattle.ifc_elements.specs.Framed.{Framed};
-ghost use Rattle.ifc_elements.specs.Surfaces.{carried_by, placed_by, moved};
+ghost use Rattle.ifc_elements.specs.Surfaces.{placed_by, moved};
 ghost use Rattle.walk_rows.specs.Rows.{triangle_at, triangles_at};
-ghost use Rattle.model_walk.specs.Pieces.{IsOperator, IsOperated, IsUnmapped, shown};
-ghost use Rattle.model_walk.specs.Sketches.{pieces_in, range_triangles, element_of, elements_of};
-ghost use Rattle.model_walk.specs.Carried.{IsCarrying, IsThere, IsFree, ArePlacedNear, IsSketched};
+ghost use Rattle.model_walk.specs.Pieces.{IsOperator, IsUnmapped, ArePlacedNear};
+ghost use Rattle.model_walk.specs.Sketches.{piece_triangles, pieces_in, range_triangles, element_of, elements_of, IsCarried, IsSoundStock, IsRangeIn, IsNearSketch};
 
 use crate::element_sketches::{Sketch, Stock};
 use crate::shape_pieces::{Piece, Range};
@@ -50,7 +48,7 @@ fn carry(frame: &Frame, triangle: &Triangle) -> Triangle
 /// The triangle of a row in the coordinates of its element.
 fn own_triangle(points: &[Point], operator: &Option<Frame>, row: Row) -> Triangle
     requires operator { IsOperator operator.now }
-    requires near { All IsInReach points.now }
+    requires near { All IsInReach (corners_of (triangle_at points.now row ∷ [])) }
     ensures { result ≡ placed_by operator.now (triangle_at points.now row) }
 {
     let triangle = triangle_at(points, row);
@@ -63,7 +61,7 @@ fn own_triangle(points: &[Point], operator: &Option<Frame>, row: Row) -> Triangl
 /// Whether the corners of rows are in reach.
 fn are_rows_near(points: &[Point], rows: &[Row], operator: &Option<Frame>, frame: &Frame) -> bool
     requires operator { IsOperator operator.now }
-    requires near { All IsInReach points.now }
+    requires near { All IsInReach (corners_of (triangles_at points.now rows.now)) }
     requires frame { Framed frame.now }
     ensures { OnTrue result (ArePlacedNear (Some frame.now)
         (map (placed_by operator.now) (triangles_at points.now rows.now))) }
@@ -77,10 +75,10 @@ fn are_rows_near(points: &[Point], rows: &[Row], operator: &Option<Frame>, frame
 }
 
 fn is_piece_near(stock: &Stock, piece: &Piece, frame: &Frame) -> bool
-    requires carrying { IsCarrying stock.now }
-    requires operated { IsOperated piece.now }
+    requires sound { IsSoundStock stock.now }
+    requires carried { IsCarried piece.now }
     requires frame { Framed frame.now }
-    ensures { OnTrue result (ArePlacedNear (Some frame.now) (shown stock.now.points stock.now.sets piece.now)) }
+    ensures { OnTrue result (ArePlacedNear (Some frame.now) (piece_triangles stock.now.points stock.now.sets piece.now)) }
 {
     let Some(set) = stock.sets.get(piece.set) else {
         return false;
@@ -98,16 +96,16 @@ fn is_piece_near(stock: &Stock, piece: &Piece, frame: &Frame) -> bool
 
 /// The pieces of a range.
 fn pieces_of(stock: &Stock, range: Range) -> &[Piece]
-    requires { IsThere stock.now range }
-    ensures { result.now ≡ pieces_in stock.now range }
+    requires { IsRangeIn stock.now range }
+    ensures { result.now ≡ pieces_in stock.now.pieces.items range }
 {
     &stock.pieces[range.from..range.to]
 }
 
 /// Whether all corners of these pieces are in reach once they are placed.
 fn are_pieces_near(stock: &Stock, range: Range, frame: &Frame) -> bool
-    requires carrying { IsCarrying stock.now }
-    requires there { IsThere stock.now range }
+    requires sound { IsSoundStock stock.now }
+    requires there { IsRangeIn stock.now range }
     requires frame { Framed frame.now }
     ensures { OnTrue result (ArePlacedNear (Some frame.now) (range_triangles stock.now range)) }
 {
@@ -121,8 +119,8 @@ fn are_pieces_near(stock: &Stock, range: Range, frame: &Frame) -> bool
 
 /// Whether none of these pieces is mapped.
 fn are_unmapped(stock: &Stock, range: Range) -> bool
-    requires there { IsThere stock.now range }
-    ensures { OnTrue result (All IsUnmapped (pieces_in stock.now range)) }
+    requires there { IsRangeIn stock.now range }
+    ensures { OnTrue result (All IsUnmapped (pieces_in stock.now.pieces.items range)) }
 {
     for piece in pieces_of(stock, range) {
         if piece.operator.is_some() {
@@ -134,9 +132,9 @@ fn are_unmapped(stock: &Stock, range: Range) -> bool
 
 /// Whether all corners are in reach. Points of lists are, so where nothing carries them they aren't looked at.
 pub fn are_near(stock: &Stock, range: Range, frame: Option<Frame>) -> bool
-    requires carrying { IsCarrying stock.now }
-    requires there { IsThere stock.now range }
-    requires free { IsFree frame }
+    requires sound { IsSoundStock stock.now }
+    requires there { IsRangeIn stock.now range }
+    requires framed { IfSome frame Framed }
     ensures { OnTrue result (ArePlacedNear frame (range_triangles stock.now range)) }
 {
     match frame {
@@ -158,7 +156,7 @@ fn place(frame: &Frame, point: Point) -> Point
 }
 
 fn placed(frame: &Option<Frame>, triangle: Triangle) -> Triangle
-    requires free { IsFree frame.now }
+    requires framed { IfSome frame.now Framed }
     requires near { ArePlacedNear frame.now (triangle ∷ []) }
     ensures { result ≡ placed_by frame.now triangle }
 {
@@ -181,8 +179,8 @@ fn add_rows(
     out: &mut Vec<Triangle>,
 ) -> Result<(), AllocError>
     requires operator { IsOperator operator.now }
-    requires near { All IsInReach points.now }
-    requires free { IsFree frame.now }
+    requires near { All IsInReach (corners_of (triangles_at points.now rows.now)) }
+    requires framed { IfSome frame.now Framed }
     requires placed { ArePlacedNear frame.now (map (placed_by operator.now) (triangles_at points.now rows.now)) }
     ensures { OnOk result (out.new.items ≡ out.old.items
         ++ map (placed_by frame.now) (map (placed_by operator.now) (triangles_at points.now rows.now))) }
@@ -199,12 +197,12 @@ fn add_piece(
     frame: &Option<Frame>,
     out: &mut Vec<Triangle>,
 ) -> Result<(), AllocError>
-    requires carrying { IsCarrying stock.now }
-    requires operated { IsOperated piece.now }
-    requires free { IsFree frame.now }
-    requires placed { ArePlacedNear frame.now (shown stock.now.points stock.now.sets piece.now) }
+    requires sound { IsSoundStock stock.now }
+    requires carried { IsCarried piece.now }
+    requires framed { IfSome frame.now Framed }
+    requires placed { ArePlacedNear frame.now (piece_triangles stock.now.points stock.now.sets piece.now) }
     ensures { OnOk result (out.new.items ≡ out.old.items
-        ++ map (placed_by frame.now) (shown stock.now.points stock.now.sets piece.now)) }
+        ++ map (placed_by frame.now) (piece_triangles stock.now.points stock.now.sets piece.now)) }
 {
     let Some(set) = stock.sets.get(piece.set) else {
         return Ok(());
@@ -228,9 +226,9 @@ fn surface_of(
     range: Range,
     frame: &Option<Frame>,
 ) -> Result<Vec<Triangle>, AllocError>
-    requires carrying { IsCarrying stock.now }
-    requires there { IsThere stock.now range }
-    requires free { IsFree frame.now }
+    requires sound { IsSoundStock stock.now }
+    requires there { IsRangeIn stock.now range }
+    requires framed { IfSome frame.now Framed }
     requires near { ArePlacedNear frame.now (range_triangles stock.now range) }
     ensures { IfOk result (λ made. made.items ≡ map (placed_by frame.now) (range_triangles stock.now range)) }
 {
@@ -243,8 +241,8 @@ fn surface_of(
 
 /// The element of a sketch, with its surface.
 fn element_of(alloc: Global, stock: &Stock, sketch: Sketch) -> Result<Element, AllocError>
-    requires carrying { IsCarrying stock.now }
-    requires sketched { IsSketched stock.now sketch }
+    requires sound { IsSoundStock stock.now }
+    requires sketched { IsNearSketch stock.now sketch }
     ensures { IfOk result (λ made. made ≡ element_of stock.now sketch) }
 {
     let triangles = surface_of(alloc, stock, sketch.range, &sketch.frame)?;
@@ -264,8 +262,8 @@ pub fn elements_of(
     stock: &Stock,
     sketches: Vec<Sketch>,
 ) -> Result<Vec<Element>, AllocError>
-    requires carrying { IsCarrying stock.now }
-    requires sketched { All (IsSketched stock.now) sketches.items }
+    requires sound { IsSoundStock stock.now }
+    requires sketched { All (IsNearSketch stock.now) sketches.items }
     ensures { IfOk result (λ made. made.items ≡ elements_of stock.now sketches.items) }
 {
     let mut made = Vec::with_capacity(alloc, sketches.len())?;

@@ -3,3 +3,4 @@ pub mod IndexesNamed
 mod Pooled
 pub mod RowsNamed
 mod SetsRead
+mod ShortIndexes

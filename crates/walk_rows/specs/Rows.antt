@@ -1,18 +1,14 @@
 -- Triangles by the places of their corners in a list of points (IFC4 ADD2 TC1, IfcTriangulatedFaceSet, IfcPolygonalFaceSet).
 use Rattle.std.specs.Prelude.{◌≡◌, ℕ, List, [], ◌∷◌, ◌++◌, map, slice_index_or, Option, Some, None}
 use Rattle.std.specs.List.{AllZip}
-use Rattle.bim_model.specs.declared.upload.Mode.{Mode}
 use Rattle.bim_model.specs.declared.geometry.Point.{Point}
 use Rattle.bim_model.specs.declared.geometry.Triangle.{Triangle}
 use Rattle.p21_values.specs.declared.value.Value21.{Value21}
-use Rattle.p21_values.specs.declared.value.Instance.{Instance}
 use Rattle.p21_values.specs.Values.{items_of}
-use Rattle.ifc_units.specs.declared.scale.Scale.{Scale}
 use Rattle.ear_cut.specs.declared.ears.Ear.{Ear}
 use Rattle.ear_cut.specs.Areas.{point_at}
 use Rattle.faceset.specs.Indexes.{PointsAt}
 use Rattle.faceset.specs.Sets.{NamesPoint}
-use Rattle.ifc_elements.specs.Sound.{IsKept}
 use Rattle.walk_rows.specs.declared.triangle_rows.Row.{Row}
 
 -- the triangle whose corners stand there
@@ -45,10 +41,6 @@ pub record IsRowOf (numbers : Option (List Value21)) (count : ℕ) (v : Value21)
   pub first : NamesPoint numbers count a row.a
   pub second : NamesPoint numbers count b row.b
   pub third : NamesPoint numbers count c row.c
-
--- Of a set whose list has these points: the triangles of the rows are those of the set, each corner in reach, and as many as are counted.
-abbrev pub AreRowsOf : List Instance → Scale → Mode → List Point → Instance → List Row → Type 0
-AreRowsOf world scale mode points set rows = IsKept world scale mode (triangles_at points rows) set
 
 -- Of faces.
 

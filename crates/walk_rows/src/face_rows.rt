@@ -8,6 +8,7 @@ ghost use Rattle.p21_values.specs.Attributes.{led_to};
 ghost use Rattle.ear_cut.specs.Areas.{point_at};
 ghost use Rattle.faceset.specs.Sets.{NamesPoint, IsCut, Joined, most_corners};
 ghost use Rattle.walk_rows.specs.Rows.{AreNumbers, AddsRows, place_at, row_at, triangles_at};
+ghost use Rattle.walk_rows.specs.SetRows.{LeadsToFace};
 
 use crate::row_places::place_named;
 use crate::triangle_rows::{Row, point_at};
@@ -127,9 +128,10 @@ fn add_face_of(
 ) -> Result<bool, AllocError>
     requires few { length points.now < 2 ^ 32 }
     requires in_grid { All IsGridPoint points.now }
-    ensures { (names : Option (List Value21)) → AreNumbers (length points.now) names (option_copied numbers.entry)
+    ensures rows { (names : Option (List Value21)) → AreNumbers (length points.now) names (option_copied numbers.entry)
         → IfOk result (λ added. OnTrue added (AddsRows points.now
         (Joined (IsCut names points.now) (led_to exchange.now (value.now ∷ []))) rows.old.items rows.new.items)) }
+    ensures leads { IfOk result (λ added. OnTrue added (LeadsToFace exchange.now value.now)) }
 {
     match exchange.target(value) {
         Some(face) => {
@@ -153,9 +155,10 @@ pub fn rows_of_faces(
 ) -> Result<Option<Vec<Row>>, AllocError>
     requires few { length points.now < 2 ^ 32 }
     requires in_grid { All IsGridPoint points.now }
-    ensures { (names : Option (List Value21)) → AreNumbers (length points.now) names (option_copied numbers.entry)
+    ensures rows { (names : Option (List Value21)) → AreNumbers (length points.now) names (option_copied numbers.entry)
         → IfOk result (λ found. IfSome found (λ rows. Joined (IsCut names points.now)
         (led_to exchange.now values.now) (triangles_at points.now rows.items))) }
+    ensures leads { IfOk result (λ found. IfSome found (λ rows. All (LeadsToFace exchange.now) values.now)) }
 {
     let mut rows = Vec::new(alloc);
     for value in values.iter() {

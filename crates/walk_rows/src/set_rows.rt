@@ -4,7 +4,7 @@ ghost use Rattle.std.specs.Bool.{OnTrue};
 ghost use Rattle.bim_model.specs.Points.{IsGridPoint};
 ghost use Rattle.faceset.specs.Sets.{numbering, SetTriangles};
 ghost use Rattle.walk_rows.specs.Rows.{AreNumbers, triangles_at};
-ghost use Rattle.walk_rows.specs.SetRows.{HasNumbering, NamesPoints};
+ghost use Rattle.walk_rows.specs.SetRows.{HasNumbering, NamesFaces, NamesPoints};
 
 use crate::face_rows::rows_of_faces;
 use crate::row_places::{places_named, rows_of};
@@ -36,8 +36,9 @@ fn rows_by(
     requires few { length points.now < 2 ^ 32 }
     requires in_grid { All IsGridPoint points.now }
     requires numbers { AreNumbers (length points.now) (numbering set.now) (option_copied numbers) }
-    ensures { IfOk result (λ found. IfSome found
+    ensures triangles { IfOk result (λ found. IfSome found
         (λ rows. SetTriangles exchange.now points.now set.now (triangles_at points.now rows.items))) }
+    ensures faces { IfOk result (λ found. IfSome found (λ rows. NamesFaces exchange.now set.now)) }
 {
     if is_polygonal(set) {
         rows_of_faces(
@@ -54,7 +55,7 @@ fn rows_by(
 }
 
 /// The rows of a set whose list has these points. None where its numbers of points aren't a list, an index or such a number names no point,
-/// or a face can't be cut.
+/// a value in place of a face leads to none, or a face can't be cut.
 pub fn rows_of_set(
     alloc: Global,
     exchange: &Exchange,
@@ -66,6 +67,7 @@ pub fn rows_of_set(
     ensures numbering { IfOk result (λ found. IfSome found (λ rows. HasNumbering set.now)) }
     ensures numbers { IfOk result (λ found. IfSome found
         (λ rows. NamesPoints (length points.now) (numbering set.now))) }
+    ensures faces { IfOk result (λ found. IfSome found (λ rows. NamesFaces exchange.now set.now)) }
     ensures triangles { IfOk result (λ found. IfSome found
         (λ rows. SetTriangles exchange.now points.now set.now (triangles_at points.now rows.items))) }
 {
