@@ -1,2 +1,4 @@
 pub mod CleanShown
 pub mod FormsRead
+pub mod SetEntities
+pub mod SetForms
