@@ -1,5 +1,6 @@
 pub mod Kept
 pub mod Sketches
+pub mod Pieces
 pub mod Clean
 pub mod Stocked
 pub mod Walked
