@@ -1,6 +1,10 @@
 pub mod CleanShown
 pub mod FormsRead
 pub mod OneSetRead
+pub mod PiecesAdded
+pub mod PiecesKept
 pub mod PointsPooled
 pub mod SetEntities
 pub mod SetForms
+pub mod SketchesMade
+pub mod SurfacesPlaced

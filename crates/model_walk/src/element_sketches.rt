@@ -258,10 +258,10 @@ pub fn sketches_of(
         let Some(sketch) = sketch_of(alloc, told, &instance, stock)? else {
             return Ok(None);
         };
-        count += sketch.range.count;
-        if count > MOST_TRIANGLES {
+        if sketch.range.count > MOST_TRIANGLES - count {
             return Ok(None);
         }
+        count += sketch.range.count;
         made.push(sketch)?;
     }
     Ok(Some(made))
