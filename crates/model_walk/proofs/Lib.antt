@@ -1,2 +1,4 @@
 pub mod CleanShown
 pub mod FormsRead
+pub mod PiecesKept
+pub mod SketchesMade
