@@ -1,5 +1,5 @@
 -- What is known while the walk looks at one instance after another.
-use Rattle.std.specs.Prelude.{◌≡◌, ◌≢◌, ℕ, ◌+◌, ◌<◌, List, length, AllPairs, get_or}
+use Rattle.std.specs.Prelude.{◌≡◌, ◌≢◌, ℕ, ◌+◌, ◌<◌, List, length, AllPairs, slice_index_or}
 use Rattle.std.specs.List.{HoldsAt}
 use Rattle.bim_model.specs.declared.upload.Mode.{Mode}
 use Rattle.p21_values.specs.declared.value.Instance.{Instance}
@@ -28,4 +28,5 @@ SketchesDiffer sketches = AllPairs (λ (s t : Sketch). s.element.guid.chars ≢ 
 
 -- no two that stand side by side are the same
 abbrev pub Alternate : List (List ℕ) → Type 0
-Alternate guids = (k : ℕ) (d : List ℕ) → k + 1 < length guids → get_or guids k d ≢ get_or guids (k + 1) d
+Alternate guids = (k : ℕ) (d : List ℕ) → k + 1 < length guids
+    → slice_index_or guids k d ≢ slice_index_or guids (k + 1) d

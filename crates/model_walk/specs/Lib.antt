@@ -5,4 +5,3 @@ pub mod Clean
 pub mod Stocked
 pub mod Walked
 pub mod Checked
-pub mod Stocks

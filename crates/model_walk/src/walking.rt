@@ -9,8 +9,7 @@ ghost use Rattle.placement.specs.Placed.{AllPlaced, frame_in};
 ghost use Rattle.spatial_tree.specs.Trees.{IsTree, ListsStoreys};
 ghost use Rattle.model_walk.specs.Checked.{IsCleanBy, CleanThere, AllClean, SketchesDiffer, Alternate};
 ghost use Rattle.model_walk.specs.Kept.{ArePooled, HasLists, AreReadSets};
-ghost use Rattle.model_walk.specs.Sketches.{elements_of};
-ghost use Rattle.model_walk.specs.Stocks.{IsStock};
+ghost use Rattle.model_walk.specs.Stocked.{IsStocked};
 ghost use Rattle.model_walk.specs.Walked.{IsWalked};
 
 use crate::element_sketches::{Sketch, Stock, Told, sketches_of};
@@ -39,13 +38,15 @@ pub struct Walked {
 }
 
 impl Model for Walked {
-    ghost use Rattle.std.specs.Prelude.{List};
+    ghost use Rattle.std.specs.Prelude.{List, All};
     ghost use Rattle.bim_model.specs.declared.element.Element.{Element};
-    ghost use Rattle.model_walk.specs.Sketches.{elements_of};
+    ghost use Rattle.model_walk.specs.Sketches.{elements_of, IsSoundStock, IsNearSketch};
 
     ghost Value = { List Element };
 
     ghost view = { λ w. elements_of w.stock w.sketches.items };
+
+    ghost invariant = { λ w. IsSoundStock w.stock × All (IsNearSketch w.stock) w.sketches.items };
 }
 
 /// Whether an instance that is used, and is no list of points nor a set, has the form of its row.
@@ -256,7 +257,7 @@ fn sketched(
     requires storeys { ListsStoreys exchange.now spatial.now }
     requires unit { IsLengthUnit exchange.now scale }
     requires tree { IsTree exchange.now }
-    requires stock { IsStock exchange.now scale mode stock }
+    requires stock { IsStocked exchange.now scale mode stock }
     requires clean { AllClean exchange.now scale mode }
     ensures { IfOk result (λ found. IfSome found (IsWalked exchange.now mode)) }
 {
@@ -295,7 +296,7 @@ fn stocked(
 ) -> Result<Option<Stock>, AllocError>
     requires known { Known exchange.now work.now }
     requires bodied { bodied.now ≡ body_shapes exchange.now }
-    ensures stock { IfOk result (λ found. IfSome found (IsStock exchange.now scale mode)) }
+    ensures stock { IfOk result (λ found. IfSome found (IsStocked exchange.now scale mode)) }
     ensures clean { IfOk result (λ found. IfSome found (λ stock. AllClean exchange.now scale mode)) }
 {
     let Some(points) = points_in(alloc, exchange, work, scale, mode)? else {
