@@ -2,3 +2,5 @@ pub mod CleanShown
 pub mod FormsRead
 pub mod PiecesKept
 pub mod SketchesMade
+pub mod GuidsDiffer
+pub mod PlacesChecked
