@@ -4,3 +4,4 @@ pub mod PiecesKept
 pub mod SketchesMade
 pub mod GuidsDiffer
 pub mod PlacesChecked
+pub mod WalkMade

@@ -3,7 +3,7 @@ use Rattle.std.proofs.Common.{◌≡◌, ◌≢◌, ℕ, ◌+◌, ◌<◌, ◌�
 use Rattle.std.specs.Prelude.{IfOk}
 use Rattle.std.specs.Bool.{OnTrue}
 use Rattle.std.specs.List.{HoldsAt, slice_get}
-use Rattle.std.proofs.lemmas.List.{get_or-replicate, get_or_past}
+use Rattle.std.proofs.lemmas.List.{get_or-replicate, get_or_past, length-replicate}
 use Rattle.std.proofs.lemmas.Option.{get_or_from_slice_get, same_Some}
 use Rattle.bim_model.specs.declared.upload.Mode.{Mode}
 use Rattle.bim_model.specs.declared.geometry.Point.{Point}
@@ -85,13 +85,10 @@ kept_clean (Err _) world scale mode points old new mapped at i e clean k = tt
 
 -- nothing is kept in a new pool
 none_kept : {T : Type 0} (places at : ℕ) → pooled {T} (replicate places None) at ≡ None
-none_kept places at = elim (side at places) [ inl lt ↦ get_or-replicate places at None None lt | inr le ↦ (let l = long places in get_or_past (replicate places None) at None (omega (arith, le, l))) ]
+none_kept places at = elim (side at places) [ inl lt ↦ get_or-replicate places at None None lt | inr le ↦ (let l = length-replicate places (None {T = T}) in get_or_past (replicate places None) at None (omega (arith, le, l))) ]
   where
     side : (a b : ℕ) → (a < b) ⊎ (b ≤ a)
     side a b = grind arith
-
-    long : (n : ℕ) → length {T = Option T} (replicate n None) ≡ n
-    long n = search arith
 
 pub never_kept : {T : Type 0} {A : Type 0} (places at : ℕ) (kept : T) → pooled (replicate places None) at ≡ Some kept → A
 never_kept places at kept e = let n = none_kept places at in absurd (cc)
