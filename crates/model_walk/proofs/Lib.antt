@@ -6,3 +6,6 @@ pub mod OneSetRead
 pub mod PointsPooled
 pub mod SetEntities
 pub mod SetForms
+pub mod GuidsDiffer
+pub mod PlacesChecked
+pub mod WalkMade
