@@ -4,3 +4,4 @@ pub mod Pieces
 pub mod Clean
 pub mod Stocked
 pub mod Walked
+pub mod Checked

@@ -1,6 +1,6 @@
 -- What is known of a file while its elements are sketched.
-use Rattle.std.specs.Prelude.{◌≡◌, ℕ, ◌+◌, ◌<◌, ◌≤◌, List, length, ◌++◌, flat_map, sum_by, All, AllZip, Contains, IfSome, map, Option, Some, None}
-use Rattle.std.specs.List.{HoldsAt}
+use Rattle.std.specs.Prelude.{◌≡◌, ℕ, ◌+◌, ◌<◌, ◌≤◌, List, length, ◌++◌, flat_map, sum_by, All, Contains, IfSome, map, Option, Some, None}
+use Rattle.std.specs.List.{HoldsAt, AllZip}
 use Rattle.bim_model.specs.declared.upload.Mode.{Mode}
 use Rattle.bim_model.specs.declared.element.Element.{Element}
 use Rattle.bim_model.specs.declared.geometry.Point.{Point}
