@@ -26,7 +26,7 @@ use Rattle.faceset.specs.Sets.{NamesPoint, IsCorner, IsTriangle, AreTriangles}
 
 -- Leaves.
 
-whole_leaf : (world : List Instance) (count : ℕ) (v : Value21) (k : ℕ) → PointsAt count v k → LeafFlaw world leaf.Whole v None
+pub whole_leaf : (world : List Instance) (count : ℕ) (v : Value21) (k : ℕ) → PointsAt count v k → LeafFlaw world leaf.Whole v None
 whole_leaf world count v k p = subst (λ (o : Option (List ℕ)). MatchOption o (None ≡ Some bad) (λ bs. WholeFlaw bs None)) (sym p.number) (pos (suc k), p.written)
   where
     bad : Flaw

@@ -1,7 +1,11 @@
 pub mod CleanShown
 pub mod FormsRead
-pub mod PiecesKept
-pub mod SketchesMade
 pub mod GuidsDiffer
+pub mod OneSetRead
+pub mod PiecesKept
 pub mod PlacesChecked
+pub mod PointsPooled
+pub mod SetEntities
+pub mod SetForms
+pub mod SketchesMade
 pub mod WalkMade

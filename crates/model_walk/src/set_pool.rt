@@ -23,7 +23,7 @@ const MOST_POINTS: usize = 1 << 32;
 /// The rows of a set, and the place of the list of its points.
 #[derive(Drop)]
 pub struct SetRows {
-    pub list: u32,
+    pub list: usize,
     pub rows: Items<Row>,
 }
 
@@ -42,7 +42,8 @@ fn read_set(
     points: &Pool<Items<Point>>,
     set: &InstanceRef<'_>,
 ) -> Result<Option<SetRows>, AllocError>
-    requires { is_set set.now ≡ true }
+    requires set { is_set set.now ≡ true }
+    requires points { (scale : Scale) × (mode : Mode) × ArePooled exchange.now scale mode points.now }
     ensures { (scale : Scale) (mode : Mode) → ArePooled exchange.now scale mode points.now
         → IfOk result (λ made. IfSome made (λ kept. IsRead exchange.now scale mode points.now kept set.now)) }
 {
@@ -62,7 +63,7 @@ fn read_set(
         return Ok(None);
     }
     Ok(Some(SetRows {
-        list: list as u32,
+        list,
         rows: Items::from_vec(rows),
     }))
 }
@@ -77,6 +78,7 @@ pub fn keep_set(
     pool: &mut Pool<SetRows>,
 ) -> Result<bool, AllocError>
     requires set { is_set set.now ≡ true }
+    requires points { (scale : Scale) × (mode : Mode) × ArePooled exchange.now scale mode points.now }
     requires within { at < length pool.old }
     ensures { (scale : Scale) (mode : Mode) → ArePooled exchange.now scale mode points.now
         → IfOk result (λ done. OnTrue done ((kept : SetRows) × IsRead exchange.now scale mode points.now kept set.now
