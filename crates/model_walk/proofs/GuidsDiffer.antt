@@ -1,6 +1,7 @@
 -- Identifiers that differ from those beside them once they are sorted differ all.
-use Rattle.std.proofs.Common.{◌≡◌, ◌≢◌, ℕ, ◌+◌, ◌<◌, ◌≤◌, inl, inr, true, false, List, length, map, get_or, refl, sym, ◌∙◌, subst, ap, arith}
+use Rattle.std.proofs.Common.{◌≡◌, ◌≢◌, ℕ, ◌+◌, ◌-◌, ◌<◌, ◌≤◌, ◌⊎◌, inl, inr, Bool, true, false, List, [], length, map, get_or, refl, sym, ◌∙◌, subst, ap, arith}
 use Rattle.std.proofs.lemmas.Bool.{cases_Bool}
+use Rattle.std.specs.Bool.{OnTrue}
 use Rattle.std.specs.List.{AllPairs}
 use Rattle.std.specs.List.Sorted.{IsSorted, IsPermutation}
 use Rattle.std.specs.Str.{bytes_eq}
@@ -9,7 +10,7 @@ use Rattle.std.specs.Cmp.Lexicographic.{slice_cmp}
 use Rattle.std.specs.declared.cmp.Ordering.{Ordering}
 use Rattle.std.specs.declared.cmp.Ordering.TheVariants.{Less, Equal, Greater}
 use Rattle.std.proofs.lemmas.Slice.Eq.{bytes_eq-Decides}
-use Rattle.std.proofs.lemmas.List.{get_or-map, length-map}
+use Rattle.std.proofs.lemmas.List.{get_or_default, get_or-map, length-map}
 use Rattle.std.proofs.lemmas.List.Sorted.{sorted_far, ranks_by, IsPermutation-sym}
 use Rattle.std.proofs.lemmas.Map.Keys.{IsDistinct-IsPermutation}
 use Rattle.std.proofs.lemmas.Map.Made.{AllPairs-from_IsDistinct, IsDistinct-from_AllPairs}
@@ -57,3 +58,24 @@ sorted_differ ys up beside i j d lt within same =
 
 pub sketches_differ : (sketches : List Sketch) (guids : List (List ℕ)) → IsPermutation (map (λ (s : Sketch). s.element.guid.chars) sketches) guids → IsSorted (slice_cmp nat_cmp) guids → Alternate guids → SketchesDiffer sketches
 sketches_differ sketches guids p up beside = from_keys (λ (s : Sketch). s.element.guid.chars) sketches (keys_differ (map (λ (s : Sketch). s.element.guid.chars) sketches) guids p (sorted_differ guids up beside))
+
+-- two more that differ
+pub apart_more : (guids : List (List ℕ)) (at : ℕ) (b : Bool) → 1 ≤ at → at < length guids → b ≡ bytes_eq (get_or guids (at - 1) []) (get_or guids at []) → b ≡ false → ((k : ℕ) (d : List ℕ) → k + 1 < at → get_or guids k d ≢ get_or guids (k + 1) d)
+    → (k : ℕ) (d : List ℕ) → k + 1 < at + 1 → get_or guids k d ≢ get_or guids (k + 1) d
+apart_more guids at b from within test differs before k d lt same = elim (below k at lt) [
+  | inl l ↦ before k d l same
+  | inr e ↦ (
+      let p : at - 1 ≡ k = omega (arith, e) in
+      let a : get_or guids (at - 1) [] ≡ get_or guids k d = ap (λ n. get_or guids n []) p ∙ get_or_default guids k [] d (omega (arith, e, within)) in
+      let z : get_or guids (k + 1) d ≡ get_or guids at [] = get_or_default guids (k + 1) d [] (omega (arith, e, within)) ∙ ap (λ n. get_or guids n []) e in
+      let t = (bytes_eq-Decides (get_or guids (at - 1) []) (get_or guids at [])).1 (a ∙ same ∙ z) in
+      absurd (cc))
+]
+  where
+    below : (k at : ℕ) → k + 1 < at + 1 → (k + 1 < at) ⊎ (k + 1 ≡ at)
+    below k at lt = grind arith
+
+-- what follows from what a test says
+pub on_true : {P Q : Type 0} (b : Bool) → (P → Q) → OnTrue b P → OnTrue b Q
+on_true true f h = f h
+on_true false f h = tt

@@ -108,6 +108,13 @@ clean_there world scale mode w at mapped k b c id p u = record {
   clean = subst (λ n. IsClean world scale mode mapped n (get_or world at some_instance)) (p.number some_instance) (c some_instance);
 }
 
+-- the same of what a look at it answers
+pub looked_there : {E : Type 0} (r : Result Bool E) (world : List Instance) (scale : Scale) (mode : Mode) (w : Work) (at : ℕ) (mapped : Bool) → Known world w → mapped ≡ is_mapped (mark_at w at) → IfOk r (λ clean. OnTrue clean (IsCleanBy world scale mode mapped at))
+    → IfOk r (λ clean. OnTrue clean (CleanThere world scale mode at))
+looked_there (Ok true) world scale mode w at mapped k b h = clean_there world scale mode w at mapped k b h
+looked_there (Ok false) world scale mode w at mapped k b h = tt
+looked_there (Err _) world scale mode w at mapped k b h = tt
+
 pub all_clean : (world : List Instance) (scale : Scale) (mode : Mode) (at : ℕ) → length world ≤ at → ((k : ℕ) → k < at → CleanThere world scale mode k) → AllClean world scale mode
 all_clean world scale mode at le before id u =
     let g = used_found world id u in

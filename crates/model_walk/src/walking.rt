@@ -353,6 +353,7 @@ impl Walked {
     pub fn into_elements(self, alloc: Global) -> Result<Vec<Element>, AllocError>
         ensures { IfOk result (λ made. made.items ≡ self) }
     {
-        elements_of(alloc, &self.stock, self.sketches)
+        let Walked { sketches, stock } = self;
+        elements_of(alloc, &stock, sketches)
     }
 }
