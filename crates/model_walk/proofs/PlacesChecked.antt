@@ -93,6 +93,9 @@ none_kept places at = elim (side at places) [ inl lt ↦ get_or-replicate places
 pub never_kept : {T : Type 0} {A : Type 0} (places at : ℕ) (kept : T) → pooled (replicate places None) at ≡ Some kept → A
 never_kept places at kept e = let n = none_kept places at in absurd (cc)
 
+pub no_sets : (world : List Instance) (scale : Scale) (mode : Mode) (points : List (Option (List Point))) (places : ℕ) (new : List (Option SetRows)) → new ≡ replicate places None → AreReadSets world scale mode points new
+no_sets world scale mode points places new e at kept f = never_kept places at kept (subst (λ (s : List (Option SetRows)). pooled s at ≡ Some kept) e f)
+
 -- All places.
 
 -- what is used and stands there is clean, where it is clean as its mark says
