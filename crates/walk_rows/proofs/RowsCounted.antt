@@ -23,11 +23,12 @@ faces_count names points (f ∷ faces) ts j =
     let here = cut_count names points f j.0 j.2 in
     let rest = faces_count names points faces j.1 j.3 in
     let long = ap length j.4 ∙ length-append j.0 j.1 in
-    omega (arith, here, rest, long)
+    let sum : sum_by face_count (f ∷ faces) ≡ face_count f + sum_by face_count faces = refl in
+    omega (arith, here, rest, long, sum)
 
 pub set_count : (world : List Instance) (points : List Point) (set : Instance) (ts : List Triangle) → SetTriangles world points set ts → length ts ≡ triangle_count world set
 set_count world points set ts are = by_kind (is_polygonal set) refl
   where
     by_kind : (b : Bool) → is_polygonal set ≡ b → length ts ≡ triangle_count world set
-    by_kind true e = rw e faces_count (numbering set) points (faces_of world set) ts (rw e at are)
-    by_kind false e = rw e sym (zip_long (IsTriangle (numbering set) points) (spelled_triangles set) ts (rw e at are))
+    by_kind true e = rw e (faces_count (numbering set) points (faces_of world set) ts (rw e at are))
+    by_kind false e = rw e (sym (zip_long (IsTriangle (numbering set) points) (spelled_triangles set) ts (rw e at are)))
