@@ -83,7 +83,7 @@ fn is_piece_near(stock: &Stock, piece: &Piece, frame: &Frame) -> bool
     let Some(set) = stock.sets.get(piece.set) else {
         return false;
     };
-    match stock.points.get(set.list as usize) {
+    match stock.points.get(set.list) {
         Some(points) => are_rows_near(
             points.as_slice(),
             set.rows.as_slice(),
@@ -207,7 +207,7 @@ fn add_piece(
     let Some(set) = stock.sets.get(piece.set) else {
         return Ok(());
     };
-    match stock.points.get(set.list as usize) {
+    match stock.points.get(set.list) {
         Some(points) => add_rows(
             points.as_slice(),
             set.rows.as_slice(),
