@@ -84,7 +84,7 @@ kept_clean (Ok false) world scale mode points old new mapped at i e clean k = tt
 kept_clean (Err _) world scale mode points old new mapped at i e clean k = tt
 
 -- nothing is kept in a new pool
-none_kept : {T : Type 0} (places at : ℕ) → pooled {T} (replicate places None) at ≡ None
+none_kept : {T : Type 0} (places at : ℕ) → pooled {T = T} (replicate places None) at ≡ None
 none_kept places at = elim (side at places) [ inl lt ↦ get_or-replicate places at None None lt | inr le ↦ (let l = length-replicate places (None {T = T}) in get_or_past (replicate places None) at None (omega (arith, le, l))) ]
   where
     side : (a b : ℕ) → (a < b) ⊎ (b ≤ a)
