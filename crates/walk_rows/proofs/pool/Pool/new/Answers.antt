@@ -1,4 +1,3 @@
-use Rattle.std.proofs.Common.{◌≡◌, replicate}
 use Rattle.walk_rows.proofs.Pooled.{none_yet}
 use Rattle.walk_rows.proofs.pool.Pool.new.Goals as goal
 
