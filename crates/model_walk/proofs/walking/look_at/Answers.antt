@@ -52,4 +52,4 @@ returns-clause-clean c =
     c.is_formed.ensures
 
 pub keep_set-requires-clause-points : goal.keep_set-requires-clause-points
-keep_set-requires-clause-points c = (c.args.scale, (c.args.mode, c.requires.points))
+keep_set-requires-clause-points c = (c.args.scale, c.args.mode, c.requires.points)
