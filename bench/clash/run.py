@@ -2,6 +2,7 @@
 """Times the grid and the check of all buckets beside a baseline, on the same elements, in milliseconds.
 
     bench/clash/run.py BASELINE FILE.ifc.. [--turns N] [--rounds N] [--distances 0,50]
+    bench/clash/run.py --carry FILE.ifc.. [--rounds N] [--distances 0,50]
 
 Each FILE has elements with triangulated surfaces in millimetres (IFCCARTESIANPOINTLIST3D, IFCTRIANGULATEDFACESET). The
 numbers are written into a plain file for pace.txt, the program over the built crates. BASELINE is another program, called
@@ -11,6 +12,9 @@ Copies the crates, with what earlier checks kept of them, into a scratch folder,
 more of a smaller one as it is smaller, so that a slow second of the machine falls on no file alone. Prints the least of
 each part over all turns and rounds, the ratio of the wholes (here over baseline), and how each whole grows from one file
 to the next. Ends with 1 where the numbers of clashes differ.
+
+With --carry it prints instead what a second version keeps of the work on a first, in which one element lay a millimetre
+beside (carry.txt): the check of all buckets, the grid of the second version, carrying, and the check of what is left.
 
 Both programs keep what memory was let go of for the next round (MALLOC_TRIM_THRESHOLD_). The baseline does so by itself
 once it has let go of the bytes of its file, as does a server after an upload; pace.txt holds its input to the end, and
@@ -30,7 +34,7 @@ sys.path.insert(0, str(pathlib.Path(__file__).resolve().parent.parent))
 from stands_on import stands_on  # noqa: E402
 
 BELOW = ["exact_arith", "bim_model", "tri_exact", "clearance", "box_lanes", "clash_rules", "bucket_grid", "bucket_check"]
-CRATES = stands_on(BELOW) | {"pace": "bucket_check bucket_grid clash_rules bim_model serde_json anyhow"}
+USES = "bucket_check bucket_grid clash_rules bim_model serde_json anyhow"
 POINTS = re.compile(r"#(\d+)=IFCCARTESIANPOINTLIST3D\(\((.*)\)\);")
 FACES = re.compile(r"#\d+=IFCTRIANGULATEDFACESET\(#(\d+),[^,]*,[^,]*,\((.*?)\),[^,)]*\);")
 PLAIN = re.compile(r"clashes (\d+).* clash_s ([\d.]+) \[grid ([\d.]+) filter ([\d.]+) near ([\d.]+)\]")
@@ -38,18 +42,21 @@ KEPT = os.environ | {"MALLOC_TRIM_THRESHOLD_": "1000000000", "MALLOC_MMAP_THRESH
 HERE = re.compile(r"clashes (\d+) buckets \d+ grid (\d+) filter (\d+) check (\d+) whole (\d+)")
 
 
-def build(top, work):
-    """The path of the program."""
-    for name in CRATES:
-        if name != "pace":
-            shutil.copytree(top / "crates" / name, work / "crates" / name, ignore=shutil.ignore_patterns("must-fail"))
+def build(top, work, carry=False):
+    """The path of the program of pace.txt, or of carry.txt."""
+    below, uses = (BELOW + ["clash_delta"], f"clash_delta {USES}") if carry else (BELOW, USES)
+    for name in below:
+        shutil.copytree(top / "crates" / name, work / "crates" / name, ignore=shutil.ignore_patterns("must-fail"))
     here = top / "bench" / "clash"
     crate = work / "crates" / "pace"
+    proofs = {"main": "pace_invariants.txt"} | ({"check_undone": "carry_invariants.txt"} if carry else {})
     (crate / "src").mkdir(parents=True)
-    (crate / "proofs" / "main").mkdir(parents=True)
-    shutil.copy(here / "pace.txt", crate / "src" / "main.rt")
-    shutil.copy(here / "pace_invariants.txt", crate / "proofs" / "main" / "Invariants.antt")
-    (work / "crates.txt").write_text("".join(f"{name}: {deps}\n" for name, deps in CRATES.items()))
+    shutil.copy(here / ("carry.txt" if carry else "pace.txt"), crate / "src" / "main.rt")
+    for function, file in proofs.items():
+        (crate / "proofs" / function).mkdir(parents=True)
+        shutil.copy(here / file, crate / "proofs" / function / "Invariants.antt")
+    crates = stands_on(below) | {"pace": uses}
+    (work / "crates.txt").write_text("".join(f"{name}: {deps}\n" for name, deps in crates.items()))
     subprocess.run(["git", "init", "-q"], cwd=work, check=True)
     run = subprocess.run(["rt", "run"], cwd=crate, stdin=subprocess.DEVNULL, capture_output=True, text=True)
     program = crate / "out" / "pace"
@@ -124,9 +131,9 @@ def parts(times):
 
 def main():
     words = argparse.ArgumentParser()
-    words.add_argument("baseline")
-    words.add_argument("files", nargs="+", type=pathlib.Path)
-    words.add_argument("--program", help="the program of pace.txt, if it is built already")
+    words.add_argument("files", nargs="+", type=pathlib.Path, help="the baseline first, but with --carry")
+    words.add_argument("--carry", action="store_true")
+    words.add_argument("--program", help="the program, if it is built already")
     words.add_argument("--turns", type=int, default=8)
     words.add_argument("--rounds", type=int, default=9)
     words.add_argument("--distances", default="0,50")
@@ -134,9 +141,17 @@ def main():
     top = pathlib.Path(__file__).resolve().parents[2]
     with tempfile.TemporaryDirectory() as scratch:
         work = pathlib.Path(scratch)
-        program = args.program or build(top, work)
+        program = args.program or build(top, work, args.carry)
+        baseline = None if args.carry else args.files.pop(0)
         for file in args.files:
             write_scene(file, work / f"{file.name}.scene")
+        if args.carry:
+            for distance in args.distances.split(","):
+                for file in args.files:
+                    words = [program, work / f"{file.name}.scene", distance, str(args.rounds)]
+                    output = subprocess.run(words, env=KEPT, capture_output=True, text=True, check=True).stdout
+                    print(f"{file.name} at {distance}: {output}", end="")
+            return
         largest = max(file.stat().st_size for file in args.files)
         all_least = [
             Least(file, work / f"{file.name}.scene", distance, args.rounds * largest // file.stat().st_size)
@@ -145,7 +160,7 @@ def main():
         ]
         for _ in range(args.turns):
             for least in all_least:
-                least.turn(program, args.baseline)
+                least.turn(program, baseline)
         print(f"{'milliseconds: whole (grid, filter, exact)':44} {'baseline':36} {'here':36} ratio  growth")
         before = None
         for least in all_least:

@@ -3,6 +3,7 @@ pub mod Signs
 pub mod Unique
 pub mod Firsts
 pub mod LengthFacts
+pub mod ShortLengths
 pub mod PointFacts
 pub mod InstanceFacts
 pub mod UnitFacts

@@ -1,9 +1,11 @@
 -- A value is one point at most, or has one fault; and so for lists of points.
-use Rattle.std.proofs.Common.{◌≡◌, ℕ, ◌<◌, ◌≤◌, ℤ, pos, ◌-ℤ◌, ◌≤ℤ◌, List, [], ◌∷◌, ◌++◌, ◌+◌, take, length, get_or, MatchOption, Some, Option, Result, Ok, Err, MatchResult, IsErrAnd, refl, subst, arith}
+use Rattle.std.proofs.Common.{◌≡◌, ℕ, ◌<◌, ◌≤◌, ℤ, pos, ◌-ℤ◌, ◌≤ℤ◌, List, [], ◌∷◌, ◌++◌, ◌+◌, take, length, get_or, MatchOption, Some, None, Option, Result, Ok, Err, MatchResult, IsErrAnd, refl, sym, ap, subst, ◌∙◌, append_assoc, arith}
 use Rattle.std.specs.Prelude.{unsigned_abs}
 use Rattle.std.specs.List.{AllZip}
 use Rattle.std.proofs.lemmas.Int.{ints}
+use Rattle.std.proofs.lemmas.List.{append-nil, length-append}
 use Rattle.std.proofs.lemmas.Slice.Zip.{all_zipped_more}
+use Rattle.std.proofs.Math.Seq.{get_or-append_seam, take-append_seam}
 use Rattle.bim_model.specs.declared.geometry.Point.{Point}
 use Rattle.bim_model.specs.declared.upload.Mode.{Mode}
 use Rattle.bim_model.specs.Models.{farthest, IsInReach}
@@ -121,20 +123,40 @@ one_points_fault s mode = one_first (IsPoint s mode) (PointRefused s mode) (poin
 
 -- a list of points, one after another
 
-pub points_fail : (s : Scale) (mode : Mode) (vs given : List Value21) (ps : List Point) (v : Value21) (e : LengthError) → given ≡ take (length given) vs
-    → (length given < length vs) × (v ≡ get_or vs (length given) v) → ArePoints s mode given ps
-    → Fails (IsPoint s mode v) (PointRefused s mode v) e → Fails (ArePoints s mode vs) (PointsRefused s mode vs) e
-points_fail s mode vs given ps v e front at are h =
-    fails_here (IsPoint s mode) (PointRefused s mode) (point_apart s mode) vs (length given) ps v e at.0 at.1 (subst (λ z. ArePoints s mode z ps) front are) h
+-- values that are left behind others that are those points
+abbrev pub IsBehind : Scale → Mode → List Value21 → List Point → List Value21 → Type 0
+IsBehind s mode vs ps left = (given : List Value21) × (vs ≡ given ++ left) × ArePoints s mode given ps
 
-pub points_more : (s : Scale) (mode : Mode) (given : List Value21) (old new : List Point) (v : Value21) (p : Point) → ArePoints s mode given old → IsPoint s mode v p → new ≡ old ++ p ∷ []
-    → ArePoints s mode (given ++ v ∷ []) new
-points_more s mode given old new v p are is grown = rw grown (all_zipped_more (IsPoint s mode) given old v p are is)
+pub points_fail : (s : Scale) (mode : Mode) (vs left rest : List Value21) (ps : List Point) (v : Value21) (e : LengthError) → IsBehind s mode vs ps left → left ≡ v ∷ rest
+    → Fails (IsPoint s mode v) (PointRefused s mode v) e → Fails (ArePoints s mode vs) (PointsRefused s mode vs) e
+points_fail s mode vs left rest ps v e b next h =
+    let whole : vs ≡ b.0 ++ v ∷ rest = b.1 ∙ ap (λ ys. b.0 ++ ys) next in
+    let size : length vs ≡ length b.0 + length (v ∷ rest) = ap length whole ∙ length-append b.0 (v ∷ rest) in
+    let there : v ≡ get_or vs (length b.0) v = sym (ap (λ ys. get_or ys (length b.0) v) whole ∙ get_or-append_seam b.0 v rest v) in
+    let front : take (length b.0) vs ≡ b.0 = ap (λ ys. take (length b.0) ys) whole ∙ take-append_seam b.0 (v ∷ rest) in
+    fails_here (IsPoint s mode) (PointRefused s mode) (point_apart s mode) vs (length b.0) ps v e (omega (arith, size)) there (subst (λ z. ArePoints s mode z ps) (sym front) b.2) h
+
+pub points_more : (s : Scale) (mode : Mode) (vs left rest : List Value21) (old new : List Point) (v : Value21) (p : Point) → IsBehind s mode vs old left → left ≡ v ∷ rest → IsPoint s mode v p → new ≡ old ++ p ∷ []
+    → IsBehind s mode vs new rest
+points_more s mode vs left rest old new v p b next is grown =
+    (b.0 ++ v ∷ [], b.1 ∙ ap (λ ys. b.0 ++ ys) next ∙ sym (append_assoc b.0 (v ∷ []) rest), rw grown (all_zipped_more (IsPoint s mode) b.0 old v p b.2 is))
+
+pub points_over : (s : Scale) (mode : Mode) (vs left : List Value21) (ps : List Point) → IsBehind s mode vs ps left → left ≡ [] → ArePoints s mode vs ps
+points_over s mode vs left ps b none = subst (λ z. ArePoints s mode z ps) (sym (b.1 ∙ ap (λ ys. b.0 ++ ys) none ∙ append-nil b.0)) b.2
 
 pub fault_told : (s : Scale) (mode : Mode) (vs : List Value21) (e : LengthError) (r : Option GridFault) → r ≡ fault_in e → Fails (ArePoints s mode vs) (PointsRefused s mode vs) e
     → MatchOption r ((f : GridFault) → PointsRefused s mode vs f → ⊥) (PointsRefused s mode vs)
 fault_told s mode vs error.Unread r is h = rw is h.unrefused
 fault_told s mode vs (error.Refused f) r is h = rw is h
 
-pub never_told : (s : Scale) (mode : Mode) (vs given : List Value21) (ps : List Point) → given ≡ vs → ArePoints s mode given ps → (f : GridFault) → PointsRefused s mode vs f → ⊥
-never_told s mode vs given ps all are f h = points_apart s mode vs ps f (subst (λ z. ArePoints s mode z ps) all are) h
+pub never_told : (s : Scale) (mode : Mode) (vs left : List Value21) (ps : List Point) → IsBehind s mode vs ps left → left ≡ [] → (f : GridFault) → PointsRefused s mode vs f → ⊥
+never_told s mode vs left ps b none f h = points_apart s mode vs ps f (points_over s mode vs left ps b none) h
+
+-- a result that was matched
+pub matched : {A E : Type 0} (P : A → Type 0) (Q : E → Type 0) (r t : Result A E) → r ≡ t → MatchResult r P Q → MatchResult t P Q
+matched P Q r t e h = rw (← e) h
+
+-- there is none
+pub none_left : {A : Type 0} (P : Type 0) (Q : A → Type 0) (r : Option A) → MatchOption r P Q → ((x : A) → r ≡ Some x → ⊥) → P
+none_left P Q None h other = h
+none_left P Q (Some x) h other = absurd (other x refl)

@@ -1,5 +1,5 @@
 //! Lengths on the grid.
-ghost use Rattle.std.specs.Prelude.{◌≡◌, ℕ, ◌<◌, ◌≤◌, ℤ, ◌+ℤ◌, unsigned_abs, IfOk, IfErr, Err};
+ghost use Rattle.std.specs.Prelude.{◌≡◌, ℕ, ◌^◌, ◌<◌, ◌≤◌, ℤ, ◌+ℤ◌, unsigned_abs, IfOk, IfErr, Err};
 ghost use Rattle.bim_text.specs.Values.{signed};
 ghost use Rattle.ifc_units.specs.Grid.{IsGridNumber, length_of};
 ghost use Rattle.ifc_units.specs.Lengths.{units, reach};
@@ -21,14 +21,15 @@ pub fn to_grid(number: Decimal, scale: Scale, mode: Mode) -> Result<i32, GridFau
     ensures too_far { result ≡ Err GridFault.TooFar
         → (g : ℤ) × IsGridNumber mode units (length_of number scale) g × (reach < unsigned_abs g) }
 {
-    match size_of(number, scale, mode) {
+    let power = number.exp as i64 + scale.power as i64;
+    match size_of(number.digits, power, mode) {
         Ok(size) => Ok(with_sign(number.negative, size)),
         Err(fault) => Err(fault),
     }
 }
 
 /// A number of the grid, or its negative.
-fn with_sign(negative: bool, size: u128) -> i32
+pub(crate) fn with_sign(negative: bool, size: u128) -> i32
     requires { size ≤ MOST }
     ensures { result ≡ signed negative size }
 {
@@ -39,25 +40,23 @@ fn with_sign(negative: bool, size: u128) -> i32
     }
 }
 
-/// The size of the grid number.
-fn size_of(number: Decimal, scale: Scale, mode: Mode) -> Result<u128, GridFault>
-    ensures ok { IfOk result (λ g. IsSizeOf mode (number.exp +ℤ scale.power) number.digits g) }
+/// The size of the grid number of digits times a power of ten.
+pub(crate) fn size_of(digits: u128, power: i64, mode: Mode) -> Result<u128, GridFault>
+    requires { digits < 10 ^ 34 }
+    ensures ok { IfOk result (λ g. IsSizeOf mode power digits g) }
     ensures within { IfOk result (λ g. g ≤ MOST) }
     ensures exact { result ≡ Err GridFault.OffGrid → mode ≡ Mode.Exact }
-    ensures off_grid { result ≡ Err GridFault.OffGrid → (g : ℕ)
-        → IsSizeOf mode (number.exp +ℤ scale.power) number.digits g → ⊥ }
-    ensures too_far { result ≡ Err GridFault.TooFar
-        → (g : ℕ) × IsSizeOf mode (number.exp +ℤ scale.power) number.digits g × (MOST < g) }
+    ensures off_grid { result ≡ Err GridFault.OffGrid → (g : ℕ) → IsSizeOf mode power digits g → ⊥ }
+    ensures too_far { result ≡ Err GridFault.TooFar → (g : ℕ) × IsSizeOf mode power digits g × (MOST < g) }
 {
-    let power = number.exp as i64 + scale.power as i64;
     let places = power.unsigned_abs();
     if power >= 0 {
-        match whole_size(number.digits, places) {
+        match whole_size(digits, places) {
             Some(size) => Ok(size),
             None => Err(GridFault::TooFar),
         }
     } else {
-        match part_size(number.digits, places, mode) {
+        match part_size(digits, places, mode) {
             Some(size) => near(size),
             None => Err(GridFault::OffGrid),
         }

@@ -1,16 +1,17 @@
 //! Lengths and points of values.
-ghost use Rattle.std.specs.Prelude.{◌∷◌, [], IfOk, MatchOption, MatchResult};
+ghost use Rattle.std.specs.Prelude.{◌≡◌, ◌∷◌, [], IfOk, MatchOption, MatchResult};
 ghost use Rattle.std.specs.List.{AllZip};
 ghost use Rattle.bim_model.specs.declared.geometry.Point.{Point};
 ghost use Rattle.p21_values.specs.declared.value.Value21.{Value21};
+ghost use Rattle.p21_table.specs.ShortRows.{SaysShort, SaysRow};
 ghost use Rattle.ifc_units.specs.declared.length_error.GridFault.{GridFault};
 ghost use Rattle.ifc_units.specs.Lengths.{IsLength, HasLength, LengthRefused, FirstRefused, IsPoint, PointRefused, ArePoints, PointsRefused, Fails};
 
-use crate::grid_lengths::to_grid;
+use crate::grid_lengths::{size_of, to_grid, with_sign};
 use crate::length_error::{GridFault, LengthError};
 use crate::scale::Scale;
 use bim_model::{Mode, Point};
-use bim_text::Decimal;
+use bim_text::{Decimal, Short, ShortRow};
 use p21_table::{ValueRef, Values};
 use std::alloc::{AllocError, Global};
 
@@ -64,6 +65,44 @@ pub fn point(value: &ValueRef<'_>, scale: Scale, mode: Mode) -> Result<Point, Le
     }
 }
 
+/// The same of a short number.
+fn short_length(number: Short, scale: Scale, mode: Mode) -> Result<i32, LengthError>
+    ensures { (value : Value21) → SaysShort number value → MatchResult result (IsLength scale mode value)
+        (Fails (IsLength scale mode value) (LengthRefused scale mode value)) }
+{
+    let power = scale.power as i64 - number.places as i64;
+    match size_of(number.digits as u128, power, mode) {
+        Ok(size) => Ok(with_sign(number.negative, size)),
+        Err(fault) => Err(LengthError::Refused(fault)),
+    }
+}
+
+/// The same of a row of short numbers.
+fn row_point(row: ShortRow, scale: Scale, mode: Mode) -> Result<Point, LengthError>
+    ensures { (value : Value21) → SaysRow row value → MatchResult result (IsPoint scale mode value)
+        (Fails (IsPoint scale mode value) (PointRefused scale mode value)) }
+{
+    let x = short_length(row.x, scale, mode)?;
+    let y = short_length(row.y, scale, mode)?;
+    let z = short_length(row.z, scale, mode)?;
+    Ok(Point { x, y, z })
+}
+
+/// The point of the next value that is left; none at the end.
+fn next_point(left: &mut Values<'_>, scale: Scale, mode: Mode) -> Option<Result<Point, LengthError>>
+    ensures { MatchOption result (left.old ≡ [])
+        (λ found. (value : Value21) × (left.old ≡ value ∷ left.new) × MatchResult found (IsPoint scale mode value)
+        (Fails (IsPoint scale mode value) (PointRefused scale mode value))) }
+{
+    if let Some(row) = left.next_row() {
+        return Some(row_point(row, scale, mode));
+    }
+    match left.next() {
+        Some(value) => Some(point(&value, scale, mode)),
+        None => None,
+    }
+}
+
 /// The points of values, in their order (IFC4 ADD2 TC1, IfcCartesianPointList3D). The first value that is no point decides why there are
 /// none.
 pub fn points(
@@ -76,8 +115,9 @@ pub fn points(
         (Fails (ArePoints scale mode values.now) (PointsRefused scale mode values.now))) }
 {
     let mut made = Vec::with_capacity(alloc, values.len())?;
-    for value in values.iter() {
-        match point(&value, scale, mode) {
+    let mut left = values.iter();
+    while let Some(found) = next_point(&mut left, scale, mode) {
+        match found {
             Ok(point) => made.push(point)?,
             Err(error) => return Ok(Err(error)),
         }
@@ -90,8 +130,9 @@ pub fn points_fault(values: &Values<'_>, scale: Scale, mode: Mode) -> Option<Gri
     ensures { MatchOption result ((fault : GridFault) → PointsRefused scale mode values.now fault → ⊥)
         (PointsRefused scale mode values.now) }
 {
-    for value in values.iter() {
-        match point(&value, scale, mode) {
+    let mut left = values.iter();
+    while let Some(found) = next_point(&mut left, scale, mode) {
+        match found {
             Ok(_point) => {}
             Err(error) => return error.fault(),
         }
