@@ -22,7 +22,7 @@ use Rattle.model_walk.specs.declared.set_pool.SetRows.{SetRows}
 use Rattle.model_walk.specs.Clean.{ShowsNone, IsClean}
 use Rattle.model_walk.specs.Kept.{HasPoints, IsRead}
 use Rattle.model_walk.proofs.SetEntities.{list_no_set}
-use Rattle.model_walk.proofs.SetForms.{list_formed}
+use Rattle.model_walk.proofs.SetForms.{listed_is, list_formed}
 
 never : {A : Type 0} (b : Bool) → b ≡ true → b ≡ false → A
 never b t f = let e : true ≡ false = sym t ∙ f in absurd (cc)
@@ -73,9 +73,8 @@ list_clean world scale mode mapped points i s h = record {
     by_value fault (Some v) are r = by_items fault v (items_of v) are r
 
     refused : (fault : GridFault) → InstanceRefused scale mode i fault → ⊥
-    unfolding listed
     refused fault (inl p) = s.point p.0 fault (inl p)
-    refused fault (inr q) = by_value fault (slice_get i.values 0) h.0.are q.1
+    refused fault (inr q) = by_value fault (slice_get i.values 0) (subst (λ (vs : List Value21). ArePoints scale mode vs points) (listed_is i 0) h.0.are) q.1
 
 -- a set that was read
 pub set_clean : (world : List Instance) (scale : Scale) (mode : Mode) (mapped : Bool) (pool : List (Option (List Point))) (kept : SetRows) (i : Instance) → ShowsNone world scale mode mapped i → IsRead world scale mode pool kept i

@@ -136,3 +136,13 @@ unseen_rank Mapped s r = cc
 -- where nothing was met the rank is 0
 pub unmet : (work : Work) (at : ℕ) (m : Mark) → at < length work.marks.items → m ≡ get_or work.marks.items at m → is_seen m ≡ false → 0 < rank_at work at → ⊥
 unmet work at m lt e s r = unseen_rank m s (subst (λ (n : Mark). 0 < rank n) (sym (e ∙ get_or_default work.marks.items at m Unseen lt)) r)
+
+-- What one instance leaves.
+
+pub kept_none : (b : Bool) (A B : Type 0) → b ≡ false → B → MatchBool b A B
+kept_none true A B e h = cc
+kept_none false A B e h = h
+
+pub kept_some : (b : Bool) (A B : Type 0) → b ≡ true → A → MatchBool b A B
+kept_some true A B e h = h
+kept_some false A B e h = cc

@@ -40,7 +40,7 @@ polygonal_entity i h = entity_by entity.PolygonalFaceSet i polygonal_coded h
 -- a set that isn't polygonal is triangulated
 first_of : (a b : Bool) → (a || b) ≡ true → b ≡ false → a ≡ true
 first_of true b h e = refl
-first_of false b h e = absurd (cc)
+first_of false b h e = let no : true ≡ false = sym h ∙ e in absurd (cc)
 
 pub triangulated_set : (set : Instance) → is_set set ≡ true → is_polygonal set ≡ false → is_a entity.TriangulatedFaceSet set ≡ true
 triangulated_set set h e = first_of (is_a entity.TriangulatedFaceSet set) (is_polygonal set) h e

@@ -54,13 +54,26 @@ record Listed (i : Instance) (at : ℕ) : Type 0 where
   items : items_of value ≡ Some values
   same : listed i at ≡ values
 
-some_listed : (i : Instance) (at : ℕ) → 0 < length (listed i at) → Listed i at
+-- the items of an attribute
+abbrev pub items_at : Instance → ℕ → List Value21
+items_at i at = unwrap_or (option_and_then items_of (slice_get i.values at)) []
+
+pub listed_is : (i : Instance) (at : ℕ) → listed i at ≡ items_at i at
 unfolding listed
-some_listed i at some = by_value (slice_get i.values at) refl some
+listed_is i at = refl
+
+some_listed : (i : Instance) (at : ℕ) → 0 < length (listed i at) → Listed i at
+some_listed i at some = by_value (slice_get i.values at) refl (subst (λ (vs : List Value21). 0 < length vs) (listed_is i at) some)
   where
     by_items : (v : Value21) → slice_get i.values at ≡ Some v → (o : Option (List Value21)) → items_of v ≡ o → 0 < length (unwrap_or o []) → Listed i at
     by_items v e None f few = absurd (omega (arith, few))
-    by_items v e (Some vs) f few = record { value = v; there = e; values = vs; items = f; same = ap (λ (o : Option Value21). unwrap_or (option_and_then items_of o) []) e ∙ ap (λ (o : Option (List Value21)). unwrap_or o []) f }
+    by_items v e (Some vs) f few = record {
+      value = v;
+      there = e;
+      values = vs;
+      items = f;
+      same = listed_is i at ∙ (ap (λ (o : Option Value21). unwrap_or (option_and_then items_of o) []) e ∙ ap (λ (o : Option (List Value21)). unwrap_or o []) f);
+    }
 
     by_value : (o : Option Value21) → slice_get i.values at ≡ o → 0 < length (unwrap_or (option_and_then items_of o) []) → Listed i at
     by_value None e few = absurd (omega (arith, few))
@@ -84,6 +97,21 @@ missing_flaw world mapped i at s l h = by_value (slice_get i.values at) h
     by_value None h = refl
     by_value (Some v) h = by_absent v (is_absent v) h
 
+abbrev list_attribute : Attribute
+list_attribute = attribute 0 Always Must shape.One (leaf.Reference (targets.One entity.PointList))
+
+abbrev points_attribute : Attribute
+points_attribute = attribute 0 Always Must (shape.Table (AtLeast 1) (Exactly 3)) leaf.Number
+
+abbrev triangles_attribute : Attribute
+triangles_attribute = attribute 3 Always Must (shape.Table (AtLeast 1) (Exactly 3)) leaf.Whole
+
+abbrev faces_attribute : Attribute
+faces_attribute = attribute 2 Always Must (shape.List (AtLeast 1)) (leaf.Reference targets.Faces)
+
+abbrev numbers_attribute : ℕ → Attribute
+numbers_attribute at = attribute at Always OrMissing (shape.List (AtLeast 0)) leaf.Whole
+
 -- a reference
 refers_flaw : (world : List Instance) (wanted : Targets) (v : Value21) (to : ℕ) (i : Instance) → reference_of v ≡ Some to → look world to ≡ Some i → holds wanted i.keyword ≡ true → LeafFlaw world (leaf.Reference wanted) v None
 refers_flaw world wanted v to i r f h = sym (ap (reference_flaw (wanted_flaw wanted world)) r ∙ (ap (target_flaw wanted to) f ∙ ap bad_unless h))
@@ -96,17 +124,17 @@ value_there i at to e = by_value (slice_get i.values at) refl e
     by_value (Some v) f r = (v, f, r)
 
 list_flaw : (world : List Instance) (mapped : Bool) (set : Instance) (list : ℕ) (i : Instance) → reference_at set 0 ≡ Some list → look world list ≡ Some i → is_a entity.PointList i ≡ true
-    → AttributeFlaw world mapped set (attribute 0 Always Must shape.One (leaf.Reference (targets.One entity.PointList))) None
+    → AttributeFlaw world mapped set list_attribute None
 list_flaw world mapped set list i refers found kind =
     let v = value_there set 0 list refers in
     must_flaw world mapped set 0 shape.One (leaf.Reference (targets.One entity.PointList)) v.0 v.1 (refers_flaw world (targets.One entity.PointList) v.0 list i v.2 found (held_one entity.PointList i.keyword kind))
 
 -- the numbers of points
 items_flaw : (F : Value21 → Option Flaw → Type 0) (least : ℕ) (v : Value21) (vs : List Value21) → items_of v ≡ Some vs → least ≤ length vs → All (λ x. F x None) vs → ListFlaw (AtLeast least) F v None
-items_flaw F least v vs e enough all = subst (λ (o : Option (List Value21)). MatchOption o (no_flaw ≡ Some BadShape) (λ xs. ItemsFlaw (AtLeast least) F xs None)) (sym e) (rw (le-leb least (length vs) enough) all)
+items_flaw F least v vs e enough all = subst (λ (o : Option (List Value21)). MatchOption o (no_flaw ≡ Some BadShape) (λ xs. ItemsFlaw (AtLeast least) F xs None)) (sym e) (subst (λ (b : Bool). MatchBool b (All (λ x. F x None) vs) (no_flaw ≡ Some BadShape)) (sym (le-leb least (length vs) enough)) all)
 
 numbering_flaw : (world : List Instance) (mapped : Bool) (set : Instance) (count at : ℕ) → numbering_place (is_polygonal set) ≡ at → HasNumbering set → NamesPoints count (numbering set)
-    → AttributeFlaw world mapped set (attribute at Always OrMissing (shape.List (AtLeast 0)) leaf.Whole) None
+    → AttributeFlaw world mapped set (numbers_attribute at) None
 unfolding numbering
 numbering_flaw world mapped set count at place has names =
     missing_flaw world mapped set at (shape.List (AtLeast 0)) leaf.Whole
@@ -134,12 +162,12 @@ list_formed world scale mode mapped points i h =
     let l = some_listed i 0 (omega (arith, some, long)) in
     let table = points_formed world scale mode l.value l.values points l.items (let e = ap length l.same in omega (arith, some, long, e)) (subst (λ (vs : List Value21). ArePoints scale mode vs points) l.same h.0.are) in
     subst (λ (o : Option Entity). All F (row_or_none o)) (sym (list_entity i h.0.kind))
-    (All-cons F _ [] (must_flaw world mapped i 0 (shape.Table (AtLeast 1) (Exactly 3)) leaf.Number l.value l.there table) (All-nil F))
+    (All-cons F points_attribute [] (must_flaw world mapped i 0 (shape.Table (AtLeast 1) (Exactly 3)) leaf.Number l.value l.there table) (All-nil F))
 
 -- Of sets.
 
 triangles_flaw : (world : List Instance) (mapped : Bool) (points : List Point) (set : Instance) (ts : List Triangle) → AreTriangles (numbering set) points (listed set 3) ts → 0 < length ts
-    → AttributeFlaw world mapped set (attribute 3 Always Must (shape.Table (AtLeast 1) (Exactly 3)) leaf.Whole) None
+    → AttributeFlaw world mapped set triangles_attribute None
 triangles_flaw world mapped points set ts are some =
     let long = zip_length (IsTriangle (numbering set) points) (listed set 3) ts are in
     let l = some_listed set 3 (omega (arith, some, long)) in
@@ -155,7 +183,7 @@ face_leaf : (world : List Instance) (v : Value21) → LeadsToFace world v → Le
 face_leaf world v h = refers_flaw world targets.Faces v h.to h.face h.refers h.found (held_face h.face.keyword h.kind)
 
 faces_flaw : (world : List Instance) (mapped : Bool) (set : Instance) → 0 < length (listed set 2) → All (LeadsToFace world) (listed set 2)
-    → AttributeFlaw world mapped set (attribute 2 Always Must (shape.List (AtLeast 1)) (leaf.Reference targets.Faces)) None
+    → AttributeFlaw world mapped set faces_attribute None
 faces_flaw world mapped set some all =
     let l = some_listed set 2 some in
     let e = ap length l.same in
@@ -170,9 +198,9 @@ unfolding row_of
 triangulated_formed world mapped points set ts list i kind other refers found listed_kind has names are some =
     let F : Attribute → Type 0 = λ (a : Attribute). AttributeFlaw world mapped set a None in
     subst (λ (o : Option Entity). All F (row_or_none o)) (sym (triangulated_entity set kind))
-    (All-cons F _ _ (list_flaw world mapped set list i refers found listed_kind)
-    (All-cons F _ _ (triangles_flaw world mapped points set ts are some)
-    (All-cons F _ [] (numbering_flaw world mapped set (length points) 4 (ap numbering_place other) has names) (All-nil F))))
+    (All-cons F list_attribute (triangles_attribute ∷ numbers_attribute 4 ∷ []) (list_flaw world mapped set list i refers found listed_kind)
+    (All-cons F triangles_attribute (numbers_attribute 4 ∷ []) (triangles_flaw world mapped points set ts are some)
+    (All-cons F (numbers_attribute 4) [] (numbering_flaw world mapped set (length points) 4 (ap numbering_place other) has names) (All-nil F))))
 
 polygonal_formed : (world : List Instance) (mapped : Bool) (points : List Point) (set : Instance) (ts : List Triangle) (list : ℕ) (i : Instance) → is_polygonal set ≡ true
     → reference_at set 0 ≡ Some list → look world list ≡ Some i → is_a entity.PointList i ≡ true → HasNumbering set → NamesPoints (length points) (numbering set) → NamesFaces world set
@@ -181,17 +209,21 @@ unfolding row_of
 polygonal_formed world mapped points set ts list i kind refers found listed_kind has names faces j some =
     let F : Attribute → Type 0 = λ (a : Attribute). AttributeFlaw world mapped set a None in
     subst (λ (o : Option Entity). All F (row_or_none o)) (sym (polygonal_entity set kind))
-    (All-cons F _ _ (list_flaw world mapped set list i refers found listed_kind)
-    (All-cons F _ _ (faces_flaw world mapped set (faces_some world (numbering set) points (listed set 2) ts j some) (faces kind))
-    (All-cons F _ [] (numbering_flaw world mapped set (length points) 3 (ap numbering_place kind) has names) (All-nil F))))
+    (All-cons F list_attribute (faces_attribute ∷ numbers_attribute 3 ∷ []) (list_flaw world mapped set list i refers found listed_kind)
+    (All-cons F faces_attribute (numbers_attribute 3 ∷ []) (faces_flaw world mapped set (faces_some world (numbering set) points (listed set 2) ts j some) (faces kind))
+    (All-cons F (numbers_attribute 3) [] (numbering_flaw world mapped set (length points) 3 (ap numbering_place kind) has names) (All-nil F))))
+
+-- the faces of a set are those that its values lead to
+faces_led : (world : List Instance) (points : List Point) (set : Instance) (ts : List Triangle) → Joined (IsCut (numbering set) points) (faces_of world set) ts → Joined (IsCut (numbering set) points) (led_to world (listed set 2)) ts
+unfolding faces_of
+faces_led world points set ts j = j
 
 -- a set whose triangles are told, with one at least
 pub set_formed : (world : List Instance) (mapped : Bool) (points : List Point) (set : Instance) (ts : List Triangle) (list : ℕ) (i : Instance) → is_set set ≡ true
     → reference_at set 0 ≡ Some list → look world list ≡ Some i → is_a entity.PointList i ≡ true → HasNumbering set → NamesPoints (length points) (numbering set) → NamesFaces world set
     → SetTriangles world points set ts → 0 < length ts → InstanceFlaw world mapped set None
-unfolding faces_of
 set_formed world mapped points set ts list i kind refers found listed_kind has names faces are some = by_kind (is_polygonal set) refl are
   where
     by_kind : (b : Bool) → is_polygonal set ≡ b → MatchBool b (Joined (IsCut (numbering set) points) (faces_of world set) ts) (AreTriangles (numbering set) points (listed set 3) ts) → InstanceFlaw world mapped set None
-    by_kind true e j = polygonal_formed world mapped points set ts list i e refers found listed_kind has names faces j some
+    by_kind true e j = polygonal_formed world mapped points set ts list i e refers found listed_kind has names faces (faces_led world points set ts j) some
     by_kind false e z = triangulated_formed world mapped points set ts list i (triangulated_set set kind e) e refers found listed_kind has names z some

@@ -1,16 +1,14 @@
 -- Where each index of a set names a point, none counts nothing.
-use Rattle.std.proofs.Common.{◌≡◌, ℕ, zero, suc, ◌<◌, ◌⊎◌, inl, inr, Bool, true, false, List, [], ◌∷◌, ◌++◌, length, map, get_or, Option, Some, None, refl, sym, ap, ◌∙◌, subst, arith}
-use Rattle.std.specs.Bool.{MatchBool}
+use Rattle.std.proofs.Common.{◌≡◌, ℕ, zero, suc, ◌⊎◌, inl, inr, Bool, true, false, List, [], ◌∷◌, length, map, Option, Some, None, refl, sym, subst, arith}
 use Rattle.std.specs.List.{All, AllZip, Any}
 use Rattle.std.specs.Option.{unwrap_or}
-use Rattle.std.proofs.lemmas.Bool.{cases_Bool}
 use Rattle.bim_model.specs.declared.geometry.Point.{Point}
 use Rattle.bim_model.specs.declared.geometry.Triangle.{Triangle}
 use Rattle.p21_values.specs.declared.value.Value21.{Value21}
 use Rattle.p21_values.specs.declared.value.Instance.{Instance}
 use Rattle.p21_values.specs.Attributes.{items_in}
 use Rattle.faceset.specs.Indexes.{PointsAt, PointsNowhere}
-use Rattle.faceset.specs.Sets.{NamesPoint, IsCorner, IsTriangle, AreTriangles, AreCorners, IsCut, Joined, SetTriangles, HasBadNumber, HasBadIndex, counted_by, numbering, spelled_points, is_polygonal, rows_of, outline, faces_of, spelled_triangles}
+use Rattle.faceset.specs.Sets.{IsCorner, IsTriangle, AreTriangles, AreCorners, IsCut, Joined, SetTriangles, HasBadNumber, HasBadIndex, counted_by, numbering, spelled_points, is_polygonal, rows_of, outline, faces_of, spelled_triangles}
 use Rattle.walk_rows.specs.SetRows.{NamesOne, NamesPoints}
 
 -- the first of a list, or a later one

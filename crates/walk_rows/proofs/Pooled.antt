@@ -1,7 +1,7 @@
 -- One more is kept in a pool.
-use Rattle.std.proofs.Common.{◌≡◌, ◌≢◌, ℕ, zero, suc, ◌<◌, ◌≤◌, ◌⊎◌, inl, inr, List, [], ◌∷◌, ◌++◌, length, map, get_or, set, Option, Some, None, refl, sym, ap, ◌∙◌, subst, arith}
-use Rattle.std.specs.List.{All, slice_get}
-use Rattle.std.proofs.lemmas.List.{get_or-set_same, get_or-set_other, get_or_append_left, get_or_push, get_or_past, length_push, length-set, length-map}
+use Rattle.std.proofs.Common.{◌≡◌, ℕ, zero, suc, ◌<◌, ◌≤◌, List, [], ◌∷◌, ◌++◌, length, map, get_or, set, replicate, Option, Some, None, refl, sym, ap, ◌∙◌, arith}
+use Rattle.std.specs.List.{All}
+use Rattle.std.proofs.lemmas.List.{get_or-set_same, get_or-set_other, get_or_append_left, get_or_push, length_push, length-set, length-map}
 use Rattle.std.proofs.lemmas.Option.{slice_get-get_or}
 use Rattle.walk_rows.specs.Pools.{slot_in, Pools}
 
@@ -51,3 +51,11 @@ put_one kept new slots at n item e l lt all =
     let long : n ≡ suc (length kept) = omega (arith, p, q) in
     let m = length-map slots (slot_in kept) in
     rw (e, long) (one_more kept slots at item (omega (arith, lt, m)) all)
+
+-- slots of 0 say nothing
+pub none_yet : {T : Type 0} (kept : List T) (places : ℕ) (slots : List ℕ) → slots ≡ replicate places 0 → map (slot_in kept) slots ≡ replicate places None
+none_yet {T} kept places slots e = ap (map (slot_in kept)) e ∙ all places
+  where
+    all : (n : ℕ) → map (slot_in kept) (replicate n 0) ≡ replicate n None
+    all zero = refl
+    all (suc n) = ap (λ (xs : List (Option T)). None ∷ xs) (all n)

@@ -1,6 +1,6 @@
 -- Short numbers that are indexes, one by one and in rows.
-use Rattle.std.proofs.Common.{◌≡◌, ℕ, zero, suc, ◌<◌, ◌≤◌, Bool, true, false, List, [], ◌∷◌, ◌++◌, length, Option, Some, None, pos, refl, sym, ap, ◌∙◌, subst, arith, append_assoc}
-use Rattle.std.specs.List.{AllZip}
+use Rattle.std.proofs.Common.{◌≡◌, ℕ, suc, ◌<◌, Bool, false, List, [], ◌∷◌, ◌++◌, Option, Some, None, pos, sym, ap, ◌∙◌, subst, append_assoc}
+use Rattle.std.specs.Prelude.{IfSome}
 use Rattle.bim_text.specs.Values.{signed}
 use Rattle.bim_text.specs.Decimals.{WritesWhole}
 use Rattle.bim_text.specs.declared.short.Short.{Short}
@@ -11,7 +11,7 @@ use Rattle.p21_table.specs.ShortRows.{SaysShort, SaysRow}
 use Rattle.faceset.specs.Indexes.{PointsAt}
 use Rattle.faceset.specs.Sets.{NamesPoint}
 use Rattle.walk_rows.specs.declared.triangle_rows.Row.{Row}
-use Rattle.walk_rows.specs.Rows.{IsRowOf}
+use Rattle.walk_rows.specs.Rows.{AreNumbers, IsRowOf}
 
 -- a short number above zero and not beyond the count is an index
 pub short_points : (s : Short) (count at : ℕ) → s.negative ≡ false → s.places ≡ 0 → s.digits ≡ suc at → at < count → (v : Value21) → SaysShort s v → PointsAt count v at
@@ -40,3 +40,9 @@ short_row names count r row a b c v h = record {
 -- one more of what is passed over
 pub passed_more : {A : Type 0} (all given left next : List A) (x : A) → all ≡ given ++ left → left ≡ x ∷ next → all ≡ (given ++ x ∷ []) ++ next
 passed_more all given left next x e f = e ∙ ap (λ xs. given ++ xs) f ∙ sym (append_assoc given (x ∷ []) next)
+
+-- what is told of the row of the next value
+pub row_told : (count : ℕ) (numbers : Option (List ℕ)) (old next : List Value21) (v : Value21) (r : Option Row) → old ≡ v ∷ next → ((names : Option (List Value21)) → AreNumbers count names numbers → IfSome r (IsRowOf names count v))
+    → IfSome r (λ row. (x : Value21) × (old ≡ x ∷ next) × ((names : Option (List Value21)) → AreNumbers count names numbers → IsRowOf names count x row))
+row_told count numbers old next v None e h = tt
+row_told count numbers old next v (Some row) e h = (v, e, h)

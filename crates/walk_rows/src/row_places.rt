@@ -75,7 +75,8 @@ fn row_of(value: &ValueRef<'_>, numbers: Option<&[u32]>, count: usize) -> Option
 /// Which of so many things, counted from 0, a short number is the index of. None says nothing.
 #[inline(always)]
 fn short_index(short: Short, count: usize) -> Option<usize>
-    ensures { IfSome result (λ at. (value : Value21) → SaysShort short value → PointsAt count value at) }
+    ensures within { IfSome result (λ at. at < count) }
+    ensures points { IfSome result (λ at. (value : Value21) → SaysShort short value → PointsAt count value at) }
 {
     if short.negative || short.places != 0 || short.digits == 0 {
         return None;

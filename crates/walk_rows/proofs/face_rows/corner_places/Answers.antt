@@ -1,4 +1,4 @@
-use Rattle.std.proofs.Common.{List, length, ap, arith}
+use Rattle.std.proofs.Common.{length, ap, arith}
 use Rattle.std.proofs.lemmas.List.{length_push}
 use Rattle.faceset.specs.Sets.{NamesPoint}
 use Rattle.faceset.proofs.Zips.{zip_push}

@@ -1,4 +1,4 @@
-use Rattle.std.proofs.Common.{◌≡◌, ◌<◌, length, ap, sym, subst}
+use Rattle.std.proofs.Common.{◌<◌, length, ap, sym, subst}
 use Rattle.walk_rows.proofs.Pooled.{put_one}
 use Rattle.walk_rows.proofs.pool.Pool.put.Goals as goal
 
