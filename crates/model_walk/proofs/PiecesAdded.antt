@@ -1,5 +1,6 @@
 -- Pieces that are added, value by value.
-use Rattle.std.proofs.Common.{◌≡◌, ℕ, ◌+◌, Bool, true, false, List, [], ◌∷◌, ◌++◌, length, map, filter, flat_map, filter_map, get_or, Option, Some, None, option_and_then, refl, sym, ap, ap₂, ◌∙◌, subst, append_assoc, append-nil, arith}
+use Rattle.std.proofs.Common.{◌≡◌, ℕ, ◌+◌, Bool, true, false, List, [], ◌∷◌, ◌++◌, length, map, filter, flat_map, filter_map, get_or, Option, Some, None, Result, Ok, Err, option_and_then, refl, sym, ap, ap₂, ◌∙◌, subst, append_assoc, append-nil, arith}
+use Rattle.std.specs.Prelude.{IfOk, IfSome}
 use Rattle.std.specs.List.{All, cons_option}
 use Rattle.std.proofs.lemmas.List.{length-map, length-append, map-append}
 use Rattle.std.proofs.lemmas.List.Elements.{All-nil, All-cons, All-append, filter-append}
@@ -40,6 +41,12 @@ use Rattle.walk_rows.specs.Rows.{triangle_at, triangles_at}
 pub placed_none : (ts : List Triangle) → map (placed_by None) ts ≡ ts
 placed_none [] = refl
 placed_none (t ∷ ts) = ap₂ (λ (u : Triangle) (us : List Triangle). u ∷ us) (same_triangle (placed_by None t) t refl refl refl) (placed_none ts)
+
+-- what is found is such a thing, since it is another
+pub found_by : {A E : Type 0} (P Q : A → Type 0) (r : Result (Option A) E) → ((a : A) → P a → Q a) → IfOk r (λ found. IfSome found P) → IfOk r (λ found. IfSome found Q)
+found_by P Q (Err e) f h = h
+found_by P Q (Ok None) f h = h
+found_by P Q (Ok (Some a)) f h = f a h
 
 -- What values lead to.
 

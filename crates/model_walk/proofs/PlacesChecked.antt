@@ -84,14 +84,20 @@ kept_clean (Ok false) world scale mode points old new mapped at i e clean k = tt
 kept_clean (Err _) world scale mode points old new mapped at i e clean k = tt
 
 -- nothing is kept in a new pool
-none_kept : {T : Type 0} (places at : ℕ) → pooled {T} (replicate places None) at ≡ None
-none_kept places at = elim (side at places) [ inl lt ↦ get_or-replicate places at None None lt | inr le ↦ (let l = length-replicate places (None {T = T}) in get_or_past (replicate places None) at None (omega (arith, le, l))) ]
+none_kept : {T : Type 0} (places at : ℕ) → pooled {T = T} (replicate places None) at ≡ None
+none_kept places at = elim (side at places) [ inl lt ↦ get_or-replicate places at None None lt | inr le ↦ get_or_past (replicate places None) at None (subst (λ n. n ≤ at) (sym (length-replicate places None)) le) ]
   where
     side : (a b : ℕ) → (a < b) ⊎ (b ≤ a)
     side a b = grind arith
 
 pub never_kept : {T : Type 0} {A : Type 0} (places at : ℕ) (kept : T) → pooled (replicate places None) at ≡ Some kept → A
-never_kept places at kept e = let n = none_kept places at in absurd (cc)
+never_kept places at kept e = absurd (some_none kept (sym e ∙ none_kept places at))
+  where
+    some_none : {T : Type 0} (x : T) → Some x ≡ None → ⊥
+    some_none x e = cc
+
+pub no_sets : (world : List Instance) (scale : Scale) (mode : Mode) (points : List (Option (List Point))) (places : ℕ) (new : List (Option SetRows)) → new ≡ replicate places None → AreReadSets world scale mode points new
+no_sets world scale mode points places new e at kept f = never_kept places at kept (subst (λ (s : List (Option SetRows)). pooled s at ≡ Some kept) e f)
 
 -- All places.
 

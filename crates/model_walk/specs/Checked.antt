@@ -1,5 +1,5 @@
 -- What is known while the walk looks at one instance after another.
-use Rattle.std.specs.Prelude.{◌≡◌, ◌≢◌, ℕ, ◌+◌, ◌<◌, List, length, AllPairs, slice_index_or}
+use Rattle.std.specs.Prelude.{◌≢◌, ℕ, ◌+◌, ◌<◌, Bool, List, length, AllPairs, slice_index_or}
 use Rattle.std.specs.List.{HoldsAt}
 use Rattle.bim_model.specs.declared.upload.Mode.{Mode}
 use Rattle.p21_values.specs.declared.value.Instance.{Instance}

@@ -1,9 +1,9 @@
 //! The walk over what is used of a file.
-ghost use Rattle.std.specs.Prelude.{◌≡◌, ◌<◌, length, map, replicate, None, IfOk, IfSome, IfErr, OnOk};
+ghost use Rattle.std.specs.Prelude.{◌≡◌, ◌<◌, None, length, map, IfOk, IfSome};
 ghost use Rattle.std.specs.Bool.{OnTrue};
-ghost use Rattle.ifc_schema.specs.Bodies.{body_shapes, has_body};
+ghost use Rattle.ifc_schema.specs.Bodies.{body_shapes};
 ghost use Rattle.ifc_schema.specs.Flaws.{InstanceFlaw};
-ghost use Rattle.ifc_schema.specs.Marks.{Known, rank_at, is_mapped};
+ghost use Rattle.ifc_schema.specs.Marks.{Known, rank_at};
 ghost use Rattle.ifc_units.specs.Units.{IsLengthUnit};
 ghost use Rattle.placement.specs.Placed.{AllPlaced, frame_in};
 ghost use Rattle.spatial_tree.specs.Trees.{IsTree, ListsStoreys};

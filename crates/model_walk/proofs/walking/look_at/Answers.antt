@@ -50,3 +50,6 @@ returns-clause-clean c =
     (λ formed. holds_there (λ (j : Instance). IsClean world c.args.scale c.args.mode c.args.mapped j.id j) world c.args.at i c.instance-instance.ensures
     (clean_shown world c.args.scale c.args.mode c.args.mapped i (OnTrue_at c.if-not-shows_none.false c.shows_none.ensures) formed (sym c.includes.ensures ∙ c.if-includes.false) (sym c.is_set.ensures ∙ c.if-is_set.false)))
     c.is_formed.ensures
+
+pub keep_set-requires-clause-points : goal.keep_set-requires-clause-points
+keep_set-requires-clause-points c = (c.args.scale, c.args.mode, c.requires.points)
