@@ -1,4 +1,4 @@
-use Rattle.std.proofs.Common.{None, length, replicate, ap, ◌∙◌, below_more, arith}
+use Rattle.std.proofs.Common.{None, length, ap, ◌∙◌, below_more, arith}
 use Rattle.std.proofs.lemmas.Bool.{OnTrue_at}
 use Rattle.std.proofs.lemmas.List.{length-replicate}
 use Rattle.model_walk.proofs.PlacesChecked.{no_sets, all_clean}
@@ -6,9 +6,11 @@ use Rattle.model_walk.proofs.walking.sets_in.Goals as goal
 
 pub loop-at-init : goal.loop-at-init
 loop-at-init c =
-    let world = c.args.exchange.now in
-    (ap length c.in_ok-sets.ensures ∙ (length-replicate c.len-places.result None ∙ c.len-places.ensures.count),
-     no_sets world c.args.scale c.args.mode c.args.points.now c.len-places.result c.in_ok-sets.sets c.in_ok-sets.ensures, λ k lt. absurd (omega (arith, lt)))
+    let world = c.args.exchange.now in (
+      ap length c.in_ok-sets.ensures ∙ (length-replicate c.len-places.result None ∙ c.len-places.ensures.count),
+      no_sets world c.args.scale c.args.mode c.args.points.now c.len-places.result c.in_ok-sets.sets c.in_ok-sets.ensures,
+      λ k lt. absurd (omega (arith, lt)),
+    )
 
 pub loop-at-preserved : goal.loop-at-preserved
 loop-at-preserved c =
