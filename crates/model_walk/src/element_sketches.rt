@@ -18,7 +18,6 @@ ghost use Rattle.walk_rows.specs.Pools.{pooled};
 use crate::set_pool::SetRows;
 use crate::shape_pieces::{Piece, Range, add_shape};
 use crate::sketched_surfaces::are_near;
-use walk_rows::Pool;
 use bim_model::{Element, Guid, Items, MOST_TRIANGLES, Mode, Point};
 use ifc_elements::{Names, guid_of, name_of, storey_name};
 use ifc_units::Scale;
@@ -26,6 +25,7 @@ use p21_table::{Exchange, InstanceRef};
 use placement::{Frame, Frames};
 use spatial_tree::Tree;
 use std::alloc::{AllocError, Global};
+use walk_rows::Pool;
 
 /// An element without its surface, the frame that carries it, and which pieces it shows.
 #[derive(Drop)]

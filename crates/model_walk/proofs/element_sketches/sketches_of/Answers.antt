@@ -22,9 +22,11 @@ loop-id-preserved c =
     let sketch = c.in-Some-2.sketch in
     let stocked = subst (λ (o : Option Sketch). IfSome o (λ s. IsStocked world told.scale told.mode new)) c.in-Some-2.is c.in_ok-sketch.ensures.stocked in
     let grows = subst (λ (o : Option Sketch). IfSome o (λ s. Grows c.loop-id.stock new)) c.in-Some-2.is c.in_ok-sketch.ensures.grows in
-    let is = subst (λ (o : Option Sketch). IfSome o (IsSketch world told.scale told.mode new c.in-Some.instance)) c.in-Some-2.is c.in_ok-sketch.ensures.sketch in
-    (sketched_more world told.scale told.mode c.args.stock.now c.loop-id.stock new c.args.ids.now c.loop-id.id-index c.loop-id.made.items c.push.new.self.items c.loop-id.count (c.loop-id.count + sketch.range.count) c.in-Some.instance sketch
-    c.loop-id.invariant.0 c.loop-id-test.true (sym c.in-Some.ensures) stocked grows is c.in_ok-push.ensures.items refl, omega (arith, c.if-sketch-room.false, c.loop-id.invariant.1))
+    let is = subst (λ (o : Option Sketch). IfSome o (IsSketch world told.scale told.mode new c.in-Some.instance)) c.in-Some-2.is c.in_ok-sketch.ensures.sketch in (
+      sketched_more world told.scale told.mode c.args.stock.now c.loop-id.stock new c.args.ids.now c.loop-id.id-index c.loop-id.made.items c.push.new.self.items c.loop-id.count (c.loop-id.count + sketch.range.count) c.in-Some.instance sketch
+          c.loop-id.invariant.0 c.loop-id-test.true (sym c.in-Some.ensures) stocked grows is c.in_ok-push.ensures.items refl,
+      omega (arith, c.if-sketch-room.false, c.loop-id.invariant.1),
+    )
 
 pub returns-clause-grows : goal.returns-clause-grows
 returns-clause-grows c = c.loop-id.invariant.0.grows
