@@ -1,5 +1,5 @@
 -- What is used is clean, as the walk looks at one place after another.
-use Rattle.std.proofs.Common.{◌≡◌, ◌≢◌, ℕ, ◌+◌, ◌<◌, ◌≤◌, ◌⊎◌, inl, inr, Bool, true, false, List, length, get_or, replicate, Option, Some, None, Result, Ok, Err, refl, sym, ap, ◌∙◌, subst, arith}
+use Rattle.std.proofs.Common.{◌≡◌, ◌≢◌, ℕ, ◌<◌, ◌≤◌, ◌⊎◌, inl, inr, Bool, true, false, List, length, get_or, replicate, Option, Some, None, Result, Ok, Err, refl, sym, ◌∙◌, subst, arith}
 use Rattle.std.specs.Prelude.{IfOk}
 use Rattle.std.specs.Bool.{OnTrue}
 use Rattle.std.specs.List.{HoldsAt, slice_get}
@@ -8,19 +8,17 @@ use Rattle.std.proofs.lemmas.Option.{get_or_from_slice_get, same_Some}
 use Rattle.bim_model.specs.declared.upload.Mode.{Mode}
 use Rattle.bim_model.specs.declared.geometry.Point.{Point}
 use Rattle.p21_values.specs.declared.value.Instance.{Instance}
-use Rattle.p21_values.specs.Places.{IsPlaceOf}
 use Rattle.p21_values.proofs.PlaceLemmas.{some_instance, found_at, place_found}
 use Rattle.ifc_instances.specs.declared.entity.Entity.TheVariants.{PointList}
 use Rattle.ifc_instances.specs.Looking.{is_a}
-use Rattle.ifc_schema.specs.declared.worklist.Mark.{Mark}
 use Rattle.ifc_schema.specs.declared.worklist.Work.{Work}
-use Rattle.ifc_schema.specs.Marks.{Known, mark_at, rank_at, is_mapped}
-use Rattle.ifc_schema.specs.Used.{Used, IsMapped}
+use Rattle.ifc_schema.specs.Marks.{Known, mark_at, is_mapped}
+use Rattle.ifc_schema.specs.Used.{IsMapped}
 use Rattle.ifc_schema.proofs.Following.{number_once, mapped_rank, rank_mapped}
 use Rattle.ifc_schema.proofs.Listing.{used_found}
 use Rattle.ifc_units.specs.declared.scale.Scale.{Scale}
 use Rattle.model_walk.specs.declared.set_pool.SetRows.{SetRows}
-use Rattle.model_walk.specs.Clean.{IsClean, IsCleanAt}
+use Rattle.model_walk.specs.Clean.{IsClean}
 use Rattle.model_walk.specs.Checked.{IsCleanBy, CleanThere, AllClean}
 use Rattle.model_walk.specs.Kept.{HasPoints, ArePooled, HasLists, IsRead, AreReadSets}
 use Rattle.walk_rows.specs.Pools.{pooled, Pools}

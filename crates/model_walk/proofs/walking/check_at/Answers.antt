@@ -1,4 +1,4 @@
-use Rattle.std.proofs.Common.{◌≡◌, ◌<◌, true, get_or, sym, ap, ◌∙◌, subst}
+use Rattle.std.proofs.Common.{◌≡◌, ◌<◌, true, sym, ap, ◌∙◌, subst}
 use Rattle.ifc_schema.specs.Marks.{is_seen, is_mapped, mark_at, rank_at}
 use Rattle.ifc_schema.proofs.Following.{flag_there}
 use Rattle.ifc_schema.proofs.Listing.{seen_there, unseen_there}

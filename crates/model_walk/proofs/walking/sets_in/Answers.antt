@@ -1,4 +1,4 @@
-use Rattle.std.proofs.Common.{None, length, replicate, ap, ◌∙◌, below_more, arith}
+use Rattle.std.proofs.Common.{None, length, ap, ◌∙◌, below_more, arith}
 use Rattle.std.proofs.lemmas.Bool.{OnTrue_at}
 use Rattle.std.proofs.lemmas.List.{length-replicate}
 use Rattle.model_walk.proofs.PlacesChecked.{no_sets, all_clean}
