@@ -16,7 +16,12 @@ loop-value-init c = record {
 }
 
 pub loop-value-preserved : goal.loop-value-preserved
-loop-value-preserved c = ?
+loop-value-preserved c = record {
+  few = rw c.in-Some-2.is at c.in_ok-more.ensures.few;
+  added = λ scale mode points are.
+      sets_shown c.args.exchange.now scale mode points c.args.sets.now (Some c.args.operator) c.loop-value.yielded c.in-Some.value c.args.out.now.items c.loop-value.out.items c.add_set.new.out.items c.args.so_far c.loop-value.count c.in-Some-2.more
+      (c.loop-value.invariant.added scale mode points are) (rw c.in-Some-2.is at (c.in_ok-more.ensures.added scale mode points are));
+}
 
 pub returns-clause-added : goal.returns-clause-added
 returns-clause-added c = λ scale mode points are.
