@@ -1,9 +1,23 @@
 //! What is known of each element once its file is read: all but its surface, and of what that will be made.
-use walk_rows::Pool;
+ghost use Rattle.std.specs.Prelude.{◌≡◌, ℕ, ◌<◌, List, length, None, IfOk, IfSome};
+ghost use Rattle.std.specs.List.{HoldsAt};
+ghost use Rattle.bim_model.specs.declared.upload.Mode.{Mode};
+ghost use Rattle.bim_model.specs.Guids.{IsGuid};
+ghost use Rattle.p21_values.specs.declared.value.Instance.{Instance};
+ghost use Rattle.ifc_units.specs.declared.scale.Scale.{Scale};
+ghost use Rattle.placement.specs.Placed.{AllPlaced, frame_in};
+ghost use Rattle.spatial_tree.specs.Trees.{ListsStoreys};
+ghost use Rattle.ifc_elements.specs.Framed.{Framed};
+ghost use Rattle.ifc_elements.specs.Items.{body_items};
+ghost use Rattle.ifc_elements.specs.Names.{AreNames};
+ghost use Rattle.ifc_elements.specs.Surfaces.{IsPlacedBy};
+ghost use Rattle.ifc_elements.specs.Texts.{guid_of};
+ghost use Rattle.model_walk.specs.Stocked.{shape_items, ShowsItems, IsStocked, Grows, IsPlacing, IsBare, IsSketch, AreSketches};
+ghost use Rattle.walk_rows.specs.Pools.{pooled};
+
 use crate::set_pool::SetRows;
 use crate::shape_pieces::{Piece, Range, add_shape};
 use crate::sketched_surfaces::are_near;
-use walk_rows::Row;
 use bim_model::{Element, Guid, Items, MOST_TRIANGLES, Mode, Point};
 use ifc_elements::{Names, guid_of, name_of, storey_name};
 use ifc_units::Scale;
@@ -11,6 +25,7 @@ use p21_table::{Exchange, InstanceRef};
 use placement::{Frame, Frames};
 use spatial_tree::Tree;
 use std::alloc::{AllocError, Global};
+use walk_rows::Pool;
 
 /// An element without its surface, the frame that carries it, and which pieces it shows.
 #[derive(Drop)]
@@ -48,7 +63,12 @@ enum Placing {
     Unknown,
 }
 
-fn placing_of(frames: &Frames, instance: &InstanceRef<'_>) -> Placing {
+/// How an element is placed; unknown where it names a placement that has no frame.
+fn placing_of(frames: &Frames, instance: &InstanceRef<'_>) -> Placing
+    ensures { (world : List Instance) (scale : Scale) (mode : Mode)
+        → AllPlaced world scale mode (frame_in frames.now)
+        → IsPlacing world scale mode instance.now result }
+{
     let Some(value) = instance.attribute(5) else {
         return Placing::Unknown;
     };
@@ -64,8 +84,17 @@ fn placing_of(frames: &Frames, instance: &InstanceRef<'_>) -> Placing {
     }
 }
 
-/// Adds the pieces of the shape at a place.
-fn add_pieces(told: &Told<'_>, at: usize, stock: &mut Stock) -> Result<Option<Range>, AllocError> {
+/// Adds the pieces of the shape at a place. None where it shows a fault or no triangle.
+fn add_pieces(told: &Told<'_>, at: usize, stock: &mut Stock) -> Result<Option<Range>, AllocError>
+    requires within { at < length told.now.exchange.now }
+    requires stocked { IsStocked told.now.exchange.now told.now.scale told.now.mode stock.old }
+    ensures stocked { IfOk result (λ found. IfSome found (λ range.
+        IsStocked told.now.exchange.now told.now.scale told.now.mode stock.new)) }
+    ensures grows { IfOk result (λ found. IfSome found (λ range. Grows stock.old stock.new)) }
+    ensures shows { IfOk result (λ found. IfSome found (λ range. HoldsAt (λ shape.
+        ShowsItems told.now.exchange.now told.now.scale told.now.mode stock.new
+        (shape_items told.now.exchange.now shape) range) told.now.exchange.now at)) }
+{
     let from = stock.pieces.len();
     let shape = told.exchange.instance(at);
     let Some(count) = add_shape(
@@ -84,11 +113,18 @@ fn add_pieces(told: &Told<'_>, at: usize, stock: &mut Stock) -> Result<Option<Ra
         to: stock.pieces.len(),
         count,
     };
-    if range.to > MOST_TRIANGLES as usize {
+    if count == 0 || range.to > MOST_TRIANGLES as usize {
         return Ok(None);
     }
     stock.shapes.put(at, range)?;
     Ok(Some(range))
+}
+
+/// What is kept of the shape at a place.
+fn kept_range(stock: &Stock, at: usize) -> Option<Range>
+    ensures { result ≡ pooled stock.now.shapes at }
+{
+    stock.shapes.get(at).copied()
 }
 
 /// The pieces of the shape of an element, found once for each shape.
@@ -96,15 +132,23 @@ fn range_of(
     told: &Told<'_>,
     instance: &InstanceRef<'_>,
     stock: &mut Stock,
-) -> Result<Option<Range>, AllocError> {
+) -> Result<Option<Range>, AllocError>
+    requires { IsStocked told.now.exchange.now told.now.scale told.now.mode stock.old }
+    ensures stocked { IfOk result (λ found. IfSome found (λ range.
+        IsStocked told.now.exchange.now told.now.scale told.now.mode stock.new)) }
+    ensures grows { IfOk result (λ found. IfSome found (λ range. Grows stock.old stock.new)) }
+    ensures shows { IfOk result (λ found. IfSome found
+        (ShowsItems told.now.exchange.now told.now.scale told.now.mode stock.new
+        (body_items told.now.exchange.now instance.now))) }
+{
     let Some(id) = instance.reference_at(6) else {
         return Ok(None);
     };
     let Some(at) = told.exchange.place_of(id) else {
         return Ok(None);
     };
-    if let Some(range) = stock.shapes.get(at) {
-        return Ok(Some(*range));
+    if let Some(range) = kept_range(stock, at) {
+        return Ok(Some(range));
     }
     add_pieces(told, at, stock)
 }
@@ -115,7 +159,13 @@ fn bare_element(
     told: &Told<'_>,
     instance: &InstanceRef<'_>,
     guid: Guid,
-) -> Result<Option<Element>, AllocError> {
+) -> Result<Option<Element>, AllocError>
+    requires storeys { ListsStoreys told.now.exchange.now told.now.tree.now }
+    requires names { AreNames told.now.exchange.now told.now.names.now }
+    requires guid { guid_of instance.now ≡ Some guid.chars }
+    requires is_guid { IsGuid guid.chars }
+    ensures { IfOk result (λ found. IfSome found (IsBare told.now.exchange.now instance.now)) }
+{
     let Some(keyword) = instance.keyword() else {
         return Ok(None);
     };
@@ -135,7 +185,18 @@ fn sketch_by(
     instance: &InstanceRef<'_>,
     frame: Option<Frame>,
     stock: &mut Stock,
-) -> Result<Option<Sketch>, AllocError> {
+) -> Result<Option<Sketch>, AllocError>
+    requires storeys { ListsStoreys told.now.exchange.now told.now.tree.now }
+    requires names { AreNames told.now.exchange.now told.now.names.now }
+    requires placed { IsPlacedBy told.now.exchange.now told.now.scale told.now.mode instance.now frame }
+    requires framed { IfSome frame Framed }
+    requires stocked { IsStocked told.now.exchange.now told.now.scale told.now.mode stock.old }
+    ensures stocked { IfOk result (λ found. IfSome found (λ sketch.
+        IsStocked told.now.exchange.now told.now.scale told.now.mode stock.new)) }
+    ensures grows { IfOk result (λ found. IfSome found (λ sketch. Grows stock.old stock.new)) }
+    ensures sketch { IfOk result (λ found. IfSome found
+        (IsSketch told.now.exchange.now told.now.scale told.now.mode stock.new instance.now)) }
+{
     let Some(guid) = guid_of(alloc, instance)? else {
         return Ok(None);
     };
@@ -161,7 +222,18 @@ pub fn sketch_of(
     told: &Told<'_>,
     instance: &InstanceRef<'_>,
     stock: &mut Stock,
-) -> Result<Option<Sketch>, AllocError> {
+) -> Result<Option<Sketch>, AllocError>
+    requires storeys { ListsStoreys told.now.exchange.now told.now.tree.now }
+    requires names { AreNames told.now.exchange.now told.now.names.now }
+    requires placed { AllPlaced told.now.exchange.now told.now.scale told.now.mode
+        (frame_in told.now.frames.now) }
+    requires stocked { IsStocked told.now.exchange.now told.now.scale told.now.mode stock.old }
+    ensures stocked { IfOk result (λ found. IfSome found (λ sketch.
+        IsStocked told.now.exchange.now told.now.scale told.now.mode stock.new)) }
+    ensures grows { IfOk result (λ found. IfSome found (λ sketch. Grows stock.old stock.new)) }
+    ensures sketch { IfOk result (λ found. IfSome found
+        (IsSketch told.now.exchange.now told.now.scale told.now.mode stock.new instance.now)) }
+{
     match placing_of(told.frames, instance) {
         Placing::Free => sketch_by(alloc, told, instance, None, stock),
         Placing::By(frame) => sketch_by(alloc, told, instance, Some(frame), stock),
@@ -175,7 +247,16 @@ pub fn sketches_of(
     told: &Told<'_>,
     ids: &[u64],
     stock: &mut Stock,
-) -> Result<Option<Vec<Sketch>>, AllocError> {
+) -> Result<Option<Vec<Sketch>>, AllocError>
+    requires storeys { ListsStoreys told.now.exchange.now told.now.tree.now }
+    requires names { AreNames told.now.exchange.now told.now.names.now }
+    requires placed { AllPlaced told.now.exchange.now told.now.scale told.now.mode
+        (frame_in told.now.frames.now) }
+    requires stocked { IsStocked told.now.exchange.now told.now.scale told.now.mode stock.old }
+    ensures grows { IfOk result (λ found. IfSome found (λ made. Grows stock.old stock.new)) }
+    ensures made { IfOk result (λ found. IfSome found (λ made.
+        AreSketches told.now.exchange.now told.now.scale told.now.mode stock.new ids.now made.items)) }
+{
     let mut made = Vec::with_capacity(alloc, ids.len())?;
     let mut count = 0;
     for id in ids {
@@ -185,10 +266,11 @@ pub fn sketches_of(
         let Some(sketch) = sketch_of(alloc, told, &instance, stock)? else {
             return Ok(None);
         };
-        count += sketch.range.count;
-        if count > MOST_TRIANGLES {
+        let room = MOST_TRIANGLES - count;
+        if sketch.range.count > room {
             return Ok(None);
         }
+        count += sketch.range.count;
         made.push(sketch)?;
     }
     Ok(Some(made))

@@ -1,5 +1,17 @@
 //! The items of the bodies of a product shape, each as the rows of a set and an operator (IFC4 ADD2 TC1, IfcProductDefinitionShape).
-use walk_rows::Pool;
+ghost use Rattle.std.specs.Prelude.{◌≡◌, ◌≤◌, ◌∷◌, [], List, Option, Some, IfOk, IfSome, flat_map};
+ghost use Rattle.bim_model.specs.declared.limits.TheConstants.{MOST_TRIANGLES};
+ghost use Rattle.bim_model.specs.declared.geometry.Point.{Point};
+ghost use Rattle.bim_model.specs.declared.upload.Mode.{Mode};
+ghost use Rattle.p21_values.specs.Attributes.{led_to};
+ghost use Rattle.ifc_units.specs.declared.scale.Scale.{Scale};
+ghost use Rattle.faceset.specs.Sets.{Joined};
+ghost use Rattle.ifc_elements.specs.Items.{items_of, bodies_among};
+ghost use Rattle.ifc_elements.specs.Sound.{KeptSet, KeptMapped};
+ghost use Rattle.model_walk.specs.Kept.{AreReadSets};
+ghost use Rattle.model_walk.specs.Pieces.{AddsShown, Carried, IsOperator};
+ghost use Rattle.model_walk.specs.Stocked.{AddsPieces, shape_items};
+
 use crate::set_pool::SetRows;
 use bim_model::{MOST_TRIANGLES, Mode};
 use ifc_elements::{is_body_representation, is_mapped_item, spelled_items, spelled_sets};
@@ -7,11 +19,12 @@ use ifc_units::Scale;
 use p21_table::{Exchange, InstanceRef, ValueRef, Values};
 use placement::{Frame, operator_frame};
 use std::alloc::AllocError;
+use walk_rows::Pool;
 
 /// A set as a shape shows it: its place, and the frame that carries it, where it is mapped.
 #[derive(Clone, Copy)]
 pub struct Piece {
-    pub set: u32,
+    pub set: usize,
     pub operator: Option<Frame>,
 }
 
@@ -23,12 +36,6 @@ pub struct Range {
     pub count: u64,
 }
 
-/// The pieces of shapes, one shape's behind another's.
-#[derive(Drop)]
-pub struct Pieces {
-    pub list: Vec<Piece>,
-}
-
 /// Adds the set that a value refers to, and gives the triangles so far. None where it has no rows, or there are too many triangles, as in all
 /// that follows.
 fn add_set(
@@ -38,7 +45,16 @@ fn add_set(
     operator: Option<Frame>,
     so_far: u64,
     out: &mut Vec<Piece>,
-) -> Result<Option<u64>, AllocError> {
+) -> Result<Option<u64>, AllocError>
+    requires few { so_far ≤ MOST_TRIANGLES }
+    requires operator { IsOperator operator }
+    ensures few { IfOk result (λ found. IfSome found (λ count. count ≤ MOST_TRIANGLES)) }
+    ensures added { (scale : Scale) (mode : Mode) (points : List (Option (List Point)))
+        → AreReadSets exchange.now scale mode points sets.now
+        → IfOk result (λ found. IfSome found (AddsShown points sets.now
+        (Carried operator (Joined (KeptSet exchange.now scale mode) (led_to exchange.now (value.now ∷ []))))
+        out.old.items out.new.items so_far)) }
+{
     let Some(id) = value.reference() else {
         return Ok(None);
     };
@@ -48,15 +64,12 @@ fn add_set(
     let Some(set) = sets.get(at) else {
         return Ok(None);
     };
-    let count = so_far + set.rows.len() as u64;
-    if count > MOST_TRIANGLES {
+    let count = set.rows.len() as u64;
+    if count > MOST_TRIANGLES - so_far {
         return Ok(None);
     }
-    out.push(Piece {
-        set: at as u32,
-        operator,
-    })?;
-    Ok(Some(count))
+    out.push(Piece { set: at, operator })?;
+    Ok(Some(so_far + count))
 }
 
 /// .. and of the sets that values refer to.
@@ -67,7 +80,16 @@ fn add_sets(
     operator: Frame,
     so_far: u64,
     out: &mut Vec<Piece>,
-) -> Result<Option<u64>, AllocError> {
+) -> Result<Option<u64>, AllocError>
+    requires few { so_far ≤ MOST_TRIANGLES }
+    requires operator { IsOperator (Some operator) }
+    ensures few { IfOk result (λ found. IfSome found (λ count. count ≤ MOST_TRIANGLES)) }
+    ensures added { (scale : Scale) (mode : Mode) (points : List (Option (List Point)))
+        → AreReadSets exchange.now scale mode points sets.now
+        → IfOk result (λ found. IfSome found (AddsShown points sets.now
+        (Carried (Some operator) (Joined (KeptSet exchange.now scale mode) (led_to exchange.now values.now)))
+        out.old.items out.new.items so_far)) }
+{
     let mut count = so_far;
     for value in values.iter() {
         match add_set(exchange, sets, &value, Some(operator), count, out)? {
@@ -87,7 +109,15 @@ fn add_mapped(
     mode: Mode,
     so_far: u64,
     out: &mut Vec<Piece>,
-) -> Result<Option<u64>, AllocError> {
+) -> Result<Option<u64>, AllocError>
+    requires few { so_far ≤ MOST_TRIANGLES }
+    ensures few { IfOk result (λ found. IfSome found (λ count. count ≤ MOST_TRIANGLES)) }
+    ensures added { (points : List (Option (List Point)))
+        → AreReadSets exchange.now scale mode points sets.now
+        → IfOk result (λ found. IfSome found (AddsShown points sets.now
+        (KeptMapped exchange.now scale mode item.now)
+        out.old.items out.new.items so_far)) }
+{
     let Some(operator) = item.reference_at(1) else {
         return Ok(None);
     };
@@ -113,7 +143,14 @@ fn add_item(
     mode: Mode,
     so_far: u64,
     out: &mut Vec<Piece>,
-) -> Result<Option<u64>, AllocError> {
+) -> Result<Option<u64>, AllocError>
+    requires few { so_far ≤ MOST_TRIANGLES }
+    ensures few { IfOk result (λ found. IfSome found (λ count. count ≤ MOST_TRIANGLES)) }
+    ensures added { (points : List (Option (List Point)))
+        → AreReadSets exchange.now scale mode points sets.now
+        → IfOk result (λ found. IfSome found (AddsPieces exchange.now scale mode points sets.now
+        (led_to exchange.now (value.now ∷ [])) out.old.items out.new.items so_far)) }
+{
     let Some(item) = exchange.target(value) else {
         return Ok(None);
     };
@@ -132,7 +169,14 @@ fn add_items(
     mode: Mode,
     so_far: u64,
     out: &mut Vec<Piece>,
-) -> Result<Option<u64>, AllocError> {
+) -> Result<Option<u64>, AllocError>
+    requires few { so_far ≤ MOST_TRIANGLES }
+    ensures few { IfOk result (λ found. IfSome found (λ count. count ≤ MOST_TRIANGLES)) }
+    ensures added { (points : List (Option (List Point)))
+        → AreReadSets exchange.now scale mode points sets.now
+        → IfOk result (λ found. IfSome found (AddsPieces exchange.now scale mode points sets.now
+        (items_of exchange.now representation.now) out.old.items out.new.items so_far)) }
+{
     let mut count = so_far;
     for value in spelled_items(representation) {
         match add_item(exchange, sets, &value, scale, mode, count, out)? {
@@ -152,7 +196,15 @@ fn add_body(
     mode: Mode,
     so_far: u64,
     out: &mut Vec<Piece>,
-) -> Result<Option<u64>, AllocError> {
+) -> Result<Option<u64>, AllocError>
+    requires few { so_far ≤ MOST_TRIANGLES }
+    ensures few { IfOk result (λ found. IfSome found (λ count. count ≤ MOST_TRIANGLES)) }
+    ensures added { (points : List (Option (List Point)))
+        → AreReadSets exchange.now scale mode points sets.now
+        → IfOk result (λ found. IfSome found (AddsPieces exchange.now scale mode points sets.now
+        (flat_map (items_of exchange.now) (bodies_among exchange.now (value.now ∷ [])))
+        out.old.items out.new.items so_far)) }
+{
     let Some(representation) = exchange.target(value) else {
         return Ok(Some(so_far));
     };
@@ -170,7 +222,13 @@ pub fn add_shape(
     scale: Scale,
     mode: Mode,
     out: &mut Vec<Piece>,
-) -> Result<Option<u64>, AllocError> {
+) -> Result<Option<u64>, AllocError>
+    ensures few { IfOk result (λ found. IfSome found (λ count. count ≤ MOST_TRIANGLES)) }
+    ensures added { (points : List (Option (List Point)))
+        → AreReadSets exchange.now scale mode points sets.now
+        → IfOk result (λ found. IfSome found (AddsPieces exchange.now scale mode points sets.now
+        (shape_items exchange.now shape.now) out.old.items out.new.items 0)) }
+{
     let mut count = 0;
     for value in shape.listed(2) {
         match add_body(exchange, sets, &value, scale, mode, count, out)? {

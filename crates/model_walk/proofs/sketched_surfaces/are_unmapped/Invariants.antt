@@ -1,0 +1,7 @@
+use Rattle.std.proofs.Common.{take, All}
+use Rattle.model_walk.specs.Pieces.{IsUnmapped}
+use Rattle.model_walk.specs.Sketches.{pieces_in}
+use Rattle.model_walk.proofs.sketched_surfaces.are_unmapped.Given as goal
+
+abbrev pub invariant-loop-piece : goal.invariant-loop-piece
+invariant-loop-piece l = All IsUnmapped (take l.piece-index (pieces_in l.stock.pieces.items l.range))
