@@ -16,6 +16,7 @@ pub mod LocationsAway
 pub mod ManyCorners
 pub mod MappingsUnsupported
 pub mod ModelMade
+pub mod ModelOfWalk
 pub mod NumbersReadable
 pub mod OneAnswer
 pub mod OneKeyword

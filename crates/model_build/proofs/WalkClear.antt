@@ -1,10 +1,9 @@
 -- What a walk that gives elements says of a file: no stage has a fault, and the elements in their order are its model.
-use Rattle.std.proofs.Common.{◌≡◌, ◌≢◌, ℕ, zero, suc, ◌<◌, ◌≤◌, ◌⊎◌, inl, inr, Bool, true, false, ◌||◌, ℤ, pos, List, [], ◌∷◌, length, filter_map, get_or, Option, Some, None, option_and_then, Contains, IsPermutation, refl, sym, ap, ◌∙◌, subst, arith, sum_by}
+use Rattle.std.proofs.Common.{◌≡◌, ℕ, zero, suc, ◌<◌, ◌≤◌, ◌⊎◌, inl, inr, Bool, true, false, ◌||◌, ℤ, pos, List, [], ◌∷◌, length, filter_map, get_or, Option, Some, None, option_and_then, Contains, IsPermutation, refl, sym, ap, ◌∙◌, subst, arith}
 use Rattle.std.specs.Bool.{IsTrue}
-use Rattle.std.specs.Prelude.{◌↔◌, drop}
-use Rattle.std.specs.List.{All, AllPairs, AllZip, Any, slice_get, cons_option}
+use Rattle.std.specs.Prelude.{drop}
+use Rattle.std.specs.List.{All, AllZip, slice_get, cons_option}
 use Rattle.std.specs.List.Sorted.{IsStrictlyIncreasing}
-use Rattle.std.proofs.lemmas.Bool.{cases_Bool}
 use Rattle.std.proofs.lemmas.Slice.Zip.{AllZip-long}
 use Rattle.std.proofs.lemmas.List.Kept.{AllPairs-from_increasing}
 use Rattle.bim_model.specs.declared.upload.Mode.{Mode}
@@ -27,7 +26,6 @@ use Rattle.ifc_schema.specs.Forms.{holds}
 use Rattle.ifc_schema.specs.Surveys.{UsedFlaw, IsModelElement, Lists}
 use Rattle.ifc_schema.proofs.Apart.{used_apart}
 use Rattle.ifc_units.specs.declared.scale.Scale.{Scale}
-use Rattle.ifc_units.specs.Units.{IsLengthUnit}
 use Rattle.ifc_units.specs.Lengths.{IsPoint}
 use Rattle.placement.specs.declared.frame.Frame.{Frame}
 use Rattle.placement.specs.Directions.{HasAxes}
@@ -35,23 +33,22 @@ use Rattle.placement.specs.Chains.{Ends, here, above}
 use Rattle.placement.specs.Placed.{FrameOf, outermost, within, AxisFrame}
 use Rattle.faceset.specs.Sets.{is_set}
 use Rattle.ifc_elements.specs.Finding.{Finds}
-use Rattle.ifc_elements.specs.Items.{spelled_items, is_item, is_mapped_item, count_of}
+use Rattle.ifc_elements.specs.Items.{spelled_items, is_item, is_mapped_item}
 use Rattle.ifc_elements.specs.Making.{IsNearElement}
 use Rattle.ifc_elements.specs.Elements.{IsElement}
-use Rattle.ifc_elements.specs.Surfaces.{IsPlacedBy, SetSurface}
+use Rattle.ifc_elements.specs.Surfaces.{IsPlacedBy}
 use Rattle.ifc_elements.specs.Texts.{guid_of}
 use Rattle.ifc_elements.proofs.OneSet.{set_unstuck}
 use Rattle.model_walk.specs.Clean.{LeadsToItem, HasPlainScale, IsClean, IsCleanAt, identity}
 use Rattle.model_walk.specs.Walked.{IsWalked}
 use Rattle.model_build.specs.Faults.{IsClear}
-use Rattle.model_build.specs.Guids.{NoneRepeats, RepeatsGuid}
+use Rattle.model_build.specs.Guids.{NoneRepeats}
 use Rattle.model_build.specs.Least.{IsOblique}
-use Rattle.model_build.specs.Named.{IsNamed}
 use Rattle.model_build.specs.Order.{Differ, Rise}
 use Rattle.model_build.specs.Profile.{IsModelOf}
 use Rattle.model_build.specs.Faces.{IsStuckFace, HasManyCorners}
 use Rattle.model_build.specs.Unsupported.{ListsOther, ListsNested, HasNoTarget, HasGridNumber, IsAwayValue, IsAway, IsTurned, IsShifted, IsUnsupported, plain_axes}
-use Rattle.model_build.specs.Stages.{FormStage, UnitStage, TreeStage, TwiceStage, LoopStage, ObliqueStage, ItemStage, VoidStage, IndexStage, LengthStage, CornersStage, StuckStage, TrianglesStage, ReachStage, InUnit, stages, FileFault}
+use Rattle.model_build.specs.Stages.{FormStage, LoopStage, ObliqueStage, ItemStage, VoidStage, IndexStage, LengthStage, CornersStage, StuckStage, ReachStage, stages, FileFault}
 use Rattle.model_build.proofs.FirstOfStages.{AllClear, all_clear, unit_clear}
 use Rattle.model_build.proofs.StagesClear.{tree_clear, items_clear}
 use Rattle.model_build.proofs.RepeatedGuids.{repeats_clear}

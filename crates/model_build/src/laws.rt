@@ -28,10 +28,12 @@ pub fn profile_has_one_answer()
 
 /// A walk that gives elements says that no stage has a fault, and that these elements, in the order of their identifiers, are the file's model.
 pub fn walks_tell_models()
-    ensures clear { (world : List Instance) (mode : Mode) (elements : List Element) → IsWalked world mode elements
-        → IsClear (FileFault world mode) }
-    ensures model { (world : List Instance) (mode : Mode) (made elements : List Element) → IsWalked world mode made
-        → IsPermutation made elements → (Differ made → Rise elements) → IsModelOf world mode elements }
-    ensures sound { (world : List Instance) (mode : Mode) (made elements : List Element) → IsWalked world mode made
-        → IsPermutation made elements → (Differ made → Rise elements) → IsModel elements }
+    ensures clear { (world : List Instance) (mode : Mode) (elements : List Element)
+        → IsWalked world mode elements → IsClear (FileFault world mode) }
+    ensures model { (world : List Instance) (mode : Mode) (made elements : List Element)
+        → IsWalked world mode made → IsPermutation made elements → (Differ made → Rise elements)
+        → IsModelOf world mode elements }
+    ensures sound { (world : List Instance) (mode : Mode) (made elements : List Element)
+        → IsWalked world mode made → IsPermutation made elements → (Differ made → Rise elements)
+        → IsModel elements }
 {}

@@ -187,8 +187,7 @@ pub mapped_shown : (world : List Instance) (scale : Scale) (mode : Mode) (item :
     → values ≡ spelled_sets world item → (ts : List Triangle) → Carried (Some frame) (Joined (KeptSet world scale mode) (led_to world values)) ts → KeptMapped world scale mode item ts
 mapped_shown world scale mode item operator frame values refers is_frame are ts h =
     let own = h.0 in
-    let j : Joined (KeptSet world scale mode) (mapped_sets world item) own = subst (λ (us : List Value21). Joined (KeptSet world scale mode) (led_to world us) own) are h.1 in
-    (
+    let j : Joined (KeptSet world scale mode) (mapped_sets world item) own = subst (λ (us : List Value21). Joined (KeptSet world scale mode) (led_to world us) own) are h.1 in (
       record {
         operator = operator;
         refers = refers;

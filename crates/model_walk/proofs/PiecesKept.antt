@@ -1,6 +1,9 @@
 -- Pieces that are added leave those of earlier shapes where they stand.
-use Rattle.std.proofs.Common.{◌≡◌, ℕ, ◌+◌, ◌-◌, ◌<◌, ◌≤◌, ◌⊎◌, inl, inr, List, [], ◌∷◌, ◌++◌, length, get_or, map, flat_map, take, drop, take_all, Option, Some, option_and_then, refl, sym, ap, ◌∙◌, subst, append_assoc, append-nil, zero-add, arith}
+use Rattle.std.proofs.Common.{◌≡◌, ℕ, ◌+◌, ◌-◌, ◌<◌, ◌≤◌, ◌⊎◌, inl, inr, List, [], ◌∷◌, ◌++◌, length, get_or, map, flat_map, take, drop, take_all, Option, Some, None, Result, Ok, Err, option_and_then, refl, sym, ap, ◌∙◌, subst, append_assoc, append-nil, zero-add, arith}
 use Rattle.std.specs.List.{All, HoldsAt, slice_get}
+use Rattle.std.specs.Option.{IfSome}
+use Rattle.std.specs.Result.{IfOk}
+use Rattle.std.specs.declared.alloc.AllocError.{AllocError}
 use Rattle.std.proofs.lemmas.List.{take-append-le, drop-append-le, length-drop, length-append}
 use Rattle.std.proofs.lemmas.List.Elements.{All-append}
 use Rattle.std.proofs.lemmas.Option.{slice_get-get_or}
@@ -162,6 +165,12 @@ pub shown_by_shape : (world : List Instance) (scale : Scale) (mode : Mode) (stoc
     → HoldsAt (λ s. ShowsItems world scale mode stock (shape_items world s) range) world at → ShowsItems world scale mode stock (body_items world i) range
 shown_by_shape world scale mode stock i id at range refers place h =
     subst (λ (is : List Instance). ShowsItems world scale mode stock is range) (body_shape world i (get_or world at some_instance) id refers (found_at world id at some_instance place)) (h some_instance)
+
+pub found_shows : (world : List Instance) (scale : Scale) (mode : Mode) (stock : Stock) (i : Instance) (id at : ℕ) (r : Result (Option Range) AllocError) → reference_at i 6 ≡ Some id → IsPlaceOf world id at
+    → IfOk r (λ found. IfSome found (λ range. HoldsAt (λ s. ShowsItems world scale mode stock (shape_items world s) range) world at)) → IfOk r (λ found. IfSome found (ShowsItems world scale mode stock (body_items world i)))
+found_shows world scale mode stock i id at (Err e) refers place h = h
+found_shows world scale mode stock i id at (Ok None) refers place h = h
+found_shows world scale mode stock i id at (Ok (Some range)) refers place h = shown_by_shape world scale mode stock i id at range refers place h
 
 -- What is stocked can be carried.
 

@@ -1,5 +1,5 @@
 -- What is used is clean, as the walk looks at one place after another.
-use Rattle.std.proofs.Common.{◌≡◌, ◌≢◌, ℕ, ◌+◌, ◌<◌, ◌≤◌, ◌⊎◌, inl, inr, Bool, true, false, List, length, get_or, replicate, Option, Some, None, Result, Ok, Err, refl, sym, ap, ◌∙◌, subst, arith}
+use Rattle.std.proofs.Common.{◌≡◌, ◌≢◌, ℕ, ◌<◌, ◌≤◌, ◌⊎◌, inl, inr, Bool, true, false, List, length, get_or, replicate, Option, Some, None, Result, Ok, Err, refl, sym, ◌∙◌, subst, arith}
 use Rattle.std.specs.Prelude.{IfOk}
 use Rattle.std.specs.Bool.{OnTrue}
 use Rattle.std.specs.List.{HoldsAt, slice_get}
@@ -8,19 +8,17 @@ use Rattle.std.proofs.lemmas.Option.{get_or_from_slice_get, same_Some}
 use Rattle.bim_model.specs.declared.upload.Mode.{Mode}
 use Rattle.bim_model.specs.declared.geometry.Point.{Point}
 use Rattle.p21_values.specs.declared.value.Instance.{Instance}
-use Rattle.p21_values.specs.Places.{IsPlaceOf}
 use Rattle.p21_values.proofs.PlaceLemmas.{some_instance, found_at, place_found}
 use Rattle.ifc_instances.specs.declared.entity.Entity.TheVariants.{PointList}
 use Rattle.ifc_instances.specs.Looking.{is_a}
-use Rattle.ifc_schema.specs.declared.worklist.Mark.{Mark}
 use Rattle.ifc_schema.specs.declared.worklist.Work.{Work}
-use Rattle.ifc_schema.specs.Marks.{Known, mark_at, rank_at, is_mapped}
-use Rattle.ifc_schema.specs.Used.{Used, IsMapped}
+use Rattle.ifc_schema.specs.Marks.{Known, mark_at, is_mapped}
+use Rattle.ifc_schema.specs.Used.{IsMapped}
 use Rattle.ifc_schema.proofs.Following.{number_once, mapped_rank, rank_mapped}
 use Rattle.ifc_schema.proofs.Listing.{used_found}
 use Rattle.ifc_units.specs.declared.scale.Scale.{Scale}
 use Rattle.model_walk.specs.declared.set_pool.SetRows.{SetRows}
-use Rattle.model_walk.specs.Clean.{IsClean, IsCleanAt}
+use Rattle.model_walk.specs.Clean.{IsClean}
 use Rattle.model_walk.specs.Checked.{IsCleanBy, CleanThere, AllClean}
 use Rattle.model_walk.specs.Kept.{HasPoints, ArePooled, HasLists, IsRead, AreReadSets}
 use Rattle.walk_rows.specs.Pools.{pooled, Pools}
@@ -84,14 +82,20 @@ kept_clean (Ok false) world scale mode points old new mapped at i e clean k = tt
 kept_clean (Err _) world scale mode points old new mapped at i e clean k = tt
 
 -- nothing is kept in a new pool
-none_kept : {T : Type 0} (places at : ℕ) → pooled {T} (replicate places None) at ≡ None
-none_kept places at = elim (side at places) [ inl lt ↦ get_or-replicate places at None None lt | inr le ↦ (let l = length-replicate places (None {T = T}) in get_or_past (replicate places None) at None (omega (arith, le, l))) ]
+none_kept : {T : Type 0} (places at : ℕ) → pooled {T = T} (replicate places None) at ≡ None
+none_kept places at = elim (side at places) [ inl lt ↦ get_or-replicate places at None None lt | inr le ↦ get_or_past (replicate places None) at None (subst (λ n. n ≤ at) (sym (length-replicate places None)) le) ]
   where
     side : (a b : ℕ) → (a < b) ⊎ (b ≤ a)
     side a b = grind arith
 
 pub never_kept : {T : Type 0} {A : Type 0} (places at : ℕ) (kept : T) → pooled (replicate places None) at ≡ Some kept → A
-never_kept places at kept e = let n = none_kept places at in absurd (cc)
+never_kept places at kept e = absurd (some_none kept (sym e ∙ none_kept places at))
+  where
+    some_none : {T : Type 0} (x : T) → Some x ≡ None → ⊥
+    some_none x e = cc
+
+pub no_sets : (world : List Instance) (scale : Scale) (mode : Mode) (points : List (Option (List Point))) (places : ℕ) (new : List (Option SetRows)) → new ≡ replicate places None → AreReadSets world scale mode points new
+no_sets world scale mode points places new e at kept f = never_kept places at kept (subst (λ (s : List (Option SetRows)). pooled s at ≡ Some kept) e f)
 
 -- All places.
 

@@ -7,7 +7,6 @@ use Rattle.std.proofs.lemmas.Option.{same_Some, get_or_from_slice_get}
 use Rattle.bim_model.specs.declared.upload.Mode.{Mode}
 use Rattle.bim_model.specs.declared.geometry.Point.{Point}
 use Rattle.p21_values.specs.declared.value.Instance.{Instance}
-use Rattle.p21_values.proofs.PlaceLemmas.{some_instance}
 use Rattle.ifc_instances.specs.declared.entity.Entity.TheVariants.{PointList}
 use Rattle.ifc_instances.specs.Looking.{is_a}
 use Rattle.ifc_instances.proofs.Rising.{below_next}
@@ -21,10 +20,10 @@ use Rattle.model_walk.specs.Kept.{HasPoints, ArePooled, HasLists}
 
 -- Pools.
 
-pub none_kept : {T : Type 0} (places at : ℕ) → pooled (replicate places (None : Option T)) at ≡ None
+pub none_kept : {T : Type 0} (places at : ℕ) → pooled {T = T} (replicate places None) at ≡ None
 none_kept zero at = refl
 none_kept (suc n) zero = refl
-none_kept {T} (suc n) (suc at) = none_kept {T} n at
+none_kept {T = T} (suc n) (suc at) = none_kept {T = T} n at
 
 pub cases_same : (a b : ℕ) → (a ≡ b) ⊎ (a ≢ b)
 cases_same zero zero = inl refl
@@ -55,7 +54,7 @@ length_replicated (suc n) x = ap suc (length_replicated n x)
 
 pub filled_first : (world : List Instance) (scale : Scale) (mode : Mode) (work : Work) (places : ℕ) (pool : List (Option (List Point))) → pool ≡ replicate places None → places ≡ length world → IsFilled world scale mode work 0 pool
 filled_first world scale mode work places pool e n = record {
-  sound = λ at points f. absurd (let z = ap (λ p. pooled p at) e ∙ none_kept {List Point} places at in let no : None ≡ Some points = sym z ∙ f in cc);
+  sound = λ at points f. absurd (let z = ap (λ p. pooled p at) e ∙ none_kept {T = List Point} places at in let no : None ≡ Some points = sym z ∙ f in cc);
   lists = λ at below. absurd (let lt = below.0 in omega (arith, lt));
   size = ap length e ∙ (length_replicated places None ∙ n);
 }
@@ -122,7 +121,7 @@ pub filled_all : (world : List Instance) (scale : Scale) (mode : Mode) (work : W
 filled_all world scale mode work at pool long f k used is = let lt = past world k is in f.lists k (omega (arith, lt, long), used) is
   where
     past : (xs : List Instance) (k : ℕ) → HoldsAt (λ (i : Instance). is_a PointList i ≡ true) xs k → k < length xs
-    past [] k h = absurd (let e : false ≡ true = h some_instance in cc)
+    past [] k h = absurd (let e : false ≡ true = h (record { id = 0; keyword = None; values = [] }) in cc)
     past (x ∷ xs) zero h = omega arith
     past (x ∷ xs) (suc k) h = let r = past xs k h in omega (arith, r)
 

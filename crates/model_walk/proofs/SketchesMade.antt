@@ -1,6 +1,6 @@
 -- What is made of sketches.
-use Rattle.std.proofs.Common.{◌≡◌, ℕ, zero, suc, ◌+◌, ◌<◌, ◌≤◌, List, [], ◌∷◌, ◌++◌, length, get_or, map, take, take_all, sum_by, Option, Some, refl, sym, ap, ◌∙◌, subst, arith}
-use Rattle.std.specs.List.{All, AllZip, Contains}
+use Rattle.std.proofs.Common.{◌≡◌, ℕ, zero, suc, ◌+◌, ◌<◌, ◌≤◌, List, [], ◌∷◌, ◌++◌, length, get_or, map, take, take_all, sum_by, true, Option, Some, option_and_then, refl, sym, ap, ◌∙◌, subst, arith}
+use Rattle.std.specs.List.{All, AllZip, Contains, slice_get}
 use Rattle.std.proofs.lemmas.List.{take_more, length-map}
 use Rattle.std.proofs.lemmas.List.Elements.{All-nil, All-cons}
 use Rattle.std.proofs.lemmas.List.Sums.{sum_by_more}
@@ -9,7 +9,12 @@ use Rattle.bim_model.specs.declared.element.Element.{Element}
 use Rattle.bim_model.specs.declared.limits.TheConstants.{MOST_TRIANGLES}
 use Rattle.bim_model.specs.declared.upload.Mode.{Mode}
 use Rattle.p21_values.specs.declared.value.Instance.{Instance}
+use Rattle.p21_values.specs.declared.value.Value21.{Value21}
+use Rattle.p21_values.specs.Values.{reference_of, is_absent}
 use Rattle.p21_values.specs.Looking.{look}
+use Rattle.ifc_instances.specs.Looking.{some_passes}
+use Rattle.placement.specs.declared.frame.Frame.{Frame}
+use Rattle.placement.specs.Placed.{AllPlaced}
 use Rattle.p21_values.proofs.PlaceLemmas.{place_found}
 use Rattle.ifc_units.specs.declared.scale.Scale.{Scale}
 use Rattle.ifc_elements.specs.Items.{body_items, item_count, counted, count_of}
@@ -17,11 +22,23 @@ use Rattle.ifc_elements.specs.Making.{IsNearElement}
 use Rattle.ifc_elements.specs.Storeys.{IsStoreyName}
 use Rattle.ifc_elements.specs.Surfaces.{ItemSurface, placed_by}
 use Rattle.ifc_elements.proofs.TrianglesAdded.{joined_first, joined_length}
+use Rattle.model_walk.specs.declared.element_sketches.Placing.TheVariants.{Free, By}
 use Rattle.model_walk.specs.declared.element_sketches.Sketch.{Sketch}
 use Rattle.model_walk.specs.declared.element_sketches.Stock.{Stock}
 use Rattle.model_walk.specs.Sketches.{range_triangles, element_of, IsNearSketch}
-use Rattle.model_walk.specs.Stocked.{IsStocked, Grows, IsSketch, IsSketchAt, AreSketches}
-use Rattle.model_walk.proofs.PiecesKept.{grows_twice, sketch_still, sound_stock}
+use Rattle.model_walk.specs.Stocked.{IsStocked, Grows, IsPlacing, IsSketch, IsSketchAt, AreSketches}
+use Rattle.model_walk.proofs.PiecesKept.{same_stock, grows_twice, sketch_still, sound_stock}
+
+-- How an element is placed.
+
+pub placed_nowhere : (world : List Instance) (scale : Scale) (mode : Mode) (i : Instance) (value : Value21) → slice_get i.values 5 ≡ Some value → is_absent value ≡ true → IsPlacing world scale mode i Free
+placed_nowhere world scale mode i value there absent = ap (some_passes is_absent) there ∙ absent
+
+pub placed_there : (world : List Instance) (scale : Scale) (mode : Mode) (frames : ℕ → Option Frame) (i : Instance) (value : Value21) (id : ℕ) (frame : Frame) → slice_get i.values 5 ≡ Some value → reference_of value ≡ Some id → frames id ≡ Some frame
+    → AllPlaced world scale mode frames → IsPlacing world scale mode i (By frame)
+placed_there world scale mode frames i value id frame there refers is all =
+    let p = all id frame is in
+    ((id, ap (option_and_then reference_of) there ∙ refers, p.frame_of), (p.is_frame, p.near))
 
 -- One element.
 
@@ -68,7 +85,15 @@ pub record SketchedSoFar (world : List Instance) (scale : Scale) (mode : Mode) (
   pub grows : Grows first stock
   pub each : AllZip (IsSketchAt world scale mode stock) ids sketches
   pub counted : count ≡ sum_by (count_of world) ids
-  pub few : count ≤ MOST_TRIANGLES
+
+-- none yet
+pub sketched_none : (world : List Instance) (scale : Scale) (mode : Mode) (stock : Stock) (ids : List ℕ) (made : List Sketch) → IsStocked world scale mode stock → made ≡ [] → SketchedSoFar world scale mode stock stock (take 0 ids) made 0
+sketched_none world scale mode stock ids made stocked none = record {
+  stocked = stocked;
+  grows = same_stock stock;
+  each = subst (λ (ss : List Sketch). AllZip (IsSketchAt world scale mode stock) [] ss) (sym none) tt;
+  counted = refl;
+}
 
 all_still : (world : List Instance) (scale : Scale) (mode : Mode) (old new : Stock) → Grows old new → (ids : List ℕ) (sketches : List Sketch) → AllZip (IsSketchAt world scale mode old) ids sketches → AllZip (IsSketchAt world scale mode new) ids sketches
 all_still world scale mode old new g [] [] z = z
@@ -79,9 +104,9 @@ all_still world scale mode old new g (id ∷ ids) (s ∷ ss) z =
     (record { instance = f.instance; found = f.found; holds = sketch_still world scale mode old new f.instance s g f.holds }, all_still world scale mode old new g ids ss z.1)
 
 pub sketched_more : (world : List Instance) (scale : Scale) (mode : Mode) (first old new : Stock) (ids : List ℕ) (at : ℕ) (made grown : List Sketch) (before after : ℕ) (i : Instance) (sketch : Sketch) → SketchedSoFar world scale mode first old (take at ids) made before
-    → at < length ids → look world (get_or ids at 0) ≡ Some i → IsStocked world scale mode new → Grows old new → IsSketch world scale mode new i sketch → grown ≡ made ++ sketch ∷ [] → after ≡ before + sketch.range.count → after ≤ MOST_TRIANGLES
+    → at < length ids → look world (get_or ids at 0) ≡ Some i → IsStocked world scale mode new → Grows old new → IsSketch world scale mode new i sketch → grown ≡ made ++ sketch ∷ [] → after ≡ before + sketch.range.count
     → SketchedSoFar world scale mode first new (take (at + 1) ids) grown after
-sketched_more world scale mode first old new ids at made grown before after i sketch so_far lt found stocked g s grows counts few =
+sketched_more world scale mode first old new ids at made grown before after i sketch so_far lt found stocked g s grows counts =
     let id = get_or ids at 0 in
     let here : IsSketchAt world scale mode new id sketch = record { instance = i; found = found; holds = s } in
     let step : take (at + 1) ids ≡ take at ids ++ id ∷ [] = take_more ids at 0 lt in
@@ -91,7 +116,6 @@ sketched_more world scale mode first old new ids at made grown before after i sk
       grows = grows_twice first old new so_far.grows g;
       each = rw (step, grows) all;
       counted = counts ∙ ap (λ n. n + sketch.range.count) so_far.counted ∙ ap (λ n. sum_by (count_of world) (take at ids) + n) (count_is world scale mode new id sketch here) ∙ sym (sum_by_more (count_of world) ids at 0 lt);
-      few = few;
     }
 
 each_near : (world : List Instance) (scale : Scale) (mode : Mode) (stock : Stock) (ids : List ℕ) (sketches : List Sketch) → AllZip (IsSketchAt world scale mode stock) ids sketches → AllZip (IsNearElement world scale mode) ids (map (element_of stock) sketches)
@@ -111,9 +135,9 @@ all_some world scale mode stock (id ∷ ids) [] z = absurd z
 all_some world scale mode stock (id ∷ ids) (s ∷ ss) z =
     All-cons (λ k. 0 < count_of world k) id ids (subst (λ n. 0 < n) (count_is world scale mode stock id s z.0) z.0.holds.shows.some) (all_some world scale mode stock ids ss z.1)
 
-pub are_sketches : (world : List Instance) (scale : Scale) (mode : Mode) (first stock : Stock) (ids : List ℕ) (at : ℕ) (sketches : List Sketch) (count : ℕ) → length ids ≤ at → SketchedSoFar world scale mode first stock (take at ids) sketches count
+pub are_sketches : (world : List Instance) (scale : Scale) (mode : Mode) (first stock : Stock) (ids : List ℕ) (at : ℕ) (sketches : List Sketch) (count : ℕ) → length ids ≤ at → count ≤ MOST_TRIANGLES → SketchedSoFar world scale mode first stock (take at ids) sketches count
     → AreSketches world scale mode stock ids sketches
-are_sketches world scale mode first stock ids at sketches count le so_far =
+are_sketches world scale mode first stock ids at sketches count le few so_far =
     let whole = take_all at ids le in
     let each = subst (λ (ks : List ℕ). AllZip (IsSketchAt world scale mode stock) ks sketches) whole so_far.each in
     record {
@@ -121,5 +145,5 @@ are_sketches world scale mode first stock ids at sketches count le so_far =
       each = each_near world scale mode stock ids sketches each;
       near = all_near world scale mode stock ids sketches each;
       some = λ id c. subst (λ k. 0 < count_of world k) c.2 (all_some world scale mode stock ids sketches each c.0 id c.1);
-      few = subst (λ n. n ≤ MOST_TRIANGLES) (so_far.counted ∙ ap (sum_by (count_of world)) whole) so_far.few;
+      few = subst (λ n. n ≤ MOST_TRIANGLES) (so_far.counted ∙ ap (sum_by (count_of world)) whole) few;
     }

@@ -1,5 +1,5 @@
 -- What is known while the walk looks at one instance after another.
-use Rattle.std.specs.Prelude.{◌≡◌, ◌≢◌, ℕ, ◌+◌, ◌<◌, List, length, AllPairs, slice_index_or}
+use Rattle.std.specs.Prelude.{◌≢◌, ℕ, ◌+◌, ◌<◌, Bool, List, length, AllPairs, slice_index_or}
 use Rattle.std.specs.List.{HoldsAt}
 use Rattle.bim_model.specs.declared.upload.Mode.{Mode}
 use Rattle.p21_values.specs.declared.value.Instance.{Instance}
@@ -11,7 +11,8 @@ use Rattle.model_walk.specs.declared.element_sketches.Sketch.{Sketch}
 
 -- the instance at a place is clean; whether it is mapped is given
 abbrev pub IsCleanBy : List Instance → Scale → Mode → Bool → ℕ → Type 0
-IsCleanBy world scale mode mapped at = HoldsAt (λ (i : Instance). IsClean world scale mode mapped i.id i) world at
+IsCleanBy world scale mode mapped at =
+    HoldsAt (λ (i : Instance). IsClean world scale mode mapped i.id i) world at
 
 -- the instance at a place is clean, where it is used
 abbrev pub CleanThere : List Instance → Scale → Mode → ℕ → Type 0

@@ -77,7 +77,8 @@ HasPlainOrigin world scale mode map = (origin : ℕ) × (reference_at map 0 ≡ 
 -- Of any instance.
 
 -- What an instance shows beside its form and the lengths of a list of points, and beside what a face set needs. Whether it is mapped is given.
-pub record ShowsNone (world : List Instance) (scale : Scale) (mode : Mode) (mapped : Bool) (i : Instance) : Type 0 where
+pub record ShowsNone (world : List Instance) (scale : Scale) (mode : Mode) (mapped : Bool)
+    (i : Instance) : Type 0 where
   pub items : is_a Representation i ≡ true → HasReadItems world mapped i
   pub square : is_a AxisPlacement i ≡ true → (axes : Axes) × HasAxes world i.id axes
   pub carries : is_a Operator i ≡ true → (axes : Axes) × HasOperatorAxes world i.id axes

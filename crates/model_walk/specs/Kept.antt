@@ -41,6 +41,7 @@ pub record IsRead (world : List Instance) (scale : Scale) (mode : Mode) (points 
   pub formed : (mapped : Bool) → InstanceFlaw world mapped set None
 
 -- what a pool has for a place is what was read of the set that stands there
-abbrev pub AreReadSets : List Instance → Scale → Mode → List (Option (List Point)) → List (Option SetRows) → Type 0
+abbrev pub AreReadSets : List Instance → Scale → Mode → List (Option (List Point)) → List (Option SetRows)
+    → Type 0
 AreReadSets world scale mode points pool = (at : ℕ) (kept : SetRows) → pooled pool at ≡ Some kept
     → HoldsAt (IsRead world scale mode points kept) world at

@@ -29,7 +29,8 @@ kept_triangles points (Some kept) = rows_with (pooled points kept.list) kept
 
 -- the triangles of a piece in the coordinates of its element
 abbrev pub piece_triangles : List (Option (List Point)) → List (Option SetRows) → Piece → List Triangle
-piece_triangles points sets piece = map (placed_by piece.operator) (kept_triangles points (pooled sets piece.set))
+piece_triangles points sets piece =
+    map (placed_by piece.operator) (kept_triangles points (pooled sets piece.set))
 
 -- those of pieces, one behind another
 abbrev pub pieces_triangles : List (Option (List Point)) → List (Option SetRows) → List Piece → List Triangle

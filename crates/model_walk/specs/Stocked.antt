@@ -33,8 +33,9 @@ use Rattle.walk_rows.specs.Pools.{pooled}
 -- Pieces.
 
 -- Pieces were added, which show these items one behind another; so many triangles more.
-pub record AddsPieces (world : List Instance) (scale : Scale) (mode : Mode) (points : List (Option (List Point)))
-    (sets : List (Option SetRows)) (items : List Instance) (old new : List Piece) (before count : ℕ) : Type 0 where
+pub record AddsPieces (world : List Instance) (scale : Scale) (mode : Mode)
+    (points : List (Option (List Point))) (sets : List (Option SetRows)) (items : List Instance)
+    (old new : List Piece) (before count : ℕ) : Type 0 where
   pub more : List Piece
   pub grown : new ≡ old ++ more
   pub joined : Joined (KeptItem world scale mode) items (pieces_triangles points sets more)

@@ -13,11 +13,11 @@ ghost use Rattle.ifc_elements.specs.Names.{AreNames};
 ghost use Rattle.ifc_elements.specs.Surfaces.{IsPlacedBy};
 ghost use Rattle.ifc_elements.specs.Texts.{guid_of};
 ghost use Rattle.model_walk.specs.Stocked.{shape_items, ShowsItems, IsStocked, Grows, IsPlacing, IsBare, IsSketch, AreSketches};
+ghost use Rattle.walk_rows.specs.Pools.{pooled};
 
 use crate::set_pool::SetRows;
 use crate::shape_pieces::{Piece, Range, add_shape};
 use crate::sketched_surfaces::are_near;
-use walk_rows::Pool;
 use bim_model::{Element, Guid, Items, MOST_TRIANGLES, Mode, Point};
 use ifc_elements::{Names, guid_of, name_of, storey_name};
 use ifc_units::Scale;
@@ -25,6 +25,7 @@ use p21_table::{Exchange, InstanceRef};
 use placement::{Frame, Frames};
 use spatial_tree::Tree;
 use std::alloc::{AllocError, Global};
+use walk_rows::Pool;
 
 /// An element without its surface, the frame that carries it, and which pieces it shows.
 #[derive(Drop)]
@@ -119,6 +120,13 @@ fn add_pieces(told: &Told<'_>, at: usize, stock: &mut Stock) -> Result<Option<Ra
     Ok(Some(range))
 }
 
+/// What is kept of the shape at a place.
+fn kept_range(stock: &Stock, at: usize) -> Option<Range>
+    ensures { result ≡ pooled stock.now.shapes at }
+{
+    stock.shapes.get(at).copied()
+}
+
 /// The pieces of the shape of an element, found once for each shape.
 fn range_of(
     told: &Told<'_>,
@@ -139,8 +147,8 @@ fn range_of(
     let Some(at) = told.exchange.place_of(id) else {
         return Ok(None);
     };
-    if let Some(range) = stock.shapes.get(at) {
-        return Ok(Some(*range));
+    if let Some(range) = kept_range(stock, at) {
+        return Ok(Some(range));
     }
     add_pieces(told, at, stock)
 }
@@ -258,7 +266,8 @@ pub fn sketches_of(
         let Some(sketch) = sketch_of(alloc, told, &instance, stock)? else {
             return Ok(None);
         };
-        if sketch.range.count > MOST_TRIANGLES - count {
+        let room = MOST_TRIANGLES - count;
+        if sketch.range.count > room {
             return Ok(None);
         }
         count += sketch.range.count;

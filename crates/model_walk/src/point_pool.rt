@@ -10,13 +10,13 @@ ghost use Rattle.p21_values.specs.Attributes.{listed};
 ghost use Rattle.walk_rows.specs.Pools.{Pools};
 ghost use Rattle.model_walk.specs.Kept.{HasPoints, ArePooled, HasLists};
 
-use walk_rows::Pool;
 use bim_model::{Items, Mode, Point};
 use ifc_instances::Entity;
 use ifc_schema::Work;
 use ifc_units::{Scale, points};
 use p21_table::{Exchange, InstanceRef};
 use std::alloc::{AllocError, Global};
+use walk_rows::Pool;
 
 /// The points of a list of points (IFC4 ADD2 TC1, IfcCartesianPointList3D). None where it has none, or a number that isn't on the grid.
 fn points_of(
@@ -25,7 +25,8 @@ fn points_of(
     scale: Scale,
     mode: Mode,
 ) -> Result<Option<Vec<Point>>, AllocError>
-    ensures { IfOk result (λ found. IfSome found (λ points. ArePoints scale mode (listed list.now 0) points.items
+    ensures { IfOk result (λ found. IfSome found (λ points.
+        ArePoints scale mode (listed list.now 0) points.items
         × (0 < length points.items))) }
 {
     match points(alloc, &list.listed(0), scale, mode)? {
@@ -73,7 +74,8 @@ pub fn points_in(
 ) -> Result<Option<Pool<Items<Point>>>, AllocError>
     requires { Known exchange.now work.now }
     ensures sound { IfOk result (λ found. IfSome found (ArePooled exchange.now scale mode)) }
-    ensures all { IfOk result (λ found. IfSome found (HasLists exchange.now (λ at. 0 < rank_at work.now at))) }
+    ensures all { IfOk result (λ found. IfSome found
+        (HasLists exchange.now (λ at. 0 < rank_at work.now at))) }
 {
     let places = exchange.len();
     let mut pool = Pool::new(alloc, places)?;

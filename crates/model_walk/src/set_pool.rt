@@ -10,12 +10,10 @@ ghost use Rattle.model_walk.specs.declared.set_pool.SetRows.{SetRows};
 ghost use Rattle.walk_rows.specs.Pools.{Pools};
 ghost use Rattle.model_walk.specs.Kept.{ArePooled, IsRead};
 
-use walk_rows::Pool;
-use walk_rows::rows_of_set;
-use walk_rows::Row;
 use bim_model::{Items, MOST_TRIANGLES, Point};
 use p21_table::{Exchange, InstanceRef};
 use std::alloc::{AllocError, Global};
+use walk_rows::{Pool, Row, rows_of_set};
 
 /// A place in a list has 32 bits.
 const MOST_POINTS: usize = 1 << 32;
@@ -29,7 +27,8 @@ pub struct SetRows {
 
 /// Where the list of the points of a set stands.
 fn list_of(exchange: &Exchange, set: &InstanceRef<'_>) -> Option<usize>
-    ensures { IfSome result (λ at. (id : ℕ) × (reference_at set.now 0 ≡ Some id) × IsPlaceOf exchange.now id at) }
+    ensures { IfSome result (λ at. (id : ℕ) × (reference_at set.now 0 ≡ Some id)
+        × IsPlaceOf exchange.now id at) }
 {
     let id = set.reference_at(0)?;
     exchange.place_of(id)
@@ -81,7 +80,8 @@ pub fn keep_set(
     requires points { (scale : Scale) × (mode : Mode) × ArePooled exchange.now scale mode points.now }
     requires within { at < length pool.old }
     ensures { (scale : Scale) (mode : Mode) → ArePooled exchange.now scale mode points.now
-        → IfOk result (λ done. OnTrue done ((kept : SetRows) × IsRead exchange.now scale mode points.now kept set.now
+        → IfOk result (λ done. OnTrue done ((kept : SetRows)
+        × IsRead exchange.now scale mode points.now kept set.now
         × Pools pool.old pool.new at kept)) }
 {
     let Some(made) = read_set(alloc, exchange, points, set)? else {

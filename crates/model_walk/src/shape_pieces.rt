@@ -12,7 +12,6 @@ ghost use Rattle.model_walk.specs.Kept.{AreReadSets};
 ghost use Rattle.model_walk.specs.Pieces.{AddsShown, Carried, IsOperator};
 ghost use Rattle.model_walk.specs.Stocked.{AddsPieces, shape_items};
 
-use walk_rows::Pool;
 use crate::set_pool::SetRows;
 use bim_model::{MOST_TRIANGLES, Mode};
 use ifc_elements::{is_body_representation, is_mapped_item, spelled_items, spelled_sets};
@@ -20,6 +19,7 @@ use ifc_units::Scale;
 use p21_table::{Exchange, InstanceRef, ValueRef, Values};
 use placement::{Frame, operator_frame};
 use std::alloc::AllocError;
+use walk_rows::Pool;
 
 /// A set as a shape shows it: its place, and the frame that carries it, where it is mapped.
 #[derive(Clone, Copy)]

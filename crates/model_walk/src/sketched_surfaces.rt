@@ -12,10 +12,10 @@ ghost use Rattle.model_walk.specs.Sketches.{piece_triangles, pieces_in, range_tr
 
 use crate::element_sketches::{Sketch, Stock};
 use crate::shape_pieces::{Piece, Range};
-use walk_rows::{Row, triangle_at};
 use bim_model::{Element, Items, Point, Triangle};
 use placement::Frame;
 use std::alloc::{AllocError, Global};
+use walk_rows::{Row, triangle_at};
 
 /// Whether a point is in reach once it is carried.
 fn is_near(frame: &Frame, point: Point) -> bool

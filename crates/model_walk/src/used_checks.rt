@@ -112,7 +112,8 @@ fn has_plain_origin(exchange: &Exchange, map: &InstanceRef<'_>, scale: Scale, mo
 
 /// Whether a representation has items that are read.
 fn shows_items(exchange: &Exchange, instance: &InstanceRef<'_>, mapped: bool) -> bool
-    ensures { OnTrue result (is_a Representation instance.now ≡ true → HasReadItems exchange.now mapped instance.now) }
+    ensures { OnTrue result (is_a Representation instance.now ≡ true
+        → HasReadItems exchange.now mapped instance.now) }
 {
     !Entity::Representation.includes(instance) || has_read_items(exchange, instance, mapped)
 }

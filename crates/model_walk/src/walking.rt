@@ -1,9 +1,9 @@
 //! The walk over what is used of a file.
-ghost use Rattle.std.specs.Prelude.{◌≡◌, ◌<◌, length, map, replicate, None, IfOk, IfSome, IfErr, OnOk};
+ghost use Rattle.std.specs.Prelude.{◌≡◌, ◌<◌, None, length, map, IfOk, IfSome};
 ghost use Rattle.std.specs.Bool.{OnTrue};
-ghost use Rattle.ifc_schema.specs.Bodies.{body_shapes, has_body};
+ghost use Rattle.ifc_schema.specs.Bodies.{body_shapes};
 ghost use Rattle.ifc_schema.specs.Flaws.{InstanceFlaw};
-ghost use Rattle.ifc_schema.specs.Marks.{Known, rank_at, is_mapped};
+ghost use Rattle.ifc_schema.specs.Marks.{Known, rank_at};
 ghost use Rattle.ifc_units.specs.Units.{IsLengthUnit};
 ghost use Rattle.placement.specs.Placed.{AllPlaced, frame_in};
 ghost use Rattle.spatial_tree.specs.Trees.{IsTree, ListsStoreys};
@@ -14,7 +14,6 @@ ghost use Rattle.model_walk.specs.Walked.{IsWalked};
 
 use crate::element_sketches::{Sketch, Stock, Told, sketches_of};
 use crate::point_pool::points_in;
-use walk_rows::Pool;
 use crate::set_pool::{SetRows, keep_set};
 use crate::sketched_surfaces::elements_of;
 use crate::used_checks::shows_none;
@@ -29,6 +28,7 @@ use placement::{Chains, Frames};
 use spatial_tree::{Tree, tree};
 use std::alloc::{AllocError, Global};
 use std::marker::Model;
+use walk_rows::Pool;
 
 /// What a walk found of a file: its elements without their surfaces, and what these are made of. Contracts see it as the elements.
 #[derive(Drop)]
@@ -50,12 +50,7 @@ impl Model for Walked {
 }
 
 /// Whether an instance that is used, and is no list of points nor a set, has the form of its row.
-fn is_formed(
-    exchange: &Exchange,
-    bodied: &[bool],
-    mapped: bool,
-    instance: &InstanceRef<'_>,
-) -> bool
+fn is_formed(exchange: &Exchange, bodied: &[bool], mapped: bool, instance: &InstanceRef<'_>) -> bool
     requires bodied { bodied.now ≡ body_shapes exchange.now }
     ensures { OnTrue result (InstanceFlaw exchange.now mapped instance.now None) }
 {

@@ -28,7 +28,8 @@ fn corner_places(
 ) -> Result<Option<Vec<u32>>, AllocError>
     requires { count < 2 ^ 32 }
     ensures places { (names : Option (List Value21)) → AreNumbers count names (option_copied numbers.entry)
-        → IfOk result (λ found. IfSome found (λ places. AllZip (NamesPoint names count) indexes.now places.items)) }
+        → IfOk result (λ found. IfSome found (λ places.
+        AllZip (NamesPoint names count) indexes.now places.items)) }
     ensures few { IfOk result (λ found. IfSome found (λ places. length places.items ≤ most_corners)) }
 {
     let mut made = Vec::new(alloc);
@@ -96,7 +97,8 @@ fn add_face(
 ) -> Result<bool, AllocError>
     requires few { length points.now < 2 ^ 32 }
     requires in_grid { All IsGridPoint points.now }
-    ensures { (names : Option (List Value21)) → AreNumbers (length points.now) names (option_copied numbers.entry)
+    ensures { (names : Option (List Value21))
+        → AreNumbers (length points.now) names (option_copied numbers.entry)
         → IfOk result (λ added. OnTrue added
         (AddsRows points.now (IsCut names points.now face.now) rows.old.items rows.new.items)) }
 {
@@ -128,9 +130,11 @@ fn add_face_of(
 ) -> Result<bool, AllocError>
     requires few { length points.now < 2 ^ 32 }
     requires in_grid { All IsGridPoint points.now }
-    ensures rows { (names : Option (List Value21)) → AreNumbers (length points.now) names (option_copied numbers.entry)
+    ensures rows { (names : Option (List Value21))
+        → AreNumbers (length points.now) names (option_copied numbers.entry)
         → IfOk result (λ added. OnTrue added (AddsRows points.now
-        (Joined (IsCut names points.now) (led_to exchange.now (value.now ∷ []))) rows.old.items rows.new.items)) }
+        (Joined (IsCut names points.now) (led_to exchange.now (value.now ∷ [])))
+        rows.old.items rows.new.items)) }
     ensures leads { IfOk result (λ added. OnTrue added (LeadsToFace exchange.now value.now)) }
 {
     match exchange.target(value) {
@@ -155,7 +159,8 @@ pub fn rows_of_faces(
 ) -> Result<Option<Vec<Row>>, AllocError>
     requires few { length points.now < 2 ^ 32 }
     requires in_grid { All IsGridPoint points.now }
-    ensures rows { (names : Option (List Value21)) → AreNumbers (length points.now) names (option_copied numbers.entry)
+    ensures rows { (names : Option (List Value21))
+        → AreNumbers (length points.now) names (option_copied numbers.entry)
         → IfOk result (λ found. IfSome found (λ rows. Joined (IsCut names points.now)
         (led_to exchange.now values.now) (triangles_at points.now rows.items))) }
     ensures leads { IfOk result (λ found. IfSome found (λ rows. All (LeadsToFace exchange.now) values.now)) }

@@ -46,7 +46,8 @@ pub fn places_named(
     count: usize,
 ) -> Result<Option<Vec<u32>>, AllocError>
     requires { count < 2 ^ 32 }
-    ensures { IfOk result (λ found. IfSome found (λ places. AllZip (PointsAt count) values.now places.items)) }
+    ensures { IfOk result (λ found. IfSome found (λ places.
+        AllZip (PointsAt count) values.now places.items)) }
 {
     let mut made = Vec::new(alloc);
     for value in values.iter() {
@@ -76,7 +77,8 @@ fn row_of(value: &ValueRef<'_>, numbers: Option<&[u32]>, count: usize) -> Option
 #[inline(always)]
 fn short_index(short: Short, count: usize) -> Option<usize>
     ensures within { IfSome result (λ at. at < count) }
-    ensures points { IfSome result (λ at. (value : Value21) → SaysShort short value → PointsAt count value at) }
+    ensures points { IfSome result (λ at. (value : Value21) → SaysShort short value
+        → PointsAt count value at) }
 {
     if short.negative || short.places != 0 || short.digits == 0 {
         return None;
@@ -92,7 +94,8 @@ fn short_index(short: Short, count: usize) -> Option<usize>
 fn short_place(short: Short, numbers: Option<&[u32]>, count: usize) -> Option<u32>
     requires { count < 2 ^ 32 }
     ensures { (names : Option (List Value21)) → AreNumbers count names (option_copied numbers.entry)
-        → IfSome result (λ place. (value : Value21) → SaysShort short value → NamesPoint names count value place) }
+        → IfSome result (λ place. (value : Value21) → SaysShort short value
+        → NamesPoint names count value place) }
 {
     match numbers {
         Some(places) => match short_index(short, places.len()) {
@@ -123,7 +126,8 @@ fn short_row_of(row: ShortRow, numbers: Option<&[u32]>, count: usize) -> Option<
 fn next_row(left: &mut Values<'_>, numbers: Option<&[u32]>, count: usize) -> Option<Option<Row>>
     requires { count < 2 ^ 32 }
     ensures end { IfNone result (left.old ≡ []) }
-    ensures row { IfSome result (λ found. IfSome found (λ row. (value : Value21) × (left.old ≡ value ∷ left.new)
+    ensures row { IfSome result (λ found. IfSome found (λ row. (value : Value21)
+        × (left.old ≡ value ∷ left.new)
         × ((names : Option (List Value21)) → AreNumbers count names (option_copied numbers.entry)
         → IsRowOf names count value row))) }
 {

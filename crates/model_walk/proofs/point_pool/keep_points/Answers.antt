@@ -11,7 +11,7 @@ returns-then-not-includes c = kept_none (is_a PointList c.args.list.now) _ _ (sy
 
 pub returns : goal.returns
 returns c =
-    let found = rw c.in-Some.is at c.in_ok-points_of.ensures in
+    let found = rw c.in-Some.is at c.in_ok-found.ensures in
     let points = c.in-Some.found.items in
     let kind : is_a PointList c.args.list.now ≡ true = sym c.includes.ensures ∙ c.if-not-includes.false in
     kept_some (is_a PointList c.args.list.now) _ _ kind (points, (record { kind = kind; are = found.0 }, found.1), subst (λ ps. Pools c.args.pool.now c.put.new.self c.args.at ps) c.from_vec.ensures c.in_ok-put.ensures)

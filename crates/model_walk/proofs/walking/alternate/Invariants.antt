@@ -1,4 +1,4 @@
-use Rattle.std.proofs.Common.{◌≡◌, ◌≢◌, ℕ, ◌+◌, ◌<◌, List, get_or}
+use Rattle.std.proofs.Common.{◌≢◌, ℕ, ◌+◌, ◌<◌, List, get_or}
 use Rattle.model_walk.proofs.walking.alternate.Given as goal
 
 abbrev pub invariant-loop-at : goal.invariant-loop-at

@@ -1,4 +1,4 @@
-use Rattle.std.proofs.Common.{subst, sym}
+use Rattle.std.proofs.Common.{subst}
 use Rattle.std.specs.List.Sorted.{IsPermutation}
 use Rattle.model_walk.specs.Checked.{Alternate}
 use Rattle.model_walk.proofs.GuidsDiffer.{on_true, sketches_differ}

@@ -1,12 +1,10 @@
-use Rattle.std.proofs.Common.{◌≡◌, Bool, true, None, sym, ◌∙◌}
+use Rattle.std.proofs.Common.{◌≡◌, true, sym, ◌∙◌}
 use Rattle.std.proofs.lemmas.Bool.{OnTrue_at}
 use Rattle.p21_values.specs.declared.value.Instance.{Instance}
 use Rattle.ifc_instances.specs.declared.entity.Entity.TheVariants.{PointList}
 use Rattle.ifc_instances.specs.Looking.{is_a}
-use Rattle.ifc_schema.specs.Flaws.{InstanceFlaw}
 use Rattle.faceset.specs.Sets.{is_set}
-use Rattle.model_walk.specs.Clean.{IsClean, ShowsNone}
-use Rattle.model_walk.specs.Checked.{IsCleanBy}
+use Rattle.model_walk.specs.Clean.{IsClean}
 use Rattle.model_walk.proofs.CleanShown.{clean_shown, list_clean, set_clean}
 use Rattle.model_walk.proofs.GuidsDiffer.{on_true}
 use Rattle.model_walk.proofs.PlacesChecked.{holds_there, listed_there, kept_sets, kept_size, kept_clean}
@@ -50,3 +48,6 @@ returns-clause-clean c =
     (λ formed. holds_there (λ (j : Instance). IsClean world c.args.scale c.args.mode c.args.mapped j.id j) world c.args.at i c.instance-instance.ensures
     (clean_shown world c.args.scale c.args.mode c.args.mapped i (OnTrue_at c.if-not-shows_none.false c.shows_none.ensures) formed (sym c.includes.ensures ∙ c.if-includes.false) (sym c.is_set.ensures ∙ c.if-is_set.false)))
     c.is_formed.ensures
+
+pub keep_set-requires-clause-points : goal.keep_set-requires-clause-points
+keep_set-requires-clause-points c = (c.args.scale, c.args.mode, c.requires.points)
