@@ -11,7 +11,7 @@ use Rattle.ifc_instances.specs.declared.entity.Entity.TheVariants.{PointList}
 use Rattle.ifc_instances.specs.Looking.{is_a}
 use Rattle.ifc_instances.proofs.Rising.{below_next}
 use Rattle.ifc_schema.specs.declared.worklist.Mark.{Mark}
-use Rattle.ifc_schema.specs.declared.worklist.Mark.TheVariants.{Unseen, Mapped}
+use Rattle.ifc_schema.specs.declared.worklist.Mark.TheVariants.{Unseen, Used as Met, Mapped}
 use Rattle.ifc_schema.specs.declared.worklist.Work.{Work}
 use Rattle.ifc_schema.specs.Marks.{rank, rank_at, is_seen}
 use Rattle.ifc_units.specs.declared.scale.Scale.{Scale}
