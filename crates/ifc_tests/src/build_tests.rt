@@ -1,6 +1,8 @@
 //! A small file and changes of it, with what they make by hand work.
 use bim_model::{BuildError, Bytes, Mode, UploadFault};
 use model_build::{build, build_owned};
+use model_walk::walk;
+use p21_reader::read;
 use std::alloc::{AllocError, Global};
 use std::test::Fail;
 
@@ -108,5 +110,26 @@ fn the_first_fault_is_named(rt: HostRuntime) -> Result<(), Fail> {
             _ => assert!(rt; false, "at {}", change.others),
         }
     }
+    Ok(())
+}
+
+/// How many elements a walk gives; none where it says nothing.
+fn walked(alloc: Global, text: &str) -> Result<Option<usize>, Fail> {
+    let Ok(exchange) = read(alloc, text.as_bytes()) else {
+        return Ok(None);
+    };
+    let Some(walked) = walk(alloc, &exchange, Mode::Exact)? else {
+        return Ok(None);
+    };
+    Ok(Some(walked.into_elements(alloc)?.len()))
+}
+
+#[test]
+fn a_walk_gives_elements(rt: HostRuntime) -> Result<(), Fail> {
+    let alloc = rt.alloc();
+    let whole = file(alloc, UNIT, PIPE, "")?;
+    assert!(rt; walked(alloc, whole.as_str())? == Some(1));
+    let looped = file(alloc, UNIT, PLACED, CHANGES[3].others)?;
+    assert!(rt; walked(alloc, looped.as_str())?.is_none());
     Ok(())
 }

@@ -16,6 +16,7 @@ pub mod LocationsAway
 pub mod ManyCorners
 pub mod MappingsUnsupported
 pub mod ModelMade
+pub mod ModelOfWalk
 pub mod NumbersReadable
 pub mod OneAnswer
 pub mod OneKeyword
@@ -32,3 +33,4 @@ pub mod StuckFaces
 pub mod TrianglesCounted
 pub mod UnsupportedLeast
 pub mod UsedFormed
+pub mod WalkClear

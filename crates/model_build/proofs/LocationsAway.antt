@@ -24,12 +24,12 @@ few : units < 500
 few = omega arith
 
 -- a length has one grid number
-one_number : (scale : Scale) (mode : Mode) (v : Value21) (g h : ℤ) → HasGridNumber scale mode v g → HasGridNumber scale mode v h → g ≡ h
+pub one_number : (scale : Scale) (mode : Mode) (v : Value21) (g h : ℤ) → HasGridNumber scale mode v g → HasGridNumber scale mode v h → g ≡ h
 one_number scale mode v g h a b =
     let same = one_scaled v scale a.bytes b.bytes a.decimal b.decimal a.number b.number a.read b.read in
     unique mode units (length_of b.decimal scale) g h few (subst (λ x. IsGridNumber mode units x g) same a.grid) b.grid
 
-on_grid : (scale : Scale) (mode : Mode) (v : Value21) (g : ℤ) → IsLength scale mode v g → HasGridNumber scale mode v g
+pub on_grid : (scale : Scale) (mode : Mode) (v : Value21) (g : ℤ) → IsLength scale mode v g → HasGridNumber scale mode v g
 on_grid scale mode v g h = record { bytes = h.bytes; number = h.number; decimal = h.decimal; read = h.read; grid = h.grid }
 
 fits : (g : ℤ) → unsigned_abs g ≤ reach → FitsSigned w32 g
@@ -83,7 +83,7 @@ pub record AreOff (scale : Scale) (mode : Mode) (a b c : Value21) : Type 0 where
 given : (scale : Scale) (mode : Mode) (value a b c : Value21) → items_of value ≡ Some (a ∷ b ∷ c ∷ []) → AreOff scale mode a b c → IsAwayValue scale mode value
 given scale mode value a b c e h = record { a = a; b = b; c = c; three = e; x = h.x; y = h.y; z = h.z; grid = (h.first, (h.second, (h.third, tt))); some = h.some }
 
-taken : (scale : Scale) (mode : Mode) (value a b c : Value21) → items_of value ≡ Some (a ∷ b ∷ c ∷ []) → IsAwayValue scale mode value → AreOff scale mode a b c
+pub taken : (scale : Scale) (mode : Mode) (value a b c : Value21) → items_of value ≡ Some (a ∷ b ∷ c ∷ []) → IsAwayValue scale mode value → AreOff scale mode a b c
 taken scale mode value a b c e h =
     let f = h.three in
     let one : h.a ≡ a = cc in
@@ -99,7 +99,7 @@ taken scale mode value a b c e h =
       some = h.some;
     }
 
-all_zero : (x y z : ℤ) → x ≡ pos 0 → y ≡ pos 0 → z ≡ pos 0 → Any IsSome (x ∷ y ∷ z ∷ []) → ⊥
+pub all_zero : (x y z : ℤ) → x ≡ pos 0 → y ≡ pos 0 → z ≡ pos 0 → Any IsSome (x ∷ y ∷ z ∷ []) → ⊥
 all_zero x y z e f g s = at s.0 s.1 s.2 s.3 s.4
   where
     at : (k : ℕ) (n : ℤ) → k < length (x ∷ y ∷ z ∷ []) → get_or (x ∷ y ∷ z ∷ []) k n ≡ n → IsSome n → ⊥

@@ -36,7 +36,7 @@ use Rattle.ifc_elements.specs.declared.lack.Lack.TheVariants.{Beyond, Unready}
 use Rattle.ifc_elements.proofs.OneSurface.{one_surface}
 use Rattle.model_build.proofs.ElementsReady.{count_some}
 
-zip_at : {A B : Type 0} (R : A → B → Type 0) (xs : List A) (ys : List B) (i : ℕ) (d : A) (e : B) → AllZip R xs ys → i < length xs → R (get_or xs i d) (get_or ys i e)
+pub zip_at : {A B : Type 0} (R : A → B → Type 0) (xs : List A) (ys : List B) (i : ℕ) (d : A) (e : B) → AllZip R xs ys → i < length xs → R (get_or xs i d) (get_or ys i e)
 zip_at R [] ys i d e z lt = absurd (omega arith)
 zip_at R (x ∷ xs) [] i d e z lt = absurd z
 zip_at R (x ∷ xs) (y ∷ ys) zero d e z lt = z.0
@@ -83,7 +83,7 @@ never_beyond world scale mode id e near h =
     none_out ps all any = any.4 (subst IsInReach any.3 (all any.0 any.1 any.2))
 
 -- each listed number has its element
-element_there : (world : List Instance) (scale : Scale) (mode : Mode) (ids : List ℕ) (made : List Element) (id : ℕ) → AllZip (IsNearElement world scale mode) ids made → Contains ids id → (e : Element) × IsNearElement world scale mode id e
+pub element_there : (world : List Instance) (scale : Scale) (mode : Mode) (ids : List ℕ) (made : List Element) (id : ℕ) → AllZip (IsNearElement world scale mode) ids made → Contains ids id → (e : Element) × IsNearElement world scale mode id e
 element_there world scale mode [] made id z c = absurd (let l = c.1 in omega (arith, l))
 element_there world scale mode (x ∷ ids) [] id z c = absurd z
 element_there world scale mode (x ∷ ids) (e ∷ made) id z (zero, lt, is) = (e, subst (λ n. IsNearElement world scale mode n e) is z.0)
@@ -110,14 +110,14 @@ never_unready world scale mode placements listed ids found ready h is = ready fo
 
 -- The model.
 
-modelled : (world : List Instance) (scale : Scale) (mode : Mode) (ids : List ℕ) (made : List Element) → ((id : ℕ) → Contains ids id → 0 < count_of world id) → AllZip (IsNearElement world scale mode) ids made → All IsModelled made
+pub modelled : (world : List Instance) (scale : Scale) (mode : Mode) (ids : List ℕ) (made : List Element) → ((id : ℕ) → Contains ids id → 0 < count_of world id) → AllZip (IsNearElement world scale mode) ids made → All IsModelled made
 modelled world scale mode ids made some z k d lt =
     let long = AllZip-long (IsNearElement world scale mode) ids made z in
     let within : k < length ids = omega (arith, lt, long) in
     let near = zip_at (IsNearElement world scale mode) ids made k 0 d z within in
     record { guid = near.guid; some = subst (λ n. 0 < n) (sym near.count) (some (get_or ids k 0) (Contains-get_or ids k 0 within)); near = near.near }
 
-counts : (world : List Instance) (scale : Scale) (mode : Mode) (ids : List ℕ) (made : List Element) → AllZip (IsNearElement world scale mode) ids made → triangle_count made ≡ sum_by (count_of world) ids
+pub counts : (world : List Instance) (scale : Scale) (mode : Mode) (ids : List ℕ) (made : List Element) → AllZip (IsNearElement world scale mode) ids made → triangle_count made ≡ sum_by (count_of world) ids
 counts world scale mode [] [] z = refl
 counts world scale mode [] (e ∷ made) z = absurd z
 counts world scale mode (id ∷ ids) [] z = absurd z

@@ -1,6 +1,7 @@
 //! The model of a file (IFC4 ADD2 TC1, in the clear text encoding of ISO 10303-21), or its first fault.
 #![tactic(auto)]
 
+mod building;
 mod checks;
 mod counts;
 mod guids;
@@ -16,5 +17,5 @@ mod uncut_faces;
 mod unread_faces;
 mod unsupported;
 
-pub use laws::{instances_have_one_answer, profile_has_one_answer};
-pub use stages::{build, build_owned};
+pub use building::{build, build_owned};
+pub use laws::{instances_have_one_answer, profile_has_one_answer, walks_tell_models};

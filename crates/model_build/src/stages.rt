@@ -1,5 +1,5 @@
 //! The model of a file, or its first fault: the checks in their order.
-ghost use Rattle.std.specs.Prelude.{◌≡◌, Ok, IfOk, IfErr};
+ghost use Rattle.std.specs.Prelude.{◌≡◌, IfOk, IfErr};
 ghost use Rattle.ifc_schema.specs.Surveys.{used_ids, element_ids};
 ghost use Rattle.placement.specs.Placed.{AreFrames, frame_in};
 ghost use Rattle.ifc_elements.specs.Names.{AreNames};
@@ -9,7 +9,7 @@ ghost use Rattle.ifc_elements.specs.Sound.{AreSets};
 ghost use Rattle.model_build.specs.Faults.{IsClear};
 ghost use Rattle.model_build.specs.Stages.{TrianglesStage, FileFault};
 ghost use Rattle.model_build.specs.Outcomes.{IsErrorOf, IsOpened, IsSupported, IsMeasured, IsCut, AreReady};
-ghost use Rattle.model_build.specs.Profile.{IsModelOf, Profile, IsCause};
+ghost use Rattle.model_build.specs.Profile.{IsModelOf};
 
 use crate::checks::{
     chains_of, corners_fault, guid_fault, index_fault, item_fault, oblique_fault, stuck_fault,
@@ -18,11 +18,10 @@ use crate::checks::{
 use crate::judged_file::File;
 use crate::length_faults::first_length_fault;
 use crate::order::in_order;
-use bim_model::{BuildError, Bytes, Items, Mode, Model, Point, UploadFault};
+use bim_model::{BuildError, Items, Mode, Model, Point, UploadFault};
 use ifc_elements::{Lack, Names, Sets, Shapes, elements_of, table_of};
 use ifc_schema::survey;
 use ifc_units::length_unit;
-use p21_reader::{read, read_owned};
 use p21_table::Exchange;
 use placement::Frames;
 use spatial_tree::tree;
@@ -234,38 +233,14 @@ fn checked(alloc: Global, file: &File) -> Result<Model, BuildError>
     placed(alloc, file, &shapes, &sets)
 }
 
-/// The model of the instances of a file, or their first fault.
-fn build_file(alloc: Global, exchange: Exchange, mode: Mode) -> Result<Model, BuildError>
+/// The model of the instances of a file, or their first fault, by all checks in their order.
+pub fn build_file(alloc: Global, exchange: Exchange, mode: Mode) -> Result<Model, BuildError>
     ensures model { IfOk result (λ model. IsClear (FileFault exchange mode)
         × IsModelOf exchange mode model) }
     ensures fault { IfErr result (IsErrorOf (FileFault exchange mode)) }
 {
     match opened(alloc, exchange, mode) {
         Ok(file) => checked(alloc, &file),
-        Err(error) => Err(error),
-    }
-}
-
-/// The model that the bytes of a file make (IFC4 ADD2 TC1, in the clear text encoding of ISO 10303-21): its elements that have a body, with
-/// their surfaces in millimetres. A fault is that of the first check that finds one, in it the one with the least place or number. Lengths
-/// off the grid are refused in exact mode, and rounded in snap mode.
-pub fn build(alloc: Global, bytes: &[u8], mode: Mode) -> Result<Model, BuildError>
-    ensures model { IfOk result (λ model. Profile bytes.now mode (Ok model)) }
-    ensures fault { IfErr result (λ error. IsCause bytes.now mode error) }
-{
-    match read(alloc, bytes) {
-        Ok(exchange) => build_file(alloc, exchange, mode),
-        Err(error) => Err(error),
-    }
-}
-
-/// The same of bytes that it owns.
-pub fn build_owned(alloc: Global, bytes: Bytes, mode: Mode) -> Result<Model, BuildError>
-    ensures model { IfOk result (λ model. Profile bytes mode (Ok model)) }
-    ensures fault { IfErr result (λ error. IsCause bytes mode error) }
-{
-    match read_owned(alloc, bytes) {
-        Ok(exchange) => build_file(alloc, exchange, mode),
         Err(error) => Err(error),
     }
 }

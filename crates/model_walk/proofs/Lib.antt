@@ -1,0 +1,13 @@
+pub mod CleanShown
+pub mod FormsRead
+pub mod GuidsDiffer
+pub mod OneSetRead
+pub mod PiecesAdded
+pub mod PiecesKept
+pub mod PlacesChecked
+pub mod PointsPooled
+pub mod SetEntities
+pub mod SetForms
+pub mod SketchesMade
+pub mod SurfacesPlaced
+pub mod WalkMade

@@ -1,0 +1,8 @@
+mod EarRows
+mod FacesNamed
+pub mod IndexesNamed
+mod Pooled
+pub mod RowsCounted
+pub mod RowsNamed
+mod SetsRead
+mod ShortIndexes

@@ -1,0 +1,176 @@
+//! The triangles of faces, as rows (IFC4 ADD2 TC1, IfcPolygonalFaceSet, IfcIndexedPolygonalFace).
+ghost use Rattle.std.specs.Prelude.{◌≡◌, ◌<◌, ◌≤◌, ◌^◌, ◌++◌, ◌∷◌, [], List, Option, All, length, map, IfOk, IfSome, OnOk, option_copied};
+ghost use Rattle.std.specs.Bool.{OnTrue};
+ghost use Rattle.std.specs.List.{AllZip};
+ghost use Rattle.bim_model.specs.Points.{IsGridPoint};
+ghost use Rattle.p21_values.specs.declared.value.Value21.{Value21};
+ghost use Rattle.p21_values.specs.Attributes.{led_to};
+ghost use Rattle.ear_cut.specs.Areas.{point_at};
+ghost use Rattle.faceset.specs.Sets.{NamesPoint, IsCut, Joined, most_corners};
+ghost use Rattle.walk_rows.specs.Rows.{AreNumbers, AddsRows, place_at, row_at, triangles_at};
+ghost use Rattle.walk_rows.specs.SetRows.{LeadsToFace};
+
+use crate::row_places::place_named;
+use crate::triangle_rows::{Row, point_at};
+use bim_model::Point;
+use ear_cut::{CutFault, Ear, cut};
+use faceset::{MOST_CORNERS, outline};
+use ifc_instances::Entity;
+use p21_table::{Exchange, InstanceRef, ValueRef, Values};
+use std::alloc::{AllocError, Global};
+
+/// Which points the corners of a face are. None where an index names none, or they are too many.
+fn corner_places(
+    alloc: Global,
+    indexes: &Values<'_>,
+    numbers: Option<&[u32]>,
+    count: usize,
+) -> Result<Option<Vec<u32>>, AllocError>
+    requires { count < 2 ^ 32 }
+    ensures places { (names : Option (List Value21)) → AreNumbers count names (option_copied numbers.entry)
+        → IfOk result (λ found. IfSome found (λ places.
+        AllZip (NamesPoint names count) indexes.now places.items)) }
+    ensures few { IfOk result (λ found. IfSome found (λ places. length places.items ≤ most_corners)) }
+{
+    let mut made = Vec::new(alloc);
+    for value in indexes.iter() {
+        if made.as_slice().len() == MOST_CORNERS {
+            return Ok(None);
+        }
+        match place_named(&value, numbers, count) {
+            Some(place) => made.push(place)?,
+            None => return Ok(None),
+        }
+    }
+    Ok(Some(made))
+}
+
+/// The points at these places.
+fn corners_at(alloc: Global, points: &[Point], places: &[u32]) -> Result<Vec<Point>, AllocError>
+    ensures { IfOk result (λ made. made.items ≡ map (point_at points.now) places.now) }
+{
+    let mut made = Vec::with_capacity(alloc, places.len())?;
+    for place in places {
+        made.push(point_at(points, *place))?;
+    }
+    Ok(made)
+}
+
+/// The place that stands there; beyond all points where none does.
+fn place_at(places: &[u32], at: u32) -> u32
+    ensures { result ≡ place_at places.now at }
+{
+    match places.get(at as usize) {
+        Some(place) => *place,
+        None => u32::MAX,
+    }
+}
+
+/// The row of an ear.
+fn row_at(places: &[u32], ear: Ear) -> Row
+    ensures { result ≡ row_at places.now ear }
+{
+    Row {
+        a: place_at(places, ear.a),
+        b: place_at(places, ear.b),
+        c: place_at(places, ear.c),
+    }
+}
+
+/// Adds the rows of ears.
+fn add_ears(places: &[u32], ears: &[Ear], rows: &mut Vec<Row>) -> Result<(), AllocError>
+    ensures { OnOk result (rows.new.items ≡ rows.old.items ++ map (row_at places.now) ears.now) }
+{
+    for ear in ears {
+        rows.push(row_at(places, *ear))?;
+    }
+    Ok(())
+}
+
+/// Adds the rows of a face. False where it has too few corners or too many, an index that names no point, or can't be cut.
+fn add_face(
+    alloc: Global,
+    face: &InstanceRef<'_>,
+    numbers: Option<&[u32]>,
+    points: &[Point],
+    rows: &mut Vec<Row>,
+) -> Result<bool, AllocError>
+    requires few { length points.now < 2 ^ 32 }
+    requires in_grid { All IsGridPoint points.now }
+    ensures { (names : Option (List Value21))
+        → AreNumbers (length points.now) names (option_copied numbers.entry)
+        → IfOk result (λ added. OnTrue added
+        (AddsRows points.now (IsCut names points.now face.now) rows.old.items rows.new.items)) }
+{
+    let Some(places) = corner_places(alloc, &outline(face), numbers, points.len())? else {
+        return Ok(false);
+    };
+    if places.len() < 3 {
+        return Ok(false);
+    }
+    let corners = corners_at(alloc, points, &places)?;
+    match cut(alloc, &corners) {
+        Ok(ears) => {
+            add_ears(&places, &ears, rows)?;
+            Ok(true)
+        }
+        Err(CutFault::Stuck) => Ok(false),
+        Err(CutFault::Memory) => Err(AllocError),
+    }
+}
+
+/// Adds the rows of the face that a value refers to.
+fn add_face_of(
+    alloc: Global,
+    exchange: &Exchange,
+    value: &ValueRef<'_>,
+    numbers: Option<&[u32]>,
+    points: &[Point],
+    rows: &mut Vec<Row>,
+) -> Result<bool, AllocError>
+    requires few { length points.now < 2 ^ 32 }
+    requires in_grid { All IsGridPoint points.now }
+    ensures rows { (names : Option (List Value21))
+        → AreNumbers (length points.now) names (option_copied numbers.entry)
+        → IfOk result (λ added. OnTrue added (AddsRows points.now
+        (Joined (IsCut names points.now) (led_to exchange.now (value.now ∷ [])))
+        rows.old.items rows.new.items)) }
+    ensures leads { IfOk result (λ added. OnTrue added (LeadsToFace exchange.now value.now)) }
+{
+    match exchange.target(value) {
+        Some(face) => {
+            if !Entity::Face.includes(&face) {
+                return Ok(false);
+            }
+            add_face(alloc, &face, numbers, points, rows)
+        }
+        None => Ok(false),
+    }
+}
+
+/// The rows of the faces that values refer to, one face after another, at most so many. None where one isn't cut.
+pub fn rows_of_faces(
+    alloc: Global,
+    exchange: &Exchange,
+    values: &Values<'_>,
+    numbers: Option<&[u32]>,
+    points: &[Point],
+    most: usize,
+) -> Result<Option<Vec<Row>>, AllocError>
+    requires few { length points.now < 2 ^ 32 }
+    requires in_grid { All IsGridPoint points.now }
+    ensures rows { (names : Option (List Value21))
+        → AreNumbers (length points.now) names (option_copied numbers.entry)
+        → IfOk result (λ found. IfSome found (λ rows. Joined (IsCut names points.now)
+        (led_to exchange.now values.now) (triangles_at points.now rows.items))) }
+    ensures leads { IfOk result (λ found. IfSome found (λ rows. All (LeadsToFace exchange.now) values.now)) }
+{
+    let mut rows = Vec::new(alloc);
+    for value in values.iter() {
+        let added = add_face_of(alloc, exchange, &value, numbers, points, &mut rows)?;
+        if !added || rows.len() > most {
+            return Ok(None);
+        }
+    }
+    Ok(Some(rows))
+}
