@@ -1,5 +1,5 @@
 -- What is made of sketches.
-use Rattle.std.proofs.Common.{◌≡◌, ℕ, ◌+◌, ◌<◌, ◌≤◌, List, [], ◌∷◌, ◌++◌, length, get_or, map, take, take_all, sum_by, true, Option, Some, option_and_then, refl, sym, ap, ◌∙◌, subst}
+use Rattle.std.proofs.Common.{◌≡◌, ℕ, ◌+◌, ◌<◌, ◌≤◌, List, [], ◌∷◌, ◌++◌, length, get_or, map, take, take_all, sum_by, Option, Some, option_and_then, refl, sym, ap, ◌∙◌, subst}
 use Rattle.std.specs.List.{All, AllZip, slice_get}
 use Rattle.std.proofs.lemmas.List.{take_more, length-map}
 use Rattle.std.proofs.lemmas.List.Elements.{All-nil, All-cons}
@@ -9,9 +9,8 @@ use Rattle.bim_model.specs.declared.limits.TheConstants.{MOST_TRIANGLES}
 use Rattle.bim_model.specs.declared.upload.Mode.{Mode}
 use Rattle.p21_values.specs.declared.value.Instance.{Instance}
 use Rattle.p21_values.specs.declared.value.Value21.{Value21}
-use Rattle.p21_values.specs.Values.{reference_of, is_absent}
+use Rattle.p21_values.specs.Values.{reference_of}
 use Rattle.p21_values.specs.Looking.{look}
-use Rattle.ifc_instances.specs.Looking.{some_passes}
 use Rattle.placement.specs.declared.frame.Frame.{Frame}
 use Rattle.placement.specs.Placed.{AllPlaced}
 use Rattle.p21_values.proofs.PlaceLemmas.{place_found}
@@ -21,7 +20,7 @@ use Rattle.ifc_elements.specs.Making.{IsNearElement}
 use Rattle.ifc_elements.specs.Storeys.{IsStoreyName}
 use Rattle.ifc_elements.specs.Surfaces.{ItemSurface, placed_by}
 use Rattle.ifc_elements.proofs.TrianglesAdded.{joined_first, joined_length}
-use Rattle.model_walk.specs.declared.element_sketches.Placing.TheVariants.{Free, By}
+use Rattle.model_walk.specs.declared.element_sketches.Placing.TheVariants.{By}
 use Rattle.model_walk.specs.declared.element_sketches.Sketch.{Sketch}
 use Rattle.model_walk.specs.declared.element_sketches.Stock.{Stock}
 use Rattle.model_walk.specs.Sketches.{range_triangles, element_of, IsNearSketch}
@@ -29,9 +28,6 @@ use Rattle.model_walk.specs.Stocked.{IsStocked, Grows, IsPlacing, IsSketch, IsSk
 use Rattle.model_walk.proofs.PiecesKept.{same_stock, grows_twice, sketch_still, sound_stock}
 
 -- How an element is placed.
-
-pub placed_nowhere : (world : List Instance) (scale : Scale) (mode : Mode) (i : Instance) (value : Value21) → slice_get i.values 5 ≡ Some value → is_absent value ≡ true → IsPlacing world scale mode i Free
-placed_nowhere world scale mode i value there absent = ap (some_passes is_absent) there ∙ absent
 
 pub placed_there : (world : List Instance) (scale : Scale) (mode : Mode) (frames : ℕ → Option Frame) (i : Instance) (value : Value21) (id : ℕ) (frame : Frame) → slice_get i.values 5 ≡ Some value → reference_of value ≡ Some id → frames id ≡ Some frame
     → AllPlaced world scale mode frames → IsPlacing world scale mode i (By frame)
