@@ -1,7 +1,7 @@
 -- Pieces that are added, value by value.
 use Rattle.std.proofs.Common.{◌≡◌, ℕ, ◌+◌, Bool, true, false, List, [], ◌∷◌, ◌++◌, length, map, filter, flat_map, filter_map, get_or, Option, Some, None, Result, Ok, Err, option_and_then, refl, sym, ap, ap₂, ◌∙◌, subst, append_assoc, append-nil, arith}
 use Rattle.std.specs.Prelude.{IfOk, IfSome}
-use Rattle.std.specs.List.{All, cons_option}
+use Rattle.std.specs.List.{cons_option}
 use Rattle.std.proofs.lemmas.List.{length-map, length-append, map-append}
 use Rattle.std.proofs.lemmas.List.Elements.{All-nil, All-cons, All-append, filter-append}
 use Rattle.std.proofs.lemmas.Grind.{flat_map-append}
@@ -10,7 +10,7 @@ use Rattle.bim_model.specs.declared.geometry.Triangle.{Triangle}
 use Rattle.bim_model.specs.declared.upload.Mode.{Mode}
 use Rattle.p21_values.specs.declared.value.Value21.{Value21}
 use Rattle.p21_values.specs.declared.value.Instance.{Instance}
-use Rattle.p21_values.specs.Attributes.{listed, reference_at, led_to}
+use Rattle.p21_values.specs.Attributes.{reference_at, led_to}
 use Rattle.p21_values.specs.Looking.{look}
 use Rattle.p21_values.specs.Places.{IsPlaceOf}
 use Rattle.p21_values.specs.Values.{reference_of}
@@ -22,7 +22,7 @@ use Rattle.placement.specs.declared.frame.Frame.{Frame}
 use Rattle.placement.specs.Operators.{OperatorFrame}
 use Rattle.faceset.specs.Sets.{Joined, triangle_count}
 use Rattle.faceset.proofs.Joins.{joined_one, joined_append}
-use Rattle.ifc_elements.specs.Items.{is_mapped_item, mapped_sets, spelled_items, spelled_sets, items_of, bodies_among}
+use Rattle.ifc_elements.specs.Items.{is_mapped_item, mapped_sets, spelled_sets, items_of, bodies_among}
 use Rattle.ifc_elements.specs.Sound.{KeptSet, KeptMapped, KeptItem}
 use Rattle.ifc_elements.specs.Surfaces.{SetSurface, moved, placed_by}
 use Rattle.ifc_elements.proofs.OneSet.{same_triangle}

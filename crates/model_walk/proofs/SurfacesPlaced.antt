@@ -1,10 +1,10 @@
 -- Surfaces that are placed, triangle by triangle and piece by piece.
-use Rattle.std.proofs.Common.{◌≡◌, ℕ, zero, suc, ◌+◌, ◌<◌, List, [], ◌∷◌, ◌++◌, length, get_or, map, take, take_all, drop, ◌-◌, ◌≤◌, false, Option, Some, None, refl, sym, ap, ◌∙◌, subst, append_assoc, append-nil, Bool, arith}
+use Rattle.std.proofs.Common.{◌≡◌, ℕ, zero, suc, ◌+◌, ◌<◌, List, [], ◌∷◌, ◌++◌, length, get_or, map, take, take_all, ◌≤◌, false, Option, Some, None, refl, sym, ap, ◌∙◌, subst, append_assoc, append-nil, Bool, arith}
 use Rattle.std.specs.Bool.{OnTrue}
 use Rattle.std.specs.List.{All}
 use Rattle.std.specs.Option.{MatchOption, is_some}
 use Rattle.std.proofs.lemmas.List.{take_more, map-append}
-use Rattle.std.proofs.lemmas.List.Elements.{All-nil, All-cons, All-append, All-take, All-drop}
+use Rattle.std.proofs.lemmas.List.Elements.{All-nil, All-cons, All-append}
 use Rattle.std.proofs.lemmas.Grind.{flat_map-append}
 use Rattle.bim_model.specs.declared.geometry.Point.{Point}
 use Rattle.bim_model.specs.declared.geometry.Triangle.{Triangle}
@@ -18,9 +18,8 @@ use Rattle.ifc_elements.proofs.OneSurface.{same_map}
 use Rattle.ifc_elements.proofs.TrianglesMoved.{corners_append}
 use Rattle.model_walk.specs.declared.set_pool.SetRows.{SetRows}
 use Rattle.model_walk.specs.declared.shape_pieces.Piece.{Piece}
-use Rattle.model_walk.specs.declared.shape_pieces.Range.{Range}
 use Rattle.model_walk.specs.Pieces.{IsUnmapped, ArePlacedNear}
-use Rattle.model_walk.specs.Sketches.{AreNearSets, IsCarried, pieces_in, rows_with, kept_triangles, piece_triangles, pieces_triangles}
+use Rattle.model_walk.specs.Sketches.{AreNearSets, rows_with, kept_triangles, piece_triangles, pieces_triangles}
 use Rattle.model_walk.proofs.PiecesAdded.{placed_none}
 use Rattle.walk_rows.specs.declared.triangle_rows.Row.{Row}
 use Rattle.walk_rows.specs.Pools.{pooled}
@@ -49,9 +48,6 @@ near_left (t ∷ ts) us all =
 near_right : (ts us : List Triangle) → All IsInReach (corners_of (ts ++ us)) → All IsInReach (corners_of us)
 near_right [] us all = all
 near_right (t ∷ ts) us all = near_right ts us (near_rest t (ts ++ us) all)
-
-pub near_none : (frame : Option Frame) → ArePlacedNear frame []
-near_none frame = All-nil IsInReach
 
 near_join : (frame : Option Frame) (ts us : List Triangle) → ArePlacedNear frame ts → ArePlacedNear frame us → ArePlacedNear frame (ts ++ us)
 near_join frame ts us h k =
@@ -160,26 +156,12 @@ identity_near frame ts stays h =
     let each : (t : Triangle) → placed_by (Some frame) t ≡ placed_by None t = λ t. same_triangle (placed_by (Some frame) t) (placed_by None t) (stays t.a) (stays t.b) (stays t.c) in
     subst (λ (us : List Triangle). All IsInReach (corners_of us)) (same_map (placed_by (Some frame)) (placed_by None) each ts) h
 
--- What a piece shows.
-
-pub piece_there : (points : List (Option (List Point))) (sets : List (Option SetRows)) (piece : Piece) (kept : SetRows) (found : List Point) → pooled sets piece.set ≡ Some kept → pooled points kept.list ≡ Some found
-    → piece_triangles points sets piece ≡ map (placed_by piece.operator) (triangles_at found kept.rows)
-piece_there points sets piece kept found e f = ap (map (placed_by piece.operator)) (ap (kept_triangles points) e ∙ ap (λ (o : Option (List Point)). rows_with o kept) f)
-
+-- what is kept of a set is in reach
 pub found_near : (points : List (Option (List Point))) (sets : List (Option SetRows)) (at : ℕ) (kept : SetRows) (found : List Point) → AreNearSets points sets → pooled sets at ≡ Some kept → pooled points kept.list ≡ Some found
     → All IsInReach (corners_of (triangles_at found kept.rows))
 found_near points sets at kept found near e f = subst (λ (o : Option (List Point)). All IsInReach (corners_of (rows_with o kept))) f (near at kept e)
 
-pub piece_missing : (points : List (Option (List Point))) (sets : List (Option SetRows)) (piece : Piece) → pooled sets piece.set ≡ None → piece_triangles points sets piece ≡ []
-piece_missing points sets piece e = ap (λ (o : Option SetRows). map (placed_by piece.operator) (kept_triangles points o)) e
-
-pub list_missing : (points : List (Option (List Point))) (sets : List (Option SetRows)) (piece : Piece) (kept : SetRows) → pooled sets piece.set ≡ Some kept → pooled points kept.list ≡ None → piece_triangles points sets piece ≡ []
-list_missing points sets piece kept e f = ap (map (placed_by piece.operator)) (ap (kept_triangles points) e ∙ ap (λ (o : Option (List Point)). rows_with o kept) f)
-
--- The pieces of a range.
-
-pub range_carried : (pieces : List Piece) (range : Range) → All IsCarried pieces → All IsCarried (pieces_in pieces range)
-range_carried pieces range all = All-take IsCarried (range.to - range.from) (drop range.from pieces) (All-drop IsCarried range.from pieces all)
+-- Pieces so far, and all of them.
 
 pub unmapped_more : (pieces : List Piece) (k : ℕ) (d : Piece) → k < length pieces → is_some (get_or pieces k d).operator ≡ false → All IsUnmapped (take k pieces) → All IsUnmapped (take (k + 1) pieces)
 unmapped_more pieces k d lt plain all =

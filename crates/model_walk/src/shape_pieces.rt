@@ -1,5 +1,5 @@
 //! The items of the bodies of a product shape, each as the rows of a set and an operator (IFC4 ADD2 TC1, IfcProductDefinitionShape).
-ghost use Rattle.std.specs.Prelude.{◌≡◌, ◌≤◌, ◌∷◌, [], List, Option, Some, IfOk, IfSome, flat_map};
+ghost use Rattle.std.specs.Prelude.{◌≤◌, ◌∷◌, [], List, Option, Some, IfOk, IfSome, flat_map};
 ghost use Rattle.bim_model.specs.declared.limits.TheConstants.{MOST_TRIANGLES};
 ghost use Rattle.bim_model.specs.declared.geometry.Point.{Point};
 ghost use Rattle.bim_model.specs.declared.upload.Mode.{Mode};

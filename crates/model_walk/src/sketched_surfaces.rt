@@ -25,6 +25,7 @@ fn is_near(frame: &Frame, point: Point) -> bool
     frame.place(point).is_some()
 }
 
+/// .. and so each corner of a triangle.
 fn are_carried_near(frame: &Frame, triangle: &Triangle) -> bool
     requires { Framed frame.now }
     ensures { OnTrue result (All IsInReach (corners_of (moved frame.now triangle.now ∷ []))) }
@@ -74,11 +75,13 @@ fn are_rows_near(points: &[Point], rows: &[Row], operator: &Option<Frame>, frame
     true
 }
 
+/// Whether the corners of a piece are in reach once they are placed. False where its rows or their points aren't there.
 fn is_piece_near(stock: &Stock, piece: &Piece, frame: &Frame) -> bool
     requires sound { IsSoundStock stock.now }
     requires carried { IsCarried piece.now }
     requires frame { Framed frame.now }
-    ensures { OnTrue result (ArePlacedNear (Some frame.now) (piece_triangles stock.now.points stock.now.sets piece.now)) }
+    ensures { OnTrue result (ArePlacedNear (Some frame.now)
+        (piece_triangles stock.now.points stock.now.sets piece.now)) }
 {
     let Some(set) = stock.sets.get(piece.set) else {
         return false;
@@ -155,6 +158,7 @@ fn place(frame: &Frame, point: Point) -> Point
     }
 }
 
+/// The triangle in the building.
 fn placed(frame: &Option<Frame>, triangle: Triangle) -> Triangle
     requires framed { IfSome frame.now Framed }
     requires near { ArePlacedNear frame.now (triangle ∷ []) }
@@ -181,7 +185,8 @@ fn add_rows(
     requires operator { IsOperator operator.now }
     requires near { All IsInReach (corners_of (triangles_at points.now rows.now)) }
     requires framed { IfSome frame.now Framed }
-    requires placed { ArePlacedNear frame.now (map (placed_by operator.now) (triangles_at points.now rows.now)) }
+    requires placed { ArePlacedNear frame.now
+        (map (placed_by operator.now) (triangles_at points.now rows.now)) }
     ensures { OnOk result (out.new.items ≡ out.old.items
         ++ map (placed_by frame.now) (map (placed_by operator.now) (triangles_at points.now rows.now))) }
 {
@@ -191,6 +196,7 @@ fn add_rows(
     Ok(())
 }
 
+/// Adds the triangles of a piece in the building.
 fn add_piece(
     stock: &Stock,
     piece: &Piece,

@@ -1,4 +1,4 @@
-use Rattle.std.proofs.Common.{[], ◌∷◌, Option, Some, arith, subst}
+use Rattle.std.proofs.Common.{[], ◌∷◌, Option, arith, subst}
 use Rattle.placement.specs.declared.frame.Frame.{Frame}
 use Rattle.placement.specs.Frames.{carried}
 use Rattle.model_walk.specs.Pieces.{ArePlacedNear}
