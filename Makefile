@@ -1,7 +1,7 @@
 # make build             proves the crates that the program stands on, and leaves it at crates/bim_server/out/bim_server
 # make replay            replays the stored run of cases/topics/stored_run over the built program, and prints what it writes
 # make check             the test command: the map of crates, the whole gate, then the end-to-end cases over the built program,
-#                        clients over sockets, calls of the C library that fail in turn, and floods
+#                        clients over sockets, calls of the C library that fail in turn, floods, and the speed of reading
 # make hostile           the last two whole, over the program as it was built last: some minutes
 # make serve             serves on 127.0.0.1:8080 over the built program, until it is stopped
 # make crate NAME=..     proves one crate, over what earlier checks kept of those below it, and runs its tests
@@ -30,6 +30,7 @@ check:
 	python3 bench/serve.py $(SERVER) pipelined interleaved clashes curl cut end_by_links end_by_signal
 	python3 bench/failing.py $(SERVER) --some 60
 	python3 bench/hostile.py $(SERVER)
+	python3 bench/reading.py $(SERVER)
 
 hostile:
 	@test -x $(SERVER) || $(MAKE) --no-print-directory build

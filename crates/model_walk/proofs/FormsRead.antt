@@ -1,28 +1,23 @@
 -- What the reading of a list of points or of a triangulated set says of its form.
-use Rattle.std.proofs.Common.{◌≡◌, ℕ, zero, suc, ◌<◌, ◌⊎◌, inl, inr, Bool, true, false, ℤ, pos, List, [], ◌∷◌, length, get_or, Option, Some, None, option_and_then, refl, sym, ap, ◌∙◌, subst, arith}
-use Rattle.std.specs.Prelude.{MatchOption, nat_le}
-use Rattle.std.specs.Bool.{MatchBool}
-use Rattle.std.specs.List.{All, AllZip, slice_get}
+use Rattle.std.proofs.Common.{◌≡◌, ℕ, zero, suc, ◌<◌, ℤ, pos, List, [], ◌∷◌, length, get_or, Option, Some, None, sym, subst, arith}
+use Rattle.std.specs.Prelude.{MatchOption}
+use Rattle.std.specs.List.{All, AllZip}
 use Rattle.std.proofs.lemmas.Bool.{le-leb}
 use Rattle.bim_model.specs.declared.upload.Mode.{Mode}
 use Rattle.bim_model.specs.declared.geometry.Point.{Point}
 use Rattle.bim_model.specs.declared.geometry.Triangle.{Triangle}
 use Rattle.p21_values.specs.declared.value.Value21.{Value21}
 use Rattle.p21_values.specs.declared.value.Instance.{Instance}
-use Rattle.p21_values.specs.Values.{number_of, items_of, is_absent}
-use Rattle.p21_values.specs.Attributes.{listed}
+use Rattle.p21_values.specs.Values.{items_of}
 use Rattle.ifc_schema.specs.declared.flaw.Flaw.{Flaw}
 use Rattle.ifc_schema.specs.declared.flaw.Flaw.TheVariants.{BadShape}
-use Rattle.ifc_schema.specs.declared.form.Count.{Count}
 use Rattle.ifc_schema.specs.declared.form.Count.TheVariants.{Exactly, AtLeast}
-use Rattle.ifc_schema.specs.declared.form.Leaf.{Leaf}
 use Rattle.ifc_schema.specs.declared.form.Leaf.TheVariants as leaf
-use Rattle.ifc_schema.specs.Flaws.{LeafFlaw, FirstFlaw, ItemsFlaw, ListFlaw, NumberFlaw, WholeFlaw}
-use Rattle.ifc_schema.specs.Forms.{fits}
+use Rattle.ifc_schema.specs.Flaws.{LeafFlaw, ItemsFlaw, ListFlaw, NumberFlaw, WholeFlaw}
 use Rattle.ifc_units.specs.declared.scale.Scale.{Scale}
 use Rattle.ifc_units.specs.Lengths.{IsLength, IsPoint, ArePoints}
 use Rattle.faceset.specs.Indexes.{PointsAt}
-use Rattle.faceset.specs.Sets.{NamesPoint, IsCorner, IsTriangle, AreTriangles}
+use Rattle.faceset.specs.Sets.{IsCorner, IsTriangle, AreTriangles}
 
 -- Leaves.
 

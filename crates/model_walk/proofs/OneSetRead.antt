@@ -1,12 +1,11 @@
 -- What is read of a set, where its list's points are in the pool.
-use Rattle.std.proofs.Common.{◌≡◌, ℕ, ◌<◌, true, pos, List, length, map, get_or, Option, Some, sym, subst, arith}
+use Rattle.std.proofs.Common.{◌≡◌, ℕ, ◌<◌, true, pos, List, length, get_or, Option, Some, sym, arith}
 use Rattle.std.specs.List.{All}
 use Rattle.std.proofs.lemmas.List.{length-map}
 use Rattle.bim_model.specs.declared.upload.Mode.{Mode}
 use Rattle.bim_model.specs.declared.geometry.Point.{Point}
 use Rattle.bim_model.specs.Points.{IsGridPoint}
 use Rattle.bim_model.specs.Models.{IsInReach}
-use Rattle.p21_values.specs.declared.value.Value21.{Value21}
 use Rattle.p21_values.specs.declared.value.Instance.{Instance}
 use Rattle.p21_values.specs.Attributes.{listed, reference_at}
 use Rattle.p21_values.specs.Places.{IsPlaceOf}

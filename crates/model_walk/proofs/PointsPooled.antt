@@ -1,5 +1,5 @@
 -- The points of one list of points after another come into a pool.
-use Rattle.std.proofs.Common.{◌≡◌, ◌≢◌, ℕ, zero, suc, ◌+◌, ◌<◌, ◌⊎◌, inl, inr, Bool, true, false, List, [], ◌∷◌, length, get_or, replicate, Option, Some, None, refl, sym, ap, ◌∙◌, subst, arith}
+use Rattle.std.proofs.Common.{◌≡◌, ◌≢◌, ℕ, zero, suc, ◌+◌, ◌<◌, ◌⊎◌, inl, inr, Bool, true, false, List, length, get_or, Option, Some, refl, sym, ap, ◌∙◌, subst, arith}
 use Rattle.std.specs.Bool.{MatchBool}
 use Rattle.std.specs.List.{HoldsAt, slice_get}
 use Rattle.std.proofs.lemmas.List.{get_or_default}
@@ -19,11 +19,6 @@ use Rattle.walk_rows.specs.Pools.{pooled, Pools}
 use Rattle.model_walk.specs.Kept.{HasPoints, ArePooled, HasLists}
 
 -- Pools.
-
-pub none_kept : {T : Type 0} (places at : ℕ) → pooled {T = T} (replicate places None) at ≡ None
-none_kept zero at = refl
-none_kept (suc n) zero = refl
-none_kept {T = T} (suc n) (suc at) = none_kept {T = T} n at
 
 pub cases_same : (a b : ℕ) → (a ≡ b) ⊎ (a ≢ b)
 cases_same zero zero = inl refl
@@ -47,17 +42,6 @@ pub record IsFilled (world : List Instance) (scale : Scale) (mode : Mode) (work 
   pub sound : ArePooled world scale mode pool
   pub lists : HasLists world (λ k. (k < at) × (0 < rank_at work k)) pool
   pub size : length pool ≡ length world
-
-length_replicated : {T : Type 0} (n : ℕ) (x : T) → length (replicate n x) ≡ n
-length_replicated zero x = refl
-length_replicated (suc n) x = ap suc (length_replicated n x)
-
-pub filled_first : (world : List Instance) (scale : Scale) (mode : Mode) (work : Work) (places : ℕ) (pool : List (Option (List Point))) → pool ≡ replicate places None → places ≡ length world → IsFilled world scale mode work 0 pool
-filled_first world scale mode work places pool e n = record {
-  sound = λ at points f. absurd (let z = ap (λ p. pooled p at) e ∙ none_kept {T = List Point} places at in let no : None ≡ Some points = sym z ∙ f in cc);
-  lists = λ at below. absurd (let lt = below.0 in omega (arith, lt));
-  size = ap length e ∙ (length_replicated places None ∙ n);
-}
 
 -- one that isn't used adds none
 pub filled_past : (world : List Instance) (scale : Scale) (mode : Mode) (work : Work) (at : ℕ) (pool : List (Option (List Point))) → (0 < rank_at work at → ⊥) → IsFilled world scale mode work at pool → IsFilled world scale mode work (at + 1) pool
@@ -115,15 +99,6 @@ filled_more world scale mode work at i old new there made f = by_kind (is_a Poin
     by_kind : (b : Bool) → is_a PointList i ≡ b → MatchBool b ((points : List Point) × HasPoints scale mode points i × Pools old new at points) (new ≡ old) → IsFilled world scale mode work (at + 1) new
     by_kind true e m = list_past world scale mode work at i m.0 old new there m.1 m.2 f
     by_kind false e m = subst (IsFilled world scale mode work (at + 1)) (sym m) (other_past world scale mode work at i old there e f)
-
--- at the end it has all
-pub filled_all : (world : List Instance) (scale : Scale) (mode : Mode) (work : Work) (at : ℕ) (pool : List (Option (List Point))) → length world ≡ at → IsFilled world scale mode work at pool → HasLists world (λ k. 0 < rank_at work k) pool
-filled_all world scale mode work at pool long f k used is = let lt = past world k is in f.lists k (omega (arith, lt, long), used) is
-  where
-    past : (xs : List Instance) (k : ℕ) → HoldsAt (λ (i : Instance). is_a PointList i ≡ true) xs k → k < length xs
-    past [] k h = absurd (let e : false ≡ true = h (record { id = 0; keyword = None; values = [] }) in cc)
-    past (x ∷ xs) zero h = omega arith
-    past (x ∷ xs) (suc k) h = let r = past xs k h in omega (arith, r)
 
 -- Marks.
 

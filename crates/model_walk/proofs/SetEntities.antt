@@ -1,5 +1,5 @@
 -- The entities of lists of points and of face sets: no two entities share a keyword.
-use Rattle.std.proofs.Common.{◌≡◌, ◌==◌, ℕ, Bool, true, false, ◌||◌, List, Option, Some, None, refl, sym, ap, ◌∙◌}
+use Rattle.std.proofs.Common.{◌≡◌, ℕ, Bool, true, false, ◌||◌, List, Option, Some, None, refl, sym, ap, ◌∙◌}
 use Rattle.std.proofs.lemmas.Bool.{eqb-true}
 use Rattle.ifc_keywords.specs.Codes.{code_at}
 use Rattle.p21_values.specs.declared.value.Instance.{Instance}

@@ -1,5 +1,5 @@
 -- A list of points and a set that were read have the form of their rows.
-use Rattle.std.proofs.Common.{◌≡◌, ℕ, zero, suc, ◌<◌, ◌≤◌, ◌⊎◌, inl, inr, Bool, true, false, List, [], ◌∷◌, length, Option, Some, None, option_and_then, refl, sym, ap, ◌∙◌, subst, arith}
+use Rattle.std.proofs.Common.{◌≡◌, ℕ, ◌<◌, ◌≤◌, ◌⊎◌, inl, inr, Bool, true, false, List, [], ◌∷◌, length, Option, Some, None, option_and_then, refl, sym, ap, ◌∙◌, subst, arith}
 use Rattle.std.specs.Prelude.{MatchOption}
 use Rattle.std.specs.Bool.{⊤, MatchBool}
 use Rattle.std.specs.List.{All, slice_get}
@@ -16,7 +16,7 @@ use Rattle.p21_values.specs.Looking.{look}
 use Rattle.p21_values.specs.Attributes.{listed, led_to, reference_at}
 use Rattle.ifc_instances.specs.declared.entity.Entity.{Entity}
 use Rattle.ifc_instances.specs.declared.entity.Entity.TheVariants as entity
-use Rattle.ifc_instances.specs.Looking.{entity_at, is_a}
+use Rattle.ifc_instances.specs.Looking.{is_a}
 use Rattle.ifc_schema.specs.declared.flaw.Flaw.{Flaw}
 use Rattle.ifc_schema.specs.declared.flaw.Flaw.TheVariants.{BadShape}
 use Rattle.ifc_schema.specs.declared.form.Attribute.{Attribute}
@@ -30,7 +30,7 @@ use Rattle.ifc_schema.specs.declared.form.Shape.TheVariants as shape
 use Rattle.ifc_schema.specs.declared.form.Need.TheVariants.{Must, OrMissing}
 use Rattle.ifc_schema.specs.declared.form.When.TheVariants.{Always}
 use Rattle.ifc_schema.specs.Forms.{holds}
-use Rattle.ifc_schema.specs.Table.{row_of, attribute, row_at, row_or_none}
+use Rattle.ifc_schema.specs.Table.{row_of, attribute, row_or_none}
 use Rattle.ifc_schema.specs.Flaws.{LeafFlaw, ListFlaw, ItemsFlaw, ShapeFlaw, PlaceFlaw, AttributeFlaw, InstanceFlaw, bad_unless, target_flaw, wanted_flaw, reference_flaw}
 use Rattle.ifc_units.specs.declared.scale.Scale.{Scale}
 use Rattle.ifc_units.specs.Lengths.{IsPoint, ArePoints}

@@ -1,4 +1,4 @@
-use Rattle.std.proofs.Common.{◌≡◌, ◌<◌, length, sym, ◌∙◌, arith}
+use Rattle.std.proofs.Common.{◌<◌, length, sym, ◌∙◌, arith}
 use Rattle.std.proofs.lemmas.Bool.{OnTrue_at}
 use Rattle.model_walk.proofs.PointsPooled.{filled_past, filled_more, unmet}
 use Rattle.model_walk.proofs.point_pool.points_in.Goals as goal

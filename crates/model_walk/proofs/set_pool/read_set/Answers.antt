@@ -1,4 +1,4 @@
-use Rattle.std.proofs.Common.{◌≡◌, ◌<◌, Some, List, length, sym, ◌∙◌, subst, ap, arith}
+use Rattle.std.proofs.Common.{Some, List, length, sym, ◌∙◌, subst, ap, arith}
 use Rattle.std.specs.List.{All}
 use Rattle.bim_model.specs.Points.{IsGridPoint}
 use Rattle.faceset.specs.Sets.{SetTriangles}

@@ -1,6 +1,5 @@
-use Rattle.std.proofs.Common.{◌≡◌, ℕ, Bool, true, false, Option, Some, refl, sym, ap, ◌∙◌, subst}
+use Rattle.std.proofs.Common.{◌≡◌, Bool, true, false, sym, ◌∙◌, subst}
 use Rattle.std.specs.Bool.{OnTrue}
-use Rattle.placement.specs.declared.frame.Frame.{Frame}
 use Rattle.placement.specs.Placed.{AxisFrame}
 use Rattle.model_walk.specs.Clean.{HasPlainOrigin, identity}
 use Rattle.model_walk.proofs.used_checks.has_plain_origin.Goals as goal

@@ -1,4 +1,4 @@
-use Rattle.std.proofs.Common.{◌≡◌, ℕ, Bool, true, false, Option, Some, None, is_some, sym, subst}
+use Rattle.std.proofs.Common.{◌≡◌, ℕ, Bool, true, Option, Some, None, is_some, subst}
 use Rattle.std.specs.Option.{IfSome}
 use Rattle.std.specs.Bool.{OnTrue}
 use Rattle.ifc_instances.specs.declared.entity.Entity.TheVariants.{Operator}
