@@ -27,7 +27,7 @@ HERE = os.path.dirname(os.path.abspath(__file__))
 sys.path.insert(0, HERE)
 import uploads  # noqa: E402
 
-BOUND = 0.05  # the least part of the plain program's speed
+BOUND = 0.12  # the least part of the plain program's speed
 PEAK = None  # the greatest peak of memory, in sizes of the file
 RUNS = 5
 SIZES = {"4": 1, "11": 2.5, "28": 6.3}  # with no more triangles than a model may have
