@@ -1,9 +1,8 @@
 -- Rows of short numbers have no flaw, and what is left behind them has the first.
-use Rattle.std.proofs.Common.{◌≡◌, ℕ, ◌+◌, ◌<◌, List, [], ◌∷◌, ◌++◌, length, get_or, Option, Some, None, is_some, Bool, true, false, refl, sym, ap, subst, ◌∙◌, arith, append_assoc}
+use Rattle.std.proofs.Common.{◌≡◌, ℕ, ◌+◌, List, [], ◌∷◌, ◌++◌, length, get_or, Option, Some, None, is_some, Bool, true, false, sym, ap, subst, ◌∙◌, arith, append_assoc}
 use Rattle.std.specs.Prelude.{All, MatchOption}
 use Rattle.std.specs.Bool.{OnTrue}
-use Rattle.std.specs.List.{HoldsAt}
-use Rattle.std.proofs.lemmas.List.{append-nil, get_or_append_left, length-append}
+use Rattle.std.proofs.lemmas.List.{get_or_append_left, length-append}
 use Rattle.std.proofs.lemmas.List.Elements.{All-nil, All-push, All-append, All-get_or, All-weaker}
 use Rattle.std.proofs.Math.Seq.{get_or-append_seam}
 use Rattle.bim_text.specs.Values.{signed}
@@ -12,7 +11,6 @@ use Rattle.bim_text.specs.declared.short.ShortRow.{ShortRow}
 use Rattle.bim_text.proofs.ShortDecimals.{short_reads, short_whole}
 use Rattle.p21_values.specs.declared.value.Value21.{Value21}
 use Rattle.p21_values.specs.declared.value.Instance.{Instance}
-use Rattle.p21_values.specs.Values.{number_of, items_of}
 use Rattle.p21_table.specs.ShortRows.{SaysShort, SaysRow}
 use Rattle.ifc_schema.specs.declared.flaw.Flaw.{Flaw}
 use Rattle.ifc_schema.specs.declared.flaw.Flaw.TheVariants.{BadShape}

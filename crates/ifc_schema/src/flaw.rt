@@ -79,7 +79,7 @@ fn wanted_flaw(exchange: &Exchange, wanted: Targets, value: &ValueRef<'_>) -> Op
 {
     match value.reference() {
         Some(to) => match exchange.look(to) {
-            Some(instance) => bad_unless(wanted.holds(&instance.keyword())),
+            Some(instance) => bad_unless(wanted.include(&instance)),
             None => Some(Flaw::Dangling(to)),
         },
         None => Some(Flaw::BadShape),

@@ -29,7 +29,7 @@ fn mark_target(
 {
     match exchange.place_of(to) {
         Some(at) => {
-            if targets.holds(&exchange.instance(at).keyword()) {
+            if targets.include(&exchange.instance(at)) {
                 work.raise(at, mark)
             } else {
                 Ok(())

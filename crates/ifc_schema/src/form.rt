@@ -3,7 +3,7 @@ ghost use Rattle.std.specs.Prelude.{◌≡◌};
 ghost use Rattle.ifc_schema.specs.Forms.{is_nothing, holds, fits, followed, allows_absent, allows_missing};
 
 use ifc_instances::Entity;
-use p21_table::Keyword;
+use p21_table::InstanceRef;
 
 /// The instances that a reference may lead to, by their entities.
 #[derive(Clone, Copy)]
@@ -91,21 +91,19 @@ impl Targets {
         matches!(self, Targets::Nothing)
     }
 
-    /// Whether an instance with this keyword is meant.
-    pub fn holds(self, keyword: &Option<Keyword<'_>>) -> bool
-        ensures { result ≡ holds self keyword.now }
+    /// Whether an instance is one of those that are meant.
+    pub fn include(self, instance: &InstanceRef<'_>) -> bool
+        ensures { result ≡ holds self instance.now.keyword }
     {
-        let Some(keyword) = keyword else {
-            return false;
-        };
         match self {
             Targets::Nothing => false,
-            Targets::One(entity) => entity.is(keyword),
-            Targets::Faces => Entity::Face.is(keyword) || Entity::FaceWithVoids.is(keyword),
+            Targets::One(entity) => entity.includes(instance),
+            Targets::Faces => Entity::Face.includes(instance)
+                || Entity::FaceWithVoids.includes(instance),
             Targets::Items => {
-                Entity::TriangulatedFaceSet.is(keyword)
-                    || Entity::PolygonalFaceSet.is(keyword)
-                    || Entity::MappedItem.is(keyword)
+                Entity::TriangulatedFaceSet.includes(instance)
+                    || Entity::PolygonalFaceSet.includes(instance)
+                    || Entity::MappedItem.includes(instance)
             }
         }
     }

@@ -9,9 +9,8 @@ use Rattle.bim_model.specs.declared.upload.Mode.TheVariants.{Exact, Snap}
 use Rattle.bim_text.specs.declared.decimal.Decimal.{Decimal}
 use Rattle.bim_text.specs.declared.short.Short.{Short}
 use Rattle.bim_text.specs.Values.{Scaled, signed, above, below, SameValue}
-use Rattle.bim_text.specs.Numbers.{written}
 use Rattle.bim_text.specs.Decimals.{Reads, value_of}
-use Rattle.bim_text.specs.Short.{SpellsShort, short_value}
+use Rattle.bim_text.specs.Short.{SpellsShort}
 use Rattle.bim_text.proofs.Powers.{same_value, same_zero, powers, signed_size}
 use Rattle.bim_text.proofs.Quotients.{power_some, times}
 use Rattle.p21_values.specs.declared.value.Value21.{Value21}
@@ -20,7 +19,7 @@ use Rattle.ifc_units.specs.declared.scale.Scale.{Scale}
 use Rattle.ifc_units.specs.declared.sizes.TheConstants.{UNITS, MOST}
 use Rattle.ifc_units.specs.declared.length_error.GridFault.{GridFault}
 use Rattle.ifc_units.specs.declared.length_error.GridFault.TheVariants.{OffGrid, TooFar}
-use Rattle.ifc_units.specs.Grid.{IsGridNumber, length_of}
+use Rattle.ifc_units.specs.Grid.{IsGridNumber}
 use Rattle.ifc_units.specs.Sizes.{distance, IsSize, IsSizeOf}
 use Rattle.ifc_units.specs.Lengths.{IsLength, LengthRefused}
 use Rattle.ifc_units.proofs.Signs.{grid_ok, grid_off, grid_far}

@@ -91,7 +91,8 @@ fn row_point(row: ShortRow, scale: Scale, mode: Mode) -> Result<Point, LengthErr
 /// The point of the next value that is left; none at the end.
 fn next_point(left: &mut Values<'_>, scale: Scale, mode: Mode) -> Option<Result<Point, LengthError>>
     ensures { MatchOption result (left.old ≡ [])
-        (λ found. (value : Value21) × (left.old ≡ value ∷ left.new) × MatchResult found (IsPoint scale mode value)
+        (λ found. (value : Value21) × (left.old ≡ value ∷ left.new)
+        × MatchResult found (IsPoint scale mode value)
         (Fails (IsPoint scale mode value) (PointRefused scale mode value))) }
 {
     if let Some(row) = left.next_row() {
@@ -114,7 +115,7 @@ pub fn points(
     ensures { IfOk result (λ made. MatchResult made (λ points. ArePoints scale mode values.now points.items)
         (Fails (ArePoints scale mode values.now) (PointsRefused scale mode values.now))) }
 {
-    let mut made = Vec::with_capacity(alloc, values.len())?;
+    let mut made = Vec::new(alloc);
     let mut left = values.iter();
     while let Some(found) = next_point(&mut left, scale, mode) {
         match found {

@@ -1,5 +1,5 @@
 -- Pieces that are added leave those of earlier shapes where they stand.
-use Rattle.std.proofs.Common.{◌≡◌, ℕ, ◌+◌, ◌-◌, ◌<◌, ◌≤◌, ◌⊎◌, inl, inr, List, [], ◌∷◌, ◌++◌, length, get_or, map, flat_map, take, drop, take_all, Option, Some, None, Result, Ok, Err, option_and_then, refl, sym, ap, ◌∙◌, subst, append_assoc, append-nil, zero-add, arith}
+use Rattle.std.proofs.Common.{◌≡◌, ℕ, ◌+◌, ◌-◌, ◌<◌, ◌≤◌, inl, inr, List, [], ◌++◌, length, get_or, map, flat_map, take, drop, take_all, Option, Some, None, Result, Ok, Err, option_and_then, refl, sym, ap, ◌∙◌, subst, append_assoc, append-nil, zero-add, arith}
 use Rattle.std.specs.List.{All, HoldsAt, slice_get}
 use Rattle.std.specs.Option.{IfSome}
 use Rattle.std.specs.Result.{IfOk}
@@ -26,11 +26,10 @@ use Rattle.ifc_elements.specs.Sound.{KeptItem}
 use Rattle.ifc_elements.specs.Surfaces.{placed_by}
 use Rattle.model_walk.specs.declared.element_sketches.Sketch.{Sketch}
 use Rattle.model_walk.specs.declared.element_sketches.Stock.{Stock}
-use Rattle.model_walk.specs.declared.set_pool.SetRows.{SetRows}
 use Rattle.model_walk.specs.declared.shape_pieces.Piece.{Piece}
 use Rattle.model_walk.specs.declared.shape_pieces.Range.{Range}
 use Rattle.model_walk.specs.Kept.{AreReadSets}
-use Rattle.model_walk.specs.Sketches.{rows_with, pieces_triangles, pieces_in, range_triangles, AreNearSets, IsCarried, IsSoundStock, IsRangeIn, IsNearSketch}
+use Rattle.model_walk.specs.Sketches.{rows_with, pieces_triangles, pieces_in, range_triangles, IsCarried, IsSoundStock, IsRangeIn, IsNearSketch}
 use Rattle.model_walk.specs.Stocked.{AddsPieces, shape_items, ShowsItems, IsStocked, Grows, IsSketch}
 use Rattle.walk_rows.specs.Pools.{pooled, Pools}
 

@@ -1,13 +1,11 @@
 -- What is known of a file while its elements are sketched.
-use Rattle.std.specs.Prelude.{◌≡◌, ℕ, ◌+◌, ◌<◌, ◌≤◌, List, length, ◌++◌, flat_map, sum_by, All, Contains, IfSome, map, Option, Some, None}
+use Rattle.std.specs.Prelude.{◌≡◌, ℕ, ◌+◌, ◌<◌, ◌≤◌, List, length, ◌++◌, flat_map, sum_by, All, Contains, map, Option, Some, None}
 use Rattle.std.specs.List.{HoldsAt, AllZip}
 use Rattle.bim_model.specs.declared.upload.Mode.{Mode}
 use Rattle.bim_model.specs.declared.element.Element.{Element}
 use Rattle.bim_model.specs.declared.geometry.Point.{Point}
 use Rattle.bim_model.specs.declared.limits.TheConstants.{MOST_TRIANGLES}
-use Rattle.bim_model.specs.Boxes.{corners_of}
 use Rattle.bim_model.specs.Guids.{IsGuid}
-use Rattle.bim_model.specs.Models.{IsInReach}
 use Rattle.p21_values.specs.declared.value.Instance.{Instance}
 use Rattle.ifc_units.specs.declared.scale.Scale.{Scale}
 use Rattle.faceset.specs.Sets.{Joined}
@@ -17,7 +15,7 @@ use Rattle.ifc_elements.specs.Items.{bodies_of, items_of, body_items, count_of}
 use Rattle.ifc_elements.specs.Making.{IsNearElement}
 use Rattle.ifc_elements.specs.Sound.{KeptItem}
 use Rattle.ifc_elements.specs.Storeys.{IsStoreyName}
-use Rattle.ifc_elements.specs.Surfaces.{IsPlacedBy, placed_by}
+use Rattle.ifc_elements.specs.Surfaces.{IsPlacedBy}
 use Rattle.ifc_elements.specs.Texts.{guid_of, name_of}
 use Rattle.model_walk.specs.declared.element_sketches.Placing.{Placing}
 use Rattle.model_walk.specs.declared.element_sketches.Placing.TheVariants.{Free, By, Unknown}

@@ -23,7 +23,8 @@ pub fn word_end(bytes: &[u8], from: usize) -> Option<usize>
     }
 }
 
-/// The end of the digits from `from` on that keep a name's value within its bound.
+/// The end of the digits from `from` on that keep a name's value within its bound. A value of at most (bound - 9) / 10 takes any
+/// digit, so few digits cost a division.
 #[tactic(auto, using(crate::proofs::RunLemmas::names))]
 fn name_digits_end(bytes: &[u8], from: usize) -> usize
     requires { from ≤ length bytes.now }
@@ -34,7 +35,7 @@ fn name_digits_end(bytes: &[u8], from: usize) -> usize
     let mut value: u64 = 0;
     while at < bytes.len() && is_digit(bytes[at]) {
         let digit = (bytes[at] - b'0') as u64;
-        if value > (GREATEST_NAME - digit) / 10 {
+        if value > (GREATEST_NAME - 9) / 10 && value > (GREATEST_NAME - digit) / 10 {
             return at;
         }
         value = value * 10 + digit;

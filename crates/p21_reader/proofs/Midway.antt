@@ -56,7 +56,7 @@ alone_none s l e = by_next (next s (class_of l)) refl e
 first_signs : (most : ℕ) (top : Top) (depth : ℕ) (typed : List Bool) → top ≡ tops.Value → depth ≡ 0 → signs most top depth typed ≡ Value (Some most) ∷ []
 first_signs most top depth typed e d = let z : most - 0 ≡ most = omega arith in rw (e, d, z) refl
 
-counts_more : (before middle after m n : ℕ) → Counts before middle m → Counts middle after n → Counts before after (m + n)
+pub counts_more : (before middle after m n : ℕ) → Counts before middle m → Counts middle after n → Counts before after (m + n)
 counts_more before middle after m n h k = omega (arith, h, k)
 
 counts_one : (before middle after n : ℕ) → before ≡ middle → Counts middle after n → Counts before after (n + 0)

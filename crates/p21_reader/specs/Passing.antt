@@ -5,6 +5,7 @@ use Rattle.p21_reader.specs.declared.passing.Top.TheVariants as tops
 use Rattle.p21_values.specs.declared.piece.Kind.{Kind}
 use Rattle.p21_values.specs.declared.piece.Kind.TheVariants as kinds
 use Rattle.p21_values.specs.Grammar.{Close, Open, Sign, T, Value, Inside, After}
+use Rattle.p21_values.specs.Lexemes.{Lexeme, NumberOf, Separator, Closing, Cuts}
 
 -- behind a value, the innermost level first
 abbrev pub wanted : ℕ → ℕ → List Bool → List Sign
@@ -30,3 +31,11 @@ tells kinds.Simple = 1
 tells kinds.Name = 1
 tells kinds.Open = 1
 tells _ = 0
+
+-- what is left of a list of three numbers behind its opening parenthesis
+abbrev pub row_rest : List ℕ → List ℕ → List ℕ → List Lexeme
+row_rest x y z = NumberOf x ∷ Separator ∷ NumberOf y ∷ Separator ∷ NumberOf z ∷ Closing ∷ []
+
+-- three numbers with commas between and a closing parenthesis are cut there, one behind another
+abbrev pub EndsRow : List ℕ → ℕ → ℕ → Type 0
+EndsRow bytes at end = (x y z : List ℕ) × Cuts bytes at (row_rest x y z) end

@@ -1,14 +1,18 @@
 -- What the functions answer that make the table of a file.
-use Rattle.std.specs.Prelude.{◌≡◌, ℕ, ◌+◌, ◌-◌, ◌^◌, min, List, [], ◌∷◌, ◌++◌, sum_by, Option, Some, Result, Ok, Err}
+use Rattle.std.specs.Prelude.{◌≡◌, ◌⊎◌, ℕ, ◌+◌, ◌-◌, ◌^◌, min, List, [], ◌∷◌, ◌++◌, sum_by, Option, Some, Result, Ok, Err}
 use Rattle.p21_lexer.specs.declared.token.Token.{Token}
 use Rattle.p21_values.specs.declared.fault.ReadFault.{ReadFault}
 use Rattle.p21_values.specs.declared.value.Value21.{Value21}
 use Rattle.p21_values.specs.declared.value.Instance.{Instance}
 use Rattle.p21_values.specs.declared.instance_head.Head.{Head}
+use Rattle.p21_reader.specs.declared.passing.Level.{Level}
+use Rattle.p21_reader.specs.declared.passing.Reached.{Reached}
+use Rattle.p21_reader.specs.declared.passing.Top.TheVariants as tops
 use Rattle.p21_reader.specs.declared.table.Table.{Table}
 use Rattle.p21_values.specs.Grammar.{Sign, T, Equals, Semi, Body, Value, Inside}
 use Rattle.p21_values.specs.Lexemes.{Lexeme, Closing, lexeme_of, class_of}
 use Rattle.p21_reader.specs.Machine.{next}
+use Rattle.p21_reader.specs.Passing.{EndsRow}
 use Rattle.p21_values.specs.Printing.{print_all}
 use Rattle.p21_values.specs.Counting.{size, values_of}
 use Rattle.p21_reader.specs.Reading.{Goes, Fails, FailsAfter, ReadsValue}
@@ -20,6 +24,13 @@ use Rattle.p21_values.specs.Tables.{Tells, Holds}
 -- so many are counted beside those before; the greatest number where they are more
 abbrev pub Counts : ℕ → ℕ → ℕ → Type 0
 Counts before after many = after ≡ min (before + many) (2 ^ 64 - 1)
+
+-- nothing is passed over, or what is left of a list of three numbers, where the inside of a list is wanted: three values
+abbrev pub PassesRow : List ℕ → ℕ → Level → ℕ → ℕ → Reached → Type 0
+PassesRow bytes at level before after reached =
+    ((reached.level ≡ level) × (reached.end ≡ at) × (after ≡ before))
+    ⊎ ((level.top ≡ tops.Inside) × (reached.level.top ≡ tops.Behind) × (reached.level.depth ≡ level.depth - 1)
+    × EndsRow bytes at reached.end × Counts before after 3)
 
 -- a value whose first token is given is passed over and counted: where it ends, or what fails
 abbrev pub PassesValue : ℕ → List ℕ → Token → ℕ → ℕ → Result ℕ ReadFault → Type 0

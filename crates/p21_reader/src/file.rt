@@ -50,7 +50,7 @@ pub fn read_file(alloc: Global, bytes: &[u8], begun: usize) -> Result<File, Read
     ensures file { IfOk result (λ file. TablesFile bytes.now file.table file.is_ifc4) }
     ensures fault { IfErr result (λ fault. FaultAt bytes.now fault) }
 {
-    let mut table = Table::new(alloc);
+    let mut table = Table::new(alloc, bytes.len())?;
     let head = header(alloc, bytes, begun)?;
     table_section(bytes, head.end, &mut table)?;
     Ok(File {

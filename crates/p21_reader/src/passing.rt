@@ -5,10 +5,11 @@ ghost use Rattle.p21_reader.specs.Instances.{Passes};
 ghost use Rattle.p21_values.specs.declared.limits.TheConstants.{MOST_DEPTH};
 ghost use Rattle.p21_reader.specs.Machine.{step};
 ghost use Rattle.p21_values.specs.Pieces.{IsPiece, kind_of};
-ghost use Rattle.p21_reader.specs.Passing.{wanted, signs, IsFit, tells};
-ghost use Rattle.p21_reader.specs.Tabling.{Counts, PassesValue};
+ghost use Rattle.p21_reader.specs.Passing.{wanted, signs, IsFit, tells, EndsRow};
+ghost use Rattle.p21_reader.specs.Tabling.{Counts, PassesRow, PassesValue};
 
 use crate::word::expect;
+use bim_text::short_row;
 use p21_values::{Kind, MOST_DEPTH, Piece, ReadFault, refused, take};
 
 /// What is wanted next.
@@ -28,6 +29,13 @@ pub enum Top {
 pub struct Level {
     pub top: Top,
     pub depth: usize,
+}
+
+/// Up to where tokens were passed over, and what is wanted there.
+#[derive(Clone, Copy)]
+pub struct Reached {
+    pub level: Level,
+    pub end: usize,
 }
 
 /// What is wanted after a token, where a value is wanted.
@@ -170,6 +178,45 @@ fn counted(so_far: u64, kind: Kind) -> u64
     }
 }
 
+/// Behind a list of three short numbers without blanks, whose opening parenthesis ends at `at`. None says nothing.
+#[inline(always)]
+fn row_end(bytes: &[u8], at: usize) -> Option<usize>
+    requires some { 0 < at }
+    requires within { at ≤ length bytes.now }
+    ensures row { IfSome result (EndsRow bytes.now at) }
+    ensures on { IfSome result (λ end. at ≤ end) }
+    ensures within { IfSome result (λ end. end ≤ length bytes.now) }
+{
+    let row = short_row(bytes, at - 1)?;
+    Some(row.end)
+}
+
+/// Passes over what is left of a list that has just been opened, where it is such a row. Nothing is passed where it isn't.
+#[inline(always)]
+fn pass_row(bytes: &[u8], at: usize, level: Level, count: &mut u64) -> Reached
+    requires some { 0 < at }
+    requires within { at ≤ length bytes.now }
+    requires open { level.top ≡ Top.Inside → 0 < level.depth }
+    ensures row { PassesRow bytes.now at level count.old count.new result }
+    ensures depth { result.level.depth ≤ level.depth }
+    ensures on { at ≤ result.end }
+    ensures within { result.end ≤ length bytes.now }
+{
+    if let Top::Inside = level.top {
+        if let Some(end) = row_end(bytes, at) {
+            *count = (*count).saturating_add(3);
+            return Reached {
+                level: Level {
+                    top: Top::Behind,
+                    depth: level.depth - 1,
+                },
+                end,
+            };
+        }
+    }
+    Reached { level, end: at }
+}
+
 /// Passes over a list or a typed value whose first token is given.
 #[inline(never)]
 fn pass_nested(bytes: &[u8], first: Piece, most: usize, count: &mut u64) -> Result<usize, ReadFault>
@@ -190,11 +237,12 @@ fn pass_nested(bytes: &[u8], first: Piece, most: usize, count: &mut u64) -> Resu
             return Err(refused(piece));
         };
         *count = counted(*count, piece.kind);
-        if is_over(next) {
-            return Ok(piece.token.end);
+        let reached = pass_row(bytes, piece.token.end, next, count);
+        if is_over(reached.level) {
+            return Ok(reached.end);
         }
-        level = next;
-        piece = take(bytes, piece.token.end)?;
+        level = reached.level;
+        piece = take(bytes, reached.end)?;
     }
 }
 

@@ -14,7 +14,13 @@ use crate::word::expect;
 use ifc_keywords::code_of;
 use p21_table::name_of;
 use p21_values::{Head, Kind, MOST_DEPTH, Piece, ReadFault, refused, take};
-use std::alloc::Global;
+use std::alloc::{AllocError, Global};
+
+/// A new table has room for an instance for each so many bytes of the file; it grows where there are more.
+const BYTES_A_HEAD: usize = 64;
+
+/// And for an attribute for each so many.
+const BYTES_A_START: usize = 16;
 
 /// The heads of the instances, the starts of their attributes one after another, and how many values they are.
 #[derive(Drop)]
@@ -175,18 +181,18 @@ pub fn table_section(bytes: &[u8], at: usize, table: &mut Table) -> Result<usize
 }
 
 impl Table {
-    ghost use Rattle.std.specs.Prelude.{◌≡◌, []};
+    ghost use Rattle.std.specs.Prelude.{◌≡◌, [], IfOk};
 
-    /// A table of no instances.
-    pub fn new(alloc: Global) -> Table
-        ensures heads { result.heads.items ≡ [] }
-        ensures starts { result.starts.items ≡ [] }
-        ensures values { result.values ≡ 0 }
+    /// A table of no instances, with room from the start for those of a file of so many bytes.
+    pub fn new(alloc: Global, size: usize) -> Result<Table, AllocError>
+        ensures heads { IfOk result (λ table. table.heads.items ≡ []) }
+        ensures starts { IfOk result (λ table. table.starts.items ≡ []) }
+        ensures values { IfOk result (λ table. table.values ≡ 0) }
     {
-        Table {
-            heads: Vec::new(alloc),
-            starts: Vec::new(alloc),
+        Ok(Table {
+            heads: Vec::with_capacity(alloc, size / BYTES_A_HEAD)?,
+            starts: Vec::with_capacity(alloc, size / BYTES_A_START)?,
             values: 0,
-        }
+        })
     }
 }

@@ -70,6 +70,7 @@ impl Exchange {
     }
 
     /// What it keeps.
+    #[inline(always)]
     pub(crate) fn kept(&self) -> Kept<'_>
         ensures holds { ∥ Holds result.bytes.now result.starts.now result.heads.now self.now ∥₁ }
         ensures ids { map (λ h. h.id) result.heads.now ≡ map (λ i. i.id) self.now }

@@ -98,6 +98,7 @@ pub fn take(bytes: &[u8], at: usize) -> Result<Piece, ReadFault>
 }
 
 /// The same of any token.
+#[inline(always)]
 fn take_any(bytes: &[u8], at: usize) -> Result<Piece, ReadFault>
     requires { at ≤ length bytes.now }
     ensures cuts { IfOk result (λ piece. CutsFrom bytes.now at (Ok (Some piece.token))) }

@@ -1,4 +1,3 @@
-use Rattle.std.proofs.Common.{sym, ◌∙◌}
 use Rattle.ifc_units.proofs.lengths.next_point.Goals as goal
 
 pub returns-in-Some : goal.returns-in-Some

@@ -4,7 +4,7 @@ use Rattle.ifc_units.proofs.PointFacts.{points_fail, points_more, points_over, m
 use Rattle.ifc_units.proofs.lengths.points.Goals as goal
 
 pub loop-found-init : goal.loop-found-init
-loop-found-init c = ([], sym c.iter-left.ensures, subst (λ ps. ArePoints c.args.scale c.args.mode [] ps) (sym c.in_ok-made.ensures.items) tt)
+loop-found-init c = ([], sym c.iter-left.ensures, subst (λ ps. ArePoints c.args.scale c.args.mode [] ps) (sym c.new-made.ensures.items) tt)
 
 pub returns-in-Err : goal.returns-in-Err
 returns-in-Err c =

@@ -1,6 +1,5 @@
-use Rattle.std.proofs.Common.{ℕ, ◌+◌, ◌≤◌, Option, refl, sym, subst, arith}
+use Rattle.std.proofs.Common.{◌+◌, Option, refl, sym, subst, arith}
 use Rattle.std.specs.Option.{IfSome}
-use Rattle.bim_model.specs.declared.limits.TheConstants.{MOST_TRIANGLES}
 use Rattle.model_walk.specs.declared.element_sketches.Sketch.{Sketch}
 use Rattle.model_walk.specs.Stocked.{IsStocked, Grows, IsSketch}
 use Rattle.model_walk.proofs.SketchesMade.{sketched_none, sketched_more, are_sketches}

@@ -5,7 +5,7 @@ use Rattle.p21_reader.proofs.file.read_file.Goals as goal
 pub returns-in_err-head-clause-fault : goal.returns-in_err-head-clause-fault
 returns-in_err-head-clause-fault c =
     let f = c.in_err-head.field-0.0 in
-    rw (residual _ _ c.from_residual.ensures.1) (fault_at c.args.bytes.now f (file_fails c.args.bytes.now c.args.begun f c.requires.begun c.in_err-head.ensures.header))
+    rw (residual _ _ c.from_residual-in_err-head.ensures.1) (fault_at c.args.bytes.now f (file_fails c.args.bytes.now c.args.begun f c.requires.begun c.in_err-head.ensures.header))
 
 pub returns-in_err-table_section-clause-fault : goal.returns-in_err-table_section-clause-fault
 returns-in_err-table_section-clause-fault c =
