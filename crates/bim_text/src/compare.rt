@@ -313,8 +313,8 @@ pub fn says(spelled: &[u8], text: &str) -> bool
 pub fn says_guid(spelled: &[u8]) -> bool
     ensures { result ≡ is_guid (text_of_spelling spelled.now) }
 {
-    if are_plain(spelled) {
-        return spelled.len() == 22 && are_guid_chars(spelled);
+    if spelled.len() == 22 && are_guid_chars(spelled) {
+        return true;
     }
     goes_as(spelled, Wanted::Guid(0))
 }

@@ -1,1 +1,2 @@
 pub mod ShortRows
+pub mod FirstBytes
