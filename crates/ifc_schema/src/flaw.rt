@@ -105,7 +105,7 @@ fn leaf_flaw(exchange: &Exchange, leaf: Leaf, value: &ValueRef<'_>) -> Option<Fl
     match leaf {
         Leaf::Number => number_flaw(exchange, value),
         Leaf::Whole => whole_flaw(exchange, value),
-        Leaf::Text => bad_unless(value.is_text()),
+        Leaf::Text => bad_unless(value.words().is_some()),
         Leaf::Enumeration => bad_unless(value.is_enumeration()),
         Leaf::Reference(wanted) => wanted_flaw(exchange, wanted, value),
         Leaf::AnyReference(_) => any_flaw(exchange, value),

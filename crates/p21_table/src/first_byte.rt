@@ -1,5 +1,5 @@
 //! What the first byte of a value tells, where no gap stands before it: most questions need no more. None says nothing.
-ghost use Rattle.std.specs.Prelude.{◌≡◌, ◌≤◌, List, length, Some, None, IfSome, MatchOption, is_some, option_copied};
+ghost use Rattle.std.specs.Prelude.{◌≡◌, ◌≤◌, List, length, Some, None, IfSome, MatchOption, option_copied};
 ghost use Rattle.p21_values.specs.declared.value.Value21.{Value21};
 ghost use Rattle.p21_values.specs.Values.{words_of, reference_of, items_of, is_absent};
 ghost use Rattle.p21_values.specs.Standing.{Stands, StandInside};
@@ -47,15 +47,6 @@ pub fn reference_by_byte(bytes: &[u8], at: usize) -> Option<Option<u64>>
         Some(name) => Some(Some(name.id)),
         None => None,
     }
-}
-
-/// Whether the value is a text.
-#[inline(always)]
-pub fn text_by_byte(bytes: &[u8], at: usize) -> Option<bool>
-    ensures { IfSome result (λ answer. (v : Value21) → Stands bytes.now at v → answer ≡ is_some (words_of v)) }
-{
-    let byte = token_byte(bytes, at)?;
-    Some(byte == b'\'')
 }
 
 /// The bytes of the text, as it is spelled between its apostrophes; none where the value is no text.

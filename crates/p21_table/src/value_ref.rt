@@ -5,9 +5,7 @@ ghost use Rattle.p21_values.specs.Values.{items_of};
 ghost use Rattle.p21_values.specs.Standing.{Stands, Stood, StandInside};
 ghost use Rattle.p21_values.proofs.Stood.{one_stood};
 
-use crate::first_byte::{
-    absent_by_byte, inside_by_byte, reference_by_byte, text_by_byte, words_by_byte,
-};
+use crate::first_byte::{absent_by_byte, inside_by_byte, reference_by_byte, words_by_byte};
 use crate::standing::{
     absent_there, enumeration_there, first_token, inside_there, number_there, reference_there,
     words_there,
@@ -54,7 +52,7 @@ impl<'a> Model for ValueRef<'a> {
 }
 
 impl<'a> ValueRef<'a> {
-    ghost use Rattle.std.specs.Prelude.{◌≡◌, ◌≤◌, length, is_some, option_copied};
+    ghost use Rattle.std.specs.Prelude.{◌≡◌, ◌≤◌, length, option_copied};
     ghost use Rattle.p21_values.specs.declared.value.Value21.{Value21};
     ghost use Rattle.p21_values.specs.Standing.{Stands, Stood};
     ghost use Rattle.p21_values.specs.Values.{number_of, words_of, enumeration_of, reference_of, items_of, is_enumeration, is_absent};
@@ -87,16 +85,6 @@ impl<'a> ValueRef<'a> {
         }
         let first = first_token(self.bytes, self.at)?;
         words_there(self.bytes, first)
-    }
-
-    /// Whether it is a text.
-    pub fn is_text(&self) -> bool
-        ensures { result ≡ is_some (words_of self.now) }
-    {
-        if let Some(answer) = text_by_byte(self.bytes, self.at) {
-            return answer;
-        }
-        self.words().is_some()
     }
 
     /// The letters of an enumeration, without its points.
