@@ -16,7 +16,7 @@ use Rattle.p21_values.specs.declared.instance_head.Head.{Head}
 use Rattle.p21_values.specs.Lexemes.{Lexeme, Closing, lexeme_of, Cuts}
 use Rattle.p21_values.specs.Printing.{print, print_all}
 use Rattle.p21_values.specs.Saying.{content, contents}
-use Rattle.p21_values.specs.Standing.{Stands, Begins, Begun, Stood, StandInside}
+use Rattle.p21_values.specs.Standing.{Stands, Begins, Begun, StandInside}
 use Rattle.p21_values.specs.Tables.{NamesKeyword, Tells, Holds, Meaning, starts_of}
 use Rattle.p21_values.proofs.Tokens.{one_token}
 use Rattle.p21_values.proofs.Spelled.{spell, spell_all, print_is, print_all_is, one_value, one_all}
@@ -171,9 +171,6 @@ instances_set = Coded-set (Prim.hlevel (codes, row.the_row.coded))
 pub one_begun : (bytes : List ℕ) (t : Token) → IsProp (Begun bytes t)
 one_begun bytes t = λ u w. Σ_prop_path (λ v. ∥∥₁_prop) (∥∥₁_elim u.1 (value_set u.0 w.0) (λ h. ∥∥₁_elim w.1 (value_set u.0 w.0) (λ k. begins_once bytes t u.0 w.0 h k)))
 
-pub one_stood : (bytes : List ℕ) (at : ℕ) → IsProp (Stood bytes at)
-one_stood bytes at = λ u w. Σ_prop_path (λ v. ∥∥₁_prop) (∥∥₁_elim u.1 (value_set u.0 w.0) (λ h. ∥∥₁_elim w.1 (value_set u.0 w.0) (λ k. stands_once bytes at u.0 w.0 h k)))
-
 pub one_inside : (bytes : List ℕ) (at : ℕ) → IsProp ((vs : List Value21) × ∥ StandInside bytes at vs ∥₁)
 one_inside bytes at = λ u w. Σ_prop_path (λ v. ∥∥₁_prop) (∥∥₁_elim u.1 (values_set u.0 w.0) (λ h. ∥∥₁_elim w.1 (values_set u.0 w.0) (λ k. inside_once bytes at u.0 w.0 h k)))
 
@@ -186,9 +183,6 @@ world_told bytes starts heads given world h = ∥∥₁_elim given.1 (instances_
 
 pub value_told : (bytes : List ℕ) (t : Token) (given : Begun bytes t) (v : Value21) → Begins bytes t v → given.0 ≡ v
 value_told bytes t given v h = ∥∥₁_elim given.1 (value_set given.0 v) (λ k. begins_once bytes t given.0 v k h)
-
-pub stood_told : (bytes : List ℕ) (at : ℕ) (given : Stood bytes at) (v : Value21) → Stands bytes at v → given.0 ≡ v
-stood_told bytes at given v h = ∥∥₁_elim given.1 (value_set given.0 v) (λ k. stands_once bytes at given.0 v k h)
 
 pub inside_told : (bytes : List ℕ) (at : ℕ) (given : (vs : List Value21) × ∥ StandInside bytes at vs ∥₁) (vs : List Value21) → StandInside bytes at vs → given.0 ≡ vs
 inside_told bytes at given vs h = ∥∥₁_elim given.1 (values_set given.0 vs) (λ k. inside_once bytes at given.0 vs k h)

@@ -25,10 +25,6 @@ pub record Begins (bytes : List ℕ) (t : Token) (v : Value21) : Type 0 where
 abbrev pub Begun : List ℕ → Token → Type 0
 Begun bytes t = (v : Value21) × ∥ Begins bytes t v ∥₁
 
--- the value that stands there
-abbrev pub Stood : List ℕ → ℕ → Type 0
-Stood bytes at = (v : Value21) × ∥ Stands bytes at v ∥₁
-
 -- values stand from there on, between commas, up to a closing parenthesis
 abbrev pub StandInside : List ℕ → ℕ → List Value21 → Type 0
 StandInside bytes at vs = (end : ℕ) × Cuts bytes at (print_all vs ++ Closing ∷ []) end
