@@ -309,7 +309,7 @@ pub fn says(spelled: &[u8], text: &str) -> bool
 }
 
 /// Whether that text is a globally unique identifier (IFC4 ADD2 TC1, IfcGloballyUniqueId).
-#[tactic(auto, using(crate::proofs::AllRows::whole), unfolding(crate::specs::Says::ends_guid))]
+#[tactic(auto, using(crate::proofs::PlainGuids::guids), unfolding(crate::specs::Says::ends_guid))]
 pub fn says_guid(spelled: &[u8]) -> bool
     ensures { result ≡ is_guid (text_of_spelling spelled.now) }
 {

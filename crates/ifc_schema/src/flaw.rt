@@ -223,12 +223,7 @@ fn table_flaw(
     }
 }
 
-fn shape_flaw(
-    exchange: &Exchange,
-    leaf: Leaf,
-    shape: &Shape,
-    value: &ValueRef<'_>,
-) -> Option<Flaw>
+fn shape_flaw(exchange: &Exchange, leaf: Leaf, shape: &Shape, value: &ValueRef<'_>) -> Option<Flaw>
     ensures { ShapeFlaw exchange.now leaf shape.now value.now result }
 {
     match shape {
@@ -239,11 +234,7 @@ fn shape_flaw(
     }
 }
 
-fn value_flaw(
-    exchange: &Exchange,
-    attribute: &Attribute,
-    value: &ValueRef<'_>,
-) -> Option<Flaw>
+fn value_flaw(exchange: &Exchange, attribute: &Attribute, value: &ValueRef<'_>) -> Option<Flaw>
     ensures { ValueFlaw exchange.now attribute.now value.now result }
 {
     if attribute.need.allows_absent() && value.is_absent() {

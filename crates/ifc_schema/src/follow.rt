@@ -168,7 +168,8 @@ fn follow_attribute(
 ) -> Result<(), AllocError>
     requires size { length work.old.marks.items ≡ length exchange.now }
     requires bodied { bodied ≡ has_body exchange.now instance.now }
-    requires used { (to : ℕ) → NamesBy exchange.now mapped instance.now attribute.now to → Used exchange.now to }
+    requires used { (to : ℕ) → NamesBy exchange.now mapped instance.now attribute.now to
+        → Used exchange.now to }
     ensures grows { OnOk result (Grows exchange.now work.old work.new) }
     ensures marked { OnOk result ((to : ℕ) → NamesBy exchange.now mapped instance.now attribute.now to
         → IsMarked exchange.now work.new 0 to) }

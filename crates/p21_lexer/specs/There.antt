@@ -23,7 +23,8 @@ IsOneValue _ b = Unit {0}
 
 -- a value of one token stands right there, and ends there
 abbrev pub IsValueThere : List ℕ → ℕ → ℕ → Type 0
-IsValueThere bytes at end = (kind : TokenKind) × IsOneValue kind (slice_index bytes at) × StandsThere bytes at kind end
+IsValueThere bytes at end = (kind : TokenKind)
+    × IsOneValue kind (slice_index bytes at) × StandsThere bytes at kind end
 
 -- an instance name stands right there: its number, and where it ends
 pub record IsNameThere (bytes : List ℕ) (at : ℕ) (name : NameThere) : Type 0 where

@@ -33,16 +33,19 @@ PassesRow bytes at level before after reached =
     ⊎ ((level.top ≡ tops.Inside) × (reached.level.top ≡ tops.Behind) × (reached.level.depth ≡ level.depth - 1)
     × EndsRow bytes at reached.end × Counts before after 3)
 
--- lists of three numbers, each behind a comma, are passed over, and each is counted as four values
+-- nothing is passed over, or lists of three numbers, each behind a comma, and each is counted as four values
 abbrev pub PassesRows : List ℕ → ℕ → ℕ → ℕ → ℕ → Type 0
-PassesRows bytes at before after end = (many : ℕ) × HasRows many bytes at end × Counts before after (4 * many)
+PassesRows bytes at before after end =
+    ((end ≡ at) × (after ≡ before))
+    ⊎ ((many : ℕ) × HasRows many bytes at end × Counts before after (4 * many))
 
 -- nothing more is passed over, or such lists, behind a value of a list that may hold lists
 abbrev pub PassesMore : List ℕ → ℕ → List Bool → Reached → ℕ → ℕ → Reached → Type 0
 PassesMore bytes most typed old before after new =
     ((new ≡ old) × (after ≡ before))
-    ⊎ ((new.level ≡ old.level) × (old.level.top ≡ tops.Behind) × (0 < old.level.depth) × (old.level.depth < most)
-    × (slice_index_or typed (old.level.depth - 1) false ≡ false) × PassesRows bytes old.end before after new.end)
+    ⊎ ((new.level ≡ old.level) × (old.level.top ≡ tops.Behind) × (0 < old.level.depth)
+    × (old.level.depth < most) × (slice_index_or typed (old.level.depth - 1) false ≡ false)
+    × PassesRows bytes old.end before after new.end)
 
 -- a value whose first token is given is passed over and counted: where it ends, or what fails
 abbrev pub PassesValue : ℕ → List ℕ → Token → ℕ → ℕ → Result ℕ ReadFault → Type 0

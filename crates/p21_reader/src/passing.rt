@@ -1,5 +1,5 @@
 //! Passing over a value: nothing is built, and nothing recurses.
-ghost use Rattle.std.specs.Prelude.{◌≡◌, ◌⊎◌, true, false, ◌-◌, ◌<◌, ◌≤◌, ◌∷◌, [], ℕ, List, length, Some, IfSome, IfOk, option_map};
+ghost use Rattle.std.specs.Prelude.{◌≡◌, ◌⊎◌, true, false, ◌-◌, ◌<◌, ◌≤◌, ◌∷◌, [], ℕ, List, length, slice_index_or, Some, IfSome, IfOk, option_map};
 ghost use Rattle.p21_values.specs.Grammar.{Class, Value, Inside, T, Open, AnyWord, Ones};
 ghost use Rattle.p21_reader.specs.Instances.{Passes};
 ghost use Rattle.p21_values.specs.declared.limits.TheConstants.{MOST_DEPTH};
@@ -9,8 +9,8 @@ ghost use Rattle.p21_values.specs.Lexemes.{NumberOf, single_says, Cuts};
 ghost use Rattle.p21_reader.specs.Passing.{wanted, signs, IsFit, tells, EndsRow, HasRow};
 ghost use Rattle.p21_reader.specs.Tabling.{Counts, PassesRow, PassesRows, PassesMore, PassesValue};
 
-use crate::word::expect;
 use p21_lexer::number_there;
+use crate::word::expect;
 use p21_values::{Kind, MOST_DEPTH, Piece, ReadFault, refused, take};
 
 /// What is wanted next.
@@ -246,9 +246,32 @@ fn row_behind(bytes: &[u8], at: usize) -> Option<usize>
     row_end(bytes, at + 2)
 }
 
+/// Whether a value has ended in a list that may hold lists.
+#[inline(always)]
+fn holds_lists(level: Level, most: usize, typed: &[bool]) -> bool
+    requires room { length typed.now ≡ 32 }
+    requires most { most ≤ 32 }
+    requires depth { level.depth ≤ most }
+    ensures behind { result ≡ true → level.top ≡ Top.Behind }
+    ensures some { result ≡ true → 0 < level.depth }
+    ensures deep { result ≡ true → level.depth < most }
+    ensures lists { result ≡ true → slice_index_or typed.now (level.depth - 1) false ≡ false }
+{
+    match level.top {
+        Top::Behind => level.depth > 0 && level.depth < most && !typed[level.depth - 1],
+        _ => false,
+    }
+}
+
 /// Passes over rows behind a value of a list that is open, where it may hold lists.
 #[inline(always)]
-fn pass_more(bytes: &[u8], reached: Reached, most: usize, typed: &[bool], count: &mut u64) -> Reached
+fn pass_more(
+    bytes: &[u8],
+    reached: Reached,
+    most: usize,
+    typed: &[bool],
+    count: &mut u64,
+) -> Reached
     requires room { length typed.now ≡ 32 }
     requires most { most ≤ 32 }
     requires depth { reached.level.depth ≤ most }
@@ -258,14 +281,12 @@ fn pass_more(bytes: &[u8], reached: Reached, most: usize, typed: &[bool], count:
     ensures on { reached.end ≤ result.end }
     ensures within { result.end ≤ length bytes.now }
 {
-    let level = reached.level;
-    if let Top::Behind = level.top {
-        if level.depth > 0 && level.depth < most && !typed[level.depth - 1] {
-            return Reached {
-                level,
-                end: pass_rows(bytes, reached.end, count),
-            };
-        }
+    if holds_lists(reached.level, most, typed) {
+        let end = pass_rows(bytes, reached.end, count);
+        return Reached {
+            level: reached.level,
+            end,
+        };
     }
     reached
 }

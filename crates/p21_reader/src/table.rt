@@ -10,9 +10,9 @@ ghost use Rattle.p21_reader.specs.Tabling.{PutsStart, PutsBehind, PutsStarts, Pu
 
 use crate::passing::{pass_complex, pass_value};
 use crate::section::closing;
+use p21_lexer::value_there;
 use crate::word::{expect, take_word};
 use ifc_keywords::code_of;
-use p21_lexer::value_there;
 use p21_table::name_of;
 use p21_values::{Head, Kind, MOST_DEPTH, Piece, ReadFault, refused, take};
 use std::alloc::{AllocError, Global};
@@ -56,7 +56,8 @@ fn attribute(
 #[inline(always)]
 fn plain_attribute(bytes: &[u8], at: usize, table: &mut Table) -> Result<Option<usize>, AllocError>
     requires short { length bytes.now ≤ MOST_UPLOAD }
-    ensures start { (depth : ℕ) → IfOk result (λ found. IfSome found (PutsBehind depth bytes.now at table.old table.new)) }
+    ensures start { (depth : ℕ) → IfOk result
+        (λ found. IfSome found (PutsBehind depth bytes.now at table.old table.new)) }
     ensures none { IfOk result (λ found. IfNone found (table.new ≡ table.old)) }
     ensures heads { IfOk result (λ found. table.new.heads.items ≡ table.old.heads.items) }
     ensures on { IfOk result (λ found. IfSome found (λ end. at < end)) }
@@ -96,10 +97,13 @@ fn attributes(bytes: &[u8], at: usize, depth: usize, table: &mut Table) -> Resul
         return Ok(first.token.end);
     }
     let mut end = attribute(bytes, first, depth, table)?;
-    loop {
-        if let Some(behind) = plain_attribute(bytes, end, table)? {
-            end = behind;
-            continue;
+    'items: loop {
+        match plain_attribute(bytes, end, table)? {
+            Some(behind) => {
+                end = behind;
+                continue 'items;
+            }
+            None => {}
         }
         let next = take(bytes, end)?;
         match next.kind {

@@ -52,7 +52,8 @@ pub fn reference_by_byte(bytes: &[u8], at: usize) -> Option<Option<u64>>
 /// The bytes of the text, as it is spelled between its apostrophes; none where the value is no text.
 #[inline(always)]
 pub fn words_by_byte(bytes: &[u8], at: usize) -> Option<Option<&[u8]>>
-    ensures { IfSome result (λ answer. (v : Value21) → Stands bytes.now at v → option_copied answer ≡ words_of v) }
+    ensures { IfSome result (λ answer. (v : Value21) → Stands bytes.now at v
+        → option_copied answer ≡ words_of v) }
 {
     let byte = token_byte(bytes, at)?;
     if byte != b'\'' {
@@ -67,12 +68,17 @@ pub fn words_by_byte(bytes: &[u8], at: usize) -> Option<Option<&[u8]>>
 /// The place behind the opening parenthesis of the list; none where the value is no list.
 #[inline(always)]
 pub fn inside_by_byte(bytes: &[u8], at: usize) -> Option<Option<usize>>
-    ensures inside { IfSome result (λ answer. (v : Value21) → Stands bytes.now at v → MatchOption answer (items_of v ≡ None)
+    ensures inside { IfSome result (λ answer. (v : Value21) → Stands bytes.now at v
+        → MatchOption answer (items_of v ≡ None)
         (λ at. (vs : List Value21) × (items_of v ≡ Some vs) × StandInside bytes.now at vs)) }
     ensures within { IfSome result (λ answer. IfSome answer (λ at. at ≤ length bytes.now)) }
 {
     let byte = token_byte(bytes, at)?;
-    if byte == b'(' { Some(Some(at + 1)) } else { Some(None) }
+    if byte == b'(' {
+        Some(Some(at + 1))
+    } else {
+        Some(None)
+    }
 }
 
 /// Where the next value of a list begins, or the list ends, behind a value of one token.

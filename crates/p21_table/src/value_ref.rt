@@ -2,8 +2,8 @@
 ghost use Rattle.std.specs.Prelude.{◌≡◌, ◌≤◌, List, length, Some, None, IfSome, MatchOption};
 ghost use Rattle.p21_values.specs.declared.value.Value21.{Value21};
 ghost use Rattle.p21_values.specs.Values.{items_of};
-ghost use Rattle.p21_values.specs.Standing.{Stands, Stood, StandInside};
-ghost use Rattle.p21_values.proofs.Stood.{one_stood};
+ghost use Rattle.p21_values.specs.Standing.{Stands, StandInside};
+ghost use Rattle.p21_table.specs.Stood.{Stood, one_stood};
 
 use crate::first_byte::{absent_by_byte, inside_by_byte, reference_by_byte, words_by_byte};
 use crate::standing::{
@@ -54,7 +54,8 @@ impl<'a> Model for ValueRef<'a> {
 impl<'a> ValueRef<'a> {
     ghost use Rattle.std.specs.Prelude.{◌≡◌, ◌≤◌, length, option_copied};
     ghost use Rattle.p21_values.specs.declared.value.Value21.{Value21};
-    ghost use Rattle.p21_values.specs.Standing.{Stands, Stood};
+    ghost use Rattle.p21_values.specs.Standing.{Stands};
+    ghost use Rattle.p21_table.specs.Stood.{Stood};
     ghost use Rattle.p21_values.specs.Values.{number_of, words_of, enumeration_of, reference_of, items_of, is_enumeration, is_absent};
     ghost use Rattle.p21_values.specs.Attributes.{items_in};
 
