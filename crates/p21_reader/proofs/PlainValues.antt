@@ -48,4 +48,4 @@ plain_behind depth bytes at end old new lt e h items c =
     let plain = plain_kind h.0 bytes (at + 1) end cuts.1 h.2.1 h.1 in
     let P : ℕ → Type 0 = λ n. Counts old.values new.values n in
     let v : PassesValue depth bytes item old.values new.values (Ok end) = plain_value depth bytes item old.values new.values k refl plain (subst P (sym (plain_tells k plain)) c) in
-    (sign_token at, item, sign_by bytes at 44 tt lt e, sign_said_by bytes at 44 lt e, cuts, v.0, v.1, items, v.2)
+    (sign_token at, item, sign_by bytes at 44 tt lt e, sign_said_by bytes at 44 lt e, cuts, (v.0, v.1, items, v.2))
