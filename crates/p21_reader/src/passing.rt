@@ -9,8 +9,8 @@ ghost use Rattle.p21_values.specs.Lexemes.{NumberOf, single_says, Cuts};
 ghost use Rattle.p21_reader.specs.Passing.{wanted, signs, IsFit, tells, EndsRow, HasRow};
 ghost use Rattle.p21_reader.specs.Tabling.{Counts, PassesRow, PassesRows, PassesMore, PassesValue};
 
-use p21_lexer::number_there;
 use crate::word::expect;
+use p21_lexer::number_there;
 use p21_values::{Kind, MOST_DEPTH, Piece, ReadFault, refused, take};
 
 /// What is wanted next.

@@ -10,9 +10,9 @@ ghost use Rattle.p21_reader.specs.Tabling.{PutsStart, PutsBehind, PutsStarts, Pu
 
 use crate::passing::{pass_complex, pass_value};
 use crate::section::closing;
-use p21_lexer::value_there;
 use crate::word::{expect, take_word};
 use ifc_keywords::code_of;
+use p21_lexer::value_there;
 use p21_table::name_of;
 use p21_values::{Head, Kind, MOST_DEPTH, Piece, ReadFault, refused, take};
 use std::alloc::{AllocError, Global};

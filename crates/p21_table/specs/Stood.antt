@@ -12,6 +12,7 @@ use Rattle.p21_values.proofs.Stood.{stands_once}
 abbrev pub Stood : List ℕ → ℕ → Type 0
 Stood bytes at = (v : Value21) × ∥ Stands bytes at v ∥₁
 
+-- two proofs that values are the same are one
 value_set : IsSet Value21
 value_set = Coded-set row.the_row.coded
 
