@@ -9,9 +9,11 @@ pub mod Reading
 pub mod RowLemmas
 pub mod Cleaning
 pub mod AllRows
+pub mod PlainGuids
 pub mod Unique
 pub mod Keeping
 pub mod Saying
 pub mod FewDigits
+pub mod Rooms
 pub mod ShortNumbers
 pub mod ShortDecimals

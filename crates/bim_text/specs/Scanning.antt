@@ -1,5 +1,5 @@
 -- What the functions of the reader compute, from the left. No public contract cites it.
-use Rattle.std.specs.Prelude.{ℕ, ◌+◌, ◌-◌, ◌*◌, ◌^◌, ◌==◌, nat_lt, if◌then◌else◌, List, [], ◌∷◌, length, drop, Option, Some, None, option_and_then}
+use Rattle.std.specs.Prelude.{ℕ, ◌+◌, ◌-◌, ◌*◌, ◌^◌, ◌≤◌, ◌==◌, nat_lt, if◌then◌else◌, List, [], ◌∷◌, length, drop, Option, Some, None, option_and_then}
 use Rattle.bim_text.specs.declared.limits.TheConstants.{MOST_DIGITS}
 use Rattle.bim_text.specs.declared.digits.Digits.{Digits}
 use Rattle.bim_text.specs.declared.digits.Few.{Few}
@@ -76,3 +76,7 @@ kept_step k b = if b == 48 then Some (kept_zero k)
 abbrev pub kept_after : Digits → List ℕ → Option Digits
 kept_after k [] = Some k
 kept_after k (b ∷ bs) = option_and_then (λ (next : Digits). kept_after next bs) (kept_step k b)
+
+-- so many digits more leave a number below 10^15
+unfoldable pub HasRoom : ℕ → ℕ → Type 0
+HasRoom value more = (value + 1) * 10 ^ more ≤ 10 ^ 15

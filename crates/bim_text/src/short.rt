@@ -1,9 +1,9 @@
 //! Short numbers where they stand among other bytes, each read in one loop.
-ghost use Rattle.std.specs.Prelude.{◌≡◌, ◌+◌, ◌^◌, ◌<◌, ◌≤◌, ◌++◌, length, drop, IfSome};
+ghost use Rattle.std.specs.Prelude.{◌≡◌, ◌+◌, ◌-◌, ◌^◌, ◌<◌, ◌≤◌, ◌++◌, length, drop, IfSome};
 ghost use Rattle.std.specs.Bool.{OnTrue};
 ghost use Rattle.p21_lexer.specs.Spelling.{value_after};
 ghost use Rattle.bim_text.specs.Numbers.{sign_bytes};
-ghost use Rattle.bim_text.specs.Scanning.{front};
+ghost use Rattle.bim_text.specs.Scanning.{front, HasRoom};
 ghost use Rattle.bim_text.specs.Short.{EndsAt, IsShortAt, IsRowAt, sign_of};
 
 use crate::digits::is_digit;
@@ -44,27 +44,48 @@ struct Signed {
     end: usize,
 }
 
-/// The digits that stand there, behind others, as far as they are few.
+/// The digits that stand there, behind others, up to a limit.
 #[inline(always)]
-#[tactic(auto, using(crate::proofs::Fronts::fronts))]
-fn run_from(bytes: &[u8], from: usize, before: u64) -> Run
+#[tactic(auto, using(crate::proofs::Rooms::digits))]
+fn run_from(bytes: &[u8], from: usize, limit: usize, before: u64) -> Run
     requires place { from ≤ length bytes.now }
-    requires small { before < 10 ^ 15 }
+    requires near { from ≤ limit }
+    requires room { HasRoom before (limit - from) }
     ensures value { value_after before (front (drop from bytes.now))
         ≡ value_after result.value (front (drop result.end bytes.now)) }
     ensures end { from + length (front (drop from bytes.now))
         ≡ result.end + length (front (drop result.end bytes.now)) }
+    ensures on { from ≤ result.end }
     ensures within { result.end ≤ length bytes.now }
-    ensures few { result.end ≤ from + 15 }
-    ensures small { result.value < 10 ^ 15 }
+    ensures few { result.end ≤ limit }
+    ensures room { HasRoom result.value (limit - result.end) }
 {
+    let most = bytes.len().min(limit);
     let mut at = from;
     let mut value = before;
-    while at < bytes.len() && at - from < 15 && value < 100_000_000_000_000 && is_digit(bytes[at]) {
+    while at < most && is_digit(bytes[at]) {
         value = value * 10 + (bytes[at] - b'0') as u64;
         at += 1;
     }
     Run { value, end: at }
+}
+
+/// The place behind which no digit of a fraction is read, so that it has 15 with those of the whole part, which don't count where that is 0.
+#[inline(always)]
+#[tactic(auto, using(crate::proofs::Rooms::rooms))]
+fn fraction_limit(from: usize, whole: Run) -> usize
+    requires on { from ≤ whole.end }
+    requires few { whole.end ≤ from + 15 }
+    requires fits { whole.end + 16 < 2 ^ 64 }
+    requires room { HasRoom whole.value (from + 15 - whole.end) }
+    ensures near { whole.end + 1 ≤ result }
+    ensures few { result ≤ whole.end + 16 }
+    ensures room { HasRoom whole.value (result - (whole.end + 1)) }
+{
+    if whole.value == 0 {
+        return whole.end + 16;
+    }
+    from + 16
 }
 
 /// Whether a comma or a closing parenthesis stands there.
@@ -102,12 +123,13 @@ fn minus_there(bytes: &[u8], from: usize) -> Signed
 
 /// The number that stands there, where it is short and a comma or a closing parenthesis stands right behind it. None says nothing.
 #[inline(always)]
+#[tactic(auto, using(crate::proofs::Rooms::rooms))]
 pub fn short_at(bytes: &[u8], from: usize) -> Option<Short>
     requires { from ≤ length bytes.now }
     ensures { IfSome result (IsShortAt bytes.now from) }
 {
     let sign = minus_there(bytes, from);
-    let whole = run_from(bytes, sign.end, 0);
+    let whole = run_from(bytes, sign.end, sign.end + 15, 0);
     if whole.end == sign.end {
         return None;
     }
@@ -126,7 +148,7 @@ pub fn short_at(bytes: &[u8], from: usize) -> Option<Short>
         return None;
     }
     let point = whole.end + 1;
-    let fraction = run_from(bytes, point, whole.value);
+    let fraction = run_from(bytes, point, fraction_limit(sign.end, whole), whole.value);
     if !ends_there(bytes, fraction.end) {
         return None;
     }

@@ -5,6 +5,7 @@ pub mod ElementsMade
 pub mod NamesKept
 pub mod OneSet
 pub mod OneSurface
+pub mod PlainGuids
 pub mod PointsOnGrid
 pub mod SetsKept
 pub mod StoreysThere

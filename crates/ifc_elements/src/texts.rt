@@ -1,5 +1,5 @@
 //! What is told of an element in texts (IFC4 ADD2 TC1, IfcRoot).
-ghost use Rattle.std.specs.Prelude.{◌≡◌, IfOk, MatchOption};
+ghost use Rattle.std.specs.Prelude.{◌≡◌, IfOk, IfSome, MatchOption};
 ghost use Rattle.ifc_elements.specs.Texts.{text_at, name_of, IsRead, IsUnread};
 
 use bim_model::{Guid, Text};
@@ -34,10 +34,22 @@ pub fn name_of(alloc: Global, instance: &InstanceRef<'_>) -> Result<Text, AllocE
     }
 }
 
+/// The global identifier of an instance, where it is spelled as it is. None says nothing.
+fn plain_guid(instance: &InstanceRef<'_>) -> Option<Guid>
+    ensures { IfSome result (IsRead instance.now) }
+{
+    let value = instance.attribute(0)?;
+    let spelled = value.words()?;
+    Guid::read(spelled)
+}
+
 /// The global identifier of an instance; none where there is no text, or one that isn't an identifier.
 pub fn guid_of(alloc: Global, instance: &InstanceRef<'_>) -> Result<Option<Guid>, AllocError>
     ensures { IfOk result (λ found. MatchOption found (IsUnread instance.now) (IsRead instance.now)) }
 {
+    if let Some(guid) = plain_guid(instance) {
+        return Ok(Some(guid));
+    }
     match text_at(alloc, instance, 0)? {
         Some(text) => Ok(Guid::read(text.as_str().as_bytes())),
         None => Ok(None),

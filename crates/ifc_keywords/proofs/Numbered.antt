@@ -1,10 +1,11 @@
 -- Each known keyword has its number, and stands in the table at its hash.
-use Rattle.std.proofs.Common.{◌⊎◌, false, ◌≡◌, ℕ, zero, suc, ◌+◌, ◌<◌, ◌≤◌, ◌==◌, inl, inr, Bool, true, ◌&&◌, nat_le, List, [], ◌∷◌, length, get_or, arith, refl, sym, ap, ◌∙◌}
+use Rattle.std.proofs.Common.{◌⊎◌, false, ◌≡◌, ℕ, zero, suc, ◌+◌, ◌<◌, ◌≤◌, ◌==◌, inl, inr, Bool, true, ◌&&◌, nat_le, List, [], ◌∷◌, length, get_or, map, Option, Some, None, arith, refl, sym, ap, ◌∙◌}
 use Rattle.std.proofs.lemmas.Bool.{cases_Bool, eqb-true, and_parts}
 use Rattle.std.proofs.lemmas.Bool.Decides.{nat_tests}
 use Rattle.std.proofs.lemmas.Slice.Eq.{bytes_eq-Decides}
+use Rattle.std.specs.Char.{to_ascii_uppercase}
 use Rattle.std.specs.Str.{bytes_eq}
-use Rattle.ifc_keywords.specs.Codes.{known, code_among, code_of, hash_of}
+use Rattle.ifc_keywords.specs.Codes.{known, code_among, code_of, code_at, hash_of}
 
 -- bytes that are alike
 
@@ -31,6 +32,24 @@ known_many = refl
 
 pub entry_is : (table : List ℕ) (hash k : ℕ) → entered table 0 known ≡ true → k < 75 → hash_of (get_or known k []) ≡ hash → get_or table hash 0 ≡ k
 entry_is table hash k t lt e = ap (λ (n : ℕ). get_or table n 0) (sym e) ∙ entered_at table 0 known k t (omega (arith, lt, known_many)) ∙ omega arith
+
+-- Each keyword is in upper case.
+
+abbrev uppers : List (List ℕ) → Bool
+uppers [] = true
+uppers (w ∷ ws) = bytes_eq (map to_ascii_uppercase w) w && uppers ws
+
+upper_at : (ws : List (List ℕ)) (k : ℕ) → uppers ws ≡ true → k < length ws → map to_ascii_uppercase (get_or ws k []) ≡ get_or ws k []
+upper_at [] k h lt = absurd (omega (arith, lt))
+upper_at (w ∷ ws) zero h lt = is_same _ _ (and_parts (bytes_eq (map to_ascii_uppercase w) w) (uppers ws) h).0
+upper_at (w ∷ ws) (suc k) h lt = upper_at ws k (and_parts (bytes_eq (map to_ascii_uppercase w) w) (uppers ws) h).1 (omega (arith, lt))
+
+all_upper : uppers known ≡ true
+unfolding known
+all_upper = refl
+
+pub in_upper : (n : ℕ) → n < 75 → map to_ascii_uppercase (get_or known n []) ≡ get_or known n []
+in_upper n lt = upper_at known n all_upper (omega (arith, lt, known_many))
 
 -- Each keyword has its number.
 
@@ -112,4 +131,12 @@ pub a_number : (k : List ℕ) → CodedAs k ⊎ (code_of k ≡ 255)
 a_number k = elim (among known k) [
   | inl p ↦ (let lt : p.0 < 75 = omega (arith, p.1, known_many) in inl (record { at = p.0; within = lt; word = p.2; number = sym (has_number k p.0 lt p.2) }))
   | inr n ↦ inr (sym (no_number k (λ j lt e. n j (omega (arith, lt, known_many)) e)))
+]
+
+-- the keyword of a number below 75 is the one that stands there
+pub keyword_of : (keyword : Option (List ℕ)) (n : ℕ) → n < 75 → code_at keyword ≡ n → keyword ≡ Some (get_or known n [])
+keyword_of None n lt e = absurd (omega (arith, lt, e))
+keyword_of (Some k) n lt e = elim (a_number k) [
+  | inl r ↦ (let same : r.at ≡ n = sym r.number ∙ e in ap (λ (w : List ℕ). Some w) (r.word ∙ ap (λ (i : ℕ). get_or known i []) same))
+  | inr f ↦ absurd (omega (arith, lt, e, f))
 ]

@@ -1,8 +1,8 @@
 //! The keywords of the entities that are followed, each with a number.
-ghost use Rattle.std.specs.Prelude.{◌≡◌, ◌<◌, ◌≤◌, ℕ, [], length, map, slice_index_or};
+ghost use Rattle.std.specs.Prelude.{◌≡◌, ◌<◌, ◌≤◌, ℕ, [], List, Option, Some, IfSome, IfNone, length, map, slice_index_or};
 ghost use Rattle.std.specs.Char.{to_ascii_uppercase};
 ghost use Rattle.std.specs.Str.{bytes_eq};
-ghost use Rattle.ifc_keywords.specs.Codes.{code_of as code_said, hash_of, known};
+ghost use Rattle.ifc_keywords.specs.Codes.{code_of as code_said, code_at, hash_of, known};
 
 /// The keywords in the order of their numbers.
 const KNOWN: [&str; 75] = [
@@ -170,6 +170,19 @@ fn word_at(code: usize) -> &'static str
     word_of(&KNOWN, code)
 }
 
+/// The keyword that has that number, in upper case; none where no known one has.
+pub fn known_word(code: u8) -> Option<&'static str>
+    ensures some { IfSome result (λ word. (keyword : Option (List ℕ)) → code_at keyword ≡ code
+        → keyword ≡ Some word.now) }
+    ensures none { IfNone result (75 ≤ code) }
+{
+    if code < 75 {
+        Some(word_at(code as usize))
+    } else {
+        None
+    }
+}
+
 /// The number of the keyword that may have that hash.
 fn entry(hash: usize) -> u8
     requires { hash < 512 }
@@ -188,7 +201,8 @@ pub fn code_of(word: &[u8]) -> u8
     }
     let code = entry(hash(word));
     if code < 75 {
-        if is_word(word, word_at(code as usize).as_bytes()) {
+        let known = word_at(code as usize).as_bytes();
+        if word == known || is_word(word, known) {
             return code;
         }
     }

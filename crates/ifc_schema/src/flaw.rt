@@ -223,24 +223,24 @@ fn table_flaw(
     }
 }
 
-fn shape_flaw(exchange: &Exchange, leaf: Leaf, shape: Shape, value: &ValueRef<'_>) -> Option<Flaw>
-    ensures { ShapeFlaw exchange.now leaf shape value.now result }
+fn shape_flaw(exchange: &Exchange, leaf: Leaf, shape: &Shape, value: &ValueRef<'_>) -> Option<Flaw>
+    ensures { ShapeFlaw exchange.now leaf shape.now value.now result }
 {
     match shape {
         Shape::One => leaf_flaw(exchange, leaf, value),
         Shape::Identifier => identifier_flaw(value),
-        Shape::List(count) => list_flaw(exchange, leaf, count, value),
-        Shape::Table(outer, inner) => table_flaw(exchange, leaf, outer, inner, value),
+        Shape::List(count) => list_flaw(exchange, leaf, *count, value),
+        Shape::Table(outer, inner) => table_flaw(exchange, leaf, *outer, *inner, value),
     }
 }
 
-fn value_flaw(exchange: &Exchange, attribute: Attribute, value: &ValueRef<'_>) -> Option<Flaw>
-    ensures { ValueFlaw exchange.now attribute value.now result }
+fn value_flaw(exchange: &Exchange, attribute: &Attribute, value: &ValueRef<'_>) -> Option<Flaw>
+    ensures { ValueFlaw exchange.now attribute.now value.now result }
 {
     if attribute.need.allows_absent() && value.is_absent() {
         None
     } else {
-        shape_flaw(exchange, attribute.leaf, attribute.shape, value)
+        shape_flaw(exchange, attribute.leaf, &attribute.shape, value)
     }
 }
 
@@ -250,10 +250,10 @@ fn attribute_flaw(
     bodied: bool,
     mapped: bool,
     instance: &InstanceRef<'_>,
-    attribute: Attribute,
+    attribute: &Attribute,
 ) -> Option<Flaw>
     requires bodied { bodied ≡ has_body exchange.now instance.now }
-    ensures { AttributeFlaw exchange.now mapped instance.now attribute result }
+    ensures { AttributeFlaw exchange.now mapped instance.now attribute.now result }
 {
     if !applies(bodied, mapped, instance, attribute.when) {
         return None;
@@ -275,7 +275,7 @@ pub fn instance_flaw(
     ensures { InstanceFlaw exchange.now mapped instance.now result }
 {
     for attribute in row_at(instance) {
-        let flaw = attribute_flaw(exchange, bodied, mapped, instance, *attribute);
+        let flaw = attribute_flaw(exchange, bodied, mapped, instance, attribute);
         if flaw.is_some() {
             return flaw;
         }

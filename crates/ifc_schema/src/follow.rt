@@ -138,15 +138,15 @@ fn follow_table(
 fn follow_shape(
     exchange: &Exchange,
     targets: Targets,
-    shape: Shape,
+    shape: &Shape,
     value: &ValueRef<'_>,
     work: &mut Work,
 ) -> Result<(), AllocError>
     requires size { length work.old.marks.items ≡ length exchange.now }
-    requires used { (to : ℕ) → StandsIn to shape value.now → LeadsTo exchange.now targets to
+    requires used { (to : ℕ) → StandsIn to shape.now value.now → LeadsTo exchange.now targets to
         → Used exchange.now to }
     ensures grows { OnOk result (Grows exchange.now work.old work.new) }
-    ensures marked { OnOk result ((to : ℕ) → StandsIn to shape value.now → LeadsTo exchange.now targets to
+    ensures marked { OnOk result ((to : ℕ) → StandsIn to shape.now value.now → LeadsTo exchange.now targets to
         → IsMarked exchange.now work.new 0 to) }
 {
     match shape {
@@ -163,14 +163,15 @@ fn follow_attribute(
     bodied: bool,
     mapped: bool,
     instance: &InstanceRef<'_>,
-    attribute: Attribute,
+    attribute: &Attribute,
     work: &mut Work,
 ) -> Result<(), AllocError>
     requires size { length work.old.marks.items ≡ length exchange.now }
     requires bodied { bodied ≡ has_body exchange.now instance.now }
-    requires used { (to : ℕ) → NamesBy exchange.now mapped instance.now attribute to → Used exchange.now to }
+    requires used { (to : ℕ) → NamesBy exchange.now mapped instance.now attribute.now to
+        → Used exchange.now to }
     ensures grows { OnOk result (Grows exchange.now work.old work.new) }
-    ensures marked { OnOk result ((to : ℕ) → NamesBy exchange.now mapped instance.now attribute to
+    ensures marked { OnOk result ((to : ℕ) → NamesBy exchange.now mapped instance.now attribute.now to
         → IsMarked exchange.now work.new 0 to) }
 {
     let targets = attribute.leaf.followed();
@@ -181,7 +182,7 @@ fn follow_attribute(
         return Ok(());
     }
     match instance.attribute(attribute.at) {
-        Some(value) => follow_shape(exchange, targets, attribute.shape, &value, work),
+        Some(value) => follow_shape(exchange, targets, &attribute.shape, &value, work),
         None => Ok(()),
     }
 }
@@ -204,7 +205,7 @@ pub fn follow_attributes(
         → IsMarked exchange.now work.new 0 to) }
 {
     for attribute in row {
-        follow_attribute(exchange, bodied, mapped, instance, *attribute, work)?;
+        follow_attribute(exchange, bodied, mapped, instance, attribute, work)?;
     }
     Ok(())
 }

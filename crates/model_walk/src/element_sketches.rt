@@ -18,8 +18,9 @@ ghost use Rattle.walk_rows.specs.Pools.{pooled};
 use crate::set_pool::SetRows;
 use crate::shape_pieces::{Piece, Range, add_shape};
 use crate::sketched_surfaces::are_near;
-use bim_model::{Element, Guid, Items, MOST_TRIANGLES, Mode, Point};
+use bim_model::{Element, Guid, Items, MOST_TRIANGLES, Mode, Point, Text};
 use ifc_elements::{Names, guid_of, name_of, storey_name};
+use ifc_keywords::known_word;
 use ifc_units::Scale;
 use p21_table::{Exchange, InstanceRef};
 use placement::{Frame, Frames};
@@ -153,6 +154,19 @@ fn range_of(
     add_pieces(told, at, stock)
 }
 
+/// The class of an instance; none of a complex instance.
+fn class_of(alloc: Global, instance: &InstanceRef<'_>) -> Result<Option<Text>, AllocError>
+    ensures { IfOk result (λ found. IfSome found (λ class. instance.now.keyword ≡ Some class)) }
+{
+    if let Some(word) = known_word(instance.code()) {
+        return Ok(Some(Text::of(alloc, word)?));
+    }
+    match instance.keyword() {
+        Some(keyword) => Ok(Some(keyword.text(alloc)?)),
+        None => Ok(None),
+    }
+}
+
 /// The element without its surface.
 fn bare_element(
     alloc: Global,
@@ -166,12 +180,12 @@ fn bare_element(
     requires is_guid { IsGuid guid.chars }
     ensures { IfOk result (λ found. IfSome found (IsBare told.now.exchange.now instance.now)) }
 {
-    let Some(keyword) = instance.keyword() else {
+    let Some(class) = class_of(alloc, instance)? else {
         return Ok(None);
     };
     Ok(Some(Element {
         guid,
-        class: keyword.text(alloc)?,
+        class,
         name: name_of(alloc, instance)?,
         storey: storey_name(alloc, told.exchange, told.tree, told.names, instance.id())?,
         triangles: Items::new(alloc),

@@ -4,3 +4,4 @@ pub mod Numbers
 pub mod RunLemmas
 pub mod Tokens
 pub mod OneCut
+pub mod Stands

@@ -3,3 +3,4 @@ pub mod Gaps
 pub mod Kinds
 pub mod Scanning
 pub mod Spelling
+pub mod There

@@ -24,10 +24,13 @@ pub fn is_letter(byte: u8) -> bool
     matches!(byte, b'A'..=b'Z' | b'a'..=b'z' | b'_')
 }
 
-/// Whether a byte may stand in a word: a letter, a digit or `-`.
+/// Whether a byte may stand in a word: a letter, a digit or `-`. Most are letters in upper case.
 pub fn is_word_byte(byte: u8) -> bool
     ensures { result ≡ is_word_byte byte }
 {
+    if byte >= b'A' && byte <= b'Z' {
+        return true;
+    }
     matches!(byte, b'A'..=b'Z' | b'a'..=b'z' | b'_' | b'0'..=b'9' | b'-')
 }
 

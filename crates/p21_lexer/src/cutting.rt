@@ -25,7 +25,8 @@ fn kind_at(byte: u8) -> Option<TokenKind>
 
 /// The end of the longest token of a kind, one of whose first bytes stands at `at`.
 #[tactic(auto, unfolding(crate::specs::Kinds::span))]
-fn end_of(kind: TokenKind, bytes: &[u8], at: usize) -> Option<usize>
+#[inline(always)]
+pub(crate) fn end_of(kind: TokenKind, bytes: &[u8], at: usize) -> Option<usize>
     requires { at < length bytes.now }
     ensures span { result ≡ option_map (λ n. at + n) (span kind (drop at bytes.now)) }
     ensures within { IfSome result (λ end. end ≤ length bytes.now) }

@@ -12,10 +12,12 @@ mod lexer;
 mod limits;
 mod runs;
 mod spelling;
+mod there;
 mod token;
 
 pub use cutting::cut;
 pub use laws::one_cut;
 pub use lexer::Lexer;
 pub use limits::GREATEST_NAME;
+pub use there::{NameThere, name_there, number_there, value_there, word_there};
 pub use token::{LexFault, Token, TokenKind};

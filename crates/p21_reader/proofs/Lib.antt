@@ -14,6 +14,7 @@ pub mod Midway
 pub mod OneAnswer
 pub mod OneReading
 pub mod Ordered
+pub mod PlainValues
 pub mod RowLemmas
 pub mod Signs
 pub mod Sorting

@@ -5,7 +5,7 @@ use Rattle.p21_reader.specs.declared.passing.Top.TheVariants as tops
 use Rattle.p21_values.specs.declared.piece.Kind.{Kind}
 use Rattle.p21_values.specs.declared.piece.Kind.TheVariants as kinds
 use Rattle.p21_values.specs.Grammar.{Close, Open, Sign, T, Value, Inside, After}
-use Rattle.p21_values.specs.Lexemes.{Lexeme, NumberOf, Separator, Closing, Cuts}
+use Rattle.p21_values.specs.Lexemes.{Lexeme, NumberOf, Separator, Opening, Closing, Cuts}
 
 -- behind a value, the innermost level first
 abbrev pub wanted : ℕ → ℕ → List Bool → List Sign
@@ -39,3 +39,12 @@ row_rest x y z = NumberOf x ∷ Separator ∷ NumberOf y ∷ Separator ∷ Numbe
 -- three numbers with commas between and a closing parenthesis are cut there, one behind another
 abbrev pub EndsRow : List ℕ → ℕ → ℕ → Type 0
 EndsRow bytes at end = (x y z : List ℕ) × Cuts bytes at (row_rest x y z) end
+
+-- a list of three numbers behind a comma is cut there
+abbrev pub HasRow : List ℕ → ℕ → ℕ → Type 0
+HasRow bytes at end = (x y z : List ℕ) × Cuts bytes at (Separator ∷ Opening ∷ row_rest x y z) end
+
+-- as many such lists, one behind another
+abbrev pub HasRows : ℕ → List ℕ → ℕ → ℕ → Type 0
+HasRows zero bytes at end = at ≡ end
+HasRows (suc many) bytes at end = (mid : ℕ) × HasRows many bytes at mid × HasRow bytes mid end

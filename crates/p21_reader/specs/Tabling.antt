@@ -1,5 +1,5 @@
 -- What the functions answer that make the table of a file.
-use Rattle.std.specs.Prelude.{◌≡◌, ◌⊎◌, ℕ, ◌+◌, ◌-◌, ◌^◌, min, List, [], ◌∷◌, ◌++◌, sum_by, Option, Some, Result, Ok, Err}
+use Rattle.std.specs.Prelude.{◌≡◌, ◌⊎◌, ℕ, ◌+◌, ◌-◌, ◌*◌, ◌^◌, ◌<◌, min, Bool, false, List, [], ◌∷◌, ◌++◌, slice_index_or, sum_by, Option, Some, Result, Ok, Err}
 use Rattle.p21_lexer.specs.declared.token.Token.{Token}
 use Rattle.p21_values.specs.declared.fault.ReadFault.{ReadFault}
 use Rattle.p21_values.specs.declared.value.Value21.{Value21}
@@ -10,9 +10,10 @@ use Rattle.p21_reader.specs.declared.passing.Reached.{Reached}
 use Rattle.p21_reader.specs.declared.passing.Top.TheVariants as tops
 use Rattle.p21_reader.specs.declared.table.Table.{Table}
 use Rattle.p21_values.specs.Grammar.{Sign, T, Equals, Semi, Body, Value, Inside}
-use Rattle.p21_values.specs.Lexemes.{Lexeme, Closing, lexeme_of, class_of}
+use Rattle.p21_lexer.specs.Cutting.{CutsFrom}
+use Rattle.p21_values.specs.Lexemes.{Lexeme, Separator, Closing, lexeme_of, class_of}
 use Rattle.p21_reader.specs.Machine.{next}
-use Rattle.p21_reader.specs.Passing.{EndsRow}
+use Rattle.p21_reader.specs.Passing.{EndsRow, HasRows}
 use Rattle.p21_values.specs.Printing.{print_all}
 use Rattle.p21_values.specs.Counting.{size, values_of}
 use Rattle.p21_reader.specs.Reading.{Goes, Fails, FailsAfter, ReadsValue}
@@ -32,6 +33,20 @@ PassesRow bytes at level before after reached =
     ⊎ ((level.top ≡ tops.Inside) × (reached.level.top ≡ tops.Behind) × (reached.level.depth ≡ level.depth - 1)
     × EndsRow bytes at reached.end × Counts before after 3)
 
+-- nothing is passed over, or lists of three numbers, each behind a comma, and each is counted as four values
+abbrev pub PassesRows : List ℕ → ℕ → ℕ → ℕ → ℕ → Type 0
+PassesRows bytes at before after end =
+    ((end ≡ at) × (after ≡ before))
+    ⊎ ((many : ℕ) × HasRows many bytes at end × Counts before after (4 * many))
+
+-- nothing more is passed over, or such lists, behind a value of a list that may hold lists
+abbrev pub PassesMore : List ℕ → ℕ → List Bool → Reached → ℕ → ℕ → Reached → Type 0
+PassesMore bytes most typed old before after new =
+    ((new ≡ old) × (after ≡ before))
+    ⊎ ((new.level ≡ old.level) × (old.level.top ≡ tops.Behind) × (0 < old.level.depth)
+    × (old.level.depth < most) × (slice_index_or typed (old.level.depth - 1) false ≡ false)
+    × PassesRows bytes old.end before after new.end)
+
 -- a value whose first token is given is passed over and counted: where it ends, or what fails
 abbrev pub PassesValue : ℕ → List ℕ → Token → ℕ → ℕ → Result ℕ ReadFault → Type 0
 PassesValue depth bytes t before after (Ok end) =
@@ -44,6 +59,12 @@ PutsStart depth bytes t old new (Ok end) =
     (v : Value21) × ReadsValue depth bytes t end v × (new.starts.items ≡ old.starts.items ++ t.start ∷ [])
     × Counts old.values new.values (size v)
 PutsStart depth bytes t old new (Err fault) = FailsAfter (Value (Some depth)) bytes t fault
+
+-- the start of a value behind a comma comes behind those before; the value ends there
+abbrev pub PutsBehind : ℕ → List ℕ → ℕ → Table → Table → ℕ → Type 0
+PutsBehind depth bytes at old new end =
+    (comma item : Token) × CutsFrom bytes at (Ok (Some comma)) × (lexeme_of bytes comma ≡ Separator)
+    × CutsFrom bytes comma.end (Ok (Some item)) × PutsStart depth bytes item old new (Ok end)
 
 -- the starts of the values behind an opening parenthesis, up to and with the closing one, come behind those before
 abbrev pub PutsStarts : ℕ → List ℕ → ℕ → Table → Table → Result ℕ ReadFault → Type 0

@@ -1,15 +1,16 @@
 //! Passing over a value: nothing is built, and nothing recurses.
-ghost use Rattle.std.specs.Prelude.{◌≡◌, true, false, ◌-◌, ◌<◌, ◌≤◌, ◌∷◌, [], length, Some, IfSome, IfOk, option_map};
+ghost use Rattle.std.specs.Prelude.{◌≡◌, ◌⊎◌, true, false, ◌-◌, ◌<◌, ◌≤◌, ◌∷◌, [], ℕ, List, length, slice_index_or, Some, IfSome, IfOk, option_map};
 ghost use Rattle.p21_values.specs.Grammar.{Class, Value, Inside, T, Open, AnyWord, Ones};
 ghost use Rattle.p21_reader.specs.Instances.{Passes};
 ghost use Rattle.p21_values.specs.declared.limits.TheConstants.{MOST_DEPTH};
 ghost use Rattle.p21_reader.specs.Machine.{step};
 ghost use Rattle.p21_values.specs.Pieces.{IsPiece, kind_of};
-ghost use Rattle.p21_reader.specs.Passing.{wanted, signs, IsFit, tells, EndsRow};
-ghost use Rattle.p21_reader.specs.Tabling.{Counts, PassesRow, PassesValue};
+ghost use Rattle.p21_values.specs.Lexemes.{NumberOf, single_says, Cuts};
+ghost use Rattle.p21_reader.specs.Passing.{wanted, signs, IsFit, tells, EndsRow, HasRow};
+ghost use Rattle.p21_reader.specs.Tabling.{Counts, PassesRow, PassesRows, PassesMore, PassesValue};
 
 use crate::word::expect;
-use bim_text::short_row;
+use p21_lexer::number_there;
 use p21_values::{Kind, MOST_DEPTH, Piece, ReadFault, refused, take};
 
 /// What is wanted next.
@@ -178,23 +179,121 @@ fn counted(so_far: u64, kind: Kind) -> u64
     }
 }
 
-/// Behind a list of three short numbers without blanks, whose opening parenthesis ends at `at`. None says nothing.
+/// Behind a number that stands right there, and behind this sign right behind it. None says nothing.
+#[inline(always)]
+fn number_before(bytes: &[u8], at: usize, sign: u8) -> Option<usize>
+    requires { sign ≡ 44 ⊎ sign ≡ 41 }
+    ensures cuts { IfSome result (λ end. (x : List ℕ)
+        × Cuts bytes.now at (NumberOf x ∷ single_says sign ∷ []) end) }
+    ensures on { IfSome result (λ end. at ≤ end) }
+    ensures within { IfSome result (λ end. end ≤ length bytes.now) }
+{
+    let end = number_there(bytes, at)?;
+    if end >= bytes.len() {
+        return None;
+    }
+    if bytes[end] != sign {
+        return None;
+    }
+    Some(end + 1)
+}
+
+/// Behind a list of three numbers without blanks, whose opening parenthesis ends at `at`. None says nothing.
 #[inline(always)]
 fn row_end(bytes: &[u8], at: usize) -> Option<usize>
-    requires some { 0 < at }
-    requires within { at ≤ length bytes.now }
     ensures row { IfSome result (EndsRow bytes.now at) }
     ensures on { IfSome result (λ end. at ≤ end) }
     ensures within { IfSome result (λ end. end ≤ length bytes.now) }
 {
-    let row = short_row(bytes, at - 1)?;
-    Some(row.end)
+    let second = number_before(bytes, at, b',')?;
+    let third = number_before(bytes, second, b',')?;
+    number_before(bytes, third, b')')
+}
+
+/// Passes over lists of three numbers without blanks, each right behind a comma, as far as they stand there, and counts their values.
+#[inline(always)]
+fn pass_rows(bytes: &[u8], at: usize, count: &mut u64) -> usize
+    requires within { at ≤ length bytes.now }
+    ensures rows { PassesRows bytes.now at count.old count.new result }
+    ensures on { at ≤ result }
+    ensures within { result ≤ length bytes.now }
+{
+    let mut end = at;
+    while let Some(behind) = row_behind(bytes, end) {
+        *count = (*count).saturating_add(4);
+        end = behind;
+    }
+    end
+}
+
+/// Behind a comma and a list of three numbers that stand right there. None says nothing.
+#[inline(always)]
+fn row_behind(bytes: &[u8], at: usize) -> Option<usize>
+    requires within { at ≤ length bytes.now }
+    ensures row { IfSome result (HasRow bytes.now at) }
+    ensures on { IfSome result (λ end. at < end) }
+    ensures within { IfSome result (λ end. end ≤ length bytes.now) }
+{
+    if at + 1 >= bytes.len() {
+        return None;
+    }
+    if bytes[at] != b',' {
+        return None;
+    }
+    if bytes[at + 1] != b'(' {
+        return None;
+    }
+    row_end(bytes, at + 2)
+}
+
+/// Whether a value has ended in a list that may hold lists.
+#[inline(always)]
+fn holds_lists(level: Level, most: usize, typed: &[bool]) -> bool
+    requires room { length typed.now ≡ 32 }
+    requires most { most ≤ 32 }
+    requires depth { level.depth ≤ most }
+    ensures behind { result ≡ true → level.top ≡ Top.Behind }
+    ensures some { result ≡ true → 0 < level.depth }
+    ensures deep { result ≡ true → level.depth < most }
+    ensures lists { result ≡ true → slice_index_or typed.now (level.depth - 1) false ≡ false }
+{
+    match level.top {
+        Top::Behind => level.depth > 0 && level.depth < most && !typed[level.depth - 1],
+        _ => false,
+    }
+}
+
+/// Passes over rows behind a value of a list that is open, where it may hold lists.
+#[inline(always)]
+fn pass_more(
+    bytes: &[u8],
+    reached: Reached,
+    most: usize,
+    typed: &[bool],
+    count: &mut u64,
+) -> Reached
+    requires room { length typed.now ≡ 32 }
+    requires most { most ≤ 32 }
+    requires depth { reached.level.depth ≤ most }
+    requires within { reached.end ≤ length bytes.now }
+    ensures more { PassesMore bytes.now most typed.now reached count.old count.new result }
+    ensures level { result.level ≡ reached.level }
+    ensures on { reached.end ≤ result.end }
+    ensures within { result.end ≤ length bytes.now }
+{
+    if holds_lists(reached.level, most, typed) {
+        let end = pass_rows(bytes, reached.end, count);
+        return Reached {
+            level: reached.level,
+            end,
+        };
+    }
+    reached
 }
 
 /// Passes over what is left of a list that has just been opened, where it is such a row. Nothing is passed where it isn't.
 #[inline(always)]
 fn pass_row(bytes: &[u8], at: usize, level: Level, count: &mut u64) -> Reached
-    requires some { 0 < at }
     requires within { at ≤ length bytes.now }
     requires open { level.top ≡ Top.Inside → 0 < level.depth }
     ensures row { PassesRow bytes.now at level count.old count.new result }
@@ -237,7 +336,8 @@ fn pass_nested(bytes: &[u8], first: Piece, most: usize, count: &mut u64) -> Resu
             return Err(refused(piece));
         };
         *count = counted(*count, piece.kind);
-        let reached = pass_row(bytes, piece.token.end, next, count);
+        let row = pass_row(bytes, piece.token.end, next, count);
+        let reached = pass_more(bytes, row, most, &typed, count);
         if is_over(reached.level) {
             return Ok(reached.end);
         }

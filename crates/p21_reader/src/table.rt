@@ -1,17 +1,18 @@
 //! The table of a file: a head for each instance, and for each attribute the place where its value begins.
-ghost use Rattle.std.specs.Prelude.{◌≡◌, ◌<◌, ◌≤◌, ◌+◌, ◌^◌, ◌-◌, ◌∷◌, [], length, map, slice_range, Some, IfOk, OnOk};
+ghost use Rattle.std.specs.Prelude.{◌≡◌, ◌<◌, ◌≤◌, ◌+◌, ◌^◌, ◌-◌, ◌∷◌, [], ℕ, length, map, slice_range, Some, IfOk, IfSome, IfNone, OnOk};
 ghost use Rattle.std.specs.Char.{to_ascii_uppercase};
 ghost use Rattle.bim_model.specs.declared.limits.TheConstants.{MOST_UPLOAD};
 ghost use Rattle.p21_values.specs.declared.limits.TheConstants.{MOST_DEPTH};
 ghost use Rattle.ifc_keywords.specs.Codes.{code_of as code_said};
 ghost use Rattle.p21_values.specs.Lexemes.{lexeme_of};
 ghost use Rattle.p21_values.specs.Pieces.{IsPiece};
-ghost use Rattle.p21_reader.specs.Tabling.{PutsStart, PutsStarts, PutsBody, PutsInstance, TablesSection};
+ghost use Rattle.p21_reader.specs.Tabling.{PutsStart, PutsBehind, PutsStarts, PutsBody, PutsInstance, TablesSection};
 
 use crate::passing::{pass_complex, pass_value};
 use crate::section::closing;
-use crate::word::expect;
+use crate::word::{expect, take_word};
 use ifc_keywords::code_of;
+use p21_lexer::value_there;
 use p21_table::name_of;
 use p21_values::{Head, Kind, MOST_DEPTH, Piece, ReadFault, refused, take};
 use std::alloc::{AllocError, Global};
@@ -50,6 +51,34 @@ fn attribute(
     Ok(end)
 }
 
+/// Adds the start of the value of one token that stands right behind a comma, right there, and passes over both. None where another stands
+/// there.
+#[inline(always)]
+fn plain_attribute(bytes: &[u8], at: usize, table: &mut Table) -> Result<Option<usize>, AllocError>
+    requires short { length bytes.now ≤ MOST_UPLOAD }
+    ensures start { (depth : ℕ) → IfOk result
+        (λ found. IfSome found (PutsBehind depth bytes.now at table.old table.new)) }
+    ensures none { IfOk result (λ found. IfNone found (table.new ≡ table.old)) }
+    ensures heads { IfOk result (λ found. table.new.heads.items ≡ table.old.heads.items) }
+    ensures on { IfOk result (λ found. IfSome found (λ end. at < end)) }
+    ensures within { IfOk result (λ found. IfSome found (λ end. end ≤ length bytes.now)) }
+{
+    if at >= bytes.len() {
+        return Ok(None);
+    }
+    if bytes[at] != b',' {
+        return Ok(None);
+    }
+    match value_there(bytes, at + 1) {
+        Some(end) => {
+            table.starts.push((at + 1) as u32)?;
+            table.values = table.values.saturating_add(1);
+            Ok(Some(end))
+        }
+        None => Ok(None),
+    }
+}
+
 /// Adds the starts of the values behind an opening parenthesis, up to and with the closing one.
 fn attributes(bytes: &[u8], at: usize, depth: usize, table: &mut Table) -> Result<usize, ReadFault>
     requires short { length bytes.now ≤ MOST_UPLOAD }
@@ -68,7 +97,14 @@ fn attributes(bytes: &[u8], at: usize, depth: usize, table: &mut Table) -> Resul
         return Ok(first.token.end);
     }
     let mut end = attribute(bytes, first, depth, table)?;
-    loop {
+    'items: loop {
+        match plain_attribute(bytes, end, table)? {
+            Some(behind) => {
+                end = behind;
+                continue 'items;
+            }
+            None => {}
+        }
         let next = take(bytes, end)?;
         match next.kind {
             Kind::Close => return Ok(next.token.end),
@@ -144,7 +180,7 @@ fn entry(bytes: &[u8], name: Piece, table: &mut Table) -> Result<usize, ReadFaul
     ensures within { IfOk result (λ end. end ≤ length bytes.now) }
 {
     let at = expect(bytes, name.token.end, Kind::Equals)?;
-    let word = take(bytes, at)?;
+    let word = take_word(bytes, at)?;
     let first = table.starts.len();
     let end = body(bytes, word, table)?;
     let count = table.starts.len() - first;

@@ -1,13 +1,15 @@
 //! The words that structure a file.
-ghost use Rattle.std.specs.Prelude.{◌≡◌, ◌<◌, ◌≤◌, length, map, IfOk};
+ghost use Rattle.std.specs.Prelude.{◌≡◌, ◌<◌, ◌≤◌, length, map, Some, Ok, IfOk, IfErr};
 ghost use Rattle.std.specs.Char.{to_ascii_uppercase};
 ghost use Rattle.p21_values.specs.Lexemes.{lexeme_of, class_of, mark_of};
-ghost use Rattle.p21_values.specs.Pieces.{IsPiece, IsSign};
+ghost use Rattle.p21_lexer.specs.Cutting.{CutsFrom};
+ghost use Rattle.p21_values.specs.Pieces.{IsPiece, IsSign, NoToken};
 ghost use Rattle.p21_reader.specs.Reading.{Expects};
 ghost use Rattle.p21_reader.specs.Heading.{mark_seen, class_seen};
 ghost use Rattle.p21_reader.specs.Files.{ReadsWord};
 
 use ifc_keywords::is_word;
+use p21_lexer::{Token, TokenKind, word_there};
 use p21_values::{Kind, Piece, ReadFault, refused, take};
 
 /// The words that the grammar names; each other word is `Other`.
@@ -85,7 +87,30 @@ pub fn expect_word(bytes: &[u8], at: usize, wanted: Mark) -> Result<usize, ReadF
     }
 }
 
+/// The next token, which most often is a word that stands right there.
+#[inline(always)]
+pub fn take_word(bytes: &[u8], at: usize) -> Result<Piece, ReadFault>
+    requires { at ≤ length bytes.now }
+    ensures cuts { IfOk result (λ piece. CutsFrom bytes.now at (Ok (Some piece.token))) }
+    ensures piece { IfOk result (λ piece. IsPiece bytes.now piece) }
+    ensures on { IfOk result (λ piece. at ≤ piece.token.start) }
+    ensures fault { IfErr result (λ fault. NoToken bytes.now at fault) }
+{
+    match word_there(bytes, at) {
+        Some(end) => Ok(Piece {
+            kind: Kind::Word,
+            token: Token {
+                kind: TokenKind::Word,
+                start: at,
+                end,
+            },
+        }),
+        None => take(bytes, at),
+    }
+}
+
 /// The end of a sign that is wanted.
+#[inline(always)]
 pub fn expect(bytes: &[u8], at: usize, wanted: Kind) -> Result<usize, ReadFault>
     requires sign { IsSign wanted }
     requires at { at ≤ length bytes.now }

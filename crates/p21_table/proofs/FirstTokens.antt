@@ -319,6 +319,12 @@ begun bytes at t v c s =
       refl,
     )
 
+-- a value that stands there has one
+pub first_cut : (bytes : List ℕ) (at : ℕ) (v : Value21) → Stands bytes at v → (t : Token) × CutsFrom bytes at (Ok (Some t))
+first_cut bytes at v s =
+    let k : Cuts bytes at (first_of (out-Value21 v) ∷ rest_of (out-Value21 v)) s.end = subst (λ (ls : List Lexeme). Cuts bytes at ls s.end) (shaped v) s.cuts in
+    (k.0, k.1)
+
 pub never_stands : {A : Type 0} (bytes : List ℕ) (at : ℕ) (f : ReadFault) (v : Value21) → NoToken bytes at f → Stands bytes at v → A
 never_stands bytes at f v missing s =
     let k : Cuts bytes at (first_of (out-Value21 v) ∷ rest_of (out-Value21 v)) s.end = subst (λ (ls : List Lexeme). Cuts bytes at ls s.end) (shaped v) s.cuts in

@@ -1,4 +1,4 @@
--- What a handle says, by what it keeps: the value that begins with its first token, the values that stand from its place on.
+-- What a handle says, by what it keeps: the value that stands at its place, the values that stand from its place on.
 use Rattle.std.proofs.Common.{◌≡◌, ℕ, Bool, List, [], ◌∷◌, Option, Some, None, Ok, refl, sym, ap, subst, ◌∙◌, arith}
 use Rattle.std.specs.Coded.{codes}
 use base.Stored.{Coded-set}
@@ -9,10 +9,13 @@ use Rattle.p21_lexer.specs.Cutting.{CutsFrom}
 use Rattle.p21_values.specs.contracts.value.Value21 as row
 use Rattle.p21_values.specs.declared.piece.Kind.TheVariants as kinds
 use Rattle.p21_values.specs.declared.value.Value21.{Value21}
-use Rattle.p21_values.specs.Standing.{Begins, Begun, StandInside}
+use Rattle.p21_values.specs.Standing.{Stands, Begins, StandInside}
 use Rattle.p21_values.specs.Values.{items_of}
 use Rattle.p21_values.proofs.SignsThere.{sign_cut}
-use Rattle.p21_values.proofs.Stood.{one_inside}
+use Rattle.p21_values.proofs.Stood.{stands_once, one_inside}
+use Rattle.p21_table.specs.FirstBytes.{LeavesBehind}
+use Rattle.p21_table.specs.Stood.{Stood}
+use Rattle.p21_table.proofs.FirstTokens.{first_inside}
 
 values_set : IsSet (List Value21)
 values_set = Coded-set (Prim.hlevel (codes, row.the_row.coded))
@@ -20,10 +23,17 @@ values_set = Coded-set (Prim.hlevel (codes, row.the_row.coded))
 nothing : IsProp ⊥
 nothing a b = absurd a
 
--- An answer that is right of each value that begins with the token is right of the one that is told.
-pub asked : {A : Type 0} (one : IsSet A) (bytes : List ℕ) (t : Token) (says : Begun bytes t) (f : Value21 → A) (answer : A) → ((v : Value21) → Begins bytes t v → answer ≡ f v)
+value_set : IsSet Value21
+value_set = Coded-set row.the_row.coded
+
+-- The value that was given to stand there is the one that does.
+pub stood_told : (bytes : List ℕ) (at : ℕ) (given : Stood bytes at) (v : Value21) → Stands bytes at v → given.0 ≡ v
+stood_told bytes at given v h = ∥∥₁_elim given.1 (value_set given.0 v) (λ k. stands_once bytes at given.0 v k h)
+
+-- An answer that is right of each value that stands there is right of the one that is told.
+pub asked : {A : Type 0} (one : IsSet A) (bytes : List ℕ) (at : ℕ) (says : Stood bytes at) (f : Value21 → A) (answer : A) → ((v : Value21) → Stands bytes at v → answer ≡ f v)
     → answer ≡ f says.0
-asked one bytes t says f answer h = ∥∥₁_elim says.1 (one answer (f says.0)) (λ b. h says.0 b)
+asked one bytes at says f answer h = ∥∥₁_elim says.1 (one answer (f says.0)) (λ s. h says.0 s)
 
 bytes_set : IsSet (Option (List ℕ))
 bytes_set = Coded-set (Prim.hlevel codes)
@@ -34,80 +44,87 @@ number_set = Coded-set (Prim.hlevel codes)
 bool_set : IsSet Bool
 bool_set = Coded-set (Prim.hlevel codes)
 
-pub bytes_asked : (bytes : List ℕ) (t : Token) (says : Begun bytes t) (f : Value21 → Option (List ℕ)) (answer : Option (List ℕ))
-    → ((v : Value21) → Begins bytes t v → answer ≡ f v) → answer ≡ f says.0
-bytes_asked bytes t says f answer h = asked bytes_set bytes t says f answer h
+pub bytes_asked : (bytes : List ℕ) (at : ℕ) (says : Stood bytes at) (f : Value21 → Option (List ℕ)) (answer : Option (List ℕ))
+    → ((v : Value21) → Stands bytes at v → answer ≡ f v) → answer ≡ f says.0
+bytes_asked bytes at says f answer h = asked bytes_set bytes at says f answer h
 
-pub number_asked : (bytes : List ℕ) (t : Token) (says : Begun bytes t) (f : Value21 → Option ℕ) (answer : Option ℕ)
-    → ((v : Value21) → Begins bytes t v → answer ≡ f v) → answer ≡ f says.0
-number_asked bytes t says f answer h = asked number_set bytes t says f answer h
+pub number_asked : (bytes : List ℕ) (at : ℕ) (says : Stood bytes at) (f : Value21 → Option ℕ) (answer : Option ℕ)
+    → ((v : Value21) → Stands bytes at v → answer ≡ f v) → answer ≡ f says.0
+number_asked bytes at says f answer h = asked number_set bytes at says f answer h
 
-pub bool_asked : (bytes : List ℕ) (t : Token) (says : Begun bytes t) (f : Value21 → Bool) (answer : Bool) → ((v : Value21) → Begins bytes t v → answer ≡ f v)
+pub bool_asked : (bytes : List ℕ) (at : ℕ) (says : Stood bytes at) (f : Value21 → Bool) (answer : Bool) → ((v : Value21) → Stands bytes at v → answer ≡ f v)
     → answer ≡ f says.0
-bool_asked bytes t says f answer h = asked bool_set bytes t says f answer h
+bool_asked bytes at says f answer h = asked bool_set bytes at says f answer h
+
+-- a value stands there, so a token does
+pub never_stood : {A : Type 0} (bytes : List ℕ) (at : ℕ) (says : Stood bytes at) → ((v : Value21) → Stands bytes at v → ⊥) → A
+never_stood bytes at says h = absurd (∥∥₁_elim says.1 nothing (λ s. h says.0 s))
 
 -- The items of a list.
 
 abbrev ItemsAt : List ℕ → ℕ → Value21 → Type 0
 ItemsAt bytes at v = (vs : List Value21) × (items_of v ≡ Some vs) × StandInside bytes at vs
 
-pub items_stand : (bytes : List ℕ) (t : Token) (at : ℕ) (says : Begun bytes t) → ((v : Value21) → Begins bytes t v → ItemsAt bytes at v)
-    → (vs : List Value21) × ∥ StandInside bytes at vs ∥₁
-items_stand bytes t at says h = ∥∥₁_elim says.1 (one_inside bytes at) (λ b. let i = h says.0 b in (i.0, ∣ i.2 ∣₁))
+pub items_stand : (bytes : List ℕ) (at inside : ℕ) (says : Stood bytes at) → ((v : Value21) → Stands bytes at v → ItemsAt bytes inside v)
+    → (vs : List Value21) × ∥ StandInside bytes inside vs ∥₁
+items_stand bytes at inside says h = ∥∥₁_elim says.1 (one_inside bytes inside) (λ s. let i = h says.0 s in (i.0, ∣ i.2 ∣₁))
 
 items_set : IsSet (Option (List Value21))
 items_set = Coded-set (Prim.hlevel (codes, row.the_row.coded))
 
-pub items_told : (bytes : List ℕ) (t : Token) (at : ℕ) (says : Begun bytes t) (made : List Value21) → ((v : Value21) → Begins bytes t v → ItemsAt bytes at v)
-    → ((vs : List Value21) → StandInside bytes at vs → made ≡ vs) → Some made ≡ items_of says.0
-items_told bytes t at says made h k =
-    ∥∥₁_elim says.1 (items_set (Some made) (items_of says.0)) (λ b. let i = h says.0 b in ap (λ (vs : List Value21). Some vs) (k i.0 i.2) ∙ sym i.1)
+pub items_told : (bytes : List ℕ) (at inside : ℕ) (says : Stood bytes at) (made : List Value21) → ((v : Value21) → Stands bytes at v → ItemsAt bytes inside v)
+    → ((vs : List Value21) → StandInside bytes inside vs → made ≡ vs) → Some made ≡ items_of says.0
+items_told bytes at inside says made h k =
+    ∥∥₁_elim says.1 (items_set (Some made) (items_of says.0)) (λ s. let i = h says.0 s in ap (λ (vs : List Value21). Some vs) (k i.0 i.2) ∙ sym i.1)
 
-pub no_items_told : (bytes : List ℕ) (t : Token) (says : Begun bytes t) → ((v : Value21) → Begins bytes t v → items_of v ≡ None) → None ≡ items_of says.0
-no_items_told bytes t says h = ∥∥₁_elim says.1 (items_set None (items_of says.0)) (λ b. sym (h says.0 b))
+pub no_items_told : (bytes : List ℕ) (at : ℕ) (says : Stood bytes at) → ((v : Value21) → Stands bytes at v → items_of v ≡ None) → None ≡ items_of says.0
+no_items_told bytes at says h = ∥∥₁_elim says.1 (items_set None (items_of says.0)) (λ s. sym (h says.0 s))
 
 -- The next of a list.
 
 abbrev FirstBegins : List ℕ → Token → List Value21 → Type 0
 FirstBegins bytes t vs = (v : Value21) × (others : List Value21) × (vs ≡ v ∷ others) × Begins bytes t v
 
+-- where the first of them begins with the token, the others stand behind it
+pub leaves : (bytes : List ℕ) (at after : ℕ) (t : Token) → ((vs : List Value21) → StandInside bytes at vs → FirstBegins bytes t vs)
+    → ((from : ℕ) (v : Value21) (vs : List Value21) → StandInside bytes from (v ∷ vs) → CutsFrom bytes from (Ok (Some t)) → StandInside bytes after vs) → CutsFrom bytes at (Ok (Some t))
+    → LeavesBehind bytes at after
+leaves bytes at after t item next cuts = λ vs k.
+    let f = item vs k in
+    let inside : StandInside bytes at (f.0 ∷ f.1) = subst (λ (xs : List Value21). StandInside bytes at xs) f.2 k in
+    (f.0, f.1, f.2, (first_inside bytes at f.0 f.1 inside).0, next at f.0 f.1 inside cuts)
+
 not_empty : (v : Value21) (vs : List Value21) → [] ≡ v ∷ vs → ⊥
 not_empty v vs e = cc
 
-same_first : (v w : Value21) (vs ws : List Value21) → v ∷ vs ≡ w ∷ ws → w ≡ v
-same_first v w vs ws e = cc
+same_others : (v w : Value21) (vs ws : List Value21) → v ∷ vs ≡ w ∷ ws → ws ≡ vs
+same_others v w vs ws e = cc
 
-no_first : {A : Type 0} (bytes : List ℕ) (at : ℕ) (t : Token) → ∥ StandInside bytes at [] ∥₁ → ((vs : List Value21) → StandInside bytes at vs → FirstBegins bytes t vs) → A
-no_first bytes at t s h = absurd (∥∥₁_elim s nothing (λ k. let f = h [] k in not_empty f.0 f.1 f.2))
+no_first : {A : Type 0} (bytes : List ℕ) (at after : ℕ) → ∥ StandInside bytes at [] ∥₁ → LeavesBehind bytes at after → A
+no_first bytes at after s h = absurd (∥∥₁_elim s nothing (λ k. let f = h [] k in not_empty f.0 f.1 f.2))
 
-begins_first : (bytes : List ℕ) (t : Token) (v : Value21) (vs : List Value21) → FirstBegins bytes t (v ∷ vs) → Begins bytes t v
-begins_first bytes t v vs f = subst (λ (w : Value21). Begins bytes t w) (same_first v f.0 vs f.1 f.2) f.3
-
--- a value begins with its token
-pub first_stands : (bytes : List ℕ) (at : ℕ) (t : Token) (says : (vs : List Value21) × ∥ StandInside bytes at vs ∥₁) → ((vs : List Value21) → StandInside bytes at vs → FirstBegins bytes t vs)
-    → Begun bytes t
-first_stands bytes at t ([], s) h = no_first bytes at t s h
-first_stands bytes at t (v ∷ vs, s) h = (v, ∥∥₁_elim s ∥∥₁_prop (λ k. ∣ begins_first bytes t v vs (h (v ∷ vs) k) ∣₁))
+-- a value stands where they do
+pub first_stands : (bytes : List ℕ) (at after : ℕ) (says : (vs : List Value21) × ∥ StandInside bytes at vs ∥₁) → LeavesBehind bytes at after → Stood bytes at
+first_stands bytes at after ([], s) h = no_first bytes at after s h
+first_stands bytes at after (v ∷ vs, s) h = (v, ∥∥₁_elim s ∥∥₁_prop (λ k. ∣ (first_inside bytes at v vs k).0 ∣₁))
 
 -- the others stand behind it
-pub others_stand : (bytes : List ℕ) (at after : ℕ) (t : Token) (says : (vs : List Value21) × ∥ StandInside bytes at vs ∥₁) → ((vs : List Value21) → StandInside bytes at vs → FirstBegins bytes t vs)
-    → ((from : ℕ) (v : Value21) (vs : List Value21) → StandInside bytes from (v ∷ vs) → CutsFrom bytes from (Ok (Some t)) → StandInside bytes after vs) → CutsFrom bytes at (Ok (Some t))
+pub others_stand : (bytes : List ℕ) (at after : ℕ) (says : (vs : List Value21) × ∥ StandInside bytes at vs ∥₁) → LeavesBehind bytes at after
     → (vs : List Value21) × ∥ StandInside bytes after vs ∥₁
-others_stand bytes at after t ([], s) h next cuts = no_first bytes at t s h
-others_stand bytes at after t (v ∷ vs, s) h next cuts = (vs, ∥∥₁_elim s ∥∥₁_prop (λ k. ∣ next at v vs k cuts ∣₁))
+others_stand bytes at after ([], s) h = no_first bytes at after s h
+others_stand bytes at after (v ∷ vs, s) h =
+    (vs, ∥∥₁_elim s ∥∥₁_prop (λ k. let f = h (v ∷ vs) k in ∣ subst (λ (xs : List Value21). StandInside bytes after xs) (same_others v f.0 vs f.1 f.2) f.4 ∣₁))
 
 -- they are the list
-pub list_told : (bytes : List ℕ) (at after : ℕ) (t : Token) (says : (vs : List Value21) × ∥ StandInside bytes at vs ∥₁) (value : Value21) (left : List Value21)
-    → ((vs : List Value21) → StandInside bytes at vs → FirstBegins bytes t vs)
-    → ((from : ℕ) (v : Value21) (vs : List Value21) → StandInside bytes from (v ∷ vs) → CutsFrom bytes from (Ok (Some t)) → StandInside bytes after vs) → CutsFrom bytes at (Ok (Some t))
-    → ((v : Value21) → Begins bytes t v → value ≡ v) → ((vs : List Value21) → StandInside bytes after vs → left ≡ vs) → says.0 ≡ value ∷ left
-list_told bytes at after t ([], s) value left h next cuts is are = no_first bytes at t s h
-list_told bytes at after t (v ∷ vs, s) value left h next cuts is are =
-    ∥∥₁_elim s (values_set (v ∷ vs) (value ∷ left))
+pub list_told : (bytes : List ℕ) (at after : ℕ) (says : (vs : List Value21) × ∥ StandInside bytes at vs ∥₁) (value : Value21) (left : List Value21) → LeavesBehind bytes at after
+    → ((v : Value21) → Stands bytes at v → value ≡ v) → ((vs : List Value21) → StandInside bytes after vs → left ≡ vs) → says.0 ≡ value ∷ left
+list_told bytes at after says value left h is are =
+    ∥∥₁_elim says.1 (values_set says.0 (value ∷ left))
     (λ k.
-    let first : value ≡ v = is v (begins_first bytes t v vs (h (v ∷ vs) k)) in
-    let others : left ≡ vs = are vs (next at v vs k cuts) in
-    sym (ap (λ (x : Value21). x ∷ left) first ∙ ap (λ (xs : List Value21). v ∷ xs) others))
+    let f = h says.0 k in
+    let first : value ≡ f.0 = is f.0 f.3 in
+    let others : left ≡ f.1 = are f.1 f.4 in
+    f.2 ∙ sym (ap (λ (x : Value21). x ∷ left) first ∙ ap (λ (xs : List Value21). f.0 ∷ xs) others))
 
 -- none is left
 pub none_told : (bytes : List ℕ) (at : ℕ) (says : (vs : List Value21) × ∥ StandInside bytes at vs ∥₁) → ((vs : List Value21) → StandInside bytes at vs → vs ≡ []) → says.0 ≡ []

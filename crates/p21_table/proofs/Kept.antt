@@ -19,10 +19,11 @@ use Rattle.p21_values.specs.declared.value.Instance.{Instance}
 use Rattle.p21_values.specs.Lexemes.{Lexeme, Closing, Cuts}
 use Rattle.p21_values.specs.Looking.{instance_at}
 use Rattle.p21_values.specs.Printing.{print, print_all}
-use Rattle.p21_values.specs.Standing.{Stands, Begins, StandInside}
+use Rattle.p21_values.specs.Standing.{Stands, StandInside}
 use Rattle.p21_values.specs.Tables.{Tells, Holds, starts_of}
-use Rattle.p21_values.proofs.Stood.{one_begun, no_keyword, a_keyword, Worded}
+use Rattle.p21_values.proofs.Stood.{no_keyword, a_keyword, Worded}
 use Rattle.p21_values.proofs.Told.{told_at}
+use Rattle.p21_table.specs.Stood.{Stood, one_stood}
 use Rattle.p21_table.proofs.FirstTokens.{some_token}
 use Rattle.p21_table.proofs.Heads.{some_head}
 
@@ -198,19 +199,12 @@ attribute_from bytes starts heads world at k h lt l =
     stand_within : (bytes : List ℕ) (at : ℕ) (v : Value21) → Stands bytes at v → at ≤ length bytes
     stand_within bytes at v s = cut_first bytes at s.end (print v) (some_token v) s.cuts
 
-pub attribute_begins : (bytes starts : List ℕ) (heads : List Head) (world : List Instance) (at k : ℕ) (t : Token) → ∥ Holds bytes starts heads world ∥₁ → at < length world
-    → k < (head_at heads at).count → ((v : Value21) → Stands bytes (get_or starts ((head_at heads at).first + k) 0) v → Begins bytes t v) → (v : Value21) × ∥ Begins bytes t v ∥₁
-attribute_begins bytes starts heads world at k t h lt l b =
-    ∥∥₁_elim h (one_begun bytes t) (λ g. let v = value_there bytes starts _ _ k (tells bytes starts heads world at g lt) l in (v.0, ∣ b v.0 v.2 ∣₁))
+pub attribute_stands : (bytes starts : List ℕ) (heads : List Head) (world : List Instance) (at k : ℕ) → ∥ Holds bytes starts heads world ∥₁ → at < length world
+    → k < (head_at heads at).count → Stood bytes (get_or starts ((head_at heads at).first + k) 0)
+attribute_stands bytes starts heads world at k h lt l =
+    ∥∥₁_elim h (one_stood bytes (get_or starts ((head_at heads at).first + k) 0)) (λ g. let v = value_there bytes starts _ _ k (tells bytes starts heads world at g lt) l in (v.0, ∣ v.2 ∣₁))
 
-pub attribute_told : (bytes starts : List ℕ) (heads : List Head) (world : List Instance) (at k : ℕ) (t : Token) (made : Value21) → ∥ Holds bytes starts heads world ∥₁ → at < length world
-    → k < (head_at heads at).count → ((v : Value21) → Stands bytes (get_or starts ((head_at heads at).first + k) 0) v → Begins bytes t v) → ((v : Value21) → Begins bytes t v → made ≡ v)
-    → Some made ≡ slice_get (instance_at world at).values k
-attribute_told bytes starts heads world at k t made h lt l b m =
-    ∥∥₁_elim h (maybe_set _ _) (λ g. let v = value_there bytes starts _ _ k (tells bytes starts heads world at g lt) l in ap (λ (x : Value21). Some x) (m v.0 (b v.0 v.2)) ∙ sym v.1)
-
--- a value stands there, so a token is
-pub never_none : (bytes starts : List ℕ) (heads : List Head) (world : List Instance) (at k : ℕ) → ∥ Holds bytes starts heads world ∥₁ → at < length world
-    → k < (head_at heads at).count → ((v : Value21) → Stands bytes (get_or starts ((head_at heads at).first + k) 0) v → ⊥) → ⊥
-never_none bytes starts heads world at k h lt l b =
-    ∥∥₁_elim h (λ x y. absurd x) (λ g. let v = value_there bytes starts _ _ k (tells bytes starts heads world at g lt) l in b v.0 v.2)
+pub attribute_told : (bytes starts : List ℕ) (heads : List Head) (world : List Instance) (at k : ℕ) (made : Value21) → ∥ Holds bytes starts heads world ∥₁ → at < length world
+    → k < (head_at heads at).count → ((v : Value21) → Stands bytes (get_or starts ((head_at heads at).first + k) 0) v → made ≡ v) → Some made ≡ slice_get (instance_at world at).values k
+attribute_told bytes starts heads world at k made h lt l m =
+    ∥∥₁_elim h (maybe_set _ _) (λ g. let v = value_there bytes starts _ _ k (tells bytes starts heads world at g lt) l in ap (λ (x : Value21). Some x) (m v.0 v.2) ∙ sym v.1)

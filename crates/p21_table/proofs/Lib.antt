@@ -6,3 +6,4 @@ pub mod Kept
 pub mod PlainBytes
 pub mod Waiting
 pub mod RowsThere
+pub mod FirstBytesThere

@@ -1,5 +1,5 @@
 -- A row of three short numbers is a value where it stands in a list.
-use Rattle.std.proofs.Common.{◌≡◌, ℕ, ◌+◌, ◌<◌, ◌≤◌, List, [], ◌∷◌, ◌++◌, length, get_or, refl, sym, ap, subst, ◌∙◌, arith, Some, Ok}
+use Rattle.std.proofs.Common.{◌≡◌, ℕ, ◌+◌, ◌<◌, List, [], ◌∷◌, ◌++◌, length, get_or, refl, sym, ap, subst, ◌∙◌, arith, Some, Ok}
 use Rattle.std.specs.Prelude.{slice_range}
 use Rattle.std.specs.Coded.{codes}
 use base.Stored.{Coded-set}
@@ -18,7 +18,7 @@ use Rattle.p21_values.specs.Lexemes.{Lexeme, Opening, Closing, Separator, Number
 use Rattle.p21_values.specs.Pieces.{kind_of}
 use Rattle.p21_values.specs.Printing.{print, print_all, print_step}
 use Rattle.p21_values.specs.Values.{items_of}
-use Rattle.p21_values.specs.Standing.{Stands, Begins, StandInside, StandBehind}
+use Rattle.p21_values.specs.Standing.{Begins, StandInside, StandBehind}
 use Rattle.p21_values.proofs.Tokens.{one_token}
 use Rattle.p21_values.proofs.Seen.{alone_says}
 use Rattle.p21_values.proofs.SignsThere.{sign_cut}
@@ -31,13 +31,13 @@ use Rattle.p21_table.proofs.FirstTokens.{item_by, first_inside, next_comma, next
 
 -- The tokens of a row.
 
-abbrev sign_token : ℕ → Token
+abbrev pub sign_token : ℕ → Token
 sign_token at = record { kind = tokens.Single; start = at; end = at + 1 }
 
-says_sign : (bytes : List ℕ) (at b : ℕ) → IsByteAt bytes at b → lexeme_of bytes (sign_token at) ≡ single_says b
+pub says_sign : (bytes : List ℕ) (at b : ℕ) → IsByteAt bytes at b → lexeme_of bytes (sign_token at) ≡ single_says b
 says_sign bytes at b h = let lt = h.0 in alone_says bytes at (at + 1) 0 (omega arith) (omega (arith, lt)) ∙ ap single_says h.1
 
-cuts_open : (bytes : List ℕ) (at : ℕ) → IsByteAt bytes at 40 → CutsFrom bytes at (Ok (Some (sign_token at)))
+pub cuts_open : (bytes : List ℕ) (at : ℕ) → IsByteAt bytes at 40 → CutsFrom bytes at (Ok (Some (sign_token at)))
 cuts_open bytes at h = sign_cut bytes at kinds.Open h.0 tt (ap (λ (b : ℕ). kind_of (class_of (single_says b))) (sym h.1))
 
 cuts_close : (bytes : List ℕ) (at : ℕ) → IsByteAt bytes at 41 → CutsFrom bytes at (Ok (Some (sign_token at)))

@@ -1,1 +1,3 @@
 pub mod ShortRows
+pub mod FirstBytes
+pub mod Stood

@@ -3,7 +3,6 @@ ghost use Rattle.std.specs.Prelude.{◌≡◌, ◌<◌, ◌≤◌, length, slice
 
 use crate::exchange::Exchange;
 use crate::keyword::Keyword;
-use crate::standing::first_token;
 use crate::value_list::Values;
 use crate::value_ref::ValueRef;
 use std::marker::Model;
@@ -93,6 +92,7 @@ impl<'a> InstanceRef<'a> {
     }
 
     /// The attribute of that number, from 0; none where it has fewer.
+    #[inline(always)]
     pub fn attribute(&self, at: usize) -> Option<ValueRef<'a>>
         ensures { result ≡ slice_get self.now.values at }
     {
@@ -102,8 +102,7 @@ impl<'a> InstanceRef<'a> {
             return None;
         }
         let start = kept.starts[head.first as usize + at] as usize;
-        let first = first_token(kept.bytes, start)?;
-        Some(ValueRef::of(kept.bytes, first))
+        Some(ValueRef::of(kept.bytes, start))
     }
 
     /// The items of the list that is the attribute of that number; none where there is no list.

@@ -3,6 +3,7 @@
 #![tactic(auto)]
 
 mod exchange;
+mod first_byte;
 mod instance_list;
 mod instance_ref;
 mod keyword;

@@ -4,6 +4,7 @@ ghost use Rattle.p21_values.specs.declared.value.Value21.{Value21};
 ghost use Rattle.p21_values.specs.Standing.{StandInside};
 ghost use Rattle.p21_values.proofs.Stood.{one_inside};
 
+use crate::first_byte::behind_one;
 use crate::standing::{item_there, next_there, sign_behind};
 use crate::value_ref::ValueRef;
 use bim_text::{ShortRow, short_row};
@@ -50,8 +51,13 @@ impl<'a> Iterator for Values<'a> {
     ghost remaining = { item_count (λ left. left) };
 
     fn next(&mut self) -> Option<ValueRef<'a>> {
+        if let Some(after) = behind_one(self.bytes, self.at) {
+            let value = ValueRef::of(self.bytes, self.at);
+            *self = Values::of(self.bytes, after);
+            return Some(value);
+        }
         let first = item_there(self.bytes, self.at)?;
-        let value = ValueRef::of(self.bytes, first);
+        let value = ValueRef::of(self.bytes, self.at);
         *self = Values::of(self.bytes, next_there(self.bytes, first));
         Some(value)
     }

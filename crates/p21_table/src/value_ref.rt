@@ -1,24 +1,42 @@
 //! A value where it stands in a file.
-ghost use Rattle.p21_values.specs.Pieces.{IsPiece};
-ghost use Rattle.p21_values.specs.Standing.{Begun};
-ghost use Rattle.p21_values.proofs.Pieces.{piece_prop};
-ghost use Rattle.p21_values.proofs.Stood.{one_begun};
+ghost use Rattle.std.specs.Prelude.{◌≡◌, ◌≤◌, List, length, Some, None, IfSome, MatchOption};
+ghost use Rattle.p21_values.specs.declared.value.Value21.{Value21};
+ghost use Rattle.p21_values.specs.Values.{items_of};
+ghost use Rattle.p21_values.specs.Standing.{Stands, StandInside};
+ghost use Rattle.p21_table.specs.Stood.{Stood, one_stood};
 
+use crate::first_byte::{absent_by_byte, inside_by_byte, reference_by_byte, words_by_byte};
 use crate::standing::{
-    absent_there, enumeration_there, inside_there, number_there, reference_there, words_there,
+    absent_there, enumeration_there, first_token, inside_there, number_there, reference_there,
+    words_there,
 };
 use crate::value_list::Values;
 use p21_lexer::TokenKind;
-use p21_values::Piece;
 use std::marker::Model;
 
-/// A value where it stands in a file (ISO 10303-21, sections 6 and 10), by its first token. Contracts see it as what it says.
+/// A value where it stands in a file (ISO 10303-21, sections 6 and 10). Its tokens are cut when it is asked. Contracts see it as what it says.
 #[derive(Drop)]
 pub struct ValueRef<'a> {
     bytes: &'a [u8],
-    first: Piece,
-    ghost there: { IsPiece bytes.now first } by { piece_prop bytes.now first },
-    ghost says: { Begun bytes.now first.token } by { one_begun bytes.now first.token },
+    at: usize,
+    ghost within: { at ≤ length bytes.now },
+    ghost says: { Stood bytes.now at } by { one_stood bytes.now at },
+}
+
+/// Behind the opening parenthesis of the list that stands there; none where the value that does is no list.
+#[inline(always)]
+fn inside_of(bytes: &[u8], at: usize) -> Option<usize>
+    requires within { at ≤ length bytes.now }
+    requires says { Stood bytes.now at }
+    ensures inside { (v : Value21) → Stands bytes.now at v → MatchOption result (items_of v ≡ None)
+        (λ at. (vs : List Value21) × (items_of v ≡ Some vs) × StandInside bytes.now at vs) }
+    ensures within { IfSome result (λ at. at ≤ length bytes.now) }
+{
+    if let Some(answer) = inside_by_byte(bytes, at) {
+        return answer;
+    }
+    let first = first_token(bytes, at)?;
+    inside_there(bytes, first)
 }
 
 impl<'a> Model for ValueRef<'a> {
@@ -34,55 +52,66 @@ impl<'a> Model for ValueRef<'a> {
 }
 
 impl<'a> ValueRef<'a> {
-    ghost use Rattle.std.specs.Prelude.{◌≡◌, option_copied};
+    ghost use Rattle.std.specs.Prelude.{◌≡◌, ◌≤◌, length, option_copied};
     ghost use Rattle.p21_values.specs.declared.value.Value21.{Value21};
-    ghost use Rattle.p21_values.specs.Pieces.{IsPiece};
-    ghost use Rattle.p21_values.specs.Standing.{Begins, Begun};
+    ghost use Rattle.p21_values.specs.Standing.{Stands};
+    ghost use Rattle.p21_table.specs.Stood.{Stood};
     ghost use Rattle.p21_values.specs.Values.{number_of, words_of, enumeration_of, reference_of, items_of, is_enumeration, is_absent};
     ghost use Rattle.p21_values.specs.Attributes.{items_in};
 
-    /// The value that begins with this token.
-    pub(crate) fn of(bytes: &'a [u8], first: Piece) -> ValueRef<'a>
-        requires there { IsPiece bytes.now first }
-        requires says { Begun bytes.now first.token }
-        ensures { (v : Value21) → Begins bytes.now first.token v → result ≡ v }
+    /// The value that stands there.
+    #[inline(always)]
+    pub(crate) fn of(bytes: &'a [u8], at: usize) -> ValueRef<'a>
+        requires within { at ≤ length bytes.now }
+        requires says { Stood bytes.now at }
+        ensures { (v : Value21) → Stands bytes.now at v → result ≡ v }
     {
-        ValueRef { bytes, first }
+        ValueRef { bytes, at }
     }
 
     /// The bytes of a number.
     pub fn number(&self) -> Option<&'a [u8]>
         ensures { option_copied result ≡ number_of self.now }
     {
-        number_there(self.bytes, self.first)
+        let first = first_token(self.bytes, self.at)?;
+        number_there(self.bytes, first)
     }
 
     /// The bytes of a text, as it is spelled between its apostrophes.
     pub fn words(&self) -> Option<&'a [u8]>
         ensures { option_copied result ≡ words_of self.now }
     {
-        words_there(self.bytes, self.first)
+        if let Some(answer) = words_by_byte(self.bytes, self.at) {
+            return answer;
+        }
+        let first = first_token(self.bytes, self.at)?;
+        words_there(self.bytes, first)
     }
 
     /// The letters of an enumeration, without its points.
     pub fn enumeration(&self) -> Option<&'a [u8]>
         ensures { option_copied result ≡ enumeration_of self.now }
     {
-        enumeration_there(self.bytes, self.first)
+        let first = first_token(self.bytes, self.at)?;
+        enumeration_there(self.bytes, first)
     }
 
     /// The number of the instance that a reference names.
     pub fn reference(&self) -> Option<u64>
         ensures { result ≡ reference_of self.now }
     {
-        reference_there(self.bytes, self.first)
+        if let Some(answer) = reference_by_byte(self.bytes, self.at) {
+            return answer;
+        }
+        let first = first_token(self.bytes, self.at)?;
+        reference_there(self.bytes, first)
     }
 
     /// The items of a list.
     pub fn items(&self) -> Option<Values<'a>>
         ensures { result ≡ items_of self.now }
     {
-        match inside_there(self.bytes, self.first) {
+        match inside_of(self.bytes, self.at) {
             Some(at) => Some(Values::of(self.bytes, at)),
             None => None,
         }
@@ -102,13 +131,22 @@ impl<'a> ValueRef<'a> {
     pub fn is_enumeration(&self) -> bool
         ensures { result ≡ is_enumeration self.now }
     {
-        self.first.token.kind == TokenKind::Enumeration
+        match first_token(self.bytes, self.at) {
+            Some(first) => first.token.kind == TokenKind::Enumeration,
+            None => false,
+        }
     }
 
     /// Whether it is `$`, or `*`, which counts as that.
     pub fn is_absent(&self) -> bool
         ensures { result ≡ is_absent self.now }
     {
-        absent_there(self.bytes, self.first)
+        if let Some(answer) = absent_by_byte(self.bytes, self.at) {
+            return answer;
+        }
+        match first_token(self.bytes, self.at) {
+            Some(first) => absent_there(self.bytes, first),
+            None => false,
+        }
     }
 }

@@ -1,12 +1,13 @@
-use Rattle.std.proofs.Common.{arith, sym, ◌∙◌, [], Some, refl}
+use Rattle.std.proofs.Common.{◌≡◌, ◌+◌, ◌<◌, ◌≤◌, arith, sym, ◌∙◌, [], Some, refl, length}
 use Rattle.p21_values.specs.declared.fault.ReadFault.TheVariants as faults
 use Rattle.p21_values.specs.declared.piece.Kind.TheVariants as kinds
 use Rattle.p21_values.specs.Grammar.{Inside, After, Value}
 use Rattle.p21_values.specs.Lexemes.{lexeme_of}
+use Rattle.p21_reader.specs.Tabling.{PutsBehind}
 use Rattle.p21_reader.proofs.Steps.{residual, fails_none, fails_refused, after_fails}
 use Rattle.p21_reader.proofs.Lists.{said, comma_fails, inside_fails}
 use Rattle.p21_reader.proofs.Inwards.{after_none}
-use Rattle.p21_reader.proofs.Tabled.{puts_none, putting_first, putting_more, putting_close, putting_fails, more_past}
+use Rattle.p21_reader.proofs.Tabled.{Putting, puts_none, putting_first, putting_more, putting_close, putting_fails, more_past}
 use Rattle.p21_reader.proofs.table.attributes.Goals as goal
 
 pub returns-in_err-first-clause-starts : goal.returns-in_err-first-clause-starts
@@ -30,8 +31,8 @@ returns-in_err-end c =
       within = tt;
     })
 
-pub loop-next-init : goal.loop-next-init
-loop-next-init c =
+pub items-init : goal.items-init
+items-init c =
     let p = c.in_ok-end.ensures.start in
     let t = c.in_ok-first.ensures in
     record {
@@ -42,13 +43,30 @@ loop-next-init c =
       read = putting_first c.args.depth c.args.bytes.now c.args.at c.in_ok-end.end c.in_ok-first.first.token c.in_ok-first.first.kind c.args.table.now c.attribute.new.table t.cuts t.piece.seen c.in_default.not-Close p;
     }
 
+pub items-preserved-in-Some : goal.items-preserved-in-Some
+items-preserved-in-Some c =
+    let i = c.items.invariant in
+    let r = c.in_ok-behind.ensures in
+    let p : PutsBehind c.args.depth c.args.bytes.now c.items.end c.items.table c.plain_attribute.new.table c.in-Some.behind = rw c.in-Some.is at (r.start c.args.depth) in
+    let on : c.items.end < c.in-Some.behind = rw c.in-Some.is at r.on in
+    let puts = p.5 in
+    record {
+      within = rw c.in-Some.is at r.within;
+      on = omega (arith, i.on, on);
+      few = more_past c.args.table.now.starts.items c.items.table.starts.items c.plain_attribute.new.table.starts.items p.1.start c.args.at c.items.end c.in-Some.behind i.few puts.2 on;
+      heads = r.heads ∙ i.heads;
+      read = putting_more c.args.depth c.args.bytes.now c.args.at c.items.end c.in-Some.behind p.0 p.1 c.args.table.now c.items.table c.plain_attribute.new.table i.read p.2 p.3 p.4 puts;
+    }
+
 pub returns-in_err-next : goal.returns-in_err-next
 returns-in_err-next c =
+    let same = rw c.in-None.is at c.in_ok-behind.ensures.none in
+    let read : Putting c.args.depth c.args.bytes.now c.args.at c.items.end c.args.table.now c.plain_attribute.new.table = rw same c.items.invariant.read in
     let f = c.in_err-next.field-0.0 in
     rw (residual _ _ c.from_residual-in_err-next.ensures.1) (record {
       starts =
-          putting_fails c.args.depth c.args.bytes.now c.args.at c.loop-next.end c.args.table.now c.loop-next.table f c.loop-next.invariant.read
-          (fails_none (After (Some c.args.depth)) [] c.args.bytes.now c.loop-next.end f c.in_err-next.ensures.fault);
+          putting_fails c.args.depth c.args.bytes.now c.args.at c.items.end c.args.table.now c.plain_attribute.new.table f read
+          (fails_none (After (Some c.args.depth)) [] c.args.bytes.now c.items.end f c.in_err-next.ensures.fault);
       few = tt;
       heads = tt;
       on = tt;
@@ -57,25 +75,31 @@ returns-in_err-next c =
 
 pub returns-in-Close-kind : goal.returns-in-Close-kind
 returns-in-Close-kind c =
-    let i = c.loop-next.invariant in
+    let same = rw c.in-None.is at c.in_ok-behind.ensures.none in
+    let read : Putting c.args.depth c.args.bytes.now c.args.at c.items.end c.args.table.now c.plain_attribute.new.table = rw same c.items.invariant.read in
+    let few : length c.plain_attribute.new.table.starts.items + c.args.at ≤ length c.args.table.now.starts.items + c.items.end = rw same c.items.invariant.few in
+    let heads : c.plain_attribute.new.table.heads.items ≡ c.args.table.now.heads.items = rw same c.items.invariant.heads in
+    let i = c.items.invariant in
     let t = c.in_ok-next.ensures in
     let l = said (lexeme_of c.args.bytes.now c.in_ok-next.next.token) kinds.Close tt (sym c.in-Close-kind.is ∙ t.piece.seen) in
     record {
-      starts = putting_close c.args.depth c.args.bytes.now c.args.at c.loop-next.end c.in_ok-next.next.token c.args.table.now c.loop-next.table i.read t.cuts l;
-      few = omega (arith, i.few, t.on, t.piece.some);
-      heads = i.heads;
+      starts = putting_close c.args.depth c.args.bytes.now c.args.at c.items.end c.in_ok-next.next.token c.args.table.now c.plain_attribute.new.table read t.cuts l;
+      few = omega (arith, few, t.on, t.piece.some);
+      heads = heads;
       on = omega (arith, i.on, t.on, t.piece.some);
       within = t.piece.within;
     }
 
 pub returns-in_err-item-in-Comma : goal.returns-in_err-item-in-Comma
 returns-in_err-item-in-Comma c =
+    let same = rw c.in-None.is at c.in_ok-behind.ensures.none in
+    let read : Putting c.args.depth c.args.bytes.now c.args.at c.items.end c.args.table.now c.plain_attribute.new.table = rw same c.items.invariant.read in
     let f = c.in_err-item-in-Comma.field-0.0 in
     let l = said (lexeme_of c.args.bytes.now c.in_ok-next.next.token) kinds.Comma tt (sym c.in-Comma.is ∙ c.in_ok-next.ensures.piece.seen) in
     rw (residual _ _ c.from_residual-in_err-item-in-Comma.ensures.1) (record {
       starts =
-          putting_fails c.args.depth c.args.bytes.now c.args.at c.loop-next.end c.args.table.now c.loop-next.table f c.loop-next.invariant.read
-          (comma_fails c.args.depth c.args.bytes.now c.loop-next.end c.in_ok-next.next.token f c.in_ok-next.ensures.cuts l
+          putting_fails c.args.depth c.args.bytes.now c.args.at c.items.end c.args.table.now c.plain_attribute.new.table f read
+          (comma_fails c.args.depth c.args.bytes.now c.items.end c.in_ok-next.next.token f c.in_ok-next.ensures.cuts l
           (fails_none (Value (Some c.args.depth)) [] c.args.bytes.now c.in_ok-next.next.token.end f c.in_err-item-in-Comma.ensures.fault));
       few = tt;
       heads = tt;
@@ -85,12 +109,14 @@ returns-in_err-item-in-Comma c =
 
 pub returns-in_err-end-in-Comma : goal.returns-in_err-end-in-Comma
 returns-in_err-end-in-Comma c =
+    let same = rw c.in-None.is at c.in_ok-behind.ensures.none in
+    let read : Putting c.args.depth c.args.bytes.now c.args.at c.items.end c.args.table.now c.plain_attribute.new.table = rw same c.items.invariant.read in
     let f = c.in_err-end-in-Comma.field-0.0 in
     let l = said (lexeme_of c.args.bytes.now c.in_ok-next.next.token) kinds.Comma tt (sym c.in-Comma.is ∙ c.in_ok-next.ensures.piece.seen) in
     rw (residual _ _ c.from_residual-in_err-end-in-Comma.ensures.1) (record {
       starts =
-          putting_fails c.args.depth c.args.bytes.now c.args.at c.loop-next.end c.args.table.now c.loop-next.table f c.loop-next.invariant.read
-          (comma_fails c.args.depth c.args.bytes.now c.loop-next.end c.in_ok-next.next.token f c.in_ok-next.ensures.cuts l
+          putting_fails c.args.depth c.args.bytes.now c.args.at c.items.end c.args.table.now c.plain_attribute.new.table f read
+          (comma_fails c.args.depth c.args.bytes.now c.items.end c.in_ok-next.next.token f c.in_ok-next.ensures.cuts l
           (after_fails (Value (Some c.args.depth)) [] c.args.bytes.now c.in_ok-next.next.token.end c.in_ok-item-in-Comma.item.token f c.in_ok-item-in-Comma.ensures.cuts c.in_err-end-in-Comma.ensures.start));
       few = tt;
       heads = tt;
@@ -98,9 +124,13 @@ returns-in_err-end-in-Comma c =
       within = tt;
     })
 
-pub loop-next-preserved : goal.loop-next-preserved
-loop-next-preserved c =
-    let i = c.loop-next.invariant in
+pub items-preserved : goal.items-preserved
+items-preserved c =
+    let same = rw c.in-None.is at c.in_ok-behind.ensures.none in
+    let read : Putting c.args.depth c.args.bytes.now c.args.at c.items.end c.args.table.now c.plain_attribute.new.table = rw same c.items.invariant.read in
+    let few : length c.plain_attribute.new.table.starts.items + c.args.at ≤ length c.args.table.now.starts.items + c.items.end = rw same c.items.invariant.few in
+    let heads : c.plain_attribute.new.table.heads.items ≡ c.args.table.now.heads.items = rw same c.items.invariant.heads in
+    let i = c.items.invariant in
     let t = c.in_ok-next.ensures in
     let u = c.in_ok-item-in-Comma.ensures in
     let l = said (lexeme_of c.args.bytes.now c.in_ok-next.next.token) kinds.Comma tt (sym c.in-Comma.is ∙ t.piece.seen) in
@@ -109,20 +139,22 @@ loop-next-preserved c =
       within = c.in_ok-end-in-Comma.ensures.within;
       on = omega (arith, i.on, t.on, t.piece.some, u.on, u.piece.some, c.in_ok-end-in-Comma.ensures.on);
       few =
-          more_past c.args.table.now.starts.items c.loop-next.table.starts.items c.attribute-in-Comma.new.table.starts.items c.in_ok-item-in-Comma.item.token.start c.args.at c.loop-next.end c.in_ok-end-in-Comma.end i.few p.2
+          more_past c.args.table.now.starts.items c.plain_attribute.new.table.starts.items c.attribute-in-Comma.new.table.starts.items c.in_ok-item-in-Comma.item.token.start c.args.at c.items.end c.in_ok-end-in-Comma.end few p.2
           (omega (arith, t.on, t.piece.some, u.on, u.piece.some, c.in_ok-end-in-Comma.ensures.on));
-      heads = c.in_ok-end-in-Comma.ensures.heads ∙ i.heads;
-      read = putting_more c.args.depth c.args.bytes.now c.args.at c.loop-next.end c.in_ok-end-in-Comma.end c.in_ok-next.next.token c.in_ok-item-in-Comma.item.token c.args.table.now c.loop-next.table c.attribute-in-Comma.new.table i.read t.cuts l u.cuts p;
+      heads = c.in_ok-end-in-Comma.ensures.heads ∙ heads;
+      read = putting_more c.args.depth c.args.bytes.now c.args.at c.items.end c.in_ok-end-in-Comma.end c.in_ok-next.next.token c.in_ok-item-in-Comma.item.token c.args.table.now c.plain_attribute.new.table c.attribute-in-Comma.new.table read t.cuts l u.cuts p;
     }
 
 pub returns-in_default-kind : goal.returns-in_default-kind
 returns-in_default-kind c =
+    let same = rw c.in-None.is at c.in_ok-behind.ensures.none in
+    let read : Putting c.args.depth c.args.bytes.now c.args.at c.items.end c.args.table.now c.plain_attribute.new.table = rw same c.items.invariant.read in
     let t = c.in_ok-next.next.token in
     record {
       starts =
           rw c.refused.ensures
-          (putting_fails c.args.depth c.args.bytes.now c.args.at c.loop-next.end c.args.table.now c.loop-next.table (faults.BadStatement t.start) c.loop-next.invariant.read
-          (fails_refused (After (Some c.args.depth)) [] c.args.bytes.now c.loop-next.end t.start t c.in_ok-next.ensures.cuts
+          (putting_fails c.args.depth c.args.bytes.now c.args.at c.items.end c.args.table.now c.plain_attribute.new.table (faults.BadStatement t.start) read
+          (fails_refused (After (Some c.args.depth)) [] c.args.bytes.now c.items.end t.start t c.in_ok-next.ensures.cuts
           (after_none (Some c.args.depth) (lexeme_of c.args.bytes.now t) c.in_ok-next.next.kind c.in_ok-next.ensures.piece.seen c.in_default-kind.not-Close c.in_default-kind.not-Comma) refl));
       few = tt;
       heads = tt;

@@ -2,8 +2,8 @@ use Rattle.std.proofs.Common.{◌≡◌, ◌+◌, ◌-◌, ◌≤◌, length}
 use Rattle.p21_reader.proofs.Tabled.{Putting}
 use Rattle.p21_reader.proofs.table.attributes.Given as goal
 
-abbrev pub invariant-loop-next : goal.invariant-loop-next
-invariant-loop-next l = record {
+abbrev pub invariant-items : goal.invariant-items
+invariant-items l = record {
   within : l.end ≤ length l.bytes;
   on : l.fn.at ≤ l.end;
   few : length l.table.starts.items + l.fn.at ≤ length l.fn.table.starts.items + l.end;
@@ -11,5 +11,5 @@ invariant-loop-next l = record {
   read : Putting l.fn.depth l.bytes l.fn.at l.end l.fn.table l.table;
 }
 
-abbrev pub decreases-loop-next : goal.decreases-loop-next
-decreases-loop-next l = length l.initial.bytes - l.end
+abbrev pub decreases-items : goal.decreases-items
+decreases-items l = length l.initial.bytes - l.end

@@ -1,7 +1,7 @@
 use Rattle.std.proofs.Common.{ap, arith, ◌∙◌}
 use Rattle.std.specs.List.{slice_get}
 use Rattle.p21_values.specs.declared.value.Instance.{Instance}
-use Rattle.p21_table.proofs.Kept.{starts_within, attribute_none, attribute_from, attribute_begins, attribute_told, never_none}
+use Rattle.p21_table.proofs.Kept.{starts_within, attribute_none, attribute_from, attribute_stands, attribute_told}
 use Rattle.p21_table.proofs.instance_ref.InstanceRef.attribute.Goals as goal
 
 pub returns-then-at-head : goal.returns-then-at-head
@@ -10,14 +10,11 @@ returns-then-at-head c = attribute_none c.kept-kept.result.bytes.now c.kept-kept
 pub bounds-kept-head : goal.bounds-kept-head
 bounds-kept-head c = let w = starts_within c.kept-kept.result.bytes.now c.kept-kept.result.starts.now c.kept-kept.result.heads.now c.self.inside.exchange.now c.self.inside.at c.kept-kept.ensures.holds c.self.inside.within in omega (arith, w, c.if-at-head.false)
 
-pub first_token-requires : goal.first_token-requires
-first_token-requires c = attribute_from c.kept-kept.result.bytes.now c.kept-kept.result.starts.now c.kept-kept.result.heads.now c.self.inside.exchange.now c.self.inside.at c.args.at c.kept-kept.ensures.holds c.self.inside.within (omega (arith, c.if-at-head.false))
-
-pub returns-in_err-first : goal.returns-in_err-first
-returns-in_err-first c = absurd (never_none c.kept-kept.result.bytes.now c.kept-kept.result.starts.now c.kept-kept.result.heads.now c.self.inside.exchange.now c.self.inside.at c.args.at c.kept-kept.ensures.holds c.self.inside.within (omega (arith, c.if-at-head.false)) c.in_err-first.ensures.begins)
+pub of-requires-clause-within : goal.of-requires-clause-within
+of-requires-clause-within c = attribute_from c.kept-kept.result.bytes.now c.kept-kept.result.starts.now c.kept-kept.result.heads.now c.self.inside.exchange.now c.self.inside.at c.args.at c.kept-kept.ensures.holds c.self.inside.within (omega (arith, c.if-at-head.false))
 
 pub of-requires-clause-says : goal.of-requires-clause-says
-of-requires-clause-says c = attribute_begins c.kept-kept.result.bytes.now c.kept-kept.result.starts.now c.kept-kept.result.heads.now c.self.inside.exchange.now c.self.inside.at c.args.at c.in_ok-first.first.token c.kept-kept.ensures.holds c.self.inside.within (omega (arith, c.if-at-head.false)) c.in_ok-first.ensures.begins
+of-requires-clause-says c = attribute_stands c.kept-kept.result.bytes.now c.kept-kept.result.starts.now c.kept-kept.result.heads.now c.self.inside.exchange.now c.self.inside.at c.args.at c.kept-kept.ensures.holds c.self.inside.within (omega (arith, c.if-at-head.false))
 
 pub returns : goal.returns
-returns c = attribute_told c.kept-kept.result.bytes.now c.kept-kept.result.starts.now c.kept-kept.result.heads.now c.self.inside.exchange.now c.self.inside.at c.args.at c.in_ok-first.first.token c.of.result c.kept-kept.ensures.holds c.self.inside.within (omega (arith, c.if-at-head.false)) c.in_ok-first.ensures.begins c.of.ensures ∙ ap (λ (i : Instance). slice_get i.values c.args.at) c.self.view_is
+returns c = attribute_told c.kept-kept.result.bytes.now c.kept-kept.result.starts.now c.kept-kept.result.heads.now c.self.inside.exchange.now c.self.inside.at c.args.at c.of.result c.kept-kept.ensures.holds c.self.inside.within (omega (arith, c.if-at-head.false)) c.of.ensures ∙ ap (λ (i : Instance). slice_get i.values c.args.at) c.self.view_is

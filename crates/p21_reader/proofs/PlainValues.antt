@@ -1,0 +1,51 @@
+-- A value of one token right behind a comma.
+use Rattle.std.proofs.Common.{◌≡◌, ℕ, ◌+◌, ◌<◌, ◌≤◌, inl, inr, ◌⊎◌, List, [], ◌∷◌, ◌++◌, length, Ok, refl, sym, ap, subst, ◌∙◌}
+use Rattle.std.specs.Prelude.{slice_index, slice_range}
+use Rattle.p21_lexer.specs.declared.token.Token.{Token}
+use Rattle.p21_lexer.specs.declared.token.TokenKind.{TokenKind}
+use Rattle.p21_lexer.specs.declared.token.TokenKind.TheVariants as tokens
+use Rattle.p21_values.specs.declared.piece.Kind.{Kind}
+use Rattle.p21_values.specs.declared.piece.Kind.TheVariants as kinds
+use Rattle.p21_values.specs.Lexemes.{Lexeme, class_of, lexeme_of, says, single_says}
+use Rattle.p21_values.specs.Pieces.{kind_of}
+use Rattle.p21_values.proofs.Seen.{alone_says}
+use Rattle.p21_reader.specs.declared.table.Table.{Table}
+use Rattle.p21_reader.specs.Passing.{tells}
+use Rattle.p21_reader.specs.Tabling.{Counts, PassesValue, PutsBehind}
+use Rattle.p21_lexer.specs.There.{IsOneValue, IsValueThere}
+use Rattle.p21_reader.proofs.Midway.{plain_value}
+use Rattle.p21_reader.proofs.RowLemmas.{sign_token, sign_by, sign_said_by}
+
+abbrev IsPlain : Kind → Type 0
+IsPlain k = (k ≡ kinds.Simple) ⊎ (k ≡ kinds.Name)
+
+single_is_plain : (b : ℕ) → (b ≡ 36) ⊎ (b ≡ 42) → kind_of (class_of (single_says b)) ≡ kinds.Simple
+single_is_plain b (inl e) = rw e refl
+single_is_plain b (inr e) = rw e refl
+
+-- what the grammar sees of a token that is a value by itself
+plain_kind : (kind : TokenKind) (bytes : List ℕ) (at end : ℕ) → at < end → end ≤ length bytes → IsOneValue kind (slice_index bytes at) → IsPlain (kind_of (class_of (says kind (slice_range bytes at end))))
+plain_kind tokens.Word bytes at end lt le h = absurd h
+plain_kind tokens.Name bytes at end lt le h = inr refl
+plain_kind tokens.Number bytes at end lt le h = inl refl
+plain_kind tokens.Words bytes at end lt le h = inl refl
+plain_kind tokens.Enumeration bytes at end lt le h = inl refl
+plain_kind tokens.Bits bytes at end lt le h = inl refl
+plain_kind tokens.Single bytes at end lt le h =
+    inl (ap (λ (l : Lexeme). kind_of (class_of l)) (alone_says bytes at end 0 lt le) ∙ single_is_plain (slice_index bytes at) h)
+
+plain_tells : (k : Kind) → IsPlain k → tells k ≡ 1
+plain_tells k (inl e) = ap tells e
+plain_tells k (inr e) = ap tells e
+
+-- it is put with its start
+pub plain_behind : (depth : ℕ) (bytes : List ℕ) (at end : ℕ) (old new : Table) → at < length bytes → slice_index bytes at ≡ 44 → IsValueThere bytes (at + 1) end
+    → new.starts.items ≡ old.starts.items ++ (at + 1) ∷ [] → Counts old.values new.values 1 → PutsBehind depth bytes at old new end
+plain_behind depth bytes at end old new lt e h items c =
+    let item : Token = record { kind = h.0; start = at + 1; end = end } in
+    let k : Kind = kind_of (class_of (lexeme_of bytes item)) in
+    let cuts = h.2.0 in
+    let plain = plain_kind h.0 bytes (at + 1) end cuts.1 h.2.1 h.1 in
+    let P : ℕ → Type 0 = λ n. Counts old.values new.values n in
+    let v : PassesValue depth bytes item old.values new.values (Ok end) = plain_value depth bytes item old.values new.values k refl plain (subst P (sym (plain_tells k plain)) c) in
+    (sign_token at, item, sign_by bytes at 44 tt lt e, sign_said_by bytes at 44 lt e, cuts, (v.0, v.1, items, v.2))

@@ -1,0 +1,92 @@
+//! What the first byte of a value tells, where no gap stands before it: most questions need no more. None says nothing.
+ghost use Rattle.std.specs.Prelude.{◌≡◌, ◌≤◌, List, length, Some, None, IfSome, MatchOption, option_copied};
+ghost use Rattle.p21_values.specs.declared.value.Value21.{Value21};
+ghost use Rattle.p21_values.specs.Values.{words_of, reference_of, items_of, is_absent};
+ghost use Rattle.p21_values.specs.Standing.{Stands, StandInside};
+ghost use Rattle.p21_table.specs.FirstBytes.{BeginsToken, LeavesBehind};
+
+use crate::simple::inner;
+use crate::standing::sign_behind;
+use p21_lexer::{name_there, value_there};
+
+/// The byte that a token begins with right there: neither a blank nor what may begin a comment.
+#[inline(always)]
+fn token_byte(bytes: &[u8], at: usize) -> Option<u8>
+    ensures { IfSome result (BeginsToken bytes.now at) }
+{
+    if at >= bytes.len() {
+        return None;
+    }
+    let byte = bytes[at];
+    if byte > b' ' && byte != b'/' {
+        Some(byte)
+    } else {
+        None
+    }
+}
+
+/// Whether the value is `$` or `*`.
+#[inline(always)]
+pub fn absent_by_byte(bytes: &[u8], at: usize) -> Option<bool>
+    ensures { IfSome result (λ answer. (v : Value21) → Stands bytes.now at v → answer ≡ is_absent v) }
+{
+    let byte = token_byte(bytes, at)?;
+    Some(byte == b'$' || byte == b'*')
+}
+
+/// The number of the instance that the reference names; none where the value is no reference.
+#[inline(always)]
+pub fn reference_by_byte(bytes: &[u8], at: usize) -> Option<Option<u64>>
+    ensures { IfSome result (λ answer. (v : Value21) → Stands bytes.now at v → answer ≡ reference_of v) }
+{
+    let byte = token_byte(bytes, at)?;
+    if byte != b'#' {
+        return Some(None);
+    }
+    match name_there(bytes, at) {
+        Some(name) => Some(Some(name.id)),
+        None => None,
+    }
+}
+
+/// The bytes of the text, as it is spelled between its apostrophes; none where the value is no text.
+#[inline(always)]
+pub fn words_by_byte(bytes: &[u8], at: usize) -> Option<Option<&[u8]>>
+    ensures { IfSome result (λ answer. (v : Value21) → Stands bytes.now at v
+        → option_copied answer ≡ words_of v) }
+{
+    let byte = token_byte(bytes, at)?;
+    if byte != b'\'' {
+        return Some(None);
+    }
+    match value_there(bytes, at) {
+        Some(end) => Some(Some(inner(&bytes[at..end]))),
+        None => None,
+    }
+}
+
+/// The place behind the opening parenthesis of the list; none where the value is no list.
+#[inline(always)]
+pub fn inside_by_byte(bytes: &[u8], at: usize) -> Option<Option<usize>>
+    ensures inside { IfSome result (λ answer. (v : Value21) → Stands bytes.now at v
+        → MatchOption answer (items_of v ≡ None)
+        (λ at. (vs : List Value21) × (items_of v ≡ Some vs) × StandInside bytes.now at vs)) }
+    ensures within { IfSome result (λ answer. IfSome answer (λ at. at ≤ length bytes.now)) }
+{
+    let byte = token_byte(bytes, at)?;
+    if byte == b'(' {
+        Some(Some(at + 1))
+    } else {
+        Some(None)
+    }
+}
+
+/// Where the next value of a list begins, or the list ends, behind a value of one token.
+#[inline(always)]
+pub fn behind_one(bytes: &[u8], at: usize) -> Option<usize>
+    ensures behind { IfSome result (LeavesBehind bytes.now at) }
+    ensures within { IfSome result (λ after. after ≤ length bytes.now) }
+{
+    let end = value_there(bytes, at)?;
+    sign_behind(bytes, end)
+}
