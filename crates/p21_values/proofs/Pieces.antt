@@ -1,26 +1,15 @@
--- Tokens within the bytes: there is one way to be one, and what their spelling tells.
+-- Tokens within the bytes: what their spelling tells.
 use Rattle.std.proofs.Common.{◌≡◌, ℕ, ◌≤◌, List, [], ◌∷◌, length, map, ap, subst, arith}
 use Rattle.std.specs.Str.{IsAscii}
 use Rattle.std.specs.Char.{to_ascii_uppercase}
-use Rattle.std.specs.Coded.{le_prop, Coded-set}
-use Rattle.std.proofs.Math.Logic.{∥∥₁_prop, ∥∥₁_elim}
+use Rattle.std.specs.Coded.{le_prop}
+use Rattle.std.proofs.Math.Logic.{∥∥₁_elim}
 use Rattle.std.proofs.lemmas.List.{length-append}
 use Rattle.p21_lexer.specs.declared.token.TokenKind.{TokenKind}
 use Rattle.p21_lexer.specs.declared.token.TokenKind.TheVariants as tokens
 use Rattle.p21_lexer.specs.Spelling.{Spells}
 use Rattle.p21_values.specs.Lexemes.{inner}
-use Rattle.p21_values.specs.declared.piece.Piece.{Piece}
-use Rattle.p21_values.specs.contracts.piece.Kind as row
-use Rattle.p21_values.specs.Pieces.{IsPiece}
 use Rattle.p21_values.proofs.Contents.{keyword_ascii}
-
-pub piece_prop : (bytes : List ℕ) (piece : Piece) → IsProp (IsPiece bytes piece)
-piece_prop bytes piece a b = λ k. record {
-  some = le_prop a.some b.some k;
-  within = le_prop a.within b.within k;
-  spelled = ∥∥₁_prop a.spelled b.spelled k;
-  seen = Coded-set row.the_row.coded _ _ a.seen b.seen k;
-}
 
 -- a keyword's bytes in upper case
 pub ascii_said : (k : TokenKind) (bs : List ℕ) → ∥ Spells k bs ∥₁ → k ≡ tokens.Word → IsAscii (map to_ascii_uppercase bs)

@@ -16,7 +16,7 @@ use Rattle.p21_values.specs.declared.instance_head.Head.{Head}
 use Rattle.p21_values.specs.Lexemes.{Lexeme, Closing, lexeme_of, Cuts}
 use Rattle.p21_values.specs.Printing.{print, print_all}
 use Rattle.p21_values.specs.Saying.{content, contents}
-use Rattle.p21_values.specs.Standing.{Stands, Begins, Begun, StandInside}
+use Rattle.p21_values.specs.Standing.{Stands, StandInside}
 use Rattle.p21_values.specs.Tables.{NamesKeyword, Tells, Holds, Meaning, starts_of}
 use Rattle.p21_values.proofs.Tokens.{one_token}
 use Rattle.p21_values.proofs.Spelled.{spell, spell_all, print_is, print_all_is, one_value, one_all}
@@ -56,14 +56,6 @@ value_of_front v w (inr p) = front_value v w [] p.0 (append-nil (print v) ∙ p.
 -- one value stands at a place
 pub stands_once : (bytes : List ℕ) (at : ℕ) (v w : Value21) → Stands bytes at v → Stands bytes at w → v ≡ w
 stands_once bytes at v w h k = value_of_front v w (cuts_front bytes at h.end k.end (print v) (print w) h.cuts k.cuts)
-
-begun_front : (l : Lexeme) (ps qs rest more : List Lexeme) → ps ≡ l ∷ rest → qs ≡ l ∷ more → OneFront rest more → OneFront ps qs
-begun_front l ps qs rest more e f o = subst (λ z. OneFront z qs) (sym e) (subst (λ z. OneFront (l ∷ rest) z) (sym f) (front_more l l rest more refl o))
-
--- one value begins with a token
-pub begins_once : (bytes : List ℕ) (t : Token) (v w : Value21) → Begins bytes t v → Begins bytes t w → v ≡ w
-begins_once bytes t v w h k =
-    value_of_front v w (begun_front (lexeme_of bytes t) (print v) (print w) h.rest k.rest h.spelled k.spelled (cuts_front bytes t.end h.end k.end h.rest k.rest h.cuts k.cuts))
 
 -- Lists of values up to a closing parenthesis.
 
@@ -159,17 +151,11 @@ one_meaning bytes starts (head ∷ heads) (i ∷ a) (j ∷ b) h k = ap (λ z. z 
 
 -- What ghost fields ask for: there is one proof.
 
-value_set : IsSet Value21
-value_set = Coded-set row.the_row.coded
-
 values_set : IsSet (List Value21)
 values_set = Coded-set (Prim.hlevel (codes, row.the_row.coded))
 
 instances_set : IsSet (List Instance)
 instances_set = Coded-set (Prim.hlevel (codes, row.the_row.coded))
-
-pub one_begun : (bytes : List ℕ) (t : Token) → IsProp (Begun bytes t)
-one_begun bytes t = λ u w. Σ_prop_path (λ v. ∥∥₁_prop) (∥∥₁_elim u.1 (value_set u.0 w.0) (λ h. ∥∥₁_elim w.1 (value_set u.0 w.0) (λ k. begins_once bytes t u.0 w.0 h k)))
 
 pub one_inside : (bytes : List ℕ) (at : ℕ) → IsProp ((vs : List Value21) × ∥ StandInside bytes at vs ∥₁)
 one_inside bytes at = λ u w. Σ_prop_path (λ v. ∥∥₁_prop) (∥∥₁_elim u.1 (values_set u.0 w.0) (λ h. ∥∥₁_elim w.1 (values_set u.0 w.0) (λ k. inside_once bytes at u.0 w.0 h k)))
@@ -177,12 +163,9 @@ one_inside bytes at = λ u w. Σ_prop_path (λ v. ∥∥₁_prop) (∥∥₁_eli
 pub one_world : (bytes starts : List ℕ) (heads : List Head) → IsProp (Meaning bytes starts heads)
 one_world bytes starts heads = λ u w. Σ_prop_path (λ v. ∥∥₁_prop) (∥∥₁_elim u.1 (instances_set u.0 w.0) (λ h. ∥∥₁_elim w.1 (instances_set u.0 w.0) (λ k. one_meaning bytes starts heads u.0 w.0 h k)))
 
--- what a table or a token was given to say is what it says
+-- what a table or a list was given to say is what it says
 pub world_told : (bytes starts : List ℕ) (heads : List Head) (given : Meaning bytes starts heads) (world : List Instance) → Holds bytes starts heads world → given.0 ≡ world
 world_told bytes starts heads given world h = ∥∥₁_elim given.1 (instances_set given.0 world) (λ k. one_meaning bytes starts heads given.0 world k h)
-
-pub value_told : (bytes : List ℕ) (t : Token) (given : Begun bytes t) (v : Value21) → Begins bytes t v → given.0 ≡ v
-value_told bytes t given v h = ∥∥₁_elim given.1 (value_set given.0 v) (λ k. begins_once bytes t given.0 v k h)
 
 pub inside_told : (bytes : List ℕ) (at : ℕ) (given : (vs : List Value21) × ∥ StandInside bytes at vs ∥₁) (vs : List Value21) → StandInside bytes at vs → given.0 ≡ vs
 inside_told bytes at given vs h = ∥∥₁_elim given.1 (values_set given.0 vs) (λ k. inside_once bytes at given.0 vs k h)
