@@ -1,10 +1,11 @@
 -- Values as they stand in the bytes of a file, without a tree of them in memory.
 use Rattle.std.specs.Prelude.{◌≡◌, ℕ, ◌+◌, ◌-◌, ◌<◌, ◌≤◌, ◌==◌, ◌||◌, not, Bool, true, List, [], ◌∷◌, ◌++◌, map, slice_index_or}
 use Rattle.std.specs.List.{AllZip}
+use Rattle.p21_lexer.specs.declared.token.Token.{Token}
 use Rattle.p21_values.specs.declared.value.Value21.{Value21}
 use Rattle.p21_values.specs.declared.piece.Kind.{Kind}
 use Rattle.p21_values.specs.declared.piece.Kind.TheVariants as kinds
-use Rattle.p21_values.specs.Lexemes.{Lexeme, Closing, class_of, Cuts}
+use Rattle.p21_values.specs.Lexemes.{Lexeme, Closing, lexeme_of, class_of, Cuts}
 use Rattle.p21_values.specs.Pieces.{kind_of}
 use Rattle.p21_values.specs.Printing.{print, print_all, behind}
 
@@ -12,6 +13,13 @@ use Rattle.p21_values.specs.Printing.{print, print_all, behind}
 pub record Stands (bytes : List ℕ) (at : ℕ) (v : Value21) : Type 0 where
   pub end : ℕ
   pub cuts : Cuts bytes at (print v) end
+
+-- a token is the first of those that spell a value, and the others are cut behind it
+pub record Begins (bytes : List ℕ) (t : Token) (v : Value21) : Type 0 where
+  pub rest : List Lexeme
+  pub end : ℕ
+  pub spelled : print v ≡ lexeme_of bytes t ∷ rest
+  pub cuts : Cuts bytes t.end rest end
 
 -- values stand from there on, between commas, up to a closing parenthesis
 abbrev pub StandInside : List ℕ → ℕ → List Value21 → Type 0
