@@ -39,8 +39,13 @@ fn plain_guid(instance: &InstanceRef<'_>) -> Option<Guid>
     ensures { IfSome result (IsRead instance.now) }
 {
     let value = instance.attribute(0)?;
-    let spelled = value.words()?;
-    Guid::read(spelled)
+    let spelled = value.plain_guid()?;
+    if spelled.len() != 22 {
+        return None;
+    }
+    let mut chars = [0; 22];
+    chars.copy_from_slice(spelled);
+    Some(Guid { chars })
 }
 
 /// The global identifier of an instance; none where there is no text, or one that isn't an identifier.

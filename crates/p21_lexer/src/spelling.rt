@@ -113,9 +113,24 @@ pub fn number_end(bytes: &[u8], from: usize) -> Option<usize>
     }
 }
 
-/// The end of a text, from behind its first apostrophe. Two apostrophes stand for one; where nothing closes the text, it ends
-/// at the first of the last two.
-pub fn text_end(bytes: &[u8], from: usize) -> Option<usize>
+/// The first apostrophe from a place on, or the end of the bytes.
+#[inline(always)]
+fn quote_from(bytes: &[u8], from: usize) -> usize
+    requires { from ≤ length bytes.now }
+    ensures on { from ≤ result }
+    ensures within { result ≤ length bytes.now }
+    ensures others { (k : ℕ) → from ≤ k → k < result → slice_index bytes.now k ≢ 39 }
+    ensures quote { result < length bytes.now → slice_index bytes.now result ≡ 39 }
+{
+    let mut at = from;
+    while at < bytes.len() && bytes[at] != b'\'' {
+        at += 1;
+    }
+    at
+}
+
+/// The same where two apostrophes stand side by side.
+fn long_text_end(bytes: &[u8], from: usize) -> Option<usize>
     requires { from ≤ length bytes.now }
     ensures span { result ≡ option_map (λ n. from + n) (text_span (drop from bytes.now)) }
     ensures within { IfSome result (λ end. end ≤ length bytes.now) }
@@ -133,6 +148,23 @@ pub fn text_end(bytes: &[u8], from: usize) -> Option<usize>
         }
     }
     found
+}
+
+/// The end of a text, from behind its first apostrophe. Two apostrophes stand for one; where nothing closes the text, it ends
+/// at the first of the last two.
+pub fn text_end(bytes: &[u8], from: usize) -> Option<usize>
+    requires { from ≤ length bytes.now }
+    ensures span { result ≡ option_map (λ n. from + n) (text_span (drop from bytes.now)) }
+    ensures within { IfSome result (λ end. end ≤ length bytes.now) }
+{
+    let quote = quote_from(bytes, from);
+    if quote >= bytes.len() {
+        return None;
+    }
+    if quote + 1 < bytes.len() && bytes[quote + 1] == b'\'' {
+        return long_text_end(bytes, from);
+    }
+    Some(quote + 1)
 }
 
 /// The end of an enumeration, from behind its first point.

@@ -60,6 +60,11 @@ PutsStart depth bytes t old new (Ok end) =
     × Counts old.values new.values (size v)
 PutsStart depth bytes t old new (Err fault) = FailsAfter (Value (Some depth)) bytes t fault
 
+-- the start of the next value comes behind those before; the value ends there
+abbrev pub PutsFirst : ℕ → List ℕ → ℕ → Table → Table → ℕ → Type 0
+PutsFirst depth bytes at old new end =
+    (item : Token) × CutsFrom bytes at (Ok (Some item)) × PutsStart depth bytes item old new (Ok end)
+
 -- the start of a value behind a comma comes behind those before; the value ends there
 abbrev pub PutsBehind : ℕ → List ℕ → ℕ → Table → Table → ℕ → Type 0
 PutsBehind depth bytes at old new end =

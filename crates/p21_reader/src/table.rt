@@ -6,11 +6,11 @@ ghost use Rattle.p21_values.specs.declared.limits.TheConstants.{MOST_DEPTH};
 ghost use Rattle.ifc_keywords.specs.Codes.{code_of as code_said};
 ghost use Rattle.p21_values.specs.Lexemes.{lexeme_of};
 ghost use Rattle.p21_values.specs.Pieces.{IsPiece};
-ghost use Rattle.p21_reader.specs.Tabling.{PutsStart, PutsBehind, PutsStarts, PutsBody, PutsInstance, TablesSection};
+ghost use Rattle.p21_reader.specs.Tabling.{PutsStart, PutsFirst, PutsBehind, PutsStarts, PutsBody, PutsInstance, TablesSection};
 
 use crate::passing::{pass_complex, pass_value};
 use crate::section::closing;
-use crate::word::{expect, take_word};
+use crate::word::{expect, take_name, take_word};
 use ifc_keywords::code_of;
 use p21_lexer::value_there;
 use p21_table::name_of;
@@ -79,7 +79,29 @@ fn plain_attribute(bytes: &[u8], at: usize, table: &mut Table) -> Result<Option<
     }
 }
 
+/// Adds the start of the value of one token that stands right there, the first of a list, and passes over it. None where another stands there.
+#[inline(always)]
+fn plain_first(bytes: &[u8], at: usize, table: &mut Table) -> Result<Option<usize>, AllocError>
+    requires short { length bytes.now ≤ MOST_UPLOAD }
+    ensures start { (depth : ℕ) → IfOk result
+        (λ found. IfSome found (PutsFirst depth bytes.now at table.old table.new)) }
+    ensures none { IfOk result (λ found. IfNone found (table.new ≡ table.old)) }
+    ensures heads { IfOk result (λ found. table.new.heads.items ≡ table.old.heads.items) }
+    ensures on { IfOk result (λ found. IfSome found (λ end. at < end)) }
+    ensures within { IfOk result (λ found. IfSome found (λ end. end ≤ length bytes.now)) }
+{
+    match value_there(bytes, at) {
+        Some(end) => {
+            table.starts.push(at as u32)?;
+            table.values = table.values.saturating_add(1);
+            Ok(Some(end))
+        }
+        None => Ok(None),
+    }
+}
+
 /// Adds the starts of the values behind an opening parenthesis, up to and with the closing one.
+#[inline(never)]
 fn attributes(bytes: &[u8], at: usize, depth: usize, table: &mut Table) -> Result<usize, ReadFault>
     requires short { length bytes.now ≤ MOST_UPLOAD }
     requires at { at ≤ length bytes.now }
@@ -92,11 +114,16 @@ fn attributes(bytes: &[u8], at: usize, depth: usize, table: &mut Table) -> Resul
     ensures on { IfOk result (λ end. at ≤ end) }
     ensures within { IfOk result (λ end. end ≤ length bytes.now) }
 {
-    let first = take(bytes, at)?;
-    if let Kind::Close = first.kind {
-        return Ok(first.token.end);
-    }
-    let mut end = attribute(bytes, first, depth, table)?;
+    let mut end = match plain_first(bytes, at, table)? {
+        Some(end) => end,
+        None => {
+            let first = take(bytes, at)?;
+            if let Kind::Close = first.kind {
+                return Ok(first.token.end);
+            }
+            attribute(bytes, first, depth, table)?
+        }
+    };
     'items: loop {
         match plain_attribute(bytes, end, table)? {
             Some(behind) => {
@@ -207,7 +234,7 @@ pub fn table_section(bytes: &[u8], at: usize, table: &mut Table) -> Result<usize
 {
     let mut end = at;
     loop {
-        let next = take(bytes, end)?;
+        let next = take_name(bytes, end)?;
         match next.kind {
             Kind::Name => end = entry(bytes, next, table)?,
             Kind::Word => return closing(bytes, next),

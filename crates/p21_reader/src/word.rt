@@ -9,7 +9,7 @@ ghost use Rattle.p21_reader.specs.Heading.{mark_seen, class_seen};
 ghost use Rattle.p21_reader.specs.Files.{ReadsWord};
 
 use ifc_keywords::is_word;
-use p21_lexer::{Token, TokenKind, word_there};
+use p21_lexer::{Token, TokenKind, name_there, word_there};
 use p21_values::{Kind, Piece, ReadFault, refused, take};
 
 /// The words that the grammar names; each other word is `Other`.
@@ -103,6 +103,29 @@ pub fn take_word(bytes: &[u8], at: usize) -> Result<Piece, ReadFault>
                 kind: TokenKind::Word,
                 start: at,
                 end,
+            },
+        }),
+        None => take(bytes, at),
+    }
+}
+
+/// The next token, which most often is a name on a line of its own.
+#[inline(always)]
+pub fn take_name(bytes: &[u8], at: usize) -> Result<Piece, ReadFault>
+    requires { at ≤ length bytes.now }
+    ensures cuts { IfOk result (λ piece. CutsFrom bytes.now at (Ok (Some piece.token))) }
+    ensures piece { IfOk result (λ piece. IsPiece bytes.now piece) }
+    ensures on { IfOk result (λ piece. at ≤ piece.token.start) }
+    ensures fault { IfErr result (λ fault. NoToken bytes.now at fault) }
+{
+    let start = if at < bytes.len() && bytes[at] == b'\n' { at + 1 } else { at };
+    match name_there(bytes, start) {
+        Some(name) => Ok(Piece {
+            kind: Kind::Name,
+            token: Token {
+                kind: TokenKind::Name,
+                start,
+                end: name.end,
             },
         }),
         None => take(bytes, at),

@@ -1,5 +1,7 @@
 //! What the first byte of a value tells, where no gap stands before it: most questions need no more. None says nothing.
-ghost use Rattle.std.specs.Prelude.{◌≡◌, ◌≤◌, List, length, Some, None, IfSome, MatchOption, option_copied};
+ghost use Rattle.std.specs.Prelude.{◌≡◌, ◌≤◌, List, length, Some, None, IfSome, MatchOption, option_copied, is_some};
+ghost use Rattle.std.specs.List.{list_all};
+ghost use Rattle.bim_model.specs.Guids.{is_guid_char, IsGuid};
 ghost use Rattle.p21_values.specs.declared.value.Value21.{Value21};
 ghost use Rattle.p21_values.specs.Values.{words_of, reference_of, items_of, is_absent};
 ghost use Rattle.p21_values.specs.Standing.{Stands, StandInside};
@@ -89,4 +91,67 @@ pub fn behind_one(bytes: &[u8], at: usize) -> Option<usize>
 {
     let end = value_there(bytes, at)?;
     sign_behind(bytes, end)
+}
+
+/// Whether a byte may stand in an identifier, byte by byte.
+const GUID_BYTES: [bool; 256] = [
+    false, false, false, false, false, false, false, false, false, false, false, false, false, false, false, false,
+    false, false, false, false, false, false, false, false, false, false, false, false, false, false, false, false,
+    false, false, false, false, true, false, false, false, false, false, false, false, false, false, false, false,
+    true, true, true, true, true, true, true, true, true, true, false, false, false, false, false, false,
+    false, true, true, true, true, true, true, true, true, true, true, true, true, true, true, true,
+    true, true, true, true, true, true, true, true, true, true, true, false, false, false, false, true,
+    false, true, true, true, true, true, true, true, true, true, true, true, true, true, true, true,
+    true, true, true, true, true, true, true, true, true, true, true, false, false, false, false, false,
+    false, false, false, false, false, false, false, false, false, false, false, false, false, false, false, false,
+    false, false, false, false, false, false, false, false, false, false, false, false, false, false, false, false,
+    false, false, false, false, false, false, false, false, false, false, false, false, false, false, false, false,
+    false, false, false, false, false, false, false, false, false, false, false, false, false, false, false, false,
+    false, false, false, false, false, false, false, false, false, false, false, false, false, false, false, false,
+    false, false, false, false, false, false, false, false, false, false, false, false, false, false, false, false,
+    false, false, false, false, false, false, false, false, false, false, false, false, false, false, false, false,
+    false, false, false, false, false, false, false, false, false, false, false, false, false, false, false, false,
+];
+
+/// Whether the value is a text.
+#[inline(always)]
+pub fn text_by_byte(bytes: &[u8], at: usize) -> Option<bool>
+    ensures { IfSome result (λ answer. (v : Value21) → Stands bytes.now at v → answer ≡ is_some (words_of v)) }
+{
+    let byte = token_byte(bytes, at)?;
+    Some(byte == b'\'')
+}
+
+/// Whether all bytes may stand in an identifier.
+#[inline(always)]
+fn are_guid_bytes(bytes: &[u8]) -> bool
+    ensures { result ≡ list_all is_guid_char bytes.now }
+{
+    let mut all = true;
+    for byte in bytes {
+        all = all & GUID_BYTES[*byte as usize];
+    }
+    all
+}
+
+/// The identifier that is spelled as it is right there. None says nothing.
+#[inline(always)]
+pub fn guid_by_bytes(bytes: &[u8], at: usize) -> Option<&[u8]>
+    requires within { at ≤ length bytes.now }
+    ensures guid { IfSome result (λ guid. IsGuid guid.now) }
+    ensures words { IfSome result (λ guid. (v : Value21) → Stands bytes.now at v
+        → words_of v ≡ Some guid.now) }
+{
+    if bytes.len() - at < 25 {
+        return None;
+    }
+    if bytes[at] != b'\'' || bytes[at + 23] != b'\'' || bytes[at + 24] == b'\'' {
+        return None;
+    }
+    let spelled = &bytes[at + 1..at + 23];
+    if are_guid_bytes(spelled) {
+        Some(spelled)
+    } else {
+        None
+    }
 }

@@ -5,7 +5,7 @@ ghost use Rattle.p21_values.specs.Values.{items_of};
 ghost use Rattle.p21_values.specs.Standing.{Stands, StandInside};
 ghost use Rattle.p21_table.specs.Stood.{Stood, one_stood};
 
-use crate::first_byte::{absent_by_byte, inside_by_byte, reference_by_byte, words_by_byte};
+use crate::first_byte::{absent_by_byte, guid_by_bytes, inside_by_byte, reference_by_byte, text_by_byte, words_by_byte};
 use crate::standing::{
     absent_there, enumeration_there, first_token, inside_there, number_there, reference_there,
     words_there,
@@ -52,7 +52,8 @@ impl<'a> Model for ValueRef<'a> {
 }
 
 impl<'a> ValueRef<'a> {
-    ghost use Rattle.std.specs.Prelude.{◌≡◌, ◌≤◌, length, option_copied};
+    ghost use Rattle.std.specs.Prelude.{◌≡◌, ◌≤◌, length, option_copied, Some, IfSome, is_some};
+    ghost use Rattle.bim_model.specs.Guids.{IsGuid};
     ghost use Rattle.p21_values.specs.declared.value.Value21.{Value21};
     ghost use Rattle.p21_values.specs.Standing.{Stands};
     ghost use Rattle.p21_table.specs.Stood.{Stood};
@@ -86,6 +87,24 @@ impl<'a> ValueRef<'a> {
         }
         let first = first_token(self.bytes, self.at)?;
         words_there(self.bytes, first)
+    }
+
+    /// The identifier that the text spells as it is (IFC4 ADD2 TC1, IfcGloballyUniqueId). None says nothing.
+    pub fn plain_guid(&self) -> Option<&'a [u8]>
+        ensures guid { IfSome result (λ guid. IsGuid guid.now) }
+        ensures words { IfSome result (λ guid. words_of self.now ≡ Some guid.now) }
+    {
+        guid_by_bytes(self.bytes, self.at)
+    }
+
+    /// Whether it is a text.
+    pub fn is_text(&self) -> bool
+        ensures { result ≡ is_some (words_of self.now) }
+    {
+        if let Some(answer) = text_by_byte(self.bytes, self.at) {
+            return answer;
+        }
+        self.words().is_some()
     }
 
     /// The letters of an enumeration, without its points.
