@@ -120,9 +120,23 @@ text_plain_step bs i lt h =
       | inr k ↦ (let past : length bs ≤ i + 1 = omega arith in rw (last_at bs i k, drop_all (i + 1) bs past, t) refl)
     ]
 
+pub text_on : (bs : List ℕ) (i : ℕ) → i < length bs → (get_or bs i 0 ≡ 39 → ⊥)
+    → option_map (λ n. i + n) (text_span (drop i bs)) ≡ option_map (λ n. (i + 1) + n) (text_span (drop (i + 1) bs))
+text_on bs i lt h = rw (text_plain_step bs i lt h) (shifted i _)
+
 pub text_plain : (bs : List ℕ) (i : ℕ) (found : Option ℕ) → i < length bs → (get_or bs i 0 ≡ 39 → ⊥)
     → later (option_map (λ n. i + n) (text_span (drop i bs))) found ≡ later (option_map (λ n. (i + 1) + n) (text_span (drop (i + 1) bs))) found
-text_plain bs i found lt h = ap (λ (o : Option ℕ). later o found) (rw (text_plain_step bs i lt h) (shifted i _))
+text_plain bs i found lt h = ap (λ (o : Option ℕ). later o found) (text_on bs i lt h)
+
+-- an apostrophe closes that isn't followed by another
+pub text_closes : (bs : List ℕ) (i : ℕ) → i < length bs → get_or bs i 0 ≡ 39 → (i + 1 < length bs → get_or bs (i + 1) 0 ≡ 39 → ⊥) → text_span (drop i bs) ≡ Some 1
+text_closes bs i lt h n = elim (two_or_one bs i lt) [
+  | inl k ↦ rw (two_at bs i k, h, ne_eqb _ _ (n k)) refl
+  | inr k ↦ rw (last_at bs i k, h) refl
+]
+
+pub text_past : (bs : List ℕ) (i : ℕ) → length bs ≤ i → text_span (drop i bs) ≡ None
+text_past bs i h = rw (drop_all i bs h) refl
 
 doubled : (i : ℕ) (o found : Option ℕ) → later (option_map (λ n. i + n) (or_first o)) found ≡ later (option_map (λ n. (i + 2) + n) o) (Some (i + 1))
 doubled i None found = refl

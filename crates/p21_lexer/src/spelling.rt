@@ -1,5 +1,5 @@
 //! Where words, names, numbers, texts, enumerations and bits end.
-ghost use Rattle.std.specs.Prelude.{◌≡◌, ◌+◌, ◌≤◌, length, drop, option_map, IfSome};
+ghost use Rattle.std.specs.Prelude.{◌≡◌, ◌+◌, ◌<◌, ◌≤◌, length, drop, slice_index, option_map, IfSome};
 ghost use Rattle.p21_lexer.specs.Scanning.{word_span, enumeration_span, bits_span, fraction_span, exponent_span, signed_span, number_span, name_span, name_run, text_span};
 
 use crate::class::{is_digit, is_letter, is_sign};
@@ -113,13 +113,13 @@ pub fn number_end(bytes: &[u8], from: usize) -> Option<usize>
     }
 }
 
-/// The first apostrophe from a place on, or the end of the bytes.
+/// The first apostrophe from a place on, or the end of the bytes: a text that goes on at the place ends where it does from there.
 #[inline(always)]
 fn quote_from(bytes: &[u8], from: usize) -> usize
     requires { from ≤ length bytes.now }
-    ensures on { from ≤ result }
+    ensures span { option_map (λ n. from + n) (text_span (drop from bytes.now))
+        ≡ option_map (λ n. result + n) (text_span (drop result bytes.now)) }
     ensures within { result ≤ length bytes.now }
-    ensures others { (k : ℕ) → from ≤ k → k < result → slice_index bytes.now k ≢ 39 }
     ensures quote { result < length bytes.now → slice_index bytes.now result ≡ 39 }
 {
     let mut at = from;
@@ -129,7 +129,7 @@ fn quote_from(bytes: &[u8], from: usize) -> usize
     at
 }
 
-/// The same where two apostrophes stand side by side.
+/// The end of a text in which two apostrophes may stand side by side, from behind its first apostrophe.
 fn long_text_end(bytes: &[u8], from: usize) -> Option<usize>
     requires { from ≤ length bytes.now }
     ensures span { result ≡ option_map (λ n. from + n) (text_span (drop from bytes.now)) }
