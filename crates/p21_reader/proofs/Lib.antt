@@ -1,4 +1,5 @@
 pub mod Asking
+pub mod Blanks
 pub mod Bodies
 pub mod Causes
 pub mod Contained

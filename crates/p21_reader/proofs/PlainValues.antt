@@ -1,4 +1,4 @@
--- A value of one token right behind a comma.
+-- A value of one token that stands right there, the first of a list or behind a comma.
 use Rattle.std.proofs.Common.{◌≡◌, ℕ, ◌+◌, ◌<◌, ◌≤◌, inl, inr, ◌⊎◌, List, [], ◌∷◌, ◌++◌, length, Ok, refl, sym, ap, subst, ◌∙◌}
 use Rattle.std.specs.Prelude.{slice_index, slice_range}
 use Rattle.p21_lexer.specs.declared.token.Token.{Token}
@@ -11,7 +11,7 @@ use Rattle.p21_values.specs.Pieces.{kind_of}
 use Rattle.p21_values.proofs.Seen.{alone_says}
 use Rattle.p21_reader.specs.declared.table.Table.{Table}
 use Rattle.p21_reader.specs.Passing.{tells}
-use Rattle.p21_reader.specs.Tabling.{Counts, PassesValue, PutsBehind}
+use Rattle.p21_reader.specs.Tabling.{Counts, PassesValue, PutsFirst, PutsBehind}
 use Rattle.p21_lexer.specs.There.{IsOneValue, IsValueThere}
 use Rattle.p21_reader.proofs.Midway.{plain_value}
 use Rattle.p21_reader.proofs.RowLemmas.{sign_token, sign_by, sign_said_by}
@@ -39,13 +39,20 @@ plain_tells k (inl e) = ap tells e
 plain_tells k (inr e) = ap tells e
 
 -- it is put with its start
+pub plain_start : (depth : ℕ) (bytes : List ℕ) (at end : ℕ) (old new : Table) → IsValueThere bytes at end
+    → new.starts.items ≡ old.starts.items ++ at ∷ [] → Counts old.values new.values 1 → PutsFirst depth bytes at old new end
+plain_start depth bytes at end old new h items c =
+    let item : Token = record { kind = h.0; start = at; end = end } in
+    let k : Kind = kind_of (class_of (lexeme_of bytes item)) in
+    let cuts = h.2.0 in
+    let plain = plain_kind h.0 bytes at end cuts.1 h.2.1 h.1 in
+    let P : ℕ → Type 0 = λ n. Counts old.values new.values n in
+    let v : PassesValue depth bytes item old.values new.values (Ok end) = plain_value depth bytes item old.values new.values k refl plain (subst P (sym (plain_tells k plain)) c) in
+    (item, cuts, (v.0, v.1, items, v.2))
+
+-- the same behind a comma
 pub plain_behind : (depth : ℕ) (bytes : List ℕ) (at end : ℕ) (old new : Table) → at < length bytes → slice_index bytes at ≡ 44 → IsValueThere bytes (at + 1) end
     → new.starts.items ≡ old.starts.items ++ (at + 1) ∷ [] → Counts old.values new.values 1 → PutsBehind depth bytes at old new end
 plain_behind depth bytes at end old new lt e h items c =
-    let item : Token = record { kind = h.0; start = at + 1; end = end } in
-    let k : Kind = kind_of (class_of (lexeme_of bytes item)) in
-    let cuts = h.2.0 in
-    let plain = plain_kind h.0 bytes (at + 1) end cuts.1 h.2.1 h.1 in
-    let P : ℕ → Type 0 = λ n. Counts old.values new.values n in
-    let v : PassesValue depth bytes item old.values new.values (Ok end) = plain_value depth bytes item old.values new.values k refl plain (subst P (sym (plain_tells k plain)) c) in
-    (sign_token at, item, sign_by bytes at 44 tt lt e, sign_said_by bytes at 44 lt e, cuts, (v.0, v.1, items, v.2))
+    let p = plain_start depth bytes (at + 1) end old new h items c in
+    (sign_token at, p.0, sign_by bytes at 44 tt lt e, sign_said_by bytes at 44 lt e, p.1, p.2)

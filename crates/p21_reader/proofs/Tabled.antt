@@ -14,10 +14,11 @@ use Rattle.p21_values.specs.Printing.{print_all}
 use Rattle.p21_values.specs.Counting.{size}
 use Rattle.p21_reader.specs.Reading.{Fails}
 use Rattle.p21_values.specs.Pieces.{kind_of}
-use Rattle.p21_values.specs.Grammar.{After, Inside}
+use Rattle.p21_values.specs.Grammar.{Class, Close, Sign, Value, After, Inside}
+use Rattle.p21_reader.specs.Machine.{next}
 use Rattle.p21_values.specs.Standing.{Stands, StandInside}
 use Rattle.p21_values.proofs.Tokens.{one_token}
-use Rattle.p21_reader.specs.Tabling.{Counts, PutsStart, PutsStarts}
+use Rattle.p21_reader.specs.Tabling.{Counts, PutsStart, PutsFirst, PutsStarts}
 use Rattle.p21_reader.proofs.Steps.{goes_one}
 use Rattle.p21_reader.proofs.Inwards.{Inwards, inwards_first, inwards_more, inwards_close, inwards_fails, stands_there}
 
@@ -72,6 +73,18 @@ putting_first d bytes at end t k old now h e n p = record {
   counts = subst (λ x. Counts old.values now.values x) (sym (sum_append size [] p.0)) (counts_first old.values now.values (size p.0) p.3);
   inwards = inwards_first d bytes at end t k p.0 h e n p.1;
 }
+
+-- a closing parenthesis is no value
+value_not_close : (d : ℕ) (c : Class) (wanted : List Sign) → next (Value (Some d)) c ≡ Some wanted → kind_of c ≡ kinds.Close → ⊥
+value_not_close d Close wanted h e = cc
+value_not_close d c wanted h e = cc
+
+pub putting_plain : (d : ℕ) (bytes : List ℕ) (at end : ℕ) (old now : Table) → PutsFirst d bytes at old now end → Putting d bytes at end old now
+putting_plain d bytes at end old now p =
+    let puts = p.2 in
+    let read = puts.1 in
+    let c = class_of (lexeme_of bytes p.0) in
+    putting_first d bytes at end p.0 (kind_of c) old now p.1 refl (value_not_close d c read.wanted read.begins) puts
 
 pub putting_more : (d : ℕ) (bytes : List ℕ) (from at end : ℕ) (comma item : Token) (old now new : Table) → Putting d bytes from at old now → CutsFrom bytes at (Ok (Some comma)) → lexeme_of bytes comma ≡ Separator
     → CutsFrom bytes comma.end (Ok (Some item)) → PutsStart d bytes item now new (Ok end) → Putting d bytes from end old new

@@ -1,30 +1,45 @@
-use Rattle.std.proofs.Common.{◌≡◌, ◌+◌, ◌<◌, ◌≤◌, arith, sym, ◌∙◌, [], Some, refl, length}
+use Rattle.std.proofs.Common.{◌≡◌, ◌+◌, ◌<◌, ◌≤◌, arith, sym, ◌∙◌, [], Some, Ok, refl, length}
 use Rattle.p21_values.specs.declared.fault.ReadFault.TheVariants as faults
 use Rattle.p21_values.specs.declared.piece.Kind.TheVariants as kinds
 use Rattle.p21_values.specs.Grammar.{Inside, After, Value}
 use Rattle.p21_values.specs.Lexemes.{lexeme_of}
-use Rattle.p21_reader.specs.Tabling.{PutsBehind}
+use Rattle.p21_reader.specs.Tabling.{PutsStart, PutsFirst, PutsBehind, PutsStarts}
 use Rattle.p21_reader.proofs.Steps.{residual, fails_none, fails_refused, after_fails}
 use Rattle.p21_reader.proofs.Lists.{said, comma_fails, inside_fails}
 use Rattle.p21_reader.proofs.Inwards.{after_none}
-use Rattle.p21_reader.proofs.Tabled.{Putting, puts_none, putting_first, putting_more, putting_close, putting_fails, more_past}
+use Rattle.p21_reader.proofs.Tabled.{Putting, puts_none, putting_first, putting_plain, putting_more, putting_close, putting_fails, more_past}
+use Rattle.p21_reader.proofs.table.attributes.Goals.{in-Some, in-None+in_ok-first-in-None+in_default+in_ok-end-in-None}
 use Rattle.p21_reader.proofs.table.attributes.Goals as goal
 
-pub returns-in_err-first-clause-starts : goal.returns-in_err-first-clause-starts
-returns-in_err-first-clause-starts c =
-    rw (residual _ _ c.from_residual.ensures.1)
-    (fails_none (Inside (Some c.args.depth)) [] c.args.bytes.now c.args.at c.in_err-first.field-0.0 c.in_err-first.ensures.fault)
+pub returns-in_err-first-in-None-clause-starts : goal.returns-in_err-first-in-None-clause-starts
+returns-in_err-first-in-None-clause-starts c =
+    rw (residual _ _ c.from_residual-in_err-first-in-None.ensures.1)
+    (fails_none (Inside (Some c.args.depth)) [] c.args.bytes.now c.args.at c.in_err-first-in-None.field-0.0 c.in_err-first-in-None.ensures.fault)
 
-pub returns-in-Close-clause-starts : goal.returns-in-Close-clause-starts
-returns-in-Close-clause-starts c =
-    let l = said (lexeme_of c.args.bytes.now c.in_ok-first.first.token) kinds.Close tt (sym c.in-Close.is ∙ c.in_ok-first.ensures.piece.seen) in
-    puts_none c.args.depth c.args.bytes.now c.args.at c.in_ok-first.first.token c.args.table.now c.requires.counted c.in_ok-first.ensures.cuts l
+pub returns-in-Close : goal.returns-in-Close
+returns-in-Close c =
+    let same = rw c.in-None.is at c.in_ok-end.ensures.none in
+    let t = c.in_ok-first-in-None.ensures in
+    let close = c.in_ok-first-in-None.first.token in
+    let l = said (lexeme_of c.args.bytes.now close) kinds.Close tt (sym c.in-Close.is ∙ t.piece.seen) in
+    let starts : PutsStarts c.args.depth c.args.bytes.now c.args.at c.args.table.now c.plain_first.new.table (Ok close.end) =
+    rw same (puts_none c.args.depth c.args.bytes.now c.args.at close c.args.table.now c.requires.counted t.cuts l) in
+    let few : length c.plain_first.new.table.starts.items + c.args.at ≤ length c.args.table.now.starts.items + close.end = rw same (omega (arith, t.on, t.piece.some)) in
+    let heads : c.plain_first.new.table.heads.items ≡ c.args.table.now.heads.items = rw same refl in
+    record {
+      starts = starts;
+      few = few;
+      heads = heads;
+      on = omega (arith, t.on, t.piece.some);
+      within = t.piece.within;
+    }
 
-pub returns-in_err-end : goal.returns-in_err-end
-returns-in_err-end c =
-    let f = c.in_err-end.field-0.0 in
-    rw (residual _ _ c.from_residual-in_err-end.ensures.1) (record {
-      starts = inside_fails c.args.depth c.args.bytes.now c.args.at c.in_ok-first.first.token c.in_ok-first.first.kind f c.in_ok-first.ensures.cuts c.in_ok-first.ensures.piece.seen c.in_default.not-Close c.in_err-end.ensures.start;
+pub returns-in_err-end-in-None : goal.returns-in_err-end-in-None
+returns-in_err-end-in-None c =
+    let f = c.in_err-end-in-None.field-0.0 in
+    let t = c.in_ok-first-in-None.ensures in
+    rw (residual _ _ c.from_residual-in_err-end-in-None.ensures.1) (record {
+      starts = inside_fails c.args.depth c.args.bytes.now c.args.at c.in_ok-first-in-None.first.token c.in_ok-first-in-None.first.kind f t.cuts t.piece.seen c.in_default.not-Close c.in_err-end-in-None.ensures.start;
       few = tt;
       heads = tt;
       on = tt;
@@ -33,34 +48,61 @@ returns-in_err-end c =
 
 pub items-init : goal.items-init
 items-init c =
-    let p = c.in_ok-end.ensures.start in
-    let t = c.in_ok-first.ensures in
-    record {
-      within = c.in_ok-end.ensures.within;
-      on = omega (arith, t.on, t.piece.some, c.in_ok-end.ensures.on);
-      few = more_past c.args.table.now.starts.items c.args.table.now.starts.items c.attribute.new.table.starts.items c.in_ok-first.first.token.start c.args.at c.args.at c.in_ok-end.end (omega arith) p.2 (omega (arith, t.on, t.piece.some, c.in_ok-end.ensures.on));
-      heads = c.in_ok-end.ensures.heads;
-      read = putting_first c.args.depth c.args.bytes.now c.args.at c.in_ok-end.end c.in_ok-first.first.token c.in_ok-first.first.kind c.args.table.now c.attribute.new.table t.cuts t.piece.seen c.in_default.not-Close p;
-    }
+    let bytes = c.args.bytes.now in
+    let at = c.args.at in
+    let old = c.args.table.now in
+    let r = c.in_ok-end.ensures in
+    elim c.match-branch-2.branch [
+      | in-Some w ↦ (
+          let new = c.plain_first.new.table in
+          let end = w.in-Some.end in
+          let p : PutsFirst c.args.depth bytes at old new end = rw w.in-Some.is at (r.start c.args.depth) in
+          let on : at < end = rw w.in-Some.is at r.on in
+          let within : end ≤ length bytes = rw w.in-Some.is at r.within in
+          let puts = p.2 in
+          rw (w.table-is, w.end-is) (record {
+            within = within;
+            on = omega (arith, on);
+            few = more_past old.starts.items old.starts.items new.starts.items p.0.start at at end (omega arith) puts.2 on;
+            heads = r.heads;
+            read = putting_plain c.args.depth bytes at end old new p;
+          }))
+      | in-None+in_ok-first-in-None+in_default+in_ok-end-in-None w ↦ (
+          let same : c.plain_first.new.table ≡ old = rw w.in-None.is at r.none in
+          let new = w.attribute.new.table in
+          let first = w.in_ok-first-in-None.first in
+          let t = w.in_ok-first-in-None.ensures in
+          let u = w.in_ok-end-in-None.ensures in
+          let end = w.in_ok-end-in-None.end in
+          let p : PutsStart c.args.depth bytes first.token old new (Ok end) = rw same at u.start in
+          let heads : new.heads.items ≡ old.heads.items = rw same at u.heads in
+          rw (w.table-is, w.end-is) (record {
+            within = u.within;
+            on = omega (arith, t.on, t.piece.some, u.on);
+            few = more_past old.starts.items old.starts.items new.starts.items first.token.start at at end (omega arith) p.2 (omega (arith, t.on, t.piece.some, u.on));
+            heads = heads;
+            read = putting_first c.args.depth bytes at end first.token first.kind old new t.cuts t.piece.seen w.in_default.not-Close p;
+          }))
+    ]
 
-pub items-preserved-in-Some : goal.items-preserved-in-Some
-items-preserved-in-Some c =
+pub items-preserved-in-Some-2 : goal.items-preserved-in-Some-2
+items-preserved-in-Some-2 c =
     let i = c.items.invariant in
     let r = c.in_ok-behind.ensures in
-    let p : PutsBehind c.args.depth c.args.bytes.now c.items.end c.items.table c.plain_attribute.new.table c.in-Some.behind = rw c.in-Some.is at (r.start c.args.depth) in
-    let on : c.items.end < c.in-Some.behind = rw c.in-Some.is at r.on in
+    let p : PutsBehind c.args.depth c.args.bytes.now c.items.end c.items.table c.plain_attribute.new.table c.in-Some-2.behind = rw c.in-Some-2.is at (r.start c.args.depth) in
+    let on : c.items.end < c.in-Some-2.behind = rw c.in-Some-2.is at r.on in
     let puts = p.5 in
     record {
-      within = rw c.in-Some.is at r.within;
+      within = rw c.in-Some-2.is at r.within;
       on = omega (arith, i.on, on);
-      few = more_past c.args.table.now.starts.items c.items.table.starts.items c.plain_attribute.new.table.starts.items p.1.start c.args.at c.items.end c.in-Some.behind i.few puts.2 on;
+      few = more_past c.args.table.now.starts.items c.items.table.starts.items c.plain_attribute.new.table.starts.items p.1.start c.args.at c.items.end c.in-Some-2.behind i.few puts.2 on;
       heads = r.heads ∙ i.heads;
-      read = putting_more c.args.depth c.args.bytes.now c.args.at c.items.end c.in-Some.behind p.0 p.1 c.args.table.now c.items.table c.plain_attribute.new.table i.read p.2 p.3 p.4 puts;
+      read = putting_more c.args.depth c.args.bytes.now c.args.at c.items.end c.in-Some-2.behind p.0 p.1 c.args.table.now c.items.table c.plain_attribute.new.table i.read p.2 p.3 p.4 puts;
     }
 
 pub returns-in_err-next : goal.returns-in_err-next
 returns-in_err-next c =
-    let same = rw c.in-None.is at c.in_ok-behind.ensures.none in
+    let same = rw c.in-None-2.is at c.in_ok-behind.ensures.none in
     let read : Putting c.args.depth c.args.bytes.now c.args.at c.items.end c.args.table.now c.plain_attribute.new.table = rw same c.items.invariant.read in
     let f = c.in_err-next.field-0.0 in
     rw (residual _ _ c.from_residual-in_err-next.ensures.1) (record {
@@ -75,7 +117,7 @@ returns-in_err-next c =
 
 pub returns-in-Close-kind : goal.returns-in-Close-kind
 returns-in-Close-kind c =
-    let same = rw c.in-None.is at c.in_ok-behind.ensures.none in
+    let same = rw c.in-None-2.is at c.in_ok-behind.ensures.none in
     let read : Putting c.args.depth c.args.bytes.now c.args.at c.items.end c.args.table.now c.plain_attribute.new.table = rw same c.items.invariant.read in
     let few : length c.plain_attribute.new.table.starts.items + c.args.at ≤ length c.args.table.now.starts.items + c.items.end = rw same c.items.invariant.few in
     let heads : c.plain_attribute.new.table.heads.items ≡ c.args.table.now.heads.items = rw same c.items.invariant.heads in
@@ -92,7 +134,7 @@ returns-in-Close-kind c =
 
 pub returns-in_err-item-in-Comma : goal.returns-in_err-item-in-Comma
 returns-in_err-item-in-Comma c =
-    let same = rw c.in-None.is at c.in_ok-behind.ensures.none in
+    let same = rw c.in-None-2.is at c.in_ok-behind.ensures.none in
     let read : Putting c.args.depth c.args.bytes.now c.args.at c.items.end c.args.table.now c.plain_attribute.new.table = rw same c.items.invariant.read in
     let f = c.in_err-item-in-Comma.field-0.0 in
     let l = said (lexeme_of c.args.bytes.now c.in_ok-next.next.token) kinds.Comma tt (sym c.in-Comma.is ∙ c.in_ok-next.ensures.piece.seen) in
@@ -109,7 +151,7 @@ returns-in_err-item-in-Comma c =
 
 pub returns-in_err-end-in-Comma : goal.returns-in_err-end-in-Comma
 returns-in_err-end-in-Comma c =
-    let same = rw c.in-None.is at c.in_ok-behind.ensures.none in
+    let same = rw c.in-None-2.is at c.in_ok-behind.ensures.none in
     let read : Putting c.args.depth c.args.bytes.now c.args.at c.items.end c.args.table.now c.plain_attribute.new.table = rw same c.items.invariant.read in
     let f = c.in_err-end-in-Comma.field-0.0 in
     let l = said (lexeme_of c.args.bytes.now c.in_ok-next.next.token) kinds.Comma tt (sym c.in-Comma.is ∙ c.in_ok-next.ensures.piece.seen) in
@@ -126,7 +168,7 @@ returns-in_err-end-in-Comma c =
 
 pub items-preserved : goal.items-preserved
 items-preserved c =
-    let same = rw c.in-None.is at c.in_ok-behind.ensures.none in
+    let same = rw c.in-None-2.is at c.in_ok-behind.ensures.none in
     let read : Putting c.args.depth c.args.bytes.now c.args.at c.items.end c.args.table.now c.plain_attribute.new.table = rw same c.items.invariant.read in
     let few : length c.plain_attribute.new.table.starts.items + c.args.at ≤ length c.args.table.now.starts.items + c.items.end = rw same c.items.invariant.few in
     let heads : c.plain_attribute.new.table.heads.items ≡ c.args.table.now.heads.items = rw same c.items.invariant.heads in
@@ -147,7 +189,7 @@ items-preserved c =
 
 pub returns-in_default-kind : goal.returns-in_default-kind
 returns-in_default-kind c =
-    let same = rw c.in-None.is at c.in_ok-behind.ensures.none in
+    let same = rw c.in-None-2.is at c.in_ok-behind.ensures.none in
     let read : Putting c.args.depth c.args.bytes.now c.args.at c.items.end c.args.table.now c.plain_attribute.new.table = rw same c.items.invariant.read in
     let t = c.in_ok-next.next.token in
     record {

@@ -1,0 +1,37 @@
+use Rattle.std.proofs.Common.{◌≡◌, ℕ, get_or, true, Some, Ok, refl, subst, arith}
+use Rattle.p21_lexer.specs.declared.token.Token.{Token}
+use Rattle.p21_lexer.specs.declared.token.TokenKind.TheVariants as tokens
+use Rattle.p21_lexer.specs.Gaps.{is_blank}
+use Rattle.p21_lexer.specs.Cutting.{CutsFrom}
+use Rattle.p21_reader.proofs.Blanks.{cut_behind}
+use Rattle.p21_reader.proofs.word.take_name.Goals.{then-at-bytes+then-bytes-at-eq10, else-at-bytes}
+use Rattle.p21_reader.proofs.word.take_name.Goals as goal
+
+pub returns-in-Some-clause-cuts : goal.returns-in-Some-clause-cuts
+returns-in-Some-clause-cuts c =
+    let bytes = c.args.bytes.now in
+    let t : Token = record { kind = tokens.Name; start = c.if-at-bytes.start; end = c.in-Some.name.end } in
+    let P : ℕ → Type 0 = λ n. CutsFrom bytes n (Ok (Some t)) in
+    let cuts : P c.if-at-bytes.start = c.in-Some.ensures.there.0 in
+    elim c.if-at-bytes.branch [
+      | then-at-bytes+then-bytes-at-eq10 w ↦ (
+          let blank : is_blank (get_or bytes c.args.at 0) ≡ true = rw w.if-bytes-at-eq10.true refl in
+          cut_behind bytes c.args.at t w.if-at-bytes.true blank (subst P w.start-is cuts))
+      | else-at-bytes w ↦ subst P w.start-is cuts
+    ]
+
+pub returns-in-Some-clause-piece : goal.returns-in-Some-clause-piece
+returns-in-Some-clause-piece c =
+    let w = c.in-Some.ensures.there in
+    record {
+      some = w.0.1;
+      within = w.1;
+      spelled = ∣ w.0.2.spelled ∣₁;
+      seen = refl;
+    }
+
+pub returns-in-Some-clause-on : goal.returns-in-Some-clause-on
+returns-in-Some-clause-on c = elim c.if-at-bytes.branch [
+  | then-at-bytes+then-bytes-at-eq10 w ↦ omega (arith, w.start-is)
+  | else-at-bytes w ↦ omega (arith, w.start-is)
+]
