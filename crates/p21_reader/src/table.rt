@@ -79,7 +79,8 @@ fn plain_attribute(bytes: &[u8], at: usize, table: &mut Table) -> Result<Option<
     }
 }
 
-/// Adds the start of the value of one token that stands right there, the first of a list, and passes over it. None where another stands there.
+/// Adds the start of the value of one token that stands right there, the first of a list, and passes over it. None where another stands
+/// there.
 #[inline(always)]
 fn plain_first(bytes: &[u8], at: usize, table: &mut Table) -> Result<Option<usize>, AllocError>
     requires short { length bytes.now ≤ MOST_UPLOAD }

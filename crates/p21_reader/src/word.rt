@@ -118,7 +118,11 @@ pub fn take_name(bytes: &[u8], at: usize) -> Result<Piece, ReadFault>
     ensures on { IfOk result (λ piece. at ≤ piece.token.start) }
     ensures fault { IfErr result (λ fault. NoToken bytes.now at fault) }
 {
-    let start = if at < bytes.len() && bytes[at] == b'\n' { at + 1 } else { at };
+    let start = if at < bytes.len() && bytes[at] == b'\n' {
+        at + 1
+    } else {
+        at
+    };
     match name_there(bytes, start) {
         Some(name) => Ok(Piece {
             kind: Kind::Name,
