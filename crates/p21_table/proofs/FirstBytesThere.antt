@@ -1,5 +1,5 @@
 -- Where no gap stands before a value, its first byte tells the kind of its first token.
-use Rattle.std.proofs.Common.{◌≡◌, ℕ, suc, ◌+◌, ◌-◌, ◌<◌, ◌≤◌, ◌==◌, ◌||◌, Bool, true, false, inl, inr, List, [], ◌∷◌, ◌++◌, length, get_or, take, drop, Option, Some, None, Ok, refl, sym, ap, subst, ◌∙◌, arith, drop-cons, slice_range, length-drop, IfSome}
+use Rattle.std.proofs.Common.{◌≡◌, ℕ, suc, ◌+◌, ◌-◌, ◌<◌, ◌≤◌, ◌==◌, ◌||◌, Bool, true, false, inl, inr, List, [], ◌∷◌, ◌++◌, length, get_or, take, drop, Option, Some, None, Ok, refl, sym, ap, subst, ◌∙◌, arith, drop-cons, slice_range, length-drop, IfSome, is_some}
 use Rattle.std.proofs.lemmas.Bool.{cases_Bool, eqb-true}
 use Rattle.std.proofs.lemmas.Bool.Decides.{nat_tests}
 use Rattle.p21_lexer.specs.declared.token.Token.{Token}
@@ -213,6 +213,24 @@ words_there bytes at b end v h k e s =
 
 pub words_long : (bytes : List ℕ) (at b end : ℕ) → IsValueThere bytes at end → BeginsToken bytes at b → b ≡ 39 → 2 ≤ length (slice_range bytes at end)
 words_long bytes at b end h k e = words_two h.0 (slice_range bytes at end) ∣ h.2.0.2.spelled ∣₁ (text_kind bytes at b end h k e)
+
+-- the first byte tells whether it is a text
+text_here : (bytes : List ℕ) (at b : ℕ) (v : Value21) → BeginsToken bytes at b → b ≡ 39 → Stands bytes at v → true ≡ is_some (words_of v)
+text_here bytes at b v h e s =
+    let r = right_there bytes at b v h s in
+    let t = r.token in
+    let told : Some tokens.Words ≡ Some t.kind = sym (ap kind_by e) ∙ kind_told t.kind b r.tail r.spells in
+    let same : t.kind ≡ tokens.Words = cc in
+    ap (λ (o : Option (List ℕ)). is_some o) (words_here bytes t same ∙ words_by bytes t v r.begins)
+
+other_byte : (b : ℕ) → (b == 39) ≡ false → b ≡ 39 → ⊥
+other_byte b k e = let g = rw e at k in cc
+
+pub text_told : (bytes : List ℕ) (at b : ℕ) (v : Value21) → BeginsToken bytes at b → Stands bytes at v → (b == 39) ≡ is_some (words_of v)
+text_told bytes at b v h s = elim (cases_Bool (b == 39)) [
+  | inl k ↦ k ∙ text_here bytes at b v h (eqb-true b 39 k) s
+  | inr k ↦ k ∙ ap (λ (o : Option (List ℕ)). is_some o) (no_words_there bytes at b v h (other_byte b k) s)
+]
 
 -- it ends behind its beginning, within the bytes
 pub one_order : (bytes : List ℕ) (at end : ℕ) → IsValueThere bytes at end → at < end

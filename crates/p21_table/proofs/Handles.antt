@@ -1,5 +1,5 @@
 -- What a handle says, by what it keeps: the value that stands at its place, the values that stand from its place on.
-use Rattle.std.proofs.Common.{◌≡◌, ℕ, Bool, List, [], ◌∷◌, Option, Some, None, Ok, refl, sym, ap, subst, ◌∙◌, arith}
+use Rattle.std.proofs.Common.{◌≡◌, ℕ, Bool, Bor, List, [], ◌∷◌, Option, Some, None, IfSome, Ok, refl, sym, ap, subst, ◌∙◌, arith}
 use Rattle.std.specs.Coded.{codes}
 use base.Stored.{Coded-set}
 use mathlib.Core.Logic.{∥∥₁_elim, ∥∥₁_prop}
@@ -55,6 +55,12 @@ number_asked bytes at says f answer h = asked number_set bytes at says f answer 
 pub bool_asked : (bytes : List ℕ) (at : ℕ) (says : Stood bytes at) (f : Value21 → Bool) (answer : Bool) → ((v : Value21) → Stands bytes at v → answer ≡ f v)
     → answer ≡ f says.0
 bool_asked bytes at says f answer h = asked bool_set bytes at says f answer h
+
+-- an answer that may be none
+pub found_asked : (bytes : List ℕ) (at : ℕ) (says : Stood bytes at) (f : Value21 → Option (List ℕ)) (v : Value21) → says.0 ≡ v → (found : Option (Bor (List ℕ)))
+    → IfSome found (λ bs. (w : Value21) → Stands bytes at w → f w ≡ Some bs.now) → IfSome found (λ bs. f v ≡ Some bs.now)
+found_asked bytes at says f v e None h = tt
+found_asked bytes at says f v e (Some bs) h = sym (bytes_asked bytes at says f (Some bs.now) (λ w s. sym (h w s)) ∙ ap f e)
 
 -- a value stands there, so a token does
 pub never_stood : {A : Type 0} (bytes : List ℕ) (at : ℕ) (says : Stood bytes at) → ((v : Value21) → Stands bytes at v → ⊥) → A

@@ -93,24 +93,27 @@ pub fn behind_one(bytes: &[u8], at: usize) -> Option<usize>
     sign_behind(bytes, end)
 }
 
-/// Whether a byte may stand in an identifier, byte by byte.
+/// Of each byte, whether it may stand in an identifier.
 const GUID_BYTES: [bool; 256] = [
-    false, false, false, false, false, false, false, false, false, false, false, false, false, false, false, false,
-    false, false, false, false, false, false, false, false, false, false, false, false, false, false, false, false,
-    false, false, false, false, true, false, false, false, false, false, false, false, false, false, false, false,
-    true, true, true, true, true, true, true, true, true, true, false, false, false, false, false, false,
-    false, true, true, true, true, true, true, true, true, true, true, true, true, true, true, true,
-    true, true, true, true, true, true, true, true, true, true, true, false, false, false, false, true,
-    false, true, true, true, true, true, true, true, true, true, true, true, true, true, true, true,
-    true, true, true, true, true, true, true, true, true, true, true, false, false, false, false, false,
-    false, false, false, false, false, false, false, false, false, false, false, false, false, false, false, false,
-    false, false, false, false, false, false, false, false, false, false, false, false, false, false, false, false,
-    false, false, false, false, false, false, false, false, false, false, false, false, false, false, false, false,
-    false, false, false, false, false, false, false, false, false, false, false, false, false, false, false, false,
-    false, false, false, false, false, false, false, false, false, false, false, false, false, false, false, false,
-    false, false, false, false, false, false, false, false, false, false, false, false, false, false, false, false,
-    false, false, false, false, false, false, false, false, false, false, false, false, false, false, false, false,
-    false, false, false, false, false, false, false, false, false, false, false, false, false, false, false, false,
+    false, false, false, false, false, false, false, false, false, false, false, false, false,
+    false, false, false, false, false, false, false, false, false, false, false, false, false,
+    false, false, false, false, false, false, false, false, false, false, true, false, false,
+    false, false, false, false, false, false, false, false, false, true, true, true, true, true,
+    true, true, true, true, true, false, false, false, false, false, false, false, true, true,
+    true, true, true, true, true, true, true, true, true, true, true, true, true, true, true, true,
+    true, true, true, true, true, true, true, true, false, false, false, false, true, false, true,
+    true, true, true, true, true, true, true, true, true, true, true, true, true, true, true, true,
+    true, true, true, true, true, true, true, true, true, false, false, false, false, false, false,
+    false, false, false, false, false, false, false, false, false, false, false, false, false,
+    false, false, false, false, false, false, false, false, false, false, false, false, false,
+    false, false, false, false, false, false, false, false, false, false, false, false, false,
+    false, false, false, false, false, false, false, false, false, false, false, false, false,
+    false, false, false, false, false, false, false, false, false, false, false, false, false,
+    false, false, false, false, false, false, false, false, false, false, false, false, false,
+    false, false, false, false, false, false, false, false, false, false, false, false, false,
+    false, false, false, false, false, false, false, false, false, false, false, false, false,
+    false, false, false, false, false, false, false, false, false, false, false, false, false,
+    false, false, false, false, false, false, false, false, false, false,
 ];
 
 /// Whether the value is a text.
@@ -122,6 +125,14 @@ pub fn text_by_byte(bytes: &[u8], at: usize) -> Option<bool>
     Some(byte == b'\'')
 }
 
+/// Whether a byte may stand in an identifier.
+#[inline(always)]
+fn is_guid_byte(byte: u8) -> bool
+    ensures { result ≡ is_guid_char byte }
+{
+    GUID_BYTES[byte as usize]
+}
+
 /// Whether all bytes may stand in an identifier.
 #[inline(always)]
 fn are_guid_bytes(bytes: &[u8]) -> bool
@@ -129,7 +140,7 @@ fn are_guid_bytes(bytes: &[u8]) -> bool
 {
     let mut all = true;
     for byte in bytes {
-        all = all & GUID_BYTES[*byte as usize];
+        all = all & is_guid_byte(*byte);
     }
     all
 }

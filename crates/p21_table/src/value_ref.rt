@@ -5,7 +5,9 @@ ghost use Rattle.p21_values.specs.Values.{items_of};
 ghost use Rattle.p21_values.specs.Standing.{Stands, StandInside};
 ghost use Rattle.p21_table.specs.Stood.{Stood, one_stood};
 
-use crate::first_byte::{absent_by_byte, guid_by_bytes, inside_by_byte, reference_by_byte, text_by_byte, words_by_byte};
+use crate::first_byte::{
+    absent_by_byte, guid_by_bytes, inside_by_byte, reference_by_byte, text_by_byte, words_by_byte,
+};
 use crate::standing::{
     absent_there, enumeration_there, first_token, inside_there, number_there, reference_there,
     words_there,

@@ -1,4 +1,3 @@
-use Rattle.std.proofs.Common.{◌≡◌}
 use Rattle.p21_table.proofs.RowsThere.{behind_comma, behind_close}
 use Rattle.p21_table.proofs.standing.sign_behind.Goals as goal
 
