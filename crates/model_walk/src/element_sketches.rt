@@ -1,5 +1,6 @@
 //! What is known of each element once its file is read: all but its surface, and of what that will be made.
 ghost use Rattle.std.specs.Prelude.{◌≡◌, ℕ, ◌<◌, List, length, None, IfOk, IfSome};
+ghost use Rattle.std.specs.Bool.{OnTrue};
 ghost use Rattle.std.specs.List.{HoldsAt};
 ghost use Rattle.bim_model.specs.declared.upload.Mode.{Mode};
 ghost use Rattle.bim_model.specs.Guids.{IsGuid};
@@ -12,7 +13,7 @@ ghost use Rattle.ifc_elements.specs.Items.{body_items};
 ghost use Rattle.ifc_elements.specs.Names.{AreNames};
 ghost use Rattle.ifc_elements.specs.Surfaces.{IsPlacedBy};
 ghost use Rattle.ifc_elements.specs.Texts.{guid_of};
-ghost use Rattle.model_walk.specs.Stocked.{shape_items, ShowsItems, IsStocked, Grows, IsPlacing, IsBare, IsSketch, AreSketches};
+ghost use Rattle.model_walk.specs.Stocked.{shape_items, ShowsItems, IsStocked, Grows, IsPlacing, AddsBare, Draws, AreDrawn};
 ghost use Rattle.walk_rows.specs.Pools.{pooled};
 
 use crate::set_pool::SetRows;
@@ -185,6 +186,8 @@ fn add_bare(
     requires names { AreNames told.now.exchange.now told.now.names.now }
     requires guid { guid_of instance.now ≡ Some guid.chars }
     requires is_guid { IsGuid guid.chars }
+    ensures { IfOk result (λ added. OnTrue added
+        (AddsBare told.now.exchange.now instance.now elements.old.items elements.new.items)) }
 {
     let Some(class) = class_of(alloc, instance)? else {
         return Ok(false);
@@ -208,6 +211,16 @@ fn draw_by(
     stock: &mut Stock,
     drawn: &mut Drawn,
 ) -> Result<Option<u64>, AllocError>
+    requires storeys { ListsStoreys told.now.exchange.now told.now.tree.now }
+    requires names { AreNames told.now.exchange.now told.now.names.now }
+    requires placed { IsPlacedBy told.now.exchange.now told.now.scale told.now.mode instance.now frame }
+    requires framed { IfSome frame Framed }
+    requires stocked { IsStocked told.now.exchange.now told.now.scale told.now.mode stock.old }
+    ensures stocked { IfOk result (λ found. IfSome found (λ count.
+        IsStocked told.now.exchange.now told.now.scale told.now.mode stock.new)) }
+    ensures grows { IfOk result (λ found. IfSome found (λ count. Grows stock.old stock.new)) }
+    ensures draws { IfOk result (λ found. IfSome found
+        (Draws told.now.exchange.now told.now.scale told.now.mode stock.new instance.now drawn.old drawn.new)) }
 {
     let Some(guid) = guid_of(alloc, instance)? else {
         return Ok(None);
@@ -233,6 +246,16 @@ fn draw(
     stock: &mut Stock,
     drawn: &mut Drawn,
 ) -> Result<Option<u64>, AllocError>
+    requires storeys { ListsStoreys told.now.exchange.now told.now.tree.now }
+    requires names { AreNames told.now.exchange.now told.now.names.now }
+    requires placed { AllPlaced told.now.exchange.now told.now.scale told.now.mode
+        (frame_in told.now.frames.now) }
+    requires stocked { IsStocked told.now.exchange.now told.now.scale told.now.mode stock.old }
+    ensures stocked { IfOk result (λ found. IfSome found (λ count.
+        IsStocked told.now.exchange.now told.now.scale told.now.mode stock.new)) }
+    ensures grows { IfOk result (λ found. IfSome found (λ count. Grows stock.old stock.new)) }
+    ensures draws { IfOk result (λ found. IfSome found
+        (Draws told.now.exchange.now told.now.scale told.now.mode stock.new instance.now drawn.old drawn.new)) }
 {
     match placing_of(told.frames, instance) {
         Placing::Free => draw_by(alloc, told, instance, None, stock, drawn),
@@ -248,6 +271,14 @@ pub fn drawn_of(
     ids: &[u64],
     stock: &mut Stock,
 ) -> Result<Option<Drawn>, AllocError>
+    requires storeys { ListsStoreys told.now.exchange.now told.now.tree.now }
+    requires names { AreNames told.now.exchange.now told.now.names.now }
+    requires placed { AllPlaced told.now.exchange.now told.now.scale told.now.mode
+        (frame_in told.now.frames.now) }
+    requires stocked { IsStocked told.now.exchange.now told.now.scale told.now.mode stock.old }
+    ensures grows { IfOk result (λ found. IfSome found (λ drawn. Grows stock.old stock.new)) }
+    ensures drawn { IfOk result (λ found. IfSome found
+        (AreDrawn told.now.exchange.now told.now.scale told.now.mode stock.new ids.now)) }
 {
     let mut drawn = Drawn {
         elements: Vec::with_capacity(alloc, ids.len())?,

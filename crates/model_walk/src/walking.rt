@@ -7,7 +7,7 @@ ghost use Rattle.ifc_schema.specs.Marks.{Known, rank_at};
 ghost use Rattle.ifc_units.specs.Units.{IsLengthUnit};
 ghost use Rattle.placement.specs.Placed.{AllPlaced, frame_in};
 ghost use Rattle.spatial_tree.specs.Trees.{IsTree, ListsStoreys};
-ghost use Rattle.model_walk.specs.Checked.{IsCleanBy, CleanThere, AllClean, SketchesDiffer, Alternate};
+ghost use Rattle.model_walk.specs.Checked.{IsCleanBy, CleanThere, AllClean, ElementsDiffer, Alternate};
 ghost use Rattle.model_walk.specs.Kept.{ArePooled, HasLists, AreReadSets};
 ghost use Rattle.model_walk.specs.Stocked.{IsStocked};
 ghost use Rattle.model_walk.specs.Walked.{IsWalked};
@@ -38,13 +38,16 @@ pub struct Walked {
 }
 
 impl Model for Walked {
-    ghost use Rattle.std.specs.Prelude.{List, All};
+    ghost use Rattle.std.specs.Prelude.{◌≡◌, List, All, length};
     ghost use Rattle.bim_model.specs.declared.element.Element.{Element};
     ghost use Rattle.model_walk.specs.Sketches.{elements_of, IsSoundStock, IsNearSketch};
 
     ghost Value = { List Element };
 
-    ghost view = { λ w. [] };
+    ghost view = { λ w. elements_of w.stock w.drawn.elements.items w.drawn.sketches.items };
+
+    ghost invariant = { λ w. IsSoundStock w.stock × All (IsNearSketch w.stock) w.drawn.sketches.items
+        × (length w.drawn.elements.items ≡ length w.drawn.sketches.items) };
 }
 
 /// Whether an instance that is used, and is no list of points nor a set, has the form of its row.
@@ -156,6 +159,7 @@ fn sets_in(
 
 /// The identifiers of elements.
 fn guids_of(alloc: Global, elements: &[Element]) -> Result<Vec<[u8; 22]>, AllocError>
+    ensures { IfOk result (λ guids. guids.items ≡ map (λ (e : Element). e.guid.chars) elements.now) }
 {
     let mut guids = Vec::with_capacity(alloc, elements.len())?;
     for element in elements {
@@ -178,6 +182,7 @@ fn alternate(guids: &[[u8; 22]]) -> bool
 
 /// Whether no two elements have the same identifier.
 fn differ(alloc: Global, elements: &[Element]) -> Result<bool, AllocError>
+    ensures { IfOk result (λ differ. OnTrue differ (ElementsDiffer elements.now)) }
 {
     let mut guids = guids_of(alloc, elements)?;
     guids.sort_unstable();
