@@ -134,7 +134,7 @@ drawn_more world scale mode first old new ids at made grown before more i so_far
     let still : AllZip (IsNearElement world scale mode) (take at ids) (elements_of new es ss) = subst (AllZip (IsNearElement world scale mode) (take at ids)) (sym (elements_still old new es ss g so_far.near)) so_far.each in
     let all = all_zipped_more (IsNearElement world scale mode) (take at ids) (elements_of new es ss) id (element_of new d.element d.sketch) still (element_near world scale mode new id i d.element d.sketch found d.is) in
     let shows : elements_of new grown.elements.items grown.sketches.items ≡ elements_of new es ss ++ element_of new d.element d.sketch ∷ [] =
-        ap (λ (l : List Element). elements_of new l grown.sketches.items) d.elements ∙ ap (elements_of new (es ++ d.element ∷ [])) d.sketches ∙ elements_more new es ss d.element d.sketch so_far.same in
+    ap (λ (l : List Element). elements_of new l grown.sketches.items) d.elements ∙ ap (elements_of new (es ++ d.element ∷ [])) d.sketches ∙ elements_more new es ss d.element d.sketch so_far.same in
     let count : more ≡ count_of world id = d.counted ∙ count_is world scale mode new id i d.element d.sketch found d.is in
     record {
       stocked = stocked;
