@@ -292,7 +292,8 @@ pub fn drawn_of(
         let Some(more) = draw(alloc, told, &instance, stock, &mut drawn)? else {
             return Ok(None);
         };
-        if more > MOST_TRIANGLES - count {
+        let room = MOST_TRIANGLES - count;
+        if more > room {
             return Ok(None);
         }
         count += more;

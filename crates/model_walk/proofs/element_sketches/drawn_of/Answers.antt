@@ -23,7 +23,7 @@ loop-id-preserved c =
     let draws = subst (λ (o : Option ℕ). IfSome o (Draws world told.scale told.mode new c.in-Some.instance c.loop-id.drawn c.draw.new.drawn)) c.in-Some-2.is c.in_ok-more.ensures.draws in (
       drawn_more world told.scale told.mode c.args.stock.now c.loop-id.stock new c.args.ids.now c.loop-id.id-index c.loop-id.drawn c.draw.new.drawn c.loop-id.count more c.in-Some.instance
           c.loop-id.invariant.0 c.loop-id-test.true (sym c.in-Some.ensures) stocked grows draws,
-      omega (arith, c.if-more.false, c.loop-id.invariant.1),
+      omega (arith, c.if-more-room.false, c.loop-id.invariant.1),
     )
 
 pub returns-clause-grows : goal.returns-clause-grows

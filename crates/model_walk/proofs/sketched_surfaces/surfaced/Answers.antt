@@ -1,4 +1,4 @@
-use Rattle.std.proofs.Common.{◌≡◌, ◌<◌, ℕ, length, set, map, refl, sym, ap, subst, arith, ◌∙◌}
+use Rattle.std.proofs.Common.{◌<◌, length, refl, ap, arith, ◌∙◌}
 use Rattle.bim_model.specs.declared.element.Element.{Element}
 use Rattle.model_walk.proofs.ElementsSurfaced.{near_there, none_surfaced, one_surfaced, all_surfaced}
 use Rattle.model_walk.proofs.sketched_surfaces.surfaced.Goals as goal
