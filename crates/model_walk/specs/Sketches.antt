@@ -55,7 +55,7 @@ element_of stock element sketch = record {
 }
 
 -- elements with the surfaces that their sketches show, place by place
-pub elements_of : Stock → List Element → List Sketch → List Element
+abbrev pub elements_of : Stock → List Element → List Sketch → List Element
 elements_of stock [] sketches = []
 elements_of stock (element ∷ elements) [] = []
 elements_of stock (element ∷ elements) (sketch ∷ sketches) =
