@@ -1,7 +1,7 @@
 -- Elements with the surfaces that their sketches show.
 use Rattle.std.proofs.Common.{◌≡◌, ℕ, ◌+◌, ◌<◌, ◌≤◌, List, [], ◌∷◌, ◌++◌, length, get_or, set, map, take, take_all, drop, refl, sym, ap, ◌∙◌, subst, arith}
 use Rattle.std.specs.List.{All}
-use Rattle.std.proofs.lemmas.List.{take_more, take_more_set, drop-set-lt, get_or-drop, length-set, length-take-le}
+use Rattle.std.proofs.lemmas.List.{take_more, take_more_set, drop-set-lt, drop_more, length-set, length-take-le}
 use Rattle.std.proofs.lemmas.List.Elements.{All-get_or}
 use Rattle.std.proofs.lemmas.Grind.{drop_more_same}
 use Rattle.bim_model.specs.declared.element.Element.{Element}
@@ -46,7 +46,8 @@ pub one_surfaced : (stock : Stock) (elements : List Element) (sketches : List Sk
 one_surfaced stock elements sketches at old new bare made sketch so_far lt same is drawn makes stored =
     let there : at < length sketches = omega (arith, lt, same) in
     let within : at < length old = omega (arith, lt, so_far.long) in
-    let left : bare ≡ get_or elements at bare = is ∙ sym (get_or-drop at old 0 bare) ∙ ap (λ (es : List Element). get_or es 0 bare) so_far.rest ∙ get_or-drop at elements 0 bare in
+    let first : List Element → Element = λ es. get_or es 0 bare in
+    let left : bare ≡ get_or elements at bare = is ∙ sym (ap first (drop_more old at bare within)) ∙ ap first so_far.rest ∙ ap first (drop_more elements at bare lt) in
     let long : length (take at elements) ≡ length (take at sketches) = length-take-le at elements (omega (arith, lt)) ∙ sym (length-take-le at sketches (omega (arith, there))) in
     let es : take (at + 1) elements ≡ take at elements ++ bare ∷ [] = take_more elements at bare lt ∙ ap (λ (e : Element). take at elements ++ e ∷ []) (sym left) in
     let ss : take (at + 1) sketches ≡ take at sketches ++ sketch ∷ [] = take_more sketches at sketch there ∙ ap (λ (s : Sketch). take at sketches ++ s ∷ []) (sym drawn) in

@@ -64,7 +64,7 @@ pub elements_differ : (elements : List Element) (guids : List (List ℕ)) → Is
 elements_differ elements guids p up beside = from_keys guid_chars elements (keys_differ (map guid_chars elements) guids p (sorted_differ guids up beside))
 
 to_keys : {X : Type 0} (key : X → List ℕ) (xs : List X) → AllPairs (λ x y. key x ≢ key y) xs → AllPairs (λ a b. a ≢ b) (map key xs)
-to_keys key [] h i j d lt within = absurd (omega (arith, within))
+to_keys key [] h i j d lt within same = absurd (omega (arith, within))
 to_keys key (x ∷ xs) h i j d lt within same =
     let m : j < length (x ∷ xs) = rw (sym (length-map (x ∷ xs) key)) within in
     let n : i < length (x ∷ xs) = omega (arith, lt, m) in
