@@ -1,5 +1,5 @@
 -- Identifiers that differ from those beside them once they are sorted differ all.
-use Rattle.std.proofs.Common.{◌≡◌, ◌≢◌, ℕ, ◌+◌, ◌-◌, ◌<◌, ◌≤◌, ◌⊎◌, inl, inr, Bool, true, false, List, [], length, map, get_or, refl, sym, ◌∙◌, subst, ap, arith}
+use Rattle.std.proofs.Common.{◌≡◌, ◌≢◌, ℕ, ◌+◌, ◌-◌, ◌<◌, ◌≤◌, ◌⊎◌, inl, inr, Bool, true, false, List, [], ◌∷◌, length, map, get_or, refl, sym, ◌∙◌, subst, ap, arith}
 use Rattle.std.proofs.lemmas.Bool.{cases_Bool}
 use Rattle.std.specs.Bool.{OnTrue}
 use Rattle.std.specs.List.{AllPairs}
@@ -16,8 +16,12 @@ use Rattle.std.proofs.lemmas.Map.Keys.{IsDistinct-IsPermutation}
 use Rattle.std.proofs.lemmas.Map.Made.{AllPairs-from_IsDistinct, IsDistinct-from_AllPairs}
 use Rattle.std.proofs.lemmas.Cmp.{nat_list_cmp_total}
 use Rattle.std.proofs.lemmas.Map.Lookups.{exact_bytes}
-use Rattle.model_walk.specs.Checked.{Alternate, SketchesDiffer}
+use Rattle.bim_model.specs.declared.element.Element.{Element}
 use Rattle.model_walk.specs.declared.element_sketches.Sketch.{Sketch}
+use Rattle.model_walk.specs.declared.element_sketches.Stock.{Stock}
+use Rattle.model_walk.specs.Checked.{Alternate, ElementsDiffer}
+use Rattle.model_walk.specs.Sketches.{elements_of}
+use Rattle.model_walk.proofs.ElementsSurfaced.{guid_chars, same_guids}
 
 alike : (xs ys : List ℕ) → bytes_eq xs ys ≡ true → bytes_eq ys xs ≡ true
 alike xs ys t = (bytes_eq-Decides ys xs).1 (sym ((bytes_eq-Decides xs ys).0 t))
@@ -56,8 +60,20 @@ sorted_differ ys up beside i j d lt within same =
     let last : is_lt (slice_cmp nat_cmp a b) ≡ false = subst (λ x. is_lt (slice_cmp nat_cmp x b) ≡ false) (sym same) (far (i + 1) j (omega (arith, lt)) within) in
     beside i d (omega (arith, lt, within)) (exact_bytes a b (equal (slice_cmp nat_cmp a b) last (subst (λ o. is_lt o ≡ false) (nat_list_cmp_total.antisymm b a) first)))
 
-pub sketches_differ : (sketches : List Sketch) (guids : List (List ℕ)) → IsPermutation (map (λ (s : Sketch). s.element.guid.chars) sketches) guids → IsSorted (slice_cmp nat_cmp) guids → Alternate guids → SketchesDiffer sketches
-sketches_differ sketches guids p up beside = from_keys (λ (s : Sketch). s.element.guid.chars) sketches (keys_differ (map (λ (s : Sketch). s.element.guid.chars) sketches) guids p (sorted_differ guids up beside))
+pub elements_differ : (elements : List Element) (guids : List (List ℕ)) → IsPermutation (map (λ (e : Element). e.guid.chars) elements) guids → IsSorted (slice_cmp nat_cmp) guids → Alternate guids → ElementsDiffer elements
+elements_differ elements guids p up beside = from_keys guid_chars elements (keys_differ (map guid_chars elements) guids p (sorted_differ guids up beside))
+
+to_keys : {X : Type 0} (key : X → List ℕ) (xs : List X) → AllPairs (λ x y. key x ≢ key y) xs → AllPairs (λ a b. a ≢ b) (map key xs)
+to_keys key [] h i j d lt within same = absurd (omega (arith, within))
+to_keys key (x ∷ xs) h i j d lt within same =
+    let m : j < length (x ∷ xs) = rw (sym (length-map (x ∷ xs) key)) within in
+    let n : i < length (x ∷ xs) = omega (arith, lt, m) in
+    h i j x lt m (sym (get_or-map key (x ∷ xs) i x d n) ∙ same ∙ get_or-map key (x ∷ xs) j x d m)
+
+-- they do so with their surfaces too
+pub surfaces_differ : (stock : Stock) (elements : List Element) (sketches : List Sketch) → length elements ≡ length sketches → ElementsDiffer elements → ElementsDiffer (elements_of stock elements sketches)
+surfaces_differ stock elements sketches same differ =
+    from_keys guid_chars (elements_of stock elements sketches) (subst (λ (gs : List (List ℕ)). AllPairs (λ a b. a ≢ b) gs) (sym (same_guids stock elements sketches same)) (to_keys guid_chars elements differ))
 
 -- two more that differ
 pub apart_more : (guids : List (List ℕ)) (at : ℕ) (b : Bool) → 1 ≤ at → at < length guids → b ≡ bytes_eq (get_or guids (at - 1) []) (get_or guids at []) → b ≡ false → ((k : ℕ) (d : List ℕ) → k + 1 < at → get_or guids k d ≢ get_or guids (k + 1) d)

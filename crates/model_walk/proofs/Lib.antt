@@ -1,4 +1,5 @@
 pub mod CleanShown
+pub mod ElementsSurfaced
 pub mod FormsRead
 pub mod GuidsDiffer
 pub mod OneSetRead

@@ -30,7 +30,7 @@ use Rattle.model_walk.specs.declared.shape_pieces.Piece.{Piece}
 use Rattle.model_walk.specs.declared.shape_pieces.Range.{Range}
 use Rattle.model_walk.specs.Kept.{AreReadSets}
 use Rattle.model_walk.specs.Sketches.{rows_with, pieces_triangles, pieces_in, range_triangles, IsCarried, IsSoundStock, IsRangeIn, IsNearSketch}
-use Rattle.model_walk.specs.Stocked.{AddsPieces, shape_items, ShowsItems, IsStocked, Grows, IsSketch}
+use Rattle.model_walk.specs.Stocked.{AddsPieces, shape_items, ShowsItems, IsStocked, Grows}
 use Rattle.walk_rows.specs.Pools.{pooled, Pools}
 
 -- Lists that grow.
@@ -57,7 +57,7 @@ grows_twice first old new g h = record {
 
 -- Ranges.
 
-range_same : (old new : Stock) (range : Range) → Grows old new → IsRangeIn old range → range_triangles new range ≡ range_triangles old range
+pub range_same : (old new : Stock) (range : Range) → Grows old new → IsRangeIn old range → range_triangles new range ≡ range_triangles old range
 range_same old new range g r =
     ap (λ ps. pieces_triangles ps new.sets (pieces_in new.pieces.items range)) g.points ∙ ap (λ ss. pieces_triangles old.points ss (pieces_in new.pieces.items range)) g.sets
     ∙ ap (pieces_triangles old.points old.sets) (ap (λ ps. pieces_in ps range) g.pieces ∙ cut_same old.pieces.items g.more range.from range.to r.ordered r.within)
@@ -78,20 +78,12 @@ shows_still world scale mode old new items range g s =
       some = s.some;
     }
 
-near_still : (old new : Stock) (sketch : Sketch) → Grows old new → IsNearSketch old sketch → IsNearSketch new sketch
+-- a sketch is still near
+pub near_still : (old new : Stock) (sketch : Sketch) → Grows old new → IsNearSketch old sketch → IsNearSketch new sketch
 near_still old new sketch g n = record {
   there = range_there old new sketch.range g n.there;
   framed = n.framed;
   near = subst (λ (ts : List Triangle). All IsInReach (corners_of (map (placed_by sketch.frame) ts))) (sym (range_same old new sketch.range g n.there)) n.near;
-}
-
--- a sketch is still one
-pub sketch_still : (world : List Instance) (scale : Scale) (mode : Mode) (old new : Stock) (i : Instance) (sketch : Sketch) → Grows old new → IsSketch world scale mode old i sketch → IsSketch world scale mode new i sketch
-sketch_still world scale mode old new i sketch g s = record {
-  bare = s.bare;
-  placed = s.placed;
-  shows = shows_still world scale mode old new (body_items world i) sketch.range g s.shows;
-  near = near_still old new sketch g s.near;
 }
 
 -- One shape more.

@@ -1,10 +1,9 @@
 -- What is made of the parts of a walk.
-use Rattle.std.proofs.Common.{◌≡◌, ◌≢◌, ℕ, ◌<◌, List, [], ◌∷◌, length, map, get_or, replicate, Option, Some, None, Result, Ok, Err, sym, subst, arith}
+use Rattle.std.proofs.Common.{◌≡◌, ℕ, List, [], length, replicate, Option, Some, None, Result, Ok, Err, sym, subst, arith}
 use Rattle.std.specs.Prelude.{IfOk, IfSome, MatchOption}
-use Rattle.std.specs.List.{All, AllPairs}
-use Rattle.std.proofs.lemmas.List.{get_or-map, length-map, length-replicate}
+use Rattle.std.specs.List.{All}
+use Rattle.std.proofs.lemmas.List.{length-replicate}
 use Rattle.bim_model.specs.declared.upload.Mode.{Mode}
-use Rattle.bim_model.specs.declared.element.Element.{Element}
 use Rattle.p21_values.specs.declared.value.Instance.{Instance}
 use Rattle.ifc_schema.specs.Surveys.{IsModelElement, Lists}
 use Rattle.ifc_units.specs.declared.scale.Scale.{Scale}
@@ -12,28 +11,21 @@ use Rattle.ifc_units.specs.Units.{IsLengthUnit}
 use Rattle.placement.specs.declared.frame.Frame.{Frame}
 use Rattle.placement.specs.Placed.{AreFrames, LacksFrame, AllPlaced, frame_in}
 use Rattle.spatial_tree.specs.Trees.{IsTree}
-use Rattle.model_walk.specs.declared.element_sketches.Sketch.{Sketch}
+use Rattle.model_walk.specs.declared.element_sketches.Drawn.{Drawn}
 use Rattle.model_walk.specs.declared.element_sketches.Stock.{Stock}
-use Rattle.model_walk.specs.Checked.{AllClean, SketchesDiffer}
+use Rattle.model_walk.specs.Checked.{AllClean, ElementsDiffer}
 use Rattle.model_walk.specs.Kept.{AreReadSets}
-use Rattle.model_walk.specs.Sketches.{element_of, elements_of, IsCarried}
-use Rattle.model_walk.specs.Stocked.{AreSketches, IsStocked}
+use Rattle.model_walk.specs.Sketches.{elements_of, IsCarried}
+use Rattle.model_walk.specs.Stocked.{AreDrawn, IsStocked}
 use Rattle.model_walk.specs.Walked.{IsWalked}
 use Rattle.walk_rows.specs.Pools.{pooled}
+use Rattle.model_walk.proofs.GuidsDiffer.{surfaces_differ}
 use Rattle.model_walk.proofs.PlacesChecked.{never_kept}
 
-pairs_mapped : {X Y : Type 0} (f : X → Y) (R : Y → Y → Type 0) (xs : List X) → AllPairs (λ x y. R (f x) (f y)) xs → AllPairs R (map f xs)
-pairs_mapped f R [] h i j d lt within = absurd (omega (arith, within))
-pairs_mapped f R (x ∷ xs) h i j d lt within =
-    let m : j < length (x ∷ xs) = subst (λ n. j < n) (length-map (x ∷ xs) f) within in
-    let n : i < length (x ∷ xs) = omega (arith, lt, m) in
-    subst (λ a. R a (get_or (map f (x ∷ xs)) j d)) (sym (get_or-map f (x ∷ xs) i x d n))
-    (subst (λ b. R (f (get_or (x ∷ xs) i x)) b) (sym (get_or-map f (x ∷ xs) j x d m)) (h i j x lt m))
-
 -- the elements of a walk are those of the file
-pub walked : (world : List Instance) (mode : Mode) (scale : Scale) (ids : List ℕ) (stock : Stock) (sketches : List Sketch) → IsLengthUnit world scale → IsTree world → AllClean world scale mode → Lists (IsModelElement world) ids
-    → AreSketches world scale mode stock ids sketches → SketchesDiffer sketches → IsWalked world mode (elements_of stock sketches)
-walked world mode scale ids stock sketches unit tree clean lists made differ = record {
+pub walked : (world : List Instance) (mode : Mode) (scale : Scale) (ids : List ℕ) (stock : Stock) (drawn : Drawn) → IsLengthUnit world scale → IsTree world → AllClean world scale mode → Lists (IsModelElement world) ids
+    → AreDrawn world scale mode stock ids drawn → ElementsDiffer drawn.elements.items → IsWalked world mode (elements_of stock drawn.elements.items drawn.sketches.items)
+walked world mode scale ids stock drawn unit tree clean lists made differ = record {
   scale = scale;
   unit = unit;
   tree = tree;
@@ -43,7 +35,7 @@ walked world mode scale ids stock sketches unit tree clean lists made differ = r
   each = made.each;
   some = made.some;
   few = made.few;
-  differ = pairs_mapped (element_of stock) (λ (e f : Element). e.guid.chars ≢ f.guid.chars) sketches differ;
+  differ = surfaces_differ stock drawn.elements.items drawn.sketches.items made.same differ;
 }
 
 -- a new stock, once the sets are read

@@ -2,12 +2,12 @@
 use Rattle.std.specs.Prelude.{◌≢◌, ℕ, ◌+◌, ◌<◌, Bool, List, length, AllPairs, slice_index_or}
 use Rattle.std.specs.List.{HoldsAt}
 use Rattle.bim_model.specs.declared.upload.Mode.{Mode}
+use Rattle.bim_model.specs.declared.element.Element.{Element}
 use Rattle.p21_values.specs.declared.value.Instance.{Instance}
 use Rattle.p21_values.specs.Places.{IsPlaceOf}
 use Rattle.ifc_schema.specs.Used.{Used}
 use Rattle.ifc_units.specs.declared.scale.Scale.{Scale}
 use Rattle.model_walk.specs.Clean.{IsClean, IsCleanAt}
-use Rattle.model_walk.specs.declared.element_sketches.Sketch.{Sketch}
 
 -- the instance at a place is clean; whether it is mapped is given
 abbrev pub IsCleanBy : List Instance → Scale → Mode → Bool → ℕ → Type 0
@@ -24,8 +24,8 @@ abbrev pub AllClean : List Instance → Scale → Mode → Type 0
 AllClean world scale mode = (id : ℕ) → Used world id → IsCleanAt world scale mode id
 
 -- no two have the same identifier
-abbrev pub SketchesDiffer : List Sketch → Type 0
-SketchesDiffer sketches = AllPairs (λ (s t : Sketch). s.element.guid.chars ≢ t.element.guid.chars) sketches
+abbrev pub ElementsDiffer : List Element → Type 0
+ElementsDiffer elements = AllPairs (λ (e f : Element). e.guid.chars ≢ f.guid.chars) elements
 
 -- no two that stand side by side are the same
 abbrev pub Alternate : List (List ℕ) → Type 0

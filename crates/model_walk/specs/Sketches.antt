@@ -1,5 +1,5 @@
 -- What elements are made of, once their file is read, and the elements that are made of it.
-use Rattle.std.specs.Prelude.{◌≡◌, ℕ, ◌-◌, ◌≤◌, List, [], All, IfSome, length, map, flat_map, take, drop, Option, Some, None}
+use Rattle.std.specs.Prelude.{◌≡◌, ℕ, ◌-◌, ◌≤◌, List, [], ◌∷◌, All, IfSome, length, map, flat_map, take, drop, Option, Some, None}
 use Rattle.bim_model.specs.declared.geometry.Point.{Point}
 use Rattle.bim_model.specs.declared.geometry.Triangle.{Triangle}
 use Rattle.bim_model.specs.declared.element.Element.{Element}
@@ -44,19 +44,22 @@ pieces_in pieces range = take (range.to - range.from) (drop range.from pieces)
 abbrev pub range_triangles : Stock → Range → List Triangle
 range_triangles stock range = pieces_triangles stock.points stock.sets (pieces_in stock.pieces.items range)
 
--- the element of a sketch
-abbrev pub element_of : Stock → Sketch → Element
-element_of stock sketch = record {
-  guid = sketch.element.guid;
-  class = sketch.element.class;
-  name = sketch.element.name;
-  storey = sketch.element.storey;
+-- the element with the surface that its sketch shows
+abbrev pub element_of : Stock → Element → Sketch → Element
+element_of stock element sketch = record {
+  guid = element.guid;
+  class = element.class;
+  name = element.name;
+  storey = element.storey;
   triangles = map (placed_by sketch.frame) (range_triangles stock sketch.range);
 }
 
--- the elements of sketches
-abbrev pub elements_of : Stock → List Sketch → List Element
-elements_of stock sketches = map (element_of stock) sketches
+-- elements with the surfaces that their sketches show, place by place
+abbrev pub elements_of : Stock → List Element → List Sketch → List Element
+elements_of stock [] sketches = []
+elements_of stock (element ∷ elements) [] = []
+elements_of stock (element ∷ elements) (sketch ∷ sketches) =
+    element_of stock element sketch ∷ elements_of stock elements sketches
 
 -- What can be carried.
 

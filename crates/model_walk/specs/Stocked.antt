@@ -1,5 +1,5 @@
 -- What is known of a file while its elements are sketched.
-use Rattle.std.specs.Prelude.{◌≡◌, ℕ, ◌+◌, ◌<◌, ◌≤◌, List, length, ◌++◌, flat_map, sum_by, All, Contains, map, Option, Some, None}
+use Rattle.std.specs.Prelude.{◌≡◌, ℕ, ◌+◌, ◌<◌, ◌≤◌, List, [], ◌∷◌, length, ◌++◌, flat_map, sum_by, All, Contains, Option, Some, None}
 use Rattle.std.specs.List.{HoldsAt, AllZip}
 use Rattle.bim_model.specs.declared.upload.Mode.{Mode}
 use Rattle.bim_model.specs.declared.element.Element.{Element}
@@ -9,7 +9,6 @@ use Rattle.bim_model.specs.Guids.{IsGuid}
 use Rattle.p21_values.specs.declared.value.Instance.{Instance}
 use Rattle.ifc_units.specs.declared.scale.Scale.{Scale}
 use Rattle.faceset.specs.Sets.{Joined}
-use Rattle.ifc_elements.specs.Finding.{Finds}
 use Rattle.ifc_elements.specs.Framed.{Framed}
 use Rattle.ifc_elements.specs.Items.{bodies_of, items_of, body_items, count_of}
 use Rattle.ifc_elements.specs.Making.{IsNearElement}
@@ -17,6 +16,7 @@ use Rattle.ifc_elements.specs.Sound.{KeptItem}
 use Rattle.ifc_elements.specs.Storeys.{IsStoreyName}
 use Rattle.ifc_elements.specs.Surfaces.{IsPlacedBy}
 use Rattle.ifc_elements.specs.Texts.{guid_of, name_of}
+use Rattle.model_walk.specs.declared.element_sketches.Drawn.{Drawn}
 use Rattle.model_walk.specs.declared.element_sketches.Placing.{Placing}
 use Rattle.model_walk.specs.declared.element_sketches.Placing.TheVariants.{Free, By, Unknown}
 use Rattle.model_walk.specs.declared.element_sketches.Sketch.{Sketch}
@@ -25,7 +25,7 @@ use Rattle.model_walk.specs.declared.set_pool.SetRows.{SetRows}
 use Rattle.model_walk.specs.declared.shape_pieces.Piece.{Piece}
 use Rattle.model_walk.specs.declared.shape_pieces.Range.{Range}
 use Rattle.model_walk.specs.Kept.{AreReadSets}
-use Rattle.model_walk.specs.Sketches.{pieces_triangles, range_triangles, element_of, IsCarried, IsSoundStock, IsRangeIn, IsNearSketch}
+use Rattle.model_walk.specs.Sketches.{pieces_triangles, range_triangles, elements_of, IsCarried, IsSoundStock, IsRangeIn, IsNearSketch}
 use Rattle.walk_rows.specs.Pools.{pooled}
 
 -- Pieces.
@@ -83,23 +83,37 @@ pub record IsBare (world : List Instance) (i : Instance) (element : Element) : T
   pub name : element.name ≡ name_of i
   pub storey : IsStoreyName world i.id element.storey
 
--- the sketch of the element that an instance is
+-- the element of an instance was added, but for its surface
+pub record AddsBare (world : List Instance) (i : Instance) (old new : List Element) : Type 0 where
+  pub element : Element
+  pub grown : new ≡ old ++ element ∷ []
+  pub bare : IsBare world i element
+
+-- the element of an instance, but for its surface, and its sketch
 pub record IsSketch (world : List Instance) (scale : Scale) (mode : Mode) (stock : Stock) (i : Instance)
-    (sketch : Sketch) : Type 0 where
-  pub bare : IsBare world i sketch.element
+    (element : Element) (sketch : Sketch) : Type 0 where
+  pub bare : IsBare world i element
   pub placed : IsPlacedBy world scale mode i sketch.frame
   pub shows : ShowsItems world scale mode stock (body_items world i) sketch.range
   pub near : IsNearSketch stock sketch
 
--- the same of the instance of that number
-abbrev pub IsSketchAt : List Instance → Scale → Mode → Stock → ℕ → Sketch → Type 0
-IsSketchAt world scale mode stock id sketch = Finds world id (λ i. IsSketch world scale mode stock i sketch)
+-- such an element and its sketch were added, each behind those before; it has so many triangles
+pub record Draws (world : List Instance) (scale : Scale) (mode : Mode) (stock : Stock) (i : Instance)
+    (old new : Drawn) (count : ℕ) : Type 0 where
+  pub element : Element
+  pub sketch : Sketch
+  pub elements : new.elements.items ≡ old.elements.items ++ element ∷ []
+  pub sketches : new.sketches.items ≡ old.sketches.items ++ sketch ∷ []
+  pub is : IsSketch world scale mode stock i element sketch
+  pub counted : count ≡ sketch.range.count
 
--- The sketches of the elements of these numbers: what is made of them are these elements, each with a triangle, and not too many together.
-pub record AreSketches (world : List Instance) (scale : Scale) (mode : Mode) (stock : Stock) (ids : List ℕ)
-    (sketches : List Sketch) : Type 0 where
+-- The elements of these numbers and their sketches: with the surfaces that these show they are the file's, each with a triangle, and not too many together.
+pub record AreDrawn (world : List Instance) (scale : Scale) (mode : Mode) (stock : Stock) (ids : List ℕ)
+    (drawn : Drawn) : Type 0 where
   pub sound : IsSoundStock stock
-  pub each : AllZip (IsNearElement world scale mode) ids (map (element_of stock) sketches)
-  pub near : All (IsNearSketch stock) sketches
+  pub each : AllZip (IsNearElement world scale mode) ids
+      (elements_of stock drawn.elements.items drawn.sketches.items)
+  pub near : All (IsNearSketch stock) drawn.sketches.items
+  pub same : length drawn.elements.items ≡ length drawn.sketches.items
   pub some : (id : ℕ) → Contains ids id → 0 < count_of world id
   pub few : sum_by (count_of world) ids ≤ MOST_TRIANGLES

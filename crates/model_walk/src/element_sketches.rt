@@ -1,5 +1,6 @@
 //! What is known of each element once its file is read: all but its surface, and of what that will be made.
 ghost use Rattle.std.specs.Prelude.{◌≡◌, ℕ, ◌<◌, List, length, None, IfOk, IfSome};
+ghost use Rattle.std.specs.Bool.{OnTrue};
 ghost use Rattle.std.specs.List.{HoldsAt};
 ghost use Rattle.bim_model.specs.declared.upload.Mode.{Mode};
 ghost use Rattle.bim_model.specs.Guids.{IsGuid};
@@ -12,7 +13,7 @@ ghost use Rattle.ifc_elements.specs.Items.{body_items};
 ghost use Rattle.ifc_elements.specs.Names.{AreNames};
 ghost use Rattle.ifc_elements.specs.Surfaces.{IsPlacedBy};
 ghost use Rattle.ifc_elements.specs.Texts.{guid_of};
-ghost use Rattle.model_walk.specs.Stocked.{shape_items, ShowsItems, IsStocked, Grows, IsPlacing, IsBare, IsSketch, AreSketches};
+ghost use Rattle.model_walk.specs.Stocked.{shape_items, ShowsItems, IsStocked, Grows, IsPlacing, AddsBare, Draws, AreDrawn};
 ghost use Rattle.walk_rows.specs.Pools.{pooled};
 
 use crate::set_pool::SetRows;
@@ -28,12 +29,18 @@ use spatial_tree::Tree;
 use std::alloc::{AllocError, Global};
 use walk_rows::Pool;
 
-/// An element without its surface, the frame that carries it, and which pieces it shows.
+/// How the surface of an element is made: the frame that carries it, and which pieces it shows.
 #[derive(Drop)]
 pub struct Sketch {
-    pub element: Element,
     pub frame: Option<Frame>,
     pub range: Range,
+}
+
+/// Elements without their surfaces, and the sketch of each, in the same order.
+#[derive(Drop)]
+pub struct Drawn {
+    pub elements: Vec<Element>,
+    pub sketches: Vec<Sketch>,
 }
 
 /// What elements are made of.
@@ -167,49 +174,53 @@ fn class_of(alloc: Global, instance: &InstanceRef<'_>) -> Result<Option<Text>, A
     }
 }
 
-/// The element without its surface.
-fn bare_element(
+/// Adds the element without its surface. False where it has no class.
+fn add_bare(
     alloc: Global,
     told: &Told<'_>,
     instance: &InstanceRef<'_>,
     guid: Guid,
-) -> Result<Option<Element>, AllocError>
+    elements: &mut Vec<Element>,
+) -> Result<bool, AllocError>
     requires storeys { ListsStoreys told.now.exchange.now told.now.tree.now }
     requires names { AreNames told.now.exchange.now told.now.names.now }
     requires guid { guid_of instance.now ≡ Some guid.chars }
     requires is_guid { IsGuid guid.chars }
-    ensures { IfOk result (λ found. IfSome found (IsBare told.now.exchange.now instance.now)) }
+    ensures { IfOk result (λ added. OnTrue added
+        (AddsBare told.now.exchange.now instance.now elements.old.items elements.new.items)) }
 {
     let Some(class) = class_of(alloc, instance)? else {
-        return Ok(None);
+        return Ok(false);
     };
-    Ok(Some(Element {
+    elements.push(Element {
         guid,
         class,
         name: name_of(alloc, instance)?,
         storey: storey_name(alloc, told.exchange, told.tree, told.names, instance.id())?,
         triangles: Items::new(alloc),
-    }))
+    })?;
+    Ok(true)
 }
 
-/// The sketch of an element that is placed so, where its corners are in reach.
-fn sketch_by(
+/// Adds the element that is placed so, and its sketch, where its corners are in reach: how many triangles it has.
+fn draw_by(
     alloc: Global,
     told: &Told<'_>,
     instance: &InstanceRef<'_>,
     frame: Option<Frame>,
     stock: &mut Stock,
-) -> Result<Option<Sketch>, AllocError>
+    drawn: &mut Drawn,
+) -> Result<Option<u64>, AllocError>
     requires storeys { ListsStoreys told.now.exchange.now told.now.tree.now }
     requires names { AreNames told.now.exchange.now told.now.names.now }
     requires placed { IsPlacedBy told.now.exchange.now told.now.scale told.now.mode instance.now frame }
     requires framed { IfSome frame Framed }
     requires stocked { IsStocked told.now.exchange.now told.now.scale told.now.mode stock.old }
-    ensures stocked { IfOk result (λ found. IfSome found (λ sketch.
+    ensures stocked { IfOk result (λ found. IfSome found (λ count.
         IsStocked told.now.exchange.now told.now.scale told.now.mode stock.new)) }
-    ensures grows { IfOk result (λ found. IfSome found (λ sketch. Grows stock.old stock.new)) }
-    ensures sketch { IfOk result (λ found. IfSome found
-        (IsSketch told.now.exchange.now told.now.scale told.now.mode stock.new instance.now)) }
+    ensures grows { IfOk result (λ found. IfSome found (λ count. Grows stock.old stock.new)) }
+    ensures draws { IfOk result (λ found. IfSome found
+        (Draws told.now.exchange.now told.now.scale told.now.mode stock.new instance.now drawn.old drawn.new)) }
 {
     let Some(guid) = guid_of(alloc, instance)? else {
         return Ok(None);
@@ -220,72 +231,72 @@ fn sketch_by(
     if !are_near(stock, range, frame) {
         return Ok(None);
     }
-    match bare_element(alloc, told, instance, guid)? {
-        Some(element) => Ok(Some(Sketch {
-            element,
-            frame,
-            range,
-        })),
-        None => Ok(None),
+    if !add_bare(alloc, told, instance, guid, &mut drawn.elements)? {
+        return Ok(None);
     }
+    drawn.sketches.push(Sketch { frame, range })?;
+    Ok(Some(range.count))
 }
 
-/// The sketch of an element. None where it shows a fault.
-pub fn sketch_of(
+/// Adds an element and its sketch. None where it shows a fault.
+fn draw(
     alloc: Global,
     told: &Told<'_>,
     instance: &InstanceRef<'_>,
     stock: &mut Stock,
-) -> Result<Option<Sketch>, AllocError>
+    drawn: &mut Drawn,
+) -> Result<Option<u64>, AllocError>
     requires storeys { ListsStoreys told.now.exchange.now told.now.tree.now }
     requires names { AreNames told.now.exchange.now told.now.names.now }
     requires placed { AllPlaced told.now.exchange.now told.now.scale told.now.mode
         (frame_in told.now.frames.now) }
     requires stocked { IsStocked told.now.exchange.now told.now.scale told.now.mode stock.old }
-    ensures stocked { IfOk result (λ found. IfSome found (λ sketch.
+    ensures stocked { IfOk result (λ found. IfSome found (λ count.
         IsStocked told.now.exchange.now told.now.scale told.now.mode stock.new)) }
-    ensures grows { IfOk result (λ found. IfSome found (λ sketch. Grows stock.old stock.new)) }
-    ensures sketch { IfOk result (λ found. IfSome found
-        (IsSketch told.now.exchange.now told.now.scale told.now.mode stock.new instance.now)) }
+    ensures grows { IfOk result (λ found. IfSome found (λ count. Grows stock.old stock.new)) }
+    ensures draws { IfOk result (λ found. IfSome found
+        (Draws told.now.exchange.now told.now.scale told.now.mode stock.new instance.now drawn.old drawn.new)) }
 {
     match placing_of(told.frames, instance) {
-        Placing::Free => sketch_by(alloc, told, instance, None, stock),
-        Placing::By(frame) => sketch_by(alloc, told, instance, Some(frame), stock),
+        Placing::Free => draw_by(alloc, told, instance, None, stock, drawn),
+        Placing::By(frame) => draw_by(alloc, told, instance, Some(frame), stock, drawn),
         Placing::Unknown => Ok(None),
     }
 }
 
-/// The sketches of the elements of these numbers, in their order. None where one shows a fault, or they have too many triangles together.
-pub fn sketches_of(
+/// The elements of these numbers and their sketches, in their order. None where one shows a fault, or they have too many triangles together.
+pub fn drawn_of(
     alloc: Global,
     told: &Told<'_>,
     ids: &[u64],
     stock: &mut Stock,
-) -> Result<Option<Vec<Sketch>>, AllocError>
+) -> Result<Option<Drawn>, AllocError>
     requires storeys { ListsStoreys told.now.exchange.now told.now.tree.now }
     requires names { AreNames told.now.exchange.now told.now.names.now }
     requires placed { AllPlaced told.now.exchange.now told.now.scale told.now.mode
         (frame_in told.now.frames.now) }
     requires stocked { IsStocked told.now.exchange.now told.now.scale told.now.mode stock.old }
-    ensures grows { IfOk result (λ found. IfSome found (λ made. Grows stock.old stock.new)) }
-    ensures made { IfOk result (λ found. IfSome found (λ made.
-        AreSketches told.now.exchange.now told.now.scale told.now.mode stock.new ids.now made.items)) }
+    ensures grows { IfOk result (λ found. IfSome found (λ drawn. Grows stock.old stock.new)) }
+    ensures drawn { IfOk result (λ found. IfSome found
+        (AreDrawn told.now.exchange.now told.now.scale told.now.mode stock.new ids.now)) }
 {
-    let mut made = Vec::with_capacity(alloc, ids.len())?;
+    let mut drawn = Drawn {
+        elements: Vec::with_capacity(alloc, ids.len())?,
+        sketches: Vec::with_capacity(alloc, ids.len())?,
+    };
     let mut count = 0;
     for id in ids {
         let Some(instance) = told.exchange.look(*id) else {
             return Ok(None);
         };
-        let Some(sketch) = sketch_of(alloc, told, &instance, stock)? else {
+        let Some(more) = draw(alloc, told, &instance, stock, &mut drawn)? else {
             return Ok(None);
         };
         let room = MOST_TRIANGLES - count;
-        if sketch.range.count > room {
+        if more > room {
             return Ok(None);
         }
-        count += sketch.range.count;
-        made.push(sketch)?;
+        count += more;
     }
-    Ok(Some(made))
+    Ok(Some(drawn))
 }

@@ -1,5 +1,5 @@
 //! The surfaces of elements, made of rows.
-ghost use Rattle.std.specs.Prelude.{◌≡◌, ◌++◌, ◌∷◌, [], Some, All, OnOk, IfOk, IfSome, map};
+ghost use Rattle.std.specs.Prelude.{◌≡◌, ◌++◌, ◌∷◌, [], length, Some, All, OnOk, IfOk, IfSome, map};
 ghost use Rattle.std.specs.Bool.{OnTrue};
 ghost use Rattle.bim_model.specs.Boxes.{corners_of};
 ghost use Rattle.bim_model.specs.Models.{IsInReach};
@@ -8,9 +8,9 @@ ghost use Rattle.ifc_elements.specs.Framed.{Framed};
 ghost use Rattle.ifc_elements.specs.Surfaces.{placed_by, moved};
 ghost use Rattle.walk_rows.specs.Rows.{triangle_at, triangles_at};
 ghost use Rattle.model_walk.specs.Pieces.{IsOperator, IsUnmapped, ArePlacedNear};
-ghost use Rattle.model_walk.specs.Sketches.{piece_triangles, pieces_in, range_triangles, element_of, elements_of, IsCarried, IsSoundStock, IsRangeIn, IsNearSketch};
+ghost use Rattle.model_walk.specs.Sketches.{piece_triangles, pieces_in, range_triangles, elements_of, IsCarried, IsSoundStock, IsRangeIn, IsNearSketch};
 
-use crate::element_sketches::{Sketch, Stock};
+use crate::element_sketches::{Drawn, Stock};
 use crate::shape_pieces::{Piece, Range};
 use bim_model::{Element, Items, Point, Triangle};
 use placement::Frame;
@@ -245,36 +245,22 @@ fn surface_of(
     Ok(made)
 }
 
-/// The element of a sketch, with its surface.
-fn element_of(alloc: Global, stock: &Stock, sketch: Sketch) -> Result<Element, AllocError>
+/// The elements with their surfaces, each made in its place.
+pub fn surfaced(alloc: Global, stock: &Stock, drawn: Drawn) -> Result<Vec<Element>, AllocError>
     requires sound { IsSoundStock stock.now }
-    requires sketched { IsNearSketch stock.now sketch }
-    ensures { IfOk result (λ made. made ≡ element_of stock.now sketch) }
+    requires near { All (IsNearSketch stock.now) drawn.sketches.items }
+    requires same { length drawn.elements.items ≡ length drawn.sketches.items }
+    ensures { IfOk result (λ made.
+        made.items ≡ elements_of stock.now drawn.elements.items drawn.sketches.items) }
 {
-    let triangles = surface_of(alloc, stock, sketch.range, &sketch.frame)?;
-    let bare = sketch.element;
-    Ok(Element {
-        guid: bare.guid,
-        class: bare.class,
-        name: bare.name,
-        storey: bare.storey,
-        triangles: Items::from_vec(triangles),
-    })
-}
-
-/// The elements of sketches, in their order.
-pub fn elements_of(
-    alloc: Global,
-    stock: &Stock,
-    sketches: Vec<Sketch>,
-) -> Result<Vec<Element>, AllocError>
-    requires sound { IsSoundStock stock.now }
-    requires sketched { All (IsNearSketch stock.now) sketches.items }
-    ensures { IfOk result (λ made. made.items ≡ elements_of stock.now sketches.items) }
-{
-    let mut made = Vec::with_capacity(alloc, sketches.len())?;
-    for sketch in sketches {
-        made.push(element_of(alloc, stock, sketch)?)?;
+    let Drawn {
+        mut elements,
+        sketches,
+    } = drawn;
+    for at in 0..elements.len() {
+        let sketch = &sketches[at];
+        let made = surface_of(alloc, stock, sketch.range, &sketch.frame)?;
+        elements[at].triangles = Items::from_vec(made);
     }
-    Ok(made)
+    Ok(elements)
 }

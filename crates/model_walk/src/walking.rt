@@ -7,15 +7,15 @@ ghost use Rattle.ifc_schema.specs.Marks.{Known, rank_at};
 ghost use Rattle.ifc_units.specs.Units.{IsLengthUnit};
 ghost use Rattle.placement.specs.Placed.{AllPlaced, frame_in};
 ghost use Rattle.spatial_tree.specs.Trees.{IsTree, ListsStoreys};
-ghost use Rattle.model_walk.specs.Checked.{IsCleanBy, CleanThere, AllClean, SketchesDiffer, Alternate};
+ghost use Rattle.model_walk.specs.Checked.{IsCleanBy, CleanThere, AllClean, ElementsDiffer, Alternate};
 ghost use Rattle.model_walk.specs.Kept.{ArePooled, HasLists, AreReadSets};
 ghost use Rattle.model_walk.specs.Stocked.{IsStocked};
 ghost use Rattle.model_walk.specs.Walked.{IsWalked};
 
-use crate::element_sketches::{Sketch, Stock, Told, sketches_of};
+use crate::element_sketches::{Drawn, Stock, Told, drawn_of};
 use crate::point_pool::points_in;
 use crate::set_pool::{SetRows, keep_set};
-use crate::sketched_surfaces::elements_of;
+use crate::sketched_surfaces::surfaced;
 use crate::used_checks::shows_none;
 use bim_model::{BuildError, Element, Items, Mode, Point};
 use faceset::is_set;
@@ -33,20 +33,21 @@ use walk_rows::Pool;
 /// What a walk found of a file: its elements without their surfaces, and what these are made of. Contracts see it as the elements.
 #[derive(Drop)]
 pub struct Walked {
-    sketches: Vec<Sketch>,
+    drawn: Drawn,
     stock: Stock,
 }
 
 impl Model for Walked {
-    ghost use Rattle.std.specs.Prelude.{List, All};
+    ghost use Rattle.std.specs.Prelude.{◌≡◌, List, All, length};
     ghost use Rattle.bim_model.specs.declared.element.Element.{Element};
     ghost use Rattle.model_walk.specs.Sketches.{elements_of, IsSoundStock, IsNearSketch};
 
     ghost Value = { List Element };
 
-    ghost view = { λ w. elements_of w.stock w.sketches.items };
+    ghost view = { λ w. elements_of w.stock w.drawn.elements.items w.drawn.sketches.items };
 
-    ghost invariant = { λ w. IsSoundStock w.stock × All (IsNearSketch w.stock) w.sketches.items };
+    ghost invariant = { λ w. IsSoundStock w.stock × All (IsNearSketch w.stock) w.drawn.sketches.items
+        × (length w.drawn.elements.items ≡ length w.drawn.sketches.items) };
 }
 
 /// Whether an instance that is used, and is no list of points nor a set, has the form of its row.
@@ -156,13 +157,13 @@ fn sets_in(
     Ok(Some(sets))
 }
 
-/// The identifiers of sketches.
-fn guids_of(alloc: Global, sketches: &[Sketch]) -> Result<Vec<[u8; 22]>, AllocError>
-    ensures { IfOk result (λ guids. guids.items ≡ map (λ (s : Sketch). s.element.guid.chars) sketches.now) }
+/// The identifiers of elements.
+fn guids_of(alloc: Global, elements: &[Element]) -> Result<Vec<[u8; 22]>, AllocError>
+    ensures { IfOk result (λ guids. guids.items ≡ map (λ (e : Element). e.guid.chars) elements.now) }
 {
-    let mut guids = Vec::with_capacity(alloc, sketches.len())?;
-    for sketch in sketches {
-        guids.push(sketch.element.guid.chars)?;
+    let mut guids = Vec::with_capacity(alloc, elements.len())?;
+    for element in elements {
+        guids.push(element.guid.chars)?;
     }
     Ok(guids)
 }
@@ -179,11 +180,11 @@ fn alternate(guids: &[[u8; 22]]) -> bool
     true
 }
 
-/// Whether no two sketches have the same identifier.
-fn differ(alloc: Global, sketches: &[Sketch]) -> Result<bool, AllocError>
-    ensures { IfOk result (λ differ. OnTrue differ (SketchesDiffer sketches.now)) }
+/// Whether no two elements have the same identifier.
+fn differ(alloc: Global, elements: &[Element]) -> Result<bool, AllocError>
+    ensures { IfOk result (λ differ. OnTrue differ (ElementsDiffer elements.now)) }
 {
-    let mut guids = guids_of(alloc, sketches)?;
+    let mut guids = guids_of(alloc, elements)?;
     guids.sort_unstable();
     Ok(alternate(&guids))
 }
@@ -271,13 +272,13 @@ fn sketched(
         scale,
         mode,
     };
-    let Some(sketches) = sketches_of(alloc, &told, &ids, &mut stock)? else {
+    let Some(drawn) = drawn_of(alloc, &told, &ids, &mut stock)? else {
         return Ok(None);
     };
-    if !differ(alloc, &sketches)? {
+    if !differ(alloc, &drawn.elements)? {
         return Ok(None);
     }
-    Ok(Some(Walked { sketches, stock }))
+    Ok(Some(Walked { drawn, stock }))
 }
 
 /// The pools of a file whose instances are marked, where nothing that is used shows a fault.
@@ -348,7 +349,7 @@ impl Walked {
     pub fn into_elements(self, alloc: Global) -> Result<Vec<Element>, AllocError>
         ensures { IfOk result (λ made. made.items ≡ self) }
     {
-        let Walked { sketches, stock } = self;
-        elements_of(alloc, &stock, sketches)
+        let Walked { drawn, stock } = self;
+        surfaced(alloc, &stock, drawn)
     }
 }
