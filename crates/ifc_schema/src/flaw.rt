@@ -23,14 +23,15 @@ ghost use Rattle.ifc_schema.specs.Flaws.{
 ghost use Rattle.ifc_schema.specs.Words.{says_guid};
 ghost use Rattle.ifc_instances.specs.Looking.{some_passes};
 ghost use Rattle.ifc_schema.specs.Bodies.{has_body};
+ghost use Rattle.ifc_schema.specs.Table.{row_of};
 ghost use Rattle.p21_values.specs.Values.{words_of, reference_of};
 
 use crate::attribute_table::{IDENTIFIER, NAME, PLACED, SHAPED, TAGGED, row_at};
-use ifc_instances::Entity;
 use crate::body::applies;
 use crate::form::{Attribute, Count, Leaf, Shape, Targets};
 use crate::words::{is_number, is_whole, says_guid};
 use bim_text::ShortRow;
+use ifc_instances::Entity;
 use p21_table::{Exchange, InstanceRef, ValueRef, Values};
 
 /// What is wrong with an instance that lacks the form of its row.
@@ -69,7 +70,7 @@ fn whole_flaw(exchange: &Exchange, value: &ValueRef<'_>) -> Option<Flaw>
 fn identifier_flaw(value: &ValueRef<'_>) -> Option<Flaw>
     ensures { result ≡ bad_unless (some_passes says_guid (words_of value.now)) }
 {
-    if value.plain_guid().is_some() {
+    if let Some(_guid) = value.plain_guid() {
         return None;
     }
     match value.words() {

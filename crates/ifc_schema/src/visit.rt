@@ -6,15 +6,39 @@ ghost use Rattle.p21_values.specs.Places.{IsPlaceOf};
 ghost use Rattle.p21_values.specs.Places.{Rises};
 ghost use Rattle.ifc_schema.specs.Used.{Used, IsMapped, Maps, NamesBy, is_root};
 ghost use Rattle.ifc_schema.specs.Bodies.{has_body, bodied_of};
-ghost use Rattle.ifc_schema.specs.Marks.{Grows, SoundAt, mark_at, rank_at, is_mapped, IsFollowed, FollowedAt, IsRootAt, Going, Known};
+ghost use Rattle.ifc_schema.specs.Marks.{Grows, SoundAt, IsMarked, mark_at, rank_at, is_mapped, IsFollowed, FollowedAt, IsRootAt, Going, Known};
 ghost use Rattle.ifc_schema.specs.Table.{row_at};
 
 use crate::attribute_table::row_at;
-use crate::follow::{follow_attributes, follow_map, follow_element};
+use crate::follow::{follow_attributes, follow_element, follow_map};
 use crate::worklist::{Mark, Work};
 use ifc_instances::Entity;
 use p21_table::{Exchange, InstanceRef};
 use std::alloc::{AllocError, Global};
+
+/// Marks what the attributes of an instance name.
+#[inline(always)]
+fn follow_row(
+    exchange: &Exchange,
+    bodied: bool,
+    mapped: bool,
+    instance: &InstanceRef<'_>,
+    work: &mut Work,
+) -> Result<(), AllocError>
+    requires size { length work.old.marks.items ≡ length exchange.now }
+    requires bodied { bodied ≡ has_body exchange.now instance.now }
+    requires used { (to : ℕ) → Any (λ a. NamesBy exchange.now mapped instance.now a to)
+        (row_at instance.now) → Used exchange.now to }
+    ensures grows { OnOk result (Grows exchange.now work.old work.new) }
+    ensures marked { OnOk result ((to : ℕ) → Any (λ a. NamesBy exchange.now mapped instance.now a to)
+        (row_at instance.now) → IsMarked exchange.now work.new 0 to) }
+{
+    if let Some(Entity::Subject) = Entity::at(instance) {
+        follow_element(exchange, bodied, mapped, instance, work)
+    } else {
+        follow_attributes(exchange, bodied, mapped, instance, row_at(instance), work)
+    }
+}
 
 /// Marks what an instance names.
 fn follow(
@@ -33,11 +57,7 @@ fn follow(
     ensures grows { OnOk result (Grows exchange.now work.old work.new) }
     ensures followed { OnOk result (IsFollowed exchange.now work.new mapped instance.now) }
 {
-    if let Some(Entity::Subject) = Entity::at(instance) {
-        follow_element(exchange, bodied, mapped, instance, work)?;
-    } else {
-        follow_attributes(exchange, bodied, mapped, instance, row_at(instance), work)?;
-    }
+    follow_row(exchange, bodied, mapped, instance, work)?;
     follow_map(exchange, instance, work)
 }
 
