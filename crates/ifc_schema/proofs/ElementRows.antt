@@ -107,7 +107,7 @@ names_one world m i to (suc (suc (suc (suc (suc k))))) x l e n = absurd (omega a
 pub element_names : (world : List Instance) (m : Bool) (i : Instance) (to : ℕ) → Any (λ (a : Attribute). NamesBy world m i a to) (row_of entity.Subject)
     → NamesBy world m i placed to ⊎ NamesBy world m i shaped to
 unfolding row_of
-element_names world m i to a = names_one world m i to a.0 a.1 a.2 a.3 a.4
+element_names world m i to a = names_one world m i to a.0 a.1 a.2 (sym a.3) a.4
 
 pub placed_names : (world : List Instance) (m : Bool) (i : Instance) (to : ℕ) → NamesBy world m i placed to → Any (λ (a : Attribute). NamesBy world m i a to) (row_of entity.Subject)
 unfolding row_of

@@ -16,7 +16,7 @@ pub instance_flaw-requires : goal.instance_flaw-requires
 instance_flaw-requires c =
     let world = c.args.exchange.now in
     let lt : c.args.at < length world = (let m = marked_within c.args.work.now.marks.items c.args.at c.requires.marked in let s = c.requires.known.size in omega arith) in
-    bit_there world c.args.bodied.now c.args.at false c.instance-instance.result c.requires.bodied lt c.instance-instance.ensures
+    record { bodied = bit_there world c.args.bodied.now c.args.at false c.instance-instance.result c.requires.bodied lt c.instance-instance.ensures }
 
 pub returns : goal.returns
 returns c = λ id p.

@@ -19,7 +19,7 @@ pub bounds-bodied-at : goal.bounds-bodied-at
 bounds-bodied-at c = bits_within c.args.exchange.now c.args.bodied.now c.args.at c.requires.bodied c.requires.within
 
 pub is_model_element-requires : goal.is_model_element-requires
-is_model_element-requires c = bit_there c.args.exchange.now c.args.bodied.now c.args.at false c.instance.result c.requires.bodied c.requires.within c.instance.ensures
+is_model_element-requires c = record { bodied = bit_there c.args.exchange.now c.args.bodied.now c.args.at false c.instance.result c.requires.bodied c.requires.within c.instance.ensures }
 
 pub returns-then-not-is_model_element : goal.returns-then-not-is_model_element
 returns-then-not-is_model_element c =
