@@ -212,15 +212,16 @@ first_there xs at d e a b some lt rises before here is_a is_b = by (nat_eq a b) 
           eqb-false a b h (omega arith);
     }
 
--- the flag of a mark that is read at a place that has one
-pub flag_there : (w : Work) (at : ℕ) → 0 < rank_at w at → (d : Mark) → is_mapped (get_or w.marks.items at d) ≡ is_mapped (mark_at w at)
-flag_there w at r d = ap is_mapped (get_or_default w.marks.items at d Unseen (within w.marks.items at r))
+-- a place that has a mark is one of the marks'
+pub marked_within : (ms : List Mark) (at : ℕ) → 0 < rank (get_or ms at Unseen) → at < length ms
+marked_within ms at r = elim (side at (length ms)) [ inl lt ↦ lt | inr le ↦ (let e = ap rank (get_or_past ms at Unseen le) in absurd (omega arith)) ]
   where
     side : (k n : ℕ) → (k < n) ⊎ (n ≤ k)
     side k n = grind arith
 
-    within : (ms : List Mark) (at : ℕ) → 0 < rank (get_or ms at Unseen) → at < length ms
-    within ms at r = elim (side at (length ms)) [ inl lt ↦ lt | inr le ↦ (let e = ap rank (get_or_past ms at Unseen le) in absurd (omega arith)) ]
+-- the flag of a mark that is read at a place that has one
+pub flag_there : (w : Work) (at : ℕ) → 0 < rank_at w at → (d : Mark) → is_mapped (get_or w.marks.items at d) ≡ is_mapped (mark_at w at)
+flag_there w at r d = ap is_mapped (get_or_default w.marks.items at d Unseen (marked_within w.marks.items at r))
 
 -- where nothing is taken off, all goes on as it was
 pub going_same : (world : List Instance) (old new : Work) → Going world old → new.marks.items ≡ old.marks.items → new.stack.items ≡ old.stack.items → Going world new

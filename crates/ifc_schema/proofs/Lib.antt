@@ -8,3 +8,5 @@ pub mod Rows
 pub mod Wholes
 pub mod OneFlaw
 pub mod SoundRows
+pub mod ElementRows
+pub mod BodyBits

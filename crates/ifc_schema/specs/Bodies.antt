@@ -41,6 +41,10 @@ body_shapes world = map (is_body_shape world) world
 unfoldable pub has_body : List Instance → Instance → Bool
 has_body world i = some_passes (target_passes world (is_body_shape world)) (slice_get i.values 6)
 
+-- place by place, whether an instance has one
+abbrev pub bodied_of : List Instance → List Bool
+bodied_of world = map (has_body world) world
+
 -- An attribute is followed in this instance. Whether the instance is mapped is given.
 abbrev pub applies : List Instance → Bool → Instance → When → Bool
 applies world mapped i Always = true

@@ -88,43 +88,52 @@ const CONTAINMENT: [Attribute; 2] = [
     },
 ];
 
-const SUBJECT: [Attribute; 5] = [
-    Attribute {
-        at: 0,
-        when: When::Always,
-        need: Need::Must,
-        shape: Shape::Identifier,
-        leaf: Leaf::Text,
-    },
-    Attribute {
-        at: 2,
-        when: When::Always,
-        need: Need::OrAbsent,
-        shape: Shape::One,
-        leaf: Leaf::Text,
-    },
-    Attribute {
-        at: 5,
-        when: When::WithBody,
-        need: Need::OrAbsent,
-        shape: Shape::One,
-        leaf: Leaf::Reference(Targets::One(Entity::Placement)),
-    },
-    Attribute {
-        at: 6,
-        when: When::Always,
-        need: Need::OrAbsent,
-        shape: Shape::One,
-        leaf: Leaf::Reference(Targets::One(Entity::ProductShape)),
-    },
-    Attribute {
-        at: 7,
-        when: When::Always,
-        need: Need::Must,
-        shape: Shape::One,
-        leaf: Leaf::Anything,
-    },
-];
+/// The global identifier of an element.
+pub const IDENTIFIER: Attribute = Attribute {
+    at: 0,
+    when: When::Always,
+    need: Need::Must,
+    shape: Shape::Identifier,
+    leaf: Leaf::Text,
+};
+
+/// Its name.
+pub const NAME: Attribute = Attribute {
+    at: 2,
+    when: When::Always,
+    need: Need::OrAbsent,
+    shape: Shape::One,
+    leaf: Leaf::Text,
+};
+
+/// Its placement.
+pub const PLACED: Attribute = Attribute {
+    at: 5,
+    when: When::WithBody,
+    need: Need::OrAbsent,
+    shape: Shape::One,
+    leaf: Leaf::Reference(Targets::One(Entity::Placement)),
+};
+
+/// Its shape.
+pub const SHAPED: Attribute = Attribute {
+    at: 6,
+    when: When::Always,
+    need: Need::OrAbsent,
+    shape: Shape::One,
+    leaf: Leaf::Reference(Targets::One(Entity::ProductShape)),
+};
+
+/// Its tag, which has to be there.
+pub const TAGGED: Attribute = Attribute {
+    at: 7,
+    when: When::Always,
+    need: Need::Must,
+    shape: Shape::One,
+    leaf: Leaf::Anything,
+};
+
+const SUBJECT: [Attribute; 5] = [IDENTIFIER, NAME, PLACED, SHAPED, TAGGED];
 
 const PRODUCT_SHAPE: [Attribute; 1] = [Attribute {
     at: 2,

@@ -1,7 +1,7 @@
 //! Which elements have a body.
 ghost use Rattle.std.specs.Prelude.{◌≡◌, Bool, List, IfOk, length, map};
 ghost use Rattle.p21_values.specs.declared.value.Instance.{Instance};
-ghost use Rattle.ifc_schema.specs.Bodies.{is_body, is_body_representation, target_passes, lists_body, is_body_shape, body_shapes, has_body, applies};
+ghost use Rattle.ifc_schema.specs.Bodies.{is_body, is_body_representation, target_passes, lists_body, is_body_shape, body_shapes, has_body, bodied_of, applies};
 
 use crate::form::When;
 use crate::words::says_body;
@@ -86,7 +86,7 @@ fn is_body_shape(exchange: &Exchange, bodies: &[bool], shape: &InstanceRef<'_>) 
 }
 
 /// Which instances are shapes that have a body, place by place. Each identifier is read once, however many shapes list it.
-pub fn body_shapes(alloc: Global, exchange: &Exchange) -> Result<Vec<bool>, AllocError>
+fn body_shapes(alloc: Global, exchange: &Exchange) -> Result<Vec<bool>, AllocError>
     ensures { IfOk result (λ bits. bits.items ≡ body_shapes exchange.now) }
 {
     let bodies = body_representations(alloc, exchange)?;
@@ -99,7 +99,7 @@ pub fn body_shapes(alloc: Global, exchange: &Exchange) -> Result<Vec<bool>, Allo
 
 /// Whether an element has a body: one of the representations of its shape has the identifier `Body`.
 #[tactic(auto, unfolding(crate::specs::Bodies::has_body))]
-pub fn has_body(exchange: &Exchange, bodied: &[bool], element: &InstanceRef<'_>) -> bool
+fn has_body(exchange: &Exchange, bodied: &[bool], element: &InstanceRef<'_>) -> bool
     requires bodied { bodied.now ≡ body_shapes exchange.now }
     ensures { result ≡ has_body exchange.now element.now }
 {
@@ -107,6 +107,18 @@ pub fn has_body(exchange: &Exchange, bodied: &[bool], element: &InstanceRef<'_>)
         Some(value) => target_passes(exchange, bodied, &value),
         None => false,
     }
+}
+
+/// Which instances have a body, place by place. The shape of each is asked for once.
+pub fn bodied_of(alloc: Global, exchange: &Exchange) -> Result<Vec<bool>, AllocError>
+    ensures { IfOk result (λ bits. bits.items ≡ bodied_of exchange.now) }
+{
+    let shapes = body_shapes(alloc, exchange)?;
+    let mut bits = Vec::with_capacity(alloc, exchange.len())?;
+    for instance in exchange.iter() {
+        bits.push(has_body(exchange, &shapes, &instance))?;
+    }
+    Ok(bits)
 }
 
 /// Whether an attribute is followed in this instance; whether it has a body and is mapped is given.

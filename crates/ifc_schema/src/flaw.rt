@@ -23,13 +23,15 @@ ghost use Rattle.ifc_schema.specs.Flaws.{
 ghost use Rattle.ifc_schema.specs.Words.{says_guid};
 ghost use Rattle.ifc_instances.specs.Looking.{some_passes};
 ghost use Rattle.ifc_schema.specs.Bodies.{has_body};
+ghost use Rattle.ifc_schema.specs.Table.{row_of};
 ghost use Rattle.p21_values.specs.Values.{words_of, reference_of};
 
-use crate::attribute_table::row_at;
+use crate::attribute_table::{IDENTIFIER, NAME, PLACED, SHAPED, TAGGED, row_at};
 use crate::body::applies;
 use crate::form::{Attribute, Count, Leaf, Shape, Targets};
 use crate::words::{is_number, is_whole, says_guid};
 use bim_text::ShortRow;
+use ifc_instances::Entity;
 use p21_table::{Exchange, InstanceRef, ValueRef, Values};
 
 /// What is wrong with an instance that lacks the form of its row.
@@ -68,6 +70,9 @@ fn whole_flaw(exchange: &Exchange, value: &ValueRef<'_>) -> Option<Flaw>
 fn identifier_flaw(value: &ValueRef<'_>) -> Option<Flaw>
     ensures { result ≡ bad_unless (some_passes says_guid (words_of value.now)) }
 {
+    if let Some(_guid) = value.plain_guid() {
+        return None;
+    }
     match value.words() {
         Some(spelled) => bad_unless(says_guid(spelled)),
         None => Some(Flaw::BadShape),
@@ -99,13 +104,14 @@ fn any_flaw(exchange: &Exchange, value: &ValueRef<'_>) -> Option<Flaw>
 }
 
 /// What is wrong with a value where this leaf is wanted.
+#[inline(always)]
 fn leaf_flaw(exchange: &Exchange, leaf: Leaf, value: &ValueRef<'_>) -> Option<Flaw>
     ensures { LeafFlaw exchange.now leaf value.now result }
 {
     match leaf {
         Leaf::Number => number_flaw(exchange, value),
         Leaf::Whole => whole_flaw(exchange, value),
-        Leaf::Text => bad_unless(value.words().is_some()),
+        Leaf::Text => bad_unless(value.is_text()),
         Leaf::Enumeration => bad_unless(value.is_enumeration()),
         Leaf::Reference(wanted) => wanted_flaw(exchange, wanted, value),
         Leaf::AnyReference(_) => any_flaw(exchange, value),
@@ -223,6 +229,7 @@ fn table_flaw(
     }
 }
 
+#[inline(always)]
 fn shape_flaw(exchange: &Exchange, leaf: Leaf, shape: &Shape, value: &ValueRef<'_>) -> Option<Flaw>
     ensures { ShapeFlaw exchange.now leaf shape.now value.now result }
 {
@@ -234,6 +241,7 @@ fn shape_flaw(exchange: &Exchange, leaf: Leaf, shape: &Shape, value: &ValueRef<'
     }
 }
 
+#[inline(always)]
 fn value_flaw(exchange: &Exchange, attribute: &Attribute, value: &ValueRef<'_>) -> Option<Flaw>
     ensures { ValueFlaw exchange.now attribute.now value.now result }
 {
@@ -245,6 +253,7 @@ fn value_flaw(exchange: &Exchange, attribute: &Attribute, value: &ValueRef<'_>) 
 }
 
 /// What is wrong with an attribute of an instance.
+#[inline(always)]
 fn attribute_flaw(
     exchange: &Exchange,
     bodied: bool,
@@ -264,6 +273,35 @@ fn attribute_flaw(
     }
 }
 
+/// The same of an element: its attributes one by one.
+fn element_flaw(
+    exchange: &Exchange,
+    bodied: bool,
+    mapped: bool,
+    instance: &InstanceRef<'_>,
+) -> Option<Flaw>
+    requires bodied { bodied ≡ has_body exchange.now instance.now }
+    ensures { FirstFlaw (AttributeFlaw exchange.now mapped instance.now) (row_of Entity.Subject) result }
+{
+    let identifier = attribute_flaw(exchange, bodied, mapped, instance, &IDENTIFIER);
+    if identifier.is_some() {
+        return identifier;
+    }
+    let name = attribute_flaw(exchange, bodied, mapped, instance, &NAME);
+    if name.is_some() {
+        return name;
+    }
+    let placed = attribute_flaw(exchange, bodied, mapped, instance, &PLACED);
+    if placed.is_some() {
+        return placed;
+    }
+    let shaped = attribute_flaw(exchange, bodied, mapped, instance, &SHAPED);
+    if shaped.is_some() {
+        return shaped;
+    }
+    attribute_flaw(exchange, bodied, mapped, instance, &TAGGED)
+}
+
 /// What is wrong first with an instance; whether it is mapped is given. None where it has the form of its row.
 pub fn instance_flaw(
     exchange: &Exchange,
@@ -274,6 +312,9 @@ pub fn instance_flaw(
     requires bodied { bodied ≡ has_body exchange.now instance.now }
     ensures { InstanceFlaw exchange.now mapped instance.now result }
 {
+    if let Some(Entity::Subject) = Entity::at(instance) {
+        return element_flaw(exchange, bodied, mapped, instance);
+    }
     for attribute in row_at(instance) {
         let flaw = attribute_flaw(exchange, bodied, mapped, instance, attribute);
         if flaw.is_some() {

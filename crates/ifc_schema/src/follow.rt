@@ -3,8 +3,10 @@ ghost use Rattle.std.specs.Prelude.{◌≡◌, ◌≤◌, ℕ, length, OnOk, Any
 ghost use Rattle.p21_values.specs.Places.{IsPlaceOf};
 ghost use Rattle.ifc_schema.specs.Used.{Used, IsMapped, RefersTo, SomeItem, StandsIn, LeadsTo, NamesBy, Maps};
 ghost use Rattle.ifc_schema.specs.Bodies.{has_body};
+ghost use Rattle.ifc_schema.specs.Table.{row_of};
 ghost use Rattle.ifc_schema.specs.Marks.{Grows, IsMarked, SoundAt, rank, rank_at};
 
+use crate::attribute_table::{PLACED, SHAPED};
 use crate::body::applies;
 use crate::form::{Attribute, Shape, Targets};
 use crate::worklist::{Mark, Work};
@@ -39,6 +41,7 @@ fn mark_target(
     }
 }
 
+#[inline(always)]
 fn follow_value(
     exchange: &Exchange,
     targets: Targets,
@@ -135,6 +138,7 @@ fn follow_table(
 }
 
 /// Marks what a value refers to, where the shape has its leaves.
+#[inline(always)]
 fn follow_shape(
     exchange: &Exchange,
     targets: Targets,
@@ -158,6 +162,7 @@ fn follow_shape(
 }
 
 /// Marks what an attribute of an instance names.
+#[inline(always)]
 fn follow_attribute(
     exchange: &Exchange,
     bodied: bool,
@@ -208,6 +213,26 @@ pub fn follow_attributes(
         follow_attribute(exchange, bodied, mapped, instance, attribute, work)?;
     }
     Ok(())
+}
+
+/// The same of an element, of whose attributes two are followed.
+pub fn follow_element(
+    exchange: &Exchange,
+    bodied: bool,
+    mapped: bool,
+    instance: &InstanceRef<'_>,
+    work: &mut Work,
+) -> Result<(), AllocError>
+    requires size { length work.old.marks.items ≡ length exchange.now }
+    requires bodied { bodied ≡ has_body exchange.now instance.now }
+    requires used { (to : ℕ) → Any (λ a. NamesBy exchange.now mapped instance.now a to)
+        (row_of Entity.Subject) → Used exchange.now to }
+    ensures grows { OnOk result (Grows exchange.now work.old work.new) }
+    ensures marked { OnOk result ((to : ℕ) → Any (λ a. NamesBy exchange.now mapped instance.now a to)
+        (row_of Entity.Subject) → IsMarked exchange.now work.new 0 to) }
+{
+    follow_attribute(exchange, bodied, mapped, instance, &PLACED, work)?;
+    follow_attribute(exchange, bodied, mapped, instance, &SHAPED, work)
 }
 
 /// Marks the representation that a representation map maps.

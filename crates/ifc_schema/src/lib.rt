@@ -15,7 +15,7 @@ mod visit;
 mod words;
 mod worklist;
 
-pub use body::{body_shapes, has_body, is_body};
+pub use body::{bodied_of, is_body};
 pub use flaw::{Flaw, instance_flaw};
 pub use laws::one_survey_fault;
 pub use outcome::Survey;

@@ -3,12 +3,12 @@ ghost use Rattle.std.specs.Prelude.{◌≡◌, ◌+◌, ◌<◌, ℕ, length, If
 ghost use Rattle.p21_values.specs.Places.{IsPlaceOf};
 ghost use Rattle.p21_values.specs.Places.{Rises};
 ghost use Rattle.ifc_schema.specs.Used.{Used, IsMapped};
-ghost use Rattle.ifc_schema.specs.Bodies.{body_shapes};
+ghost use Rattle.ifc_schema.specs.Bodies.{has_body, bodied_of};
 ghost use Rattle.ifc_schema.specs.Marks.{Known, rank_at};
 ghost use Rattle.ifc_schema.specs.Steps.{CheckedAt, Checked, Below};
 ghost use Rattle.ifc_schema.specs.Surveys.{UsedFlaw, IsModelElement, Lists, Surveyed, IsSurveyError, is_model_element, fault_of};
 
-use crate::body::{body_shapes, has_body};
+use crate::body::bodied_of;
 use crate::flaw::{Flaw, instance_flaw};
 use crate::outcome::Survey;
 use crate::visit::mark_used;
@@ -31,21 +31,20 @@ fn fault_of(id: u64, flaw: Flaw) -> UploadFault
 /// What is wrong first with the instance at a place, which is used.
 fn flaw_at(exchange: &Exchange, bodied: &[bool], work: &Work, at: usize) -> Option<Flaw>
     requires known { Known exchange.now work.now }
-    requires bodied { bodied.now ≡ body_shapes exchange.now }
+    requires bodied { bodied.now ≡ bodied_of exchange.now }
     requires marked { 0 < rank_at work.now at }
     ensures { (id : ℕ) → IsPlaceOf exchange.now id at → UsedFlaw exchange.now id result }
 {
     let mapped = work.marks[at].is_mapped();
     let instance = exchange.instance(at);
-    let bodied = has_body(exchange, bodied, &instance);
-    instance_flaw(exchange, bodied, mapped, &instance)
+    instance_flaw(exchange, bodied[at], mapped, &instance)
 }
 
 /// The fault of the instance at a place, where it is used.
 fn fault_at(exchange: &Exchange, bodied: &[bool], work: &Work, at: usize) -> Option<UploadFault>
     requires known { Known exchange.now work.now }
     requires within { at < length exchange.now }
-    requires bodied { bodied.now ≡ body_shapes exchange.now }
+    requires bodied { bodied.now ≡ bodied_of exchange.now }
     ensures { CheckedAt exchange.now at result }
 {
     if !work.marks[at].is_seen() {
@@ -64,7 +63,7 @@ fn fault_at(exchange: &Exchange, bodied: &[bool], work: &Work, at: usize) -> Opt
 /// The fault of the least instance that is used and lacks the form of its row.
 fn least_fault(exchange: &Exchange, bodied: &[bool], work: &Work) -> Option<UploadFault>
     requires known { Known exchange.now work.now }
-    requires bodied { bodied.now ≡ body_shapes exchange.now }
+    requires bodied { bodied.now ≡ bodied_of exchange.now }
     ensures { Checked exchange.now result }
 {
     let instances = exchange.iter();
@@ -146,12 +145,12 @@ fn list_mapped(alloc: Global, exchange: &Exchange, work: &Work) -> Result<Vec<u6
 }
 
 /// Whether it is an element that has a body.
-fn is_model_element(exchange: &Exchange, bodied: &[bool], instance: &InstanceRef<'_>) -> bool
-    requires bodied { bodied.now ≡ body_shapes exchange.now }
+fn is_model_element(exchange: &Exchange, bodied: bool, instance: &InstanceRef<'_>) -> bool
+    requires bodied { bodied ≡ has_body exchange.now instance.now }
     ensures { result ≡ is_model_element exchange.now instance.now }
 {
     match Entity::at(instance) {
-        Some(Entity::Subject) => has_body(exchange, bodied, instance),
+        Some(Entity::Subject) => bodied,
         _ => false,
     }
 }
@@ -167,14 +166,14 @@ fn push_element(
     requires known { Known exchange.now work.now }
     requires within { at < length exchange.now }
     requires rises { Rises exchange.now }
-    requires bodied { bodied.now ≡ body_shapes exchange.now }
+    requires bodied { bodied.now ≡ bodied_of exchange.now }
     requires ids { Lists (Below exchange.now at (IsModelElement exchange.now)) ids.old.items }
     ensures { OnOk result (Lists (Below exchange.now (at + 1) (IsModelElement exchange.now)) ids.new.items) }
 {
     if !work.marks[at].is_seen() {
         return Ok(());
     }
-    if !is_model_element(exchange, bodied, &exchange.instance(at)) {
+    if !is_model_element(exchange, bodied[at], &exchange.instance(at)) {
         return Ok(());
     }
     let id = exchange.instance(at).id();
@@ -190,7 +189,7 @@ pub fn list_elements(
     work: &Work,
 ) -> Result<Vec<u64>, AllocError>
     requires known { Known exchange.now work.now }
-    requires bodied { bodied.now ≡ body_shapes exchange.now }
+    requires bodied { bodied.now ≡ bodied_of exchange.now }
     ensures { IfOk result (λ ids. Lists (IsModelElement exchange.now) ids.items) }
 {
     let mut ids = Vec::new(alloc);
@@ -207,7 +206,7 @@ pub fn survey(alloc: Global, exchange: &Exchange) -> Result<Survey, BuildError>
     ensures surveyed { IfOk result (Surveyed exchange.now) }
     ensures fault { IfErr result (IsSurveyError exchange.now) }
 {
-    let bodied = body_shapes(alloc, exchange)?;
+    let bodied = bodied_of(alloc, exchange)?;
     let work = mark_used(alloc, exchange, &bodied)?;
     let fault = least_fault(exchange, &bodied, &work);
     if let Some(fault) = fault {

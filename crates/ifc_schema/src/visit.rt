@@ -5,28 +5,51 @@ ghost use Rattle.p21_values.specs.declared.value.Instance.{Instance};
 ghost use Rattle.p21_values.specs.Places.{IsPlaceOf};
 ghost use Rattle.p21_values.specs.Places.{Rises};
 ghost use Rattle.ifc_schema.specs.Used.{Used, IsMapped, Maps, NamesBy, is_root};
-ghost use Rattle.ifc_schema.specs.Bodies.{body_shapes};
-ghost use Rattle.ifc_schema.specs.Marks.{Grows, SoundAt, mark_at, rank_at, is_mapped, IsFollowed, FollowedAt, IsRootAt, Going, Known};
+ghost use Rattle.ifc_schema.specs.Bodies.{has_body, bodied_of};
+ghost use Rattle.ifc_schema.specs.Marks.{Grows, SoundAt, IsMarked, mark_at, rank_at, is_mapped, IsFollowed, FollowedAt, IsRootAt, Going, Known};
 ghost use Rattle.ifc_schema.specs.Table.{row_at};
 
 use crate::attribute_table::row_at;
-use crate::body::has_body;
-use crate::follow::{follow_attributes, follow_map};
+use crate::follow::{follow_attributes, follow_element, follow_map};
 use crate::worklist::{Mark, Work};
 use ifc_instances::Entity;
 use p21_table::{Exchange, InstanceRef};
 use std::alloc::{AllocError, Global};
 
-/// Marks what an instance names.
-fn follow(
+/// Marks what the attributes of an instance name.
+#[inline(always)]
+fn follow_row(
     exchange: &Exchange,
-    bodied: &[bool],
+    bodied: bool,
     mapped: bool,
     instance: &InstanceRef<'_>,
     work: &mut Work,
 ) -> Result<(), AllocError>
     requires size { length work.old.marks.items ≡ length exchange.now }
-    requires bodied { bodied.now ≡ body_shapes exchange.now }
+    requires bodied { bodied ≡ has_body exchange.now instance.now }
+    requires used { (to : ℕ) → Any (λ a. NamesBy exchange.now mapped instance.now a to)
+        (row_at instance.now) → Used exchange.now to }
+    ensures grows { OnOk result (Grows exchange.now work.old work.new) }
+    ensures marked { OnOk result ((to : ℕ) → Any (λ a. NamesBy exchange.now mapped instance.now a to)
+        (row_at instance.now) → IsMarked exchange.now work.new 0 to) }
+{
+    if let Some(Entity::Subject) = Entity::at(instance) {
+        follow_element(exchange, bodied, mapped, instance, work)
+    } else {
+        follow_attributes(exchange, bodied, mapped, instance, row_at(instance), work)
+    }
+}
+
+/// Marks what an instance names.
+fn follow(
+    exchange: &Exchange,
+    bodied: bool,
+    mapped: bool,
+    instance: &InstanceRef<'_>,
+    work: &mut Work,
+) -> Result<(), AllocError>
+    requires size { length work.old.marks.items ≡ length exchange.now }
+    requires bodied { bodied ≡ has_body exchange.now instance.now }
     requires names { (to : ℕ) → Any (λ a. NamesBy exchange.now mapped instance.now a to)
         (row_at instance.now) → Used exchange.now to }
     requires used { (to : ℕ) → Maps exchange.now instance.now to → Used exchange.now to }
@@ -34,22 +57,21 @@ fn follow(
     ensures grows { OnOk result (Grows exchange.now work.old work.new) }
     ensures followed { OnOk result (IsFollowed exchange.now work.new mapped instance.now) }
 {
-    let bodied = has_body(exchange, bodied, instance);
-    follow_attributes(exchange, bodied, mapped, instance, row_at(instance), work)?;
+    follow_row(exchange, bodied, mapped, instance, work)?;
     follow_map(exchange, instance, work)
 }
 
 /// Marks what the instance at a place names.
 fn visit(exchange: &Exchange, bodied: &[bool], at: usize, work: &mut Work) -> Result<(), AllocError>
     requires size { length work.old.marks.items ≡ length exchange.now }
-    requires bodied { bodied.now ≡ body_shapes exchange.now }
+    requires bodied { bodied.now ≡ bodied_of exchange.now }
     requires sound { SoundAt exchange.now at (mark_at work.old at) }
     requires marked { 0 < rank_at work.old at }
     ensures grows { OnOk result (Grows exchange.now work.old work.new) }
     ensures followed { OnOk result (FollowedAt exchange.now work.new (is_mapped (mark_at work.old at)) at) }
 {
     let mapped = work.marks[at].is_mapped();
-    follow(exchange, bodied, mapped, &exchange.instance(at), work)
+    follow(exchange, bodied[at], mapped, &exchange.instance(at), work)
 }
 
 /// Whether the instances of an entity are used wherever they stand.
@@ -109,7 +131,7 @@ fn is_first(exchange: &Exchange, at: usize) -> bool
 
 /// Follows rows until none is left to follow.
 fn follow_all(exchange: &Exchange, bodied: &[bool], work: &mut Work) -> Result<(), AllocError>
-    requires bodied { bodied.now ≡ body_shapes exchange.now }
+    requires bodied { bodied.now ≡ bodied_of exchange.now }
     requires going { Going exchange.now work.old }
     ensures going { OnOk result (Going exchange.now work.new) }
     ensures done { OnOk result (work.new.stack.items ≡ []) }
@@ -123,7 +145,7 @@ fn follow_all(exchange: &Exchange, bodied: &[bool], work: &mut Work) -> Result<(
 
 /// Which instances are used, and which are mapped.
 pub fn mark_used(alloc: Global, exchange: &Exchange, bodied: &[bool]) -> Result<Work, AllocError>
-    requires bodied { bodied.now ≡ body_shapes exchange.now }
+    requires bodied { bodied.now ≡ bodied_of exchange.now }
     ensures { IfOk result (Known exchange.now) }
 {
     let mut work = Work::new(alloc, exchange.len())?;

@@ -1,6 +1,7 @@
 use Rattle.std.proofs.Common.{◌≡◌, ◌<◌, ◌++◌, ◌∷◌, [], false, true, get_or, sym, ◌∙◌}
 use Rattle.std.proofs.lemmas.Option.{get_or_from_slice_get}
 use Rattle.ifc_schema.specs.Surveys.{IsModelElement, is_model_element}
+use Rattle.ifc_schema.proofs.BodyBits.{bits_within, bit_there}
 use Rattle.ifc_schema.specs.Marks.{is_seen, rank_at}
 use Rattle.ifc_schema.proofs.Listing.{lists_same, unseen_there, seen_there, push_there, element_used, no_element, element_there}
 use Rattle.ifc_schema.proofs.surveying.push_element.Goals as goal
@@ -13,6 +14,12 @@ returns-then-not-is_seen c =
     let s : is_seen m ≡ false = sym c.is_seen.ensures ∙ c.if-not-is_seen.true in
     lists_same world c.args.at (IsModelElement world) c.args.ids.now.items
     (λ id p h. unseen_there world work c.args.at m c.requires.known c.requires.within c.index.ensures s id p (element_used world id h)) c.requires.ids
+
+pub bounds-bodied-at : goal.bounds-bodied-at
+bounds-bodied-at c = bits_within c.args.exchange.now c.args.bodied.now c.args.at c.requires.bodied c.requires.within
+
+pub is_model_element-requires : goal.is_model_element-requires
+is_model_element-requires c = record { bodied = bit_there c.args.exchange.now c.args.bodied.now c.args.at false c.instance.result c.requires.bodied c.requires.within c.instance.ensures }
 
 pub returns-then-not-is_model_element : goal.returns-then-not-is_model_element
 returns-then-not-is_model_element c =

@@ -1,10 +1,23 @@
-use Rattle.std.proofs.Common.{◌≡◌, get_or, sym, ap, ◌∙◌, subst}
+use Rattle.std.proofs.Common.{◌≡◌, ◌<◌, false, length, get_or, sym, ap, ◌∙◌, subst, arith}
 use Rattle.std.proofs.lemmas.Option.{get_or_from_slice_get}
 use Rattle.ifc_schema.specs.Used.{Names}
 use Rattle.ifc_schema.specs.Marks.{is_mapped, mark_at, IsFollowed}
 use Rattle.ifc_schema.proofs.Results.{on_ok}
-use Rattle.ifc_schema.proofs.Following.{names_used, any_names, maps_names, maps_mapped, flag_there}
+use Rattle.ifc_schema.proofs.Following.{names_used, any_names, maps_names, maps_mapped, flag_there, marked_within}
+use Rattle.ifc_schema.proofs.BodyBits.{bits_within, bit_there}
 use Rattle.ifc_schema.proofs.visit.visit.Goals as goal
+
+pub bounds-bodied-at : goal.bounds-bodied-at
+bounds-bodied-at c =
+    let world = c.args.exchange.now in
+    let lt : c.args.at < length world = (let m = marked_within c.args.work.now.marks.items c.args.at c.requires.marked in let s = c.requires.size in omega arith) in
+    bits_within world c.args.bodied.now c.args.at c.requires.bodied lt
+
+pub follow-requires-clause-bodied : goal.follow-requires-clause-bodied
+follow-requires-clause-bodied c =
+    let world = c.args.exchange.now in
+    let lt : c.args.at < length world = (let m = marked_within c.args.work.now.marks.items c.args.at c.requires.marked in let s = c.requires.size in omega arith) in
+    bit_there world c.args.bodied.now c.args.at false c.instance.result c.requires.bodied lt c.instance.ensures
 
 pub follow-requires-clause-names : goal.follow-requires-clause-names
 follow-requires-clause-names c = λ to a.
