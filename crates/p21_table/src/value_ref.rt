@@ -6,7 +6,7 @@ ghost use Rattle.p21_values.specs.Standing.{Stands, StandInside};
 ghost use Rattle.p21_table.specs.Stood.{Stood, one_stood};
 
 use crate::first_byte::{
-    absent_by_byte, guid_by_bytes, inside_by_byte, reference_by_byte, text_by_byte, words_by_byte,
+    absent_by_byte, guid_by_bytes, plain_by_bytes, inside_by_byte, reference_by_byte, text_by_byte, words_by_byte,
 };
 use crate::standing::{
     absent_there, enumeration_there, first_token, inside_there, number_there, reference_there,
@@ -92,11 +92,21 @@ impl<'a> ValueRef<'a> {
     }
 
     /// The identifier that the text spells as it is (IFC4 ADD2 TC1, IfcGloballyUniqueId). None says nothing.
+    #[inline(always)]
     pub fn plain_guid(&self) -> Option<&'a [u8]>
         ensures guid { IfSome result (λ guid. IsGuid guid.now) }
         ensures words { IfSome result (λ guid. words_of self.now ≡ Some guid.now) }
     {
         guid_by_bytes(self.bytes, self.at)
+    }
+
+    /// The text, where it is spelled as it is: all its bytes stand for themselves. None says nothing.
+    #[inline(always)]
+    pub fn plain_text(&self) -> Option<&'a [u8]>
+        ensures plain { IfSome result (λ text. list_all is_plain text.now ≡ true) }
+        ensures words { IfSome result (λ text. words_of self.now ≡ Some text.now) }
+    {
+        plain_by_bytes(self.bytes, self.at)
     }
 
     /// Whether it is a text.
@@ -118,6 +128,7 @@ impl<'a> ValueRef<'a> {
     }
 
     /// The number of the instance that a reference names.
+    #[inline(always)]
     pub fn reference(&self) -> Option<u64>
         ensures { result ≡ reference_of self.now }
     {
