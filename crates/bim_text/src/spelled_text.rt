@@ -1,5 +1,5 @@
 //! Texts as they are spelled in exchange files (ISO 10303-21, section 6.4.3).
-ghost use Rattle.std.specs.Prelude.{◌≡◌, ◌+◌, ◌++◌, ◌^◌, ◌<◌, ◌≤◌, IfOk, OnOk, ◌∷◌, slice_index, drop, length, string_bytes};
+ghost use Rattle.std.specs.Prelude.{◌≡◌, ◌+◌, ◌++◌, ◌^◌, ◌<◌, ◌≤◌, IfOk, OnOk, ◌∷◌, slice_index, drop, length, string_bytes, true};
 ghost use Rattle.std.specs.List.{list_all};
 ghost use Rattle.bim_text.specs.Texts.{cleaned, rows, row_of, is_plain, is_clean, text_of_spelling};
 ghost use Rattle.p21_lexer.specs.Spelling.{run};
@@ -116,6 +116,7 @@ fn are_clean(bytes: &[u8]) -> bool
 }
 
 /// The text of bytes that stand for themselves.
+#[tactic(auto, using(crate::proofs::AllRows::whole))]
 pub fn text_of_plain(alloc: Global, plain: &[u8]) -> Result<Text, AllocError>
     requires plain { list_all is_plain plain.now ≡ true }
     ensures { IfOk result (λ text. text ≡ text_of_spelling plain.now) }
