@@ -6,7 +6,8 @@ ghost use Rattle.p21_values.specs.Standing.{Stands, StandInside};
 ghost use Rattle.p21_table.specs.Stood.{Stood, one_stood};
 
 use crate::first_byte::{
-    absent_by_byte, guid_by_bytes, plain_by_bytes, inside_by_byte, reference_by_byte, text_by_byte, words_by_byte,
+    absent_by_byte, guid_by_bytes, inside_by_byte, plain_by_bytes, reference_by_byte, text_by_byte,
+    words_by_byte,
 };
 use crate::standing::{
     absent_there, enumeration_there, first_token, inside_there, number_there, reference_there,
@@ -54,8 +55,10 @@ impl<'a> Model for ValueRef<'a> {
 }
 
 impl<'a> ValueRef<'a> {
-    ghost use Rattle.std.specs.Prelude.{◌≡◌, ◌≤◌, length, option_copied, Some, IfSome, is_some};
+    ghost use Rattle.std.specs.Prelude.{◌≡◌, ◌≤◌, length, option_copied, Some, IfSome, is_some, true};
+    ghost use Rattle.std.specs.List.{list_all};
     ghost use Rattle.bim_model.specs.Guids.{IsGuid};
+    ghost use Rattle.bim_text.specs.Texts.{is_plain};
     ghost use Rattle.p21_values.specs.declared.value.Value21.{Value21};
     ghost use Rattle.p21_values.specs.Standing.{Stands};
     ghost use Rattle.p21_table.specs.Stood.{Stood};
