@@ -24,4 +24,4 @@ pub use limits::{MOST_DIGITS, MOST_EXPONENT};
 pub use print::print_i64;
 pub use short::{Short, ShortRow, short_at, short_row};
 pub use small::small_whole;
-pub use spelled_text::text_of;
+pub use spelled_text::{text_of, text_of_plain};

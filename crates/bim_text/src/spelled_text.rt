@@ -1,5 +1,5 @@
 //! Texts as they are spelled in exchange files (ISO 10303-21, section 6.4.3).
-ghost use Rattle.std.specs.Prelude.{◌≡◌, ◌+◌, ◌++◌, ◌^◌, ◌<◌, ◌≤◌, IfOk, OnOk, ◌∷◌, slice_index, drop, length, string_bytes};
+ghost use Rattle.std.specs.Prelude.{◌≡◌, ◌+◌, ◌++◌, ◌^◌, ◌<◌, ◌≤◌, IfOk, OnOk, ◌∷◌, slice_index, drop, length, string_bytes, true};
 ghost use Rattle.std.specs.List.{list_all};
 ghost use Rattle.bim_text.specs.Texts.{cleaned, rows, row_of, is_plain, is_clean, text_of_spelling};
 ghost use Rattle.p21_lexer.specs.Spelling.{run};
@@ -115,6 +115,15 @@ fn are_clean(bytes: &[u8]) -> bool
     bytes.iter().all(|byte| is_clean(*byte))
 }
 
+/// The text of bytes that stand for themselves.
+#[tactic(auto, using(crate::proofs::AllRows::whole))]
+pub fn text_of_plain(alloc: Global, plain: &[u8]) -> Result<Text, AllocError>
+    requires plain { list_all is_plain plain.now ≡ true }
+    ensures { IfOk result (λ text. text ≡ text_of_spelling plain.now) }
+{
+    Text::of(alloc, unsafe { str::from_utf8_unchecked(plain) })
+}
+
 /// The text that the bytes between two apostrophes of a file stand for. Control bytes are passed over, also within an escape. Bytes
 /// that aren't ASCII are read as UTF-8 where they can be, else as ISO 8859-1.
 #[tactic(auto, using(crate::proofs::AllRows::whole))]
@@ -122,7 +131,7 @@ pub fn text_of(alloc: Global, spelled: &[u8]) -> Result<Text, AllocError>
     ensures { IfOk result (λ text. text ≡ text_of_spelling spelled.now) }
 {
     if are_plain(spelled) {
-        return Text::of(alloc, unsafe { str::from_utf8_unchecked(spelled) });
+        return text_of_plain(alloc, spelled);
     }
     if are_clean(spelled) {
         return decode(alloc, spelled);

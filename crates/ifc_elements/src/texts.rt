@@ -3,7 +3,7 @@ ghost use Rattle.std.specs.Prelude.{◌≡◌, IfOk, IfSome, MatchOption};
 ghost use Rattle.ifc_elements.specs.Texts.{text_at, name_of, IsRead, IsUnread};
 
 use bim_model::{Guid, Text};
-use bim_text::text_of;
+use bim_text::{text_of, text_of_plain};
 use p21_table::InstanceRef;
 use std::alloc::{AllocError, Global};
 
@@ -16,10 +16,15 @@ pub fn text_at(
     ensures { IfOk result (λ text. text ≡ text_at instance.now at) }
 {
     match instance.attribute(at) {
-        Some(value) => match value.words() {
-            Some(spelled) => Ok(Some(text_of(alloc, spelled)?)),
-            None => Ok(None),
-        },
+        Some(value) => {
+            if let Some(plain) = value.plain_text() {
+                return Ok(Some(text_of_plain(alloc, plain)?));
+            }
+            match value.words() {
+                Some(spelled) => Ok(Some(text_of(alloc, spelled)?)),
+                None => Ok(None),
+            }
+        }
         None => Ok(None),
     }
 }
@@ -35,6 +40,7 @@ pub fn name_of(alloc: Global, instance: &InstanceRef<'_>) -> Result<Text, AllocE
 }
 
 /// The global identifier of an instance, where it is spelled as it is. None says nothing.
+#[inline(always)]
 fn plain_guid(instance: &InstanceRef<'_>) -> Option<Guid>
     ensures { IfSome result (IsRead instance.now) }
 {
@@ -49,6 +55,7 @@ fn plain_guid(instance: &InstanceRef<'_>) -> Option<Guid>
 }
 
 /// The global identifier of an instance; none where there is no text, or one that isn't an identifier.
+#[inline(always)]
 pub fn guid_of(alloc: Global, instance: &InstanceRef<'_>) -> Result<Option<Guid>, AllocError>
     ensures { IfOk result (λ found. MatchOption found (IsUnread instance.now) (IsRead instance.now)) }
 {

@@ -7,4 +7,4 @@ pub mod PlainBytes
 pub mod Waiting
 pub mod RowsThere
 pub mod FirstBytesThere
-pub mod GuidsThere
+pub mod TextsThere

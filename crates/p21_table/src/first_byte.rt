@@ -1,7 +1,8 @@
 //! What the first byte of a value tells, where no gap stands before it: most questions need no more. None says nothing.
-ghost use Rattle.std.specs.Prelude.{◌≡◌, ◌≤◌, List, length, Some, None, IfSome, MatchOption, option_copied, is_some};
+ghost use Rattle.std.specs.Prelude.{◌≡◌, ◌≤◌, List, length, Some, None, true, IfSome, MatchOption, option_copied, is_some};
 ghost use Rattle.std.specs.List.{list_all};
 ghost use Rattle.bim_model.specs.Guids.{is_guid_char, IsGuid};
+ghost use Rattle.bim_text.specs.Texts.{is_plain};
 ghost use Rattle.p21_values.specs.declared.value.Value21.{Value21};
 ghost use Rattle.p21_values.specs.Values.{words_of, reference_of, items_of, is_absent};
 ghost use Rattle.p21_values.specs.Standing.{Stands, StandInside};
@@ -165,4 +166,57 @@ pub fn guid_by_bytes(bytes: &[u8], at: usize) -> Option<&[u8]>
     } else {
         None
     }
+}
+
+/// Whether a byte stands for itself in a text, byte by byte.
+const PLAIN_BYTES: [bool; 256] = [
+    false, false, false, false, false, false, false, false, false, false, false, false, false,
+    false, false, false, false, false, false, false, false, false, false, false, false, false,
+    false, false, false, false, false, false, true, true, true, true, true, true, true, false,
+    true, true, true, true, true, true, true, true, true, true, true, true, true, true, true, true,
+    true, true, true, true, true, true, true, true, true, true, true, true, true, true, true, true,
+    true, true, true, true, true, true, true, true, true, true, true, true, true, true, true, true,
+    true, true, true, true, false, true, true, true, true, true, true, true, true, true, true,
+    true, true, true, true, true, true, true, true, true, true, true, true, true, true, true, true,
+    true, true, true, true, true, true, true, true, true, false, false, false, false, false, false,
+    false, false, false, false, false, false, false, false, false, false, false, false, false,
+    false, false, false, false, false, false, false, false, false, false, false, false, false,
+    false, false, false, false, false, false, false, false, false, false, false, false, false,
+    false, false, false, false, false, false, false, false, false, false, false, false, false,
+    false, false, false, false, false, false, false, false, false, false, false, false, false,
+    false, false, false, false, false, false, false, false, false, false, false, false, false,
+    false, false, false, false, false, false, false, false, false, false, false, false, false,
+    false, false, false, false, false, false, false, false, false, false, false, false, false,
+    false, false, false, false, false, false, false, false, false, false, false, false, false,
+    false, false, false, false, false,
+];
+
+/// Whether a byte stands for itself.
+#[inline(always)]
+fn is_plain_byte(byte: u8) -> bool
+    ensures { result ≡ is_plain byte }
+{
+    PLAIN_BYTES[byte as usize]
+}
+
+/// The text that is spelled right there, where all its bytes stand for themselves. None says nothing.
+#[inline(always)]
+pub fn plain_by_bytes(bytes: &[u8], at: usize) -> Option<&[u8]>
+    requires within { at ≤ length bytes.now }
+    ensures plain { IfSome result (λ text. list_all is_plain text.now ≡ true) }
+    ensures words { IfSome result (λ text. (v : Value21) → Stands bytes.now at v
+        → words_of v ≡ Some text.now) }
+{
+    if at >= bytes.len() || bytes[at] != b'\'' {
+        return None;
+    }
+    let from = at + 1;
+    let mut end = from;
+    while end < bytes.len() && is_plain_byte(bytes[end]) {
+        end += 1;
+    }
+    if end + 1 >= bytes.len() || bytes[end] != b'\'' || bytes[end + 1] == b'\'' {
+        return None;
+    }
+    Some(&bytes[from..end])
 }

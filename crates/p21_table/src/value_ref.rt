@@ -6,7 +6,8 @@ ghost use Rattle.p21_values.specs.Standing.{Stands, StandInside};
 ghost use Rattle.p21_table.specs.Stood.{Stood, one_stood};
 
 use crate::first_byte::{
-    absent_by_byte, guid_by_bytes, inside_by_byte, reference_by_byte, text_by_byte, words_by_byte,
+    absent_by_byte, guid_by_bytes, inside_by_byte, plain_by_bytes, reference_by_byte, text_by_byte,
+    words_by_byte,
 };
 use crate::standing::{
     absent_there, enumeration_there, first_token, inside_there, number_there, reference_there,
@@ -54,8 +55,10 @@ impl<'a> Model for ValueRef<'a> {
 }
 
 impl<'a> ValueRef<'a> {
-    ghost use Rattle.std.specs.Prelude.{◌≡◌, ◌≤◌, length, option_copied, Some, IfSome, is_some};
+    ghost use Rattle.std.specs.Prelude.{◌≡◌, ◌≤◌, length, option_copied, Some, IfSome, is_some, true};
+    ghost use Rattle.std.specs.List.{list_all};
     ghost use Rattle.bim_model.specs.Guids.{IsGuid};
+    ghost use Rattle.bim_text.specs.Texts.{is_plain};
     ghost use Rattle.p21_values.specs.declared.value.Value21.{Value21};
     ghost use Rattle.p21_values.specs.Standing.{Stands};
     ghost use Rattle.p21_table.specs.Stood.{Stood};
@@ -92,11 +95,21 @@ impl<'a> ValueRef<'a> {
     }
 
     /// The identifier that the text spells as it is (IFC4 ADD2 TC1, IfcGloballyUniqueId). None says nothing.
+    #[inline(always)]
     pub fn plain_guid(&self) -> Option<&'a [u8]>
         ensures guid { IfSome result (λ guid. IsGuid guid.now) }
         ensures words { IfSome result (λ guid. words_of self.now ≡ Some guid.now) }
     {
         guid_by_bytes(self.bytes, self.at)
+    }
+
+    /// The text, where it is spelled as it is: all its bytes stand for themselves. None says nothing.
+    #[inline(always)]
+    pub fn plain_text(&self) -> Option<&'a [u8]>
+        ensures plain { IfSome result (λ text. list_all is_plain text.now ≡ true) }
+        ensures words { IfSome result (λ text. words_of self.now ≡ Some text.now) }
+    {
+        plain_by_bytes(self.bytes, self.at)
     }
 
     /// Whether it is a text.
@@ -118,6 +131,7 @@ impl<'a> ValueRef<'a> {
     }
 
     /// The number of the instance that a reference names.
+    #[inline(always)]
     pub fn reference(&self) -> Option<u64>
         ensures { result ≡ reference_of self.now }
     {

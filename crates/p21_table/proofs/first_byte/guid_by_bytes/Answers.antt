@@ -1,5 +1,5 @@
 use Rattle.std.proofs.Common.{◌+◌, ◌≤◌, length, sym, ◌∙◌, arith}
-use Rattle.p21_table.proofs.GuidsThere.{guid_long, guid_there}
+use Rattle.p21_table.proofs.TextsThere.{guid_long, guid_there}
 use Rattle.p21_table.proofs.first_byte.guid_by_bytes.Goals as goal
 
 pub returns-then-are_guid_bytes-clause-guid : goal.returns-then-are_guid_bytes-clause-guid
