@@ -175,6 +175,7 @@ fn class_of(alloc: Global, instance: &InstanceRef<'_>) -> Result<Option<Text>, A
 }
 
 /// Adds the element without its surface. False where it has no class.
+#[inline(always)]
 fn add_bare(
     alloc: Global,
     told: &Told<'_>,
@@ -203,6 +204,7 @@ fn add_bare(
 }
 
 /// Adds the element that is placed so, and its sketch, where its corners are in reach: how many triangles it has.
+#[inline(always)]
 fn draw_by(
     alloc: Global,
     told: &Told<'_>,

@@ -1,7 +1,7 @@
 //! The walk over what is used of a file.
 ghost use Rattle.std.specs.Prelude.{◌≡◌, ◌<◌, None, length, map, IfOk, IfSome};
 ghost use Rattle.std.specs.Bool.{OnTrue};
-ghost use Rattle.ifc_schema.specs.Bodies.{body_shapes};
+ghost use Rattle.ifc_schema.specs.Bodies.{has_body, bodied_of};
 ghost use Rattle.ifc_schema.specs.Flaws.{InstanceFlaw};
 ghost use Rattle.ifc_schema.specs.Marks.{Known, rank_at};
 ghost use Rattle.ifc_units.specs.Units.{IsLengthUnit};
@@ -21,7 +21,7 @@ use bim_model::{BuildError, Element, Items, Mode, Point};
 use faceset::is_set;
 use ifc_elements::Names;
 use ifc_instances::Entity;
-use ifc_schema::{Mark, Work, body_shapes, has_body, instance_flaw, list_elements, mark_used};
+use ifc_schema::{Mark, Work, bodied_of, instance_flaw, list_elements, mark_used};
 use ifc_units::{Scale, length_unit};
 use p21_table::{Exchange, InstanceRef};
 use placement::{Chains, Frames};
@@ -51,11 +51,10 @@ impl Model for Walked {
 }
 
 /// Whether an instance that is used, and is no list of points nor a set, has the form of its row.
-fn is_formed(exchange: &Exchange, bodied: &[bool], mapped: bool, instance: &InstanceRef<'_>) -> bool
-    requires bodied { bodied.now ≡ body_shapes exchange.now }
+fn is_formed(exchange: &Exchange, bodied: bool, mapped: bool, instance: &InstanceRef<'_>) -> bool
+    requires bodied { bodied ≡ has_body exchange.now instance.now }
     ensures { OnTrue result (InstanceFlaw exchange.now mapped instance.now None) }
 {
-    let bodied = has_body(exchange, bodied, instance);
     instance_flaw(exchange, bodied, mapped, instance).is_none()
 }
 
@@ -73,7 +72,7 @@ fn look_at(
 ) -> Result<bool, AllocError>
     requires within { at < length exchange.now }
     requires size { length sets.old ≡ length exchange.now }
-    requires bodied { bodied.now ≡ body_shapes exchange.now }
+    requires bodied { bodied.now ≡ bodied_of exchange.now }
     requires points { ArePooled exchange.now scale mode points.now }
     requires list { HasLists exchange.now (λ k. k ≡ at) points.now }
     ensures clean { IfOk result (λ clean. OnTrue clean (IsCleanBy exchange.now scale mode mapped at)) }
@@ -91,7 +90,7 @@ fn look_at(
     if Entity::PointList.includes(&instance) {
         return Ok(true);
     }
-    Ok(is_formed(exchange, bodied, mapped, &instance))
+    Ok(is_formed(exchange, bodied[at], mapped, &instance))
 }
 
 /// Looks at the instance at a place, where it is used. False where it shows a fault.
@@ -109,7 +108,7 @@ fn check_at(
     requires known { Known exchange.now work.now }
     requires within { at < length exchange.now }
     requires size { length sets.old ≡ length exchange.now }
-    requires bodied { bodied.now ≡ body_shapes exchange.now }
+    requires bodied { bodied.now ≡ bodied_of exchange.now }
     requires points { ArePooled exchange.now scale mode points.now }
     requires lists { HasLists exchange.now (λ k. 0 < rank_at work.now k) points.now }
     ensures clean { IfOk result (λ clean. OnTrue clean (CleanThere exchange.now scale mode at)) }
@@ -138,7 +137,7 @@ fn sets_in(
     points: &Pool<Items<Point>>,
 ) -> Result<Option<Pool<SetRows>>, AllocError>
     requires known { Known exchange.now work.now }
-    requires bodied { bodied.now ≡ body_shapes exchange.now }
+    requires bodied { bodied.now ≡ bodied_of exchange.now }
     requires points { ArePooled exchange.now scale mode points.now }
     requires lists { HasLists exchange.now (λ k. 0 < rank_at work.now k) points.now }
     ensures sets { IfOk result (λ found. IfSome found (AreReadSets exchange.now scale mode points.now)) }
@@ -249,7 +248,7 @@ fn sketched(
     stock: Stock,
 ) -> Result<Option<Walked>, AllocError>
     requires known { Known exchange.now work.now }
-    requires bodied { bodied.now ≡ body_shapes exchange.now }
+    requires bodied { bodied.now ≡ bodied_of exchange.now }
     requires storeys { ListsStoreys exchange.now spatial.now }
     requires unit { IsLengthUnit exchange.now scale }
     requires tree { IsTree exchange.now }
@@ -291,7 +290,7 @@ fn stocked(
     mode: Mode,
 ) -> Result<Option<Stock>, AllocError>
     requires known { Known exchange.now work.now }
-    requires bodied { bodied.now ≡ body_shapes exchange.now }
+    requires bodied { bodied.now ≡ bodied_of exchange.now }
     ensures stock { IfOk result (λ found. IfSome found (IsStocked exchange.now scale mode)) }
     ensures clean { IfOk result (λ found. IfSome found (λ stock. AllClean exchange.now scale mode)) }
 {
@@ -332,7 +331,7 @@ pub fn walk(alloc: Global, exchange: &Exchange, mode: Mode) -> Result<Option<Wal
     let Some(spatial) = tree_of(alloc, exchange)? else {
         return Ok(None);
     };
-    let bodied = body_shapes(alloc, exchange)?;
+    let bodied = bodied_of(alloc, exchange)?;
     let work = mark_used(alloc, exchange, &bodied)?;
     let Some(stock) = stocked(alloc, exchange, &work, &bodied, scale, mode)? else {
         return Ok(None);

@@ -1,6 +1,7 @@
-use Rattle.std.proofs.Common.{◌≡◌, true, sym, ◌∙◌}
+use Rattle.std.proofs.Common.{◌≡◌, true, false, sym, ◌∙◌}
 use Rattle.std.proofs.lemmas.Bool.{OnTrue_at}
 use Rattle.p21_values.specs.declared.value.Instance.{Instance}
+use Rattle.ifc_schema.proofs.BodyBits.{bits_within, bit_there}
 use Rattle.ifc_instances.specs.declared.entity.Entity.TheVariants.{PointList}
 use Rattle.ifc_instances.specs.Looking.{is_a}
 use Rattle.model_walk.specs.Clean.{IsClean}
@@ -50,3 +51,11 @@ returns-clause-clean c =
 
 pub keep_set-requires-clause-points : goal.keep_set-requires-clause-points
 keep_set-requires-clause-points c = (c.args.scale, c.args.mode, c.requires.points)
+
+pub bounds-bodied-at : goal.bounds-bodied-at
+bounds-bodied-at c = bits_within c.args.exchange.now c.args.bodied.now c.args.at c.requires.bodied c.requires.within
+
+pub is_formed-requires : goal.is_formed-requires
+is_formed-requires c = record {
+  bodied = bit_there c.args.exchange.now c.args.bodied.now c.args.at false c.instance-instance.result c.requires.bodied c.requires.within c.instance-instance.ensures;
+}
