@@ -10,7 +10,8 @@ use Rattle.bim_model.specs.declared.element.Element.{Element}
 use Rattle.bim_model.specs.Models.{IsModel, IsModelled, triangle_count, IsInReach}
 use Rattle.p21_values.specs.declared.value.Instance.{Instance}
 use Rattle.model_build.specs.Guids.{HasGuid, NoneRepeats}
-use Rattle.model_build.specs.Order.{Differ, Rise}
+use Rattle.model_walk.specs.Checked.{Differ}
+use Rattle.model_build.specs.Order.{Rise}
 use Rattle.std.proofs.lemmas.List.Sums.{sum_by-cons}
 use Rattle.p21_values.proofs.PlaceLemmas.{same_instance}
 use Rattle.bim_model.specs.declared.upload.Mode.{Mode}

@@ -10,7 +10,8 @@ use Rattle.bim_model.specs.Models.{IsModel}
 use Rattle.p21_values.specs.declared.value.Instance.{Instance}
 use Rattle.model_walk.specs.Walked.{IsWalked}
 use Rattle.model_build.specs.Faults.{IsClear}
-use Rattle.model_build.specs.Order.{Differ, Rise}
+use Rattle.model_walk.specs.Checked.{Differ}
+use Rattle.model_build.specs.Order.{Rise}
 use Rattle.model_build.specs.Profile.{IsModelOf}
 use Rattle.model_build.specs.Stages.{FileFault}
 use Rattle.model_build.proofs.WalkClear.{walk_clear, walk_model, walk_sound}

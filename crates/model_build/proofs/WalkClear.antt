@@ -44,7 +44,8 @@ use Rattle.model_walk.specs.Walked.{IsWalked}
 use Rattle.model_build.specs.Faults.{IsClear}
 use Rattle.model_build.specs.Guids.{NoneRepeats}
 use Rattle.model_build.specs.Least.{IsOblique}
-use Rattle.model_build.specs.Order.{Differ, Rise}
+use Rattle.model_walk.specs.Checked.{Differ}
+use Rattle.model_build.specs.Order.{Rise}
 use Rattle.model_build.specs.Profile.{IsModelOf}
 use Rattle.model_build.specs.Faces.{IsStuckFace, HasManyCorners}
 use Rattle.model_build.specs.Unsupported.{ListsOther, ListsNested, HasNoTarget, HasGridNumber, IsAwayValue, IsAway, IsTurned, IsShifted, IsUnsupported, plain_axes}

@@ -7,7 +7,8 @@ ghost use Rattle.p21_values.specs.declared.value.Instance.{Instance};
 ghost use Rattle.bim_model.specs.Models.{IsModel};
 ghost use Rattle.model_walk.specs.Walked.{IsWalked};
 ghost use Rattle.model_build.specs.Faults.{IsClear};
-ghost use Rattle.model_build.specs.Order.{Differ, Rise};
+ghost use Rattle.model_walk.specs.Checked.{Differ};
+ghost use Rattle.model_build.specs.Order.{Rise};
 ghost use Rattle.model_build.specs.Stages.{FileFault};
 ghost use Rattle.model_build.specs.Profile.{IsModelOf, Profile};
 

@@ -1,6 +1,7 @@
 //! The order of the elements of a model.
 ghost use Rattle.std.specs.Prelude.{◌≡◌, IsPermutation};
-ghost use Rattle.model_build.specs.Order.{Differ, Rise};
+ghost use Rattle.model_walk.specs.Checked.{Differ};
+ghost use Rattle.model_build.specs.Order.{Rise};
 
 use bim_model::Element;
 

@@ -19,7 +19,7 @@ use Rattle.std.proofs.lemmas.Map.Lookups.{exact_bytes}
 use Rattle.bim_model.specs.declared.element.Element.{Element}
 use Rattle.model_walk.specs.declared.element_sketches.Sketch.{Sketch}
 use Rattle.model_walk.specs.declared.element_sketches.Stock.{Stock}
-use Rattle.model_walk.specs.Checked.{Alternate, ElementsDiffer}
+use Rattle.model_walk.specs.Checked.{Alternate, Differ}
 use Rattle.model_walk.specs.Sketches.{elements_of}
 use Rattle.model_walk.proofs.ElementsSurfaced.{guid_chars, same_guids}
 
@@ -60,7 +60,7 @@ sorted_differ ys up beside i j d lt within same =
     let last : is_lt (slice_cmp nat_cmp a b) ≡ false = subst (λ x. is_lt (slice_cmp nat_cmp x b) ≡ false) (sym same) (far (i + 1) j (omega (arith, lt)) within) in
     beside i d (omega (arith, lt, within)) (exact_bytes a b (equal (slice_cmp nat_cmp a b) last (subst (λ o. is_lt o ≡ false) (nat_list_cmp_total.antisymm b a) first)))
 
-pub elements_differ : (elements : List Element) (guids : List (List ℕ)) → IsPermutation (map (λ (e : Element). e.guid.chars) elements) guids → IsSorted (slice_cmp nat_cmp) guids → Alternate guids → ElementsDiffer elements
+pub elements_differ : (elements : List Element) (guids : List (List ℕ)) → IsPermutation (map (λ (e : Element). e.guid.chars) elements) guids → IsSorted (slice_cmp nat_cmp) guids → Alternate guids → Differ elements
 elements_differ elements guids p up beside = from_keys guid_chars elements (keys_differ (map guid_chars elements) guids p (sorted_differ guids up beside))
 
 to_keys : {X : Type 0} (key : X → List ℕ) (xs : List X) → AllPairs (λ x y. key x ≢ key y) xs → AllPairs (λ a b. a ≢ b) (map key xs)
@@ -71,7 +71,7 @@ to_keys key (x ∷ xs) h i j d lt within same =
     h i j x lt m (sym (get_or-map key (x ∷ xs) i x d n) ∙ same ∙ get_or-map key (x ∷ xs) j x d m)
 
 -- they do so with their surfaces too
-pub surfaces_differ : (stock : Stock) (elements : List Element) (sketches : List Sketch) → length elements ≡ length sketches → ElementsDiffer elements → ElementsDiffer (elements_of stock elements sketches)
+pub surfaces_differ : (stock : Stock) (elements : List Element) (sketches : List Sketch) → length elements ≡ length sketches → Differ elements → Differ (elements_of stock elements sketches)
 surfaces_differ stock elements sketches same differ =
     from_keys guid_chars (elements_of stock elements sketches) (subst (λ (gs : List (List ℕ)). AllPairs (λ a b. a ≢ b) gs) (sym (same_guids stock elements sketches same)) (to_keys guid_chars elements differ))
 

@@ -13,7 +13,7 @@ use Rattle.placement.specs.Placed.{AreFrames, LacksFrame, AllPlaced, frame_in}
 use Rattle.spatial_tree.specs.Trees.{IsTree}
 use Rattle.model_walk.specs.declared.element_sketches.Drawn.{Drawn}
 use Rattle.model_walk.specs.declared.element_sketches.Stock.{Stock}
-use Rattle.model_walk.specs.Checked.{AllClean, ElementsDiffer}
+use Rattle.model_walk.specs.Checked.{AllClean, Differ}
 use Rattle.model_walk.specs.Kept.{AreReadSets}
 use Rattle.model_walk.specs.Sketches.{elements_of, IsCarried}
 use Rattle.model_walk.specs.Stocked.{AreDrawn, IsStocked}
@@ -24,7 +24,7 @@ use Rattle.model_walk.proofs.PlacesChecked.{never_kept}
 
 -- the elements of a walk are those of the file
 pub walked : (world : List Instance) (mode : Mode) (scale : Scale) (ids : List ℕ) (stock : Stock) (drawn : Drawn) → IsLengthUnit world scale → IsTree world → AllClean world scale mode → Lists (IsModelElement world) ids
-    → AreDrawn world scale mode stock ids drawn → ElementsDiffer drawn.elements.items → IsWalked world mode (elements_of stock drawn.elements.items drawn.sketches.items)
+    → AreDrawn world scale mode stock ids drawn → Differ drawn.elements.items → IsWalked world mode (elements_of stock drawn.elements.items drawn.sketches.items)
 walked world mode scale ids stock drawn unit tree clean lists made differ = record {
   scale = scale;
   unit = unit;

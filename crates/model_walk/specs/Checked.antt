@@ -24,8 +24,8 @@ abbrev pub AllClean : List Instance → Scale → Mode → Type 0
 AllClean world scale mode = (id : ℕ) → Used world id → IsCleanAt world scale mode id
 
 -- no two have the same identifier
-abbrev pub ElementsDiffer : List Element → Type 0
-ElementsDiffer elements = AllPairs (λ (e f : Element). e.guid.chars ≢ f.guid.chars) elements
+abbrev pub Differ : List Element → Type 0
+Differ elements = AllPairs (λ (e f : Element). e.guid.chars ≢ f.guid.chars) elements
 
 -- no two that stand side by side are the same
 abbrev pub Alternate : List (List ℕ) → Type 0

@@ -7,7 +7,7 @@ ghost use Rattle.ifc_schema.specs.Marks.{Known, rank_at};
 ghost use Rattle.ifc_units.specs.Units.{IsLengthUnit};
 ghost use Rattle.placement.specs.Placed.{AllPlaced, frame_in};
 ghost use Rattle.spatial_tree.specs.Trees.{IsTree, ListsStoreys};
-ghost use Rattle.model_walk.specs.Checked.{IsCleanBy, CleanThere, AllClean, ElementsDiffer, Alternate};
+ghost use Rattle.model_walk.specs.Checked.{IsCleanBy, CleanThere, AllClean, Differ, Alternate};
 ghost use Rattle.model_walk.specs.Kept.{ArePooled, HasLists, AreReadSets};
 ghost use Rattle.model_walk.specs.Stocked.{IsStocked};
 ghost use Rattle.model_walk.specs.Walked.{IsWalked};
@@ -181,7 +181,7 @@ fn alternate(guids: &[[u8; 22]]) -> bool
 
 /// Whether no two elements have the same identifier.
 fn differ(alloc: Global, elements: &[Element]) -> Result<bool, AllocError>
-    ensures { IfOk result (λ differ. OnTrue differ (ElementsDiffer elements.now)) }
+    ensures { IfOk result (λ differ. OnTrue differ (Differ elements.now)) }
 {
     let mut guids = guids_of(alloc, elements)?;
     guids.sort_unstable();

@@ -120,7 +120,8 @@ const GUID_BYTES: [bool; 256] = [
 /// Whether the value is a text.
 #[inline(always)]
 pub fn text_by_byte(bytes: &[u8], at: usize) -> Option<bool>
-    ensures { IfSome result (λ answer. (v : Value21) → Stands bytes.now at v → answer ≡ is_some (words_of v)) }
+    ensures { IfSome result (λ answer. (v : Value21) → Stands bytes.now at v
+        → answer ≡ is_some (words_of v)) }
 {
     let byte = token_byte(bytes, at)?;
     Some(byte == b'\'')
