@@ -1,5 +1,5 @@
 -- The order of the elements of a model.
-use Rattle.std.specs.Prelude.{◌≢◌, List, IsTrue, AllPairs}
+use Rattle.std.specs.Prelude.{List, IsTrue, AllPairs}
 use Rattle.bim_model.specs.Models.{is_below}
 use Rattle.bim_model.specs.declared.element.Element.{Element}
 
