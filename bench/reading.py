@@ -9,10 +9,11 @@ taken.
 Files are made here, of about 4 MB and boxes of 11, and with --full all of 4, 11 and 28 MB: boxes, tubes, boxes with property sets that no one
 follows, walls that share a shape of one triangle, boxes in chains of ten placements, combs as polygonal faces; boxes whose last index is bad, so that
 the upload is refused; and each FILE. What PROGRAM spends on reading is the processor's time of a check that is refused at a second file, less that of
-one which is refused at once; of PLAIN it is what it tells, times the part of its whole run that it had a processor. The least of several runs of
-each, by turns. Where PLAIN doesn't read a file, as those with placements or polygons, its speed on boxes of about that size stands in its place, and
-no bound is asked of them. B is the least part of PLAIN's speed that is allowed, P the greatest peak of memory in sizes of the file, asked of files of
-more than 10 MB only: the peak of a program counts what Python had when it began it."""
+one which is refused at the first byte of a file of that size, so that both are timed from the bytes in memory; of PLAIN it is what it tells, times the
+part of its whole run that it had a processor. The least of several runs of each, by turns. Where PLAIN doesn't read a file, as those with placements or
+polygons, its speed on boxes of about that size stands in its place, and no bound is asked of them. B is the least part of PLAIN's speed that is allowed,
+P the greatest peak of memory in sizes of the file, asked of files of more than 10 MB only: the peak of a program counts what Python had when it began
+it."""
 import argparse
 import math
 import os
@@ -147,8 +148,15 @@ def measured(program, plain, folder, name, bad, runs):
     """Seconds of reading by both programs, and the peak of memory."""
     begin, wanted = [program, "check", "--rules", "r.json"], b"m: U14 " if bad else b"z: U1 "
     empty, ours, peaks, theirs = [], [], [], []
+    none = os.path.join(folder, "none")
+    shutil.copyfile(os.path.join(folder, name), none)
+    with open(none, "r+b") as file:
+        file.write(b"no file")
     for _ in range(runs):
-        empty.append(run(begin + ["z=bad"], folder)[0])
+        spent, _, _, output = run(begin + ["z=none"], folder)
+        if not output.startswith(b"z: U1 "):
+            sys.exit(f"none: {output[:200]!r}")
+        empty.append(spent)
         spent, _, peak, output = run(begin + ["m=" + name, "z=bad"], folder)
         if not output.startswith(wanted):
             sys.exit(f"{name}: {output[:200]!r}")

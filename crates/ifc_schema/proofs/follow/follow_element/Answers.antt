@@ -1,7 +1,12 @@
-use Rattle.std.proofs.Common.{inl, inr, ◌∙◌}
+use Rattle.std.proofs.Common.{ℕ, inl, inr, ◌∙◌, Any}
+use Rattle.ifc_instances.specs.declared.entity.Entity.TheVariants as entity
+use Rattle.ifc_schema.specs.declared.form.Attribute.{Attribute}
+use Rattle.ifc_schema.specs.Marks.{Grows, IsMarked}
+use Rattle.ifc_schema.specs.Table.{row_of}
+use Rattle.ifc_schema.specs.Used.{NamesBy}
 use Rattle.ifc_schema.proofs.Results.{on_ok, on_ok2}
 use Rattle.ifc_schema.proofs.Growing.{grows_trans, marked_on}
-use Rattle.ifc_schema.proofs.ElementRows.{element_names, placed_names, shaped_names}
+use Rattle.ifc_schema.proofs.ElementRows.{shaped, element_names, placed_names, shaped_names}
 use Rattle.ifc_schema.proofs.follow.follow_element.Goals as goal
 
 pub follow_attribute-requires-clause-used : goal.follow_attribute-requires-clause-used
@@ -21,7 +26,12 @@ returns-clause-grows c =
 pub returns-clause-marked : goal.returns-clause-marked
 returns-clause-marked c =
     let world = c.args.exchange.now in
-    on_ok2 c.follow_attribute-2.result (λ g m to a. elim (element_names world c.args.mapped c.args.instance.now to a) [
-      | inl n ↦ marked_on world c.follow_attribute.new.work c.follow_attribute-2.new.work 0 to g (c.in_ok-follow_attribute.ensures.marked to n)
+    let i = c.args.instance.now in
+    let first = c.follow_attribute.new.work in
+    let last = c.follow_attribute-2.new.work in
+    let step : Grows world first last → ((to : ℕ) → NamesBy world c.args.mapped i shaped to → IsMarked world last 0 to) → (to : ℕ) → Any (λ (a : Attribute). NamesBy world c.args.mapped i a to) (row_of entity.Subject) → IsMarked world last 0 to =
+    λ g m to a. elim (element_names world c.args.mapped i to a) [
+      | inl n ↦ marked_on world first last 0 to g (c.in_ok-follow_attribute.ensures.marked to n)
       | inr n ↦ m to n
-    ]) c.follow_attribute-2.ensures.grows c.follow_attribute-2.ensures.marked
+    ] in
+    on_ok2 c.follow_attribute-2.result step c.follow_attribute-2.ensures.grows c.follow_attribute-2.ensures.marked
