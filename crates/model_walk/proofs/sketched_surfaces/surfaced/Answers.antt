@@ -9,22 +9,22 @@ loop-at-init c = record {
   end = omega (arith, c.len-at-end.ensures, c.args.drawn.elements.ok.0);
 }
 
-pub index-requires : goal.index-requires
-index-requires c = omega (arith, c.loop-at-test.true, c.loop-at.invariant.end, c.loop-at.invariant.surfaced.long, c.requires.same)
+pub index-sketch-requires : goal.index-sketch-requires
+index-sketch-requires c = omega (arith, c.loop-at-test.true, c.loop-at.invariant.end, c.loop-at.invariant.surfaced.long, c.requires.same)
 
 pub surface_of-requires-clause-there : goal.surface_of-requires-clause-there
 surface_of-requires-clause-there c =
-    let within = omega (arith, c.loop-at-test.true, c.loop-at.invariant.end, c.loop-at.invariant.surfaced.long, c.requires.same) in
+    let within : c.loop-at.at < length c.args.drawn.sketches.items = omega (arith, c.loop-at-test.true, c.loop-at.invariant.end, c.loop-at.invariant.surfaced.long, c.requires.same) in
     (near_there c.args.stock.now c.args.drawn.sketches.items c.loop-at.at c.index-sketch.result.now c.requires.near within c.index-sketch.ensures).there
 
 pub surface_of-requires-clause-framed : goal.surface_of-requires-clause-framed
 surface_of-requires-clause-framed c =
-    let within = omega (arith, c.loop-at-test.true, c.loop-at.invariant.end, c.loop-at.invariant.surfaced.long, c.requires.same) in
+    let within : c.loop-at.at < length c.args.drawn.sketches.items = omega (arith, c.loop-at-test.true, c.loop-at.invariant.end, c.loop-at.invariant.surfaced.long, c.requires.same) in
     (near_there c.args.stock.now c.args.drawn.sketches.items c.loop-at.at c.index-sketch.result.now c.requires.near within c.index-sketch.ensures).framed
 
 pub surface_of-requires-clause-near : goal.surface_of-requires-clause-near
 surface_of-requires-clause-near c =
-    let within = omega (arith, c.loop-at-test.true, c.loop-at.invariant.end, c.loop-at.invariant.surfaced.long, c.requires.same) in
+    let within : c.loop-at.at < length c.args.drawn.sketches.items = omega (arith, c.loop-at-test.true, c.loop-at.invariant.end, c.loop-at.invariant.surfaced.long, c.requires.same) in
     (near_there c.args.stock.now c.args.drawn.sketches.items c.loop-at.at c.index-sketch.result.now c.requires.near within c.index-sketch.ensures).near
 
 pub index_mut-requires : goal.index_mut-requires
