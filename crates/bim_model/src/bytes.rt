@@ -110,10 +110,16 @@ fn several_of(bytes: &[u8]) -> Several
 impl Duplicate for Bytes {
     fn copy(&self, alloc: Global) -> Result<Bytes, AllocError> {
         match &self.kept {
+            Kept::Short(few) => Ok(Bytes {
+                kept: Kept::Short(Few {
+                    room: few.room,
+                    count: few.count,
+                }),
+            }),
+            Kept::Middle(_) => Bytes::of(alloc, self.as_slice()),
             Kept::Long(many) => Ok(Bytes {
                 kept: Kept::Long(many.share()?),
             }),
-            _ => Bytes::of(alloc, self.as_slice()),
         }
     }
 }
