@@ -11,9 +11,9 @@ follows, walls that share a shape of one triangle, boxes in chains of ten placem
 the upload is refused; and each FILE. What PROGRAM spends on reading is the processor's time of a check that is refused at a second file, less that of
 one which is refused at the first byte of a file of that size, so that both are timed from the bytes in memory; of PLAIN it is what it tells, times the
 part of its whole run that it had a processor. The least of several runs of each, by turns. Where PLAIN doesn't read a file, as those with placements or
-polygons, its speed on boxes of about that size stands in its place, and no bound is asked of them. B is the least part of PLAIN's speed that is allowed,
-0.2 at most of walls that share a shape; a file below it is measured again before it counts. P is the greatest peak of memory in sizes of the file, asked
-of files of more than 10 MB only: the peak of a program counts what Python had when it began it."""
+polygons, its speed on boxes of about that size stands in its place, and no bound is asked of them. B is the least part of PLAIN's speed that is
+allowed; a file below it is measured again before it counts. P is the greatest peak of memory in sizes of the file, asked of files of more than 10 MB
+only: the peak of a program counts what Python had when it began it."""
 import argparse
 import math
 import os
@@ -29,7 +29,6 @@ sys.path.insert(0, HERE)
 import uploads  # noqa: E402
 
 BOUND = 0.3  # the least part of the plain program's speed
-SHARED = 0.2  # the same for walls that share a shape
 AGAIN = 2  # how often a file that seems too slow is measured again, since other work on the machine slows either program
 PEAK = None  # the greatest peak of memory, in sizes of the file
 RUNS = 5
@@ -181,15 +180,14 @@ class Comparison:
     def compare(self, name, kind):
         """Prints how both read a file, and notes what is beyond a bound. `pace` is the plain program's speed on the last boxes."""
         size = os.path.getsize(os.path.join(self.folder, name)) / 1e6
-        bound = self.given.bound if kind != "shared" else min(self.given.bound, SHARED)
         ours, theirs, peak = self.measured(name, kind)
         reads = theirs is not None and kind != "refused"
         for _ in range(AGAIN):
-            if reads and theirs / ours < bound:
+            if reads and theirs / ours < self.given.bound:
                 ours, theirs, peak = (min(both) for both in zip((ours, theirs, peak), self.measured(name, kind)))
         self.pace = size / theirs if kind == "boxes" else self.pace
         part, peak = (theirs / ours if reads else size / ours / self.pace), peak / 1e6 / size
-        slow, large = reads and part < bound, bool(self.given.peak) and size > 10 and peak > self.given.peak
+        slow, large = reads and part < self.given.bound, bool(self.given.peak) and size > 10 and peak > self.given.peak
         self.failed = self.failed or slow or large
         print(
             f"{name}: {size:.1f} MB, {1000 * ours:.0f} ms, {size / ours:.0f} MB/s, {part:.2f} of the plain program's speed{'' if reads else ' on boxes'}"
