@@ -1,5 +1,5 @@
 -- A value of one token that stands right there, the first of a list or behind a comma.
-use Rattle.std.proofs.Common.{◌≡◌, ℕ, ◌+◌, ◌<◌, ◌≤◌, inl, inr, ◌⊎◌, List, [], ◌∷◌, ◌++◌, length, Ok, refl, sym, ap, subst, ◌∙◌}
+use Rattle.std.proofs.Common.{◌≡◌, ℕ, suc, ◌+◌, ◌<◌, ◌≤◌, inl, inr, ◌⊎◌, List, [], ◌∷◌, ◌++◌, length, Ok, arith, refl, sym, ap, subst, ◌∙◌}
 use Rattle.std.specs.Prelude.{slice_index, slice_range}
 use Rattle.p21_lexer.specs.declared.token.Token.{Token}
 use Rattle.p21_lexer.specs.declared.token.TokenKind.{TokenKind}
@@ -11,8 +11,10 @@ use Rattle.p21_values.specs.Pieces.{kind_of}
 use Rattle.p21_values.proofs.Seen.{alone_says}
 use Rattle.p21_reader.specs.declared.table.Table.{Table}
 use Rattle.p21_reader.specs.Passing.{tells}
-use Rattle.p21_reader.specs.Tabling.{Counts, PassesValue, PutsFirst, PutsBehind}
+use Rattle.p21_reader.specs.Tabling.{Counts, PassesValue, PutsFirst, PutsBehind, PutsMore}
+use Rattle.p21_lexer.specs.Kinds.{kind_of as kind_by, span}
 use Rattle.p21_lexer.specs.There.{IsOneValue, IsValueThere}
+use Rattle.p21_lexer.proofs.Stands.{stands}
 use Rattle.p21_reader.proofs.Midway.{plain_value}
 use Rattle.p21_reader.proofs.RowLemmas.{sign_token, sign_by, sign_said_by}
 
@@ -56,3 +58,19 @@ pub plain_behind : (depth : ℕ) (bytes : List ℕ) (at end : ℕ) (old new : Ta
 plain_behind depth bytes at end old new lt e h items c =
     let p = plain_start depth bytes (at + 1) end old new h items c in
     (sign_token at, p.0, sign_by bytes at 44 tt lt e, sign_said_by bytes at 44 lt e, p.1, p.2)
+
+-- Values that are `$`.
+
+-- one of them is such a value
+absent_there : (bytes : List ℕ) (at : ℕ) → at < length bytes → slice_index bytes at ≡ 36 → IsValueThere bytes at (at + 1)
+unfolding span
+absent_there bytes at lt e = (tokens.Single, inl e, stands bytes at (at + 1) tokens.Single lt (ap kind_by e) refl (omega (arith, lt)))
+
+-- one more of them
+pub absent_more : (depth : ℕ) (bytes : List ℕ) (from at : ℕ) (old now new : Table) → at + 1 < length bytes → slice_index bytes at ≡ 44 → slice_index bytes (at + 1) ≡ 36
+    → new.starts.items ≡ now.starts.items ++ (at + 1) ∷ [] → Counts now.values new.values 1 → PutsMore depth bytes from old now at → PutsMore depth bytes from old new (at + 2)
+absent_more depth bytes from at old now new lt comma mark items c h =
+    let two : at + 1 + 1 ≡ at + 2 = omega arith in
+    let P : ℕ → Type 0 = λ n. PutsBehind depth bytes at now new n in
+    let behind = plain_behind depth bytes at (at + 1 + 1) now new (omega (arith, lt)) comma (absent_there bytes (at + 1) lt mark) items c in
+    (suc h.0, (at, now, h.1, subst P two behind))

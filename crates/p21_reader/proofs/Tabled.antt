@@ -1,5 +1,5 @@
 -- The table of a file grows start by start and head by head.
-use Rattle.std.proofs.Common.{◌≡◌, ℕ, ◌+◌, ◌^◌, ◌<◌, ◌≤◌, List, [], ◌∷◌, ◌++◌, length, sum_by, Some, Ok, arith, refl, sym, ap, subst, ◌∙◌, append_assoc, length-append}
+use Rattle.std.proofs.Common.{◌≡◌, ℕ, zero, suc, ◌+◌, ◌^◌, ◌<◌, ◌≤◌, List, [], ◌∷◌, ◌++◌, length, sum_by, Some, Ok, arith, refl, sym, ap, subst, ◌∙◌, append_assoc, length-append}
 use Rattle.std.proofs.lemmas.List.Sums.{sum_by-cons}
 use Rattle.std.specs.List.{AllZip}
 use Rattle.p21_lexer.specs.declared.token.Token.{Token}
@@ -18,7 +18,7 @@ use Rattle.p21_values.specs.Grammar.{Class, Close, Sign, Value, After, Inside}
 use Rattle.p21_reader.specs.Machine.{next}
 use Rattle.p21_values.specs.Standing.{Stands, StandInside}
 use Rattle.p21_values.proofs.Tokens.{one_token}
-use Rattle.p21_reader.specs.Tabling.{Counts, PutsStart, PutsFirst, PutsStarts}
+use Rattle.p21_reader.specs.Tabling.{Counts, PutsStart, PutsFirst, PutsMany, PutsMore, PutsStarts}
 use Rattle.p21_reader.proofs.Steps.{goes_one}
 use Rattle.p21_reader.proofs.Inwards.{Inwards, inwards_first, inwards_more, inwards_close, inwards_fails, stands_there}
 
@@ -100,6 +100,18 @@ putting_more d bytes from at end comma item old now new g h l k p = record {
   counts = subst (λ x. Counts old.values new.values x) (sym (sum_append size g.values p.0)) (counts_again old.values now.values new.values (sum_by size g.values) (size p.0) g.counts p.3);
   inwards = inwards_more d bytes from at end comma item g.values p.0 g.inwards h l k p.1;
 }
+
+-- with values behind it that are put one after another
+putting_many : (many d : ℕ) (bytes : List ℕ) (from at end : ℕ) (old now new : Table) → Putting d bytes from at old now → PutsMany many d bytes at now new end → Putting d bytes from end old new
+putting_many zero d bytes from at end old now new g h =
+    let P : ℕ → Type 0 = λ n. Putting d bytes from n old now in
+    subst (Putting d bytes from end old) h.1 (subst P h.0 g)
+putting_many (suc many) d bytes from at end old now new g h =
+    let p = h.3 in
+    putting_more d bytes from h.0 end p.0 p.1 old h.1 new (putting_many many d bytes from at h.0 old now h.1 g h.2) p.2 p.3 p.4 p.5
+
+pub putting_on : (d : ℕ) (bytes : List ℕ) (from at end : ℕ) (old now new : Table) → Putting d bytes from at old now → PutsMore d bytes at now new end → Putting d bytes from end old new
+putting_on d bytes from at end old now new g h = putting_many h.0 d bytes from at end old now new g h.1
 
 -- tokens that are cut from before a token are cut from where it begins
 from_start : (bytes : List ℕ) (at end : ℕ) (t : Token) (l : Lexeme) (ls : List Lexeme) → CutsFrom bytes at (Ok (Some t)) → Cuts bytes at (l ∷ ls) end → Cuts bytes t.start (l ∷ ls) end

@@ -1,5 +1,5 @@
 -- What the functions answer that make the table of a file.
-use Rattle.std.specs.Prelude.{◌≡◌, ◌⊎◌, ℕ, ◌+◌, ◌-◌, ◌*◌, ◌^◌, ◌<◌, min, Bool, false, List, [], ◌∷◌, ◌++◌, slice_index_or, sum_by, Option, Some, Result, Ok, Err}
+use Rattle.std.specs.Prelude.{◌≡◌, ◌⊎◌, ℕ, zero, suc, ◌+◌, ◌-◌, ◌*◌, ◌^◌, ◌<◌, min, Bool, false, List, [], ◌∷◌, ◌++◌, slice_index_or, sum_by, Option, Some, Result, Ok, Err}
 use Rattle.p21_lexer.specs.declared.token.Token.{Token}
 use Rattle.p21_values.specs.declared.fault.ReadFault.{ReadFault}
 use Rattle.p21_values.specs.declared.value.Value21.{Value21}
@@ -70,6 +70,17 @@ abbrev pub PutsBehind : ℕ → List ℕ → ℕ → Table → Table → ℕ →
 PutsBehind depth bytes at old new end =
     (comma item : Token) × CutsFrom bytes at (Ok (Some comma)) × (lexeme_of bytes comma ≡ Separator)
     × CutsFrom bytes comma.end (Ok (Some item)) × PutsStart depth bytes item old new (Ok end)
+
+-- so many values are put so, one after another; the last one ends there
+abbrev pub PutsMany : ℕ → ℕ → List ℕ → ℕ → Table → Table → ℕ → Type 0
+PutsMany zero depth bytes at old new end = (at ≡ end) × (old ≡ new)
+PutsMany (suc many) depth bytes at old new end =
+    (middle : ℕ) × (between : Table) × PutsMany many depth bytes at old between middle
+    × PutsBehind depth bytes middle between new end
+
+-- values are put so, or none
+abbrev pub PutsMore : ℕ → List ℕ → ℕ → Table → Table → ℕ → Type 0
+PutsMore depth bytes at old new end = (many : ℕ) × PutsMany many depth bytes at old new end
 
 -- the starts of the values behind an opening parenthesis, up to and with the closing one, come behind those before
 abbrev pub PutsStarts : ℕ → List ℕ → ℕ → Table → Table → Result ℕ ReadFault → Type 0

@@ -4,16 +4,15 @@ ghost use Rattle.std.specs.Char.{to_ascii_uppercase};
 ghost use Rattle.bim_model.specs.declared.limits.TheConstants.{MOST_UPLOAD};
 ghost use Rattle.p21_values.specs.declared.limits.TheConstants.{MOST_DEPTH};
 ghost use Rattle.ifc_keywords.specs.Codes.{code_of as code_said};
-ghost use Rattle.p21_values.specs.Lexemes.{lexeme_of};
+ghost use Rattle.p21_values.specs.Lexemes.{ReferenceTo, lexeme_of};
 ghost use Rattle.p21_values.specs.Pieces.{IsPiece};
-ghost use Rattle.p21_reader.specs.Tabling.{PutsStart, PutsFirst, PutsBehind, PutsStarts, PutsBody, PutsInstance, TablesSection};
+ghost use Rattle.p21_reader.specs.Tabling.{PutsStart, PutsFirst, PutsBehind, PutsMore, PutsStarts, PutsBody, PutsInstance, TablesSection};
 
 use crate::passing::{pass_complex, pass_value};
 use crate::section::closing;
-use crate::word::{expect, take_name, take_word};
+use crate::word::{Numbered, expect, take_name, take_word};
 use ifc_keywords::code_of;
 use p21_lexer::value_there;
-use p21_table::name_of;
 use p21_values::{Head, Kind, MOST_DEPTH, Piece, ReadFault, refused, take};
 use std::alloc::{AllocError, Global};
 
@@ -101,6 +100,27 @@ fn plain_first(bytes: &[u8], at: usize, table: &mut Table) -> Result<Option<usiz
     }
 }
 
+/// Adds the starts of values that are `$`, each right behind a comma, and passes over them.
+#[inline(always)]
+fn pass_absent(bytes: &[u8], at: usize, table: &mut Table) -> Result<usize, AllocError>
+    requires short { length bytes.now ≤ MOST_UPLOAD }
+    requires at { at ≤ length bytes.now }
+    ensures starts { (depth : ℕ) → IfOk result (PutsMore depth bytes.now at table.old table.new) }
+    ensures few { IfOk result
+        (λ end. length table.new.starts.items + at ≤ length table.old.starts.items + end) }
+    ensures heads { IfOk result (λ end. table.new.heads.items ≡ table.old.heads.items) }
+    ensures on { IfOk result (λ end. at ≤ end) }
+    ensures within { IfOk result (λ end. end ≤ length bytes.now) }
+{
+    let mut end = at;
+    while end + 1 < bytes.len() && bytes[end] == b',' && bytes[end + 1] == b'$' {
+        table.starts.push((end + 1) as u32)?;
+        table.values = table.values.saturating_add(1);
+        end += 2;
+    }
+    Ok(end)
+}
+
 /// Adds the starts of the values behind an opening parenthesis, up to and with the closing one.
 #[inline(never)]
 fn attributes(bytes: &[u8], at: usize, depth: usize, table: &mut Table) -> Result<usize, ReadFault>
@@ -126,6 +146,7 @@ fn attributes(bytes: &[u8], at: usize, depth: usize, table: &mut Table) -> Resul
         }
     };
     'items: loop {
+        end = pass_absent(bytes, end, table)?;
         match plain_attribute(bytes, end, table)? {
             Some(behind) => {
                 end = behind;
@@ -195,26 +216,26 @@ fn keyword_code(bytes: &[u8], word: Piece) -> u8
 }
 
 /// Adds an instance whose name is given.
-fn entry(bytes: &[u8], name: Piece, table: &mut Table) -> Result<usize, ReadFault>
+fn entry(bytes: &[u8], name: Numbered, table: &mut Table) -> Result<usize, ReadFault>
     requires short { length bytes.now ≤ MOST_UPLOAD }
-    requires piece { IsPiece bytes.now name }
-    requires name { name.kind ≡ Kind.Name }
+    requires piece { IsPiece bytes.now name.piece }
+    requires number { ReferenceTo name.id ≡ lexeme_of bytes.now name.piece.token }
     requires counted { table.old.values < 2 ^ 64 }
-    requires few { length table.old.starts.items ≤ name.token.start }
-    ensures instance { PutsInstance (lexeme_of bytes.now name.token) bytes.now name.token.end
+    requires few { length table.old.starts.items ≤ name.piece.token.start }
+    ensures instance { PutsInstance (lexeme_of bytes.now name.piece.token) bytes.now name.piece.token.end
         table.old table.new result }
     ensures few { IfOk result (λ end. length table.new.starts.items ≤ end) }
-    ensures on { IfOk result (λ end. name.token.end ≤ end) }
+    ensures on { IfOk result (λ end. name.piece.token.end ≤ end) }
     ensures within { IfOk result (λ end. end ≤ length bytes.now) }
 {
-    let at = expect(bytes, name.token.end, Kind::Equals)?;
+    let at = expect(bytes, name.piece.token.end, Kind::Equals)?;
     let word = take_word(bytes, at)?;
     let first = table.starts.len();
     let end = body(bytes, word, table)?;
     let count = table.starts.len() - first;
     let close = expect(bytes, end, Kind::Semicolon)?;
     table.heads.push(Head {
-        id: name_of(bytes, name),
+        id: name.id,
         word: word.token.start as u32,
         word_end: keyword_end(word) as u32,
         first: first as u32,
@@ -236,10 +257,10 @@ pub fn table_section(bytes: &[u8], at: usize, table: &mut Table) -> Result<usize
     let mut end = at;
     loop {
         let next = take_name(bytes, end)?;
-        match next.kind {
+        match next.piece.kind {
             Kind::Name => end = entry(bytes, next, table)?,
-            Kind::Word => return closing(bytes, next),
-            _ => return Err(refused(next)),
+            Kind::Word => return closing(bytes, next.piece),
+            _ => return Err(refused(next.piece)),
         }
     }
 }

@@ -1,7 +1,7 @@
 //! The words that structure a file.
 ghost use Rattle.std.specs.Prelude.{◌≡◌, ◌<◌, ◌≤◌, length, map, Some, Ok, IfOk, IfErr};
 ghost use Rattle.std.specs.Char.{to_ascii_uppercase};
-ghost use Rattle.p21_values.specs.Lexemes.{lexeme_of, class_of, mark_of};
+ghost use Rattle.p21_values.specs.Lexemes.{ReferenceTo, lexeme_of, class_of, mark_of};
 ghost use Rattle.p21_lexer.specs.Cutting.{CutsFrom};
 ghost use Rattle.p21_values.specs.Pieces.{IsPiece, IsSign, NoToken};
 ghost use Rattle.p21_reader.specs.Reading.{Expects};
@@ -10,6 +10,7 @@ ghost use Rattle.p21_reader.specs.Files.{ReadsWord};
 
 use ifc_keywords::is_word;
 use p21_lexer::{Token, TokenKind, name_there, word_there};
+use p21_table::name_of;
 use p21_values::{Kind, Piece, ReadFault, refused, take};
 
 /// The words that the grammar names; each other word is `Other`.
@@ -109,13 +110,36 @@ pub fn take_word(bytes: &[u8], at: usize) -> Result<Piece, ReadFault>
     }
 }
 
-/// The next token, which most often is a name on a line of its own.
+/// A token, and its number where it is an instance name; 0 where it is none.
+#[derive(Clone, Copy)]
+pub struct Numbered {
+    pub piece: Piece,
+    pub id: u64,
+}
+
+/// The token that is given, with its number where it is an instance name.
+fn with_number(bytes: &[u8], piece: Piece) -> Numbered
+    requires { IsPiece bytes.now piece }
+    ensures same { result.piece ≡ piece }
+    ensures number { piece.kind ≡ Kind.Name → ReferenceTo result.id ≡ lexeme_of bytes.now piece.token }
+{
+    let id = if piece.kind == Kind::Name {
+        name_of(bytes, piece)
+    } else {
+        0
+    };
+    Numbered { piece, id }
+}
+
+/// The next token, which most often is a name on a line of its own, and its number where it is a name.
 #[inline(always)]
-pub fn take_name(bytes: &[u8], at: usize) -> Result<Piece, ReadFault>
+pub fn take_name(bytes: &[u8], at: usize) -> Result<Numbered, ReadFault>
     requires { at ≤ length bytes.now }
-    ensures cuts { IfOk result (λ piece. CutsFrom bytes.now at (Ok (Some piece.token))) }
-    ensures piece { IfOk result (λ piece. IsPiece bytes.now piece) }
-    ensures on { IfOk result (λ piece. at ≤ piece.token.start) }
+    ensures cuts { IfOk result (λ next. CutsFrom bytes.now at (Ok (Some next.piece.token))) }
+    ensures piece { IfOk result (λ next. IsPiece bytes.now next.piece) }
+    ensures number { IfOk result (λ next. next.piece.kind ≡ Kind.Name →
+        ReferenceTo next.id ≡ lexeme_of bytes.now next.piece.token) }
+    ensures on { IfOk result (λ next. at ≤ next.piece.token.start) }
     ensures fault { IfErr result (λ fault. NoToken bytes.now at fault) }
 {
     let start = if at < bytes.len() && bytes[at] == b'\n' {
@@ -124,15 +148,18 @@ pub fn take_name(bytes: &[u8], at: usize) -> Result<Piece, ReadFault>
         at
     };
     match name_there(bytes, start) {
-        Some(name) => Ok(Piece {
-            kind: Kind::Name,
-            token: Token {
-                kind: TokenKind::Name,
-                start,
-                end: name.end,
+        Some(name) => Ok(Numbered {
+            piece: Piece {
+                kind: Kind::Name,
+                token: Token {
+                    kind: TokenKind::Name,
+                    start,
+                    end: name.end,
+                },
             },
+            id: name.id,
         }),
-        None => take(bytes, at),
+        None => Ok(with_number(bytes, take(bytes, at)?)),
     }
 }
 

@@ -7,7 +7,7 @@ use Rattle.p21_reader.specs.Tabling.{PutsStart, PutsFirst, PutsBehind, PutsStart
 use Rattle.p21_reader.proofs.Steps.{residual, fails_none, fails_refused, after_fails}
 use Rattle.p21_reader.proofs.Lists.{said, comma_fails, inside_fails}
 use Rattle.p21_reader.proofs.Inwards.{after_none}
-use Rattle.p21_reader.proofs.Tabled.{Putting, puts_none, putting_first, putting_plain, putting_more, putting_close, putting_fails, more_past}
+use Rattle.p21_reader.proofs.Tabled.{Putting, puts_none, putting_first, putting_plain, putting_more, putting_on, putting_close, putting_fails, more_past}
 use Rattle.p21_reader.proofs.table.attributes.Goals.{in-Some, in-None+in_ok-first-in-None+in_default+in_ok-end-in-None}
 use Rattle.p21_reader.proofs.table.attributes.Goals as goal
 
@@ -87,28 +87,40 @@ items-init c =
 
 pub items-preserved-in-Some-2 : goal.items-preserved-in-Some-2
 items-preserved-in-Some-2 c =
+    let d = c.args.depth in
+    let bytes = c.args.bytes.now in
+    let at = c.args.at in
+    let old = c.args.table.now in
+    let now = c.pass_absent.new.table in
+    let new = c.plain_attribute.new.table in
+    let end = c.in_ok-end-2.end in
+    let behind = c.in-Some-2.behind in
     let i = c.items.invariant in
+    let a = c.in_ok-end-2.ensures in
     let r = c.in_ok-behind.ensures in
-    let p : PutsBehind c.args.depth c.args.bytes.now c.items.end c.items.table c.plain_attribute.new.table c.in-Some-2.behind = rw c.in-Some-2.is at (r.start c.args.depth) in
-    let on : c.items.end < c.in-Some-2.behind = rw c.in-Some-2.is at r.on in
+    let p : PutsBehind d bytes end now new behind = rw c.in-Some-2.is at (r.start d) in
+    let on : end < behind = rw c.in-Some-2.is at r.on in
+    let read = putting_on d bytes at c.items.end end old c.items.table now i.read (a.starts d) in
     let puts = p.5 in
     record {
       within = rw c.in-Some-2.is at r.within;
-      on = omega (arith, i.on, on);
-      few = more_past c.args.table.now.starts.items c.items.table.starts.items c.plain_attribute.new.table.starts.items p.1.start c.args.at c.items.end c.in-Some-2.behind i.few puts.2 on;
-      heads = r.heads ∙ i.heads;
-      read = putting_more c.args.depth c.args.bytes.now c.args.at c.items.end c.in-Some-2.behind p.0 p.1 c.args.table.now c.items.table c.plain_attribute.new.table i.read p.2 p.3 p.4 puts;
+      on = omega (arith, i.on, a.on, on);
+      few = more_past old.starts.items now.starts.items new.starts.items p.1.start at end behind (omega (arith, i.few, a.few)) puts.2 on;
+      heads = r.heads ∙ a.heads ∙ i.heads;
+      read = putting_more d bytes at end behind p.0 p.1 old now new read p.2 p.3 p.4 puts;
     }
 
 pub returns-in_err-next : goal.returns-in_err-next
 returns-in_err-next c =
     let same = rw c.in-None-2.is at c.in_ok-behind.ensures.none in
-    let read : Putting c.args.depth c.args.bytes.now c.args.at c.items.end c.args.table.now c.plain_attribute.new.table = rw same c.items.invariant.read in
+    let read : Putting c.args.depth c.args.bytes.now c.args.at c.in_ok-end-2.end c.args.table.now c.plain_attribute.new.table =
+    rw same
+    (putting_on c.args.depth c.args.bytes.now c.args.at c.items.end c.in_ok-end-2.end c.args.table.now c.items.table c.pass_absent.new.table c.items.invariant.read (c.in_ok-end-2.ensures.starts c.args.depth)) in
     let f = c.in_err-next.field-0.0 in
     rw (residual _ _ c.from_residual-in_err-next.ensures.1) (record {
       starts =
-          putting_fails c.args.depth c.args.bytes.now c.args.at c.items.end c.args.table.now c.plain_attribute.new.table f read
-          (fails_none (After (Some c.args.depth)) [] c.args.bytes.now c.items.end f c.in_err-next.ensures.fault);
+          putting_fails c.args.depth c.args.bytes.now c.args.at c.in_ok-end-2.end c.args.table.now c.plain_attribute.new.table f read
+          (fails_none (After (Some c.args.depth)) [] c.args.bytes.now c.in_ok-end-2.end f c.in_err-next.ensures.fault);
       few = tt;
       heads = tt;
       on = tt;
@@ -117,31 +129,36 @@ returns-in_err-next c =
 
 pub returns-in-Close-kind : goal.returns-in-Close-kind
 returns-in-Close-kind c =
-    let same = rw c.in-None-2.is at c.in_ok-behind.ensures.none in
-    let read : Putting c.args.depth c.args.bytes.now c.args.at c.items.end c.args.table.now c.plain_attribute.new.table = rw same c.items.invariant.read in
-    let few : length c.plain_attribute.new.table.starts.items + c.args.at ≤ length c.args.table.now.starts.items + c.items.end = rw same c.items.invariant.few in
-    let heads : c.plain_attribute.new.table.heads.items ≡ c.args.table.now.heads.items = rw same c.items.invariant.heads in
     let i = c.items.invariant in
+    let p = c.in_ok-end-2.ensures in
+    let same = rw c.in-None-2.is at c.in_ok-behind.ensures.none in
+    let read : Putting c.args.depth c.args.bytes.now c.args.at c.in_ok-end-2.end c.args.table.now c.plain_attribute.new.table =
+    rw same
+    (putting_on c.args.depth c.args.bytes.now c.args.at c.items.end c.in_ok-end-2.end c.args.table.now c.items.table c.pass_absent.new.table c.items.invariant.read (c.in_ok-end-2.ensures.starts c.args.depth)) in
+    let few : length c.plain_attribute.new.table.starts.items + c.args.at ≤ length c.args.table.now.starts.items + c.in_ok-end-2.end = rw same (omega (arith, i.few, p.few)) in
+    let heads : c.plain_attribute.new.table.heads.items ≡ c.args.table.now.heads.items = rw same (p.heads ∙ i.heads) in
     let t = c.in_ok-next.ensures in
     let l = said (lexeme_of c.args.bytes.now c.in_ok-next.next.token) kinds.Close tt (sym c.in-Close-kind.is ∙ t.piece.seen) in
     record {
-      starts = putting_close c.args.depth c.args.bytes.now c.args.at c.items.end c.in_ok-next.next.token c.args.table.now c.plain_attribute.new.table read t.cuts l;
+      starts = putting_close c.args.depth c.args.bytes.now c.args.at c.in_ok-end-2.end c.in_ok-next.next.token c.args.table.now c.plain_attribute.new.table read t.cuts l;
       few = omega (arith, few, t.on, t.piece.some);
       heads = heads;
-      on = omega (arith, i.on, t.on, t.piece.some);
+      on = omega (arith, i.on, p.on, t.on, t.piece.some);
       within = t.piece.within;
     }
 
 pub returns-in_err-item-in-Comma : goal.returns-in_err-item-in-Comma
 returns-in_err-item-in-Comma c =
     let same = rw c.in-None-2.is at c.in_ok-behind.ensures.none in
-    let read : Putting c.args.depth c.args.bytes.now c.args.at c.items.end c.args.table.now c.plain_attribute.new.table = rw same c.items.invariant.read in
+    let read : Putting c.args.depth c.args.bytes.now c.args.at c.in_ok-end-2.end c.args.table.now c.plain_attribute.new.table =
+    rw same
+    (putting_on c.args.depth c.args.bytes.now c.args.at c.items.end c.in_ok-end-2.end c.args.table.now c.items.table c.pass_absent.new.table c.items.invariant.read (c.in_ok-end-2.ensures.starts c.args.depth)) in
     let f = c.in_err-item-in-Comma.field-0.0 in
     let l = said (lexeme_of c.args.bytes.now c.in_ok-next.next.token) kinds.Comma tt (sym c.in-Comma.is ∙ c.in_ok-next.ensures.piece.seen) in
     rw (residual _ _ c.from_residual-in_err-item-in-Comma.ensures.1) (record {
       starts =
-          putting_fails c.args.depth c.args.bytes.now c.args.at c.items.end c.args.table.now c.plain_attribute.new.table f read
-          (comma_fails c.args.depth c.args.bytes.now c.items.end c.in_ok-next.next.token f c.in_ok-next.ensures.cuts l
+          putting_fails c.args.depth c.args.bytes.now c.args.at c.in_ok-end-2.end c.args.table.now c.plain_attribute.new.table f read
+          (comma_fails c.args.depth c.args.bytes.now c.in_ok-end-2.end c.in_ok-next.next.token f c.in_ok-next.ensures.cuts l
           (fails_none (Value (Some c.args.depth)) [] c.args.bytes.now c.in_ok-next.next.token.end f c.in_err-item-in-Comma.ensures.fault));
       few = tt;
       heads = tt;
@@ -152,13 +169,15 @@ returns-in_err-item-in-Comma c =
 pub returns-in_err-end-in-Comma : goal.returns-in_err-end-in-Comma
 returns-in_err-end-in-Comma c =
     let same = rw c.in-None-2.is at c.in_ok-behind.ensures.none in
-    let read : Putting c.args.depth c.args.bytes.now c.args.at c.items.end c.args.table.now c.plain_attribute.new.table = rw same c.items.invariant.read in
+    let read : Putting c.args.depth c.args.bytes.now c.args.at c.in_ok-end-2.end c.args.table.now c.plain_attribute.new.table =
+    rw same
+    (putting_on c.args.depth c.args.bytes.now c.args.at c.items.end c.in_ok-end-2.end c.args.table.now c.items.table c.pass_absent.new.table c.items.invariant.read (c.in_ok-end-2.ensures.starts c.args.depth)) in
     let f = c.in_err-end-in-Comma.field-0.0 in
     let l = said (lexeme_of c.args.bytes.now c.in_ok-next.next.token) kinds.Comma tt (sym c.in-Comma.is ∙ c.in_ok-next.ensures.piece.seen) in
     rw (residual _ _ c.from_residual-in_err-end-in-Comma.ensures.1) (record {
       starts =
-          putting_fails c.args.depth c.args.bytes.now c.args.at c.items.end c.args.table.now c.plain_attribute.new.table f read
-          (comma_fails c.args.depth c.args.bytes.now c.items.end c.in_ok-next.next.token f c.in_ok-next.ensures.cuts l
+          putting_fails c.args.depth c.args.bytes.now c.args.at c.in_ok-end-2.end c.args.table.now c.plain_attribute.new.table f read
+          (comma_fails c.args.depth c.args.bytes.now c.in_ok-end-2.end c.in_ok-next.next.token f c.in_ok-next.ensures.cuts l
           (after_fails (Value (Some c.args.depth)) [] c.args.bytes.now c.in_ok-next.next.token.end c.in_ok-item-in-Comma.item.token f c.in_ok-item-in-Comma.ensures.cuts c.in_err-end-in-Comma.ensures.start));
       few = tt;
       heads = tt;
@@ -168,35 +187,40 @@ returns-in_err-end-in-Comma c =
 
 pub items-preserved : goal.items-preserved
 items-preserved c =
-    let same = rw c.in-None-2.is at c.in_ok-behind.ensures.none in
-    let read : Putting c.args.depth c.args.bytes.now c.args.at c.items.end c.args.table.now c.plain_attribute.new.table = rw same c.items.invariant.read in
-    let few : length c.plain_attribute.new.table.starts.items + c.args.at ≤ length c.args.table.now.starts.items + c.items.end = rw same c.items.invariant.few in
-    let heads : c.plain_attribute.new.table.heads.items ≡ c.args.table.now.heads.items = rw same c.items.invariant.heads in
     let i = c.items.invariant in
+    let p = c.in_ok-end-2.ensures in
+    let same = rw c.in-None-2.is at c.in_ok-behind.ensures.none in
+    let read : Putting c.args.depth c.args.bytes.now c.args.at c.in_ok-end-2.end c.args.table.now c.plain_attribute.new.table =
+    rw same
+    (putting_on c.args.depth c.args.bytes.now c.args.at c.items.end c.in_ok-end-2.end c.args.table.now c.items.table c.pass_absent.new.table c.items.invariant.read (c.in_ok-end-2.ensures.starts c.args.depth)) in
+    let few : length c.plain_attribute.new.table.starts.items + c.args.at ≤ length c.args.table.now.starts.items + c.in_ok-end-2.end = rw same (omega (arith, i.few, p.few)) in
+    let heads : c.plain_attribute.new.table.heads.items ≡ c.args.table.now.heads.items = rw same (p.heads ∙ i.heads) in
     let t = c.in_ok-next.ensures in
     let u = c.in_ok-item-in-Comma.ensures in
     let l = said (lexeme_of c.args.bytes.now c.in_ok-next.next.token) kinds.Comma tt (sym c.in-Comma.is ∙ t.piece.seen) in
-    let p = c.in_ok-end-in-Comma.ensures.start in
+    let puts = c.in_ok-end-in-Comma.ensures.start in
     record {
       within = c.in_ok-end-in-Comma.ensures.within;
-      on = omega (arith, i.on, t.on, t.piece.some, u.on, u.piece.some, c.in_ok-end-in-Comma.ensures.on);
+      on = omega (arith, i.on, p.on, t.on, t.piece.some, u.on, u.piece.some, c.in_ok-end-in-Comma.ensures.on);
       few =
-          more_past c.args.table.now.starts.items c.plain_attribute.new.table.starts.items c.attribute-in-Comma.new.table.starts.items c.in_ok-item-in-Comma.item.token.start c.args.at c.items.end c.in_ok-end-in-Comma.end few p.2
+          more_past c.args.table.now.starts.items c.plain_attribute.new.table.starts.items c.attribute-in-Comma.new.table.starts.items c.in_ok-item-in-Comma.item.token.start c.args.at c.in_ok-end-2.end c.in_ok-end-in-Comma.end few puts.2
           (omega (arith, t.on, t.piece.some, u.on, u.piece.some, c.in_ok-end-in-Comma.ensures.on));
       heads = c.in_ok-end-in-Comma.ensures.heads ∙ heads;
-      read = putting_more c.args.depth c.args.bytes.now c.args.at c.items.end c.in_ok-end-in-Comma.end c.in_ok-next.next.token c.in_ok-item-in-Comma.item.token c.args.table.now c.plain_attribute.new.table c.attribute-in-Comma.new.table read t.cuts l u.cuts p;
+      read = putting_more c.args.depth c.args.bytes.now c.args.at c.in_ok-end-2.end c.in_ok-end-in-Comma.end c.in_ok-next.next.token c.in_ok-item-in-Comma.item.token c.args.table.now c.plain_attribute.new.table c.attribute-in-Comma.new.table read t.cuts l u.cuts puts;
     }
 
 pub returns-in_default-kind : goal.returns-in_default-kind
 returns-in_default-kind c =
     let same = rw c.in-None-2.is at c.in_ok-behind.ensures.none in
-    let read : Putting c.args.depth c.args.bytes.now c.args.at c.items.end c.args.table.now c.plain_attribute.new.table = rw same c.items.invariant.read in
+    let read : Putting c.args.depth c.args.bytes.now c.args.at c.in_ok-end-2.end c.args.table.now c.plain_attribute.new.table =
+    rw same
+    (putting_on c.args.depth c.args.bytes.now c.args.at c.items.end c.in_ok-end-2.end c.args.table.now c.items.table c.pass_absent.new.table c.items.invariant.read (c.in_ok-end-2.ensures.starts c.args.depth)) in
     let t = c.in_ok-next.next.token in
     record {
       starts =
           rw c.refused.ensures
-          (putting_fails c.args.depth c.args.bytes.now c.args.at c.items.end c.args.table.now c.plain_attribute.new.table (faults.BadStatement t.start) read
-          (fails_refused (After (Some c.args.depth)) [] c.args.bytes.now c.items.end t.start t c.in_ok-next.ensures.cuts
+          (putting_fails c.args.depth c.args.bytes.now c.args.at c.in_ok-end-2.end c.args.table.now c.plain_attribute.new.table (faults.BadStatement t.start) read
+          (fails_refused (After (Some c.args.depth)) [] c.args.bytes.now c.in_ok-end-2.end t.start t c.in_ok-next.ensures.cuts
           (after_none (Some c.args.depth) (lexeme_of c.args.bytes.now t) c.in_ok-next.next.kind c.in_ok-next.ensures.piece.seen c.in_default-kind.not-Close c.in_default-kind.not-Comma) refl));
       few = tt;
       heads = tt;

@@ -22,15 +22,15 @@ returns-in_err-end-in-Name c =
     rw (residual _ _ c.from_residual-in_err-end-in-Name.ensures.1) (record {
       section =
           entered_fails c.args.bytes.now c.args.at l.end l.table f l.invariant.read
-          (many_instance c.args.bytes.now l.end c.in_ok-next.next.token f c.in_ok-next.ensures.cuts
-          (instances_name (lexeme_of c.args.bytes.now c.in_ok-next.next.token) (sym c.in-Name.is ∙ c.in_ok-next.ensures.piece.seen)) c.in_err-end-in-Name.ensures.instance);
+          (many_instance c.args.bytes.now l.end c.in_ok-next.next.piece.token f c.in_ok-next.ensures.cuts
+          (instances_name (lexeme_of c.args.bytes.now c.in_ok-next.next.piece.token) (sym c.in-Name.is ∙ c.in_ok-next.ensures.piece.seen)) c.in_err-end-in-Name.ensures.instance);
     })
 
 pub loop-next-preserved : goal.loop-next-preserved
 loop-next-preserved c =
     let l = c.loop-next in
-    let e = entered_step c.args.bytes.now c.args.at l.end c.in_ok-end-in-Name.end c.in_ok-next.next.token l.table c.entry.new.table l.invariant.read c.in_ok-next.ensures.cuts
-    (instances_name (lexeme_of c.args.bytes.now c.in_ok-next.next.token) (sym c.in-Name.is ∙ c.in_ok-next.ensures.piece.seen)) c.in_ok-end-in-Name.ensures.instance in
+    let e = entered_step c.args.bytes.now c.args.at l.end c.in_ok-end-in-Name.end c.in_ok-next.next.piece.token l.table c.entry.new.table l.invariant.read c.in_ok-next.ensures.cuts
+    (instances_name (lexeme_of c.args.bytes.now c.in_ok-next.next.piece.token) (sym c.in-Name.is ∙ c.in_ok-next.ensures.piece.seen)) c.in_ok-end-in-Name.ensures.instance in
     record {
       within = c.in_ok-end-in-Name.ensures.within;
       few = c.in_ok-end-in-Name.ensures.few;
@@ -40,17 +40,17 @@ loop-next-preserved c =
 
 pub returns-in-Word : goal.returns-in-Word
 returns-in-Word c = record {
-  section = entered_closed c.args.bytes.now c.args.at c.loop-next.end c.in_ok-next.next.token c.loop-next.table c.closing.result c.loop-next.invariant.read c.in_ok-next.ensures.cuts c.closing.ensures.closing;
+  section = entered_closed c.args.bytes.now c.args.at c.loop-next.end c.in_ok-next.next.piece.token c.loop-next.table c.closing.result c.loop-next.invariant.read c.in_ok-next.ensures.cuts c.closing.ensures.closing;
 }
 
 pub returns-in_default : goal.returns-in_default
 returns-in_default c =
     let l = c.loop-next in
-    let t = c.in_ok-next.next.token in
+    let t = c.in_ok-next.next.piece.token in
     record {
       section =
           rw c.refused.ensures
           (entered_fails c.args.bytes.now c.args.at l.end l.table (faults.BadStatement t.start) l.invariant.read
           (fails_refused Instances [] c.args.bytes.now l.end t.start t c.in_ok-next.ensures.cuts
-          (instances_none (lexeme_of c.args.bytes.now t) c.in_ok-next.next.kind c.in_ok-next.ensures.piece.seen c.in_default.not-Name c.in_default.not-Word) refl));
+          (instances_none (lexeme_of c.args.bytes.now t) c.in_ok-next.next.piece.kind c.in_ok-next.ensures.piece.seen c.in_default.not-Name c.in_default.not-Word) refl));
     }
