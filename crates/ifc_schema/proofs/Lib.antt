@@ -9,4 +9,5 @@ pub mod Wholes
 pub mod OneFlaw
 pub mod SoundRows
 pub mod ElementRows
+pub mod ShapedBodies
 pub mod BodyBits

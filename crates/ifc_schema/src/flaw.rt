@@ -273,7 +273,7 @@ fn attribute_flaw(
     }
 }
 
-/// The same of an element: its attributes one by one.
+/// The same of an element: its attributes one by one. One with a body refers to a product shape, as wanted.
 fn element_flaw(
     exchange: &Exchange,
     bodied: bool,
@@ -295,9 +295,11 @@ fn element_flaw(
     if placed.is_some() {
         return placed;
     }
-    let shaped = attribute_flaw(exchange, bodied, mapped, instance, &SHAPED);
-    if shaped.is_some() {
-        return shaped;
+    if !bodied {
+        let shaped = attribute_flaw(exchange, bodied, mapped, instance, &SHAPED);
+        if shaped.is_some() {
+            return shaped;
+        }
     }
     attribute_flaw(exchange, bodied, mapped, instance, &TAGGED)
 }
