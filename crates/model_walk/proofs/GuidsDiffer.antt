@@ -17,11 +17,12 @@ use Rattle.std.proofs.lemmas.Map.Made.{AllPairs-from_IsDistinct, IsDistinct-from
 use Rattle.std.proofs.lemmas.Cmp.{nat_list_cmp_total}
 use Rattle.std.proofs.lemmas.Map.Lookups.{exact_bytes}
 use Rattle.bim_model.specs.declared.element.Element.{Element}
-use Rattle.model_walk.specs.declared.element_sketches.Sketch.{Sketch}
+use Rattle.model_walk.specs.declared.sketch_list.Sketch.{Sketch}
 use Rattle.model_walk.specs.declared.element_sketches.Stock.{Stock}
 use Rattle.model_walk.specs.Checked.{Alternate, Differ}
 use Rattle.model_walk.specs.Sketches.{elements_of}
 use Rattle.model_walk.proofs.ElementsSurfaced.{guid_chars, same_guids}
+use Rattle.model_walk.proofs.KeysDiffer.{from_keys}
 
 alike : (xs ys : List ℕ) → bytes_eq xs ys ≡ true → bytes_eq ys xs ≡ true
 alike xs ys t = (bytes_eq-Decides ys xs).1 (sym ((bytes_eq-Decides xs ys).0 t))
@@ -38,12 +39,6 @@ flips xs ys = elim (cases_Bool (bytes_eq xs ys)) [
 -- keys that differ do so in any order
 keys_differ : (xs ys : List (List ℕ)) → IsPermutation xs ys → AllPairs (λ a b. a ≢ b) ys → AllPairs (λ a b. a ≢ b) xs
 keys_differ xs ys p d = AllPairs-from_IsDistinct bytes_eq-Decides xs (IsDistinct-IsPermutation bytes_eq flips ys xs (IsPermutation-sym xs ys p) (IsDistinct-from_AllPairs bytes_eq-Decides ys d))
-
-from_keys : {X : Type 0} (key : X → List ℕ) (xs : List X) → AllPairs (λ a b. a ≢ b) (map key xs) → AllPairs (λ x y. key x ≢ key y) xs
-from_keys key xs h i j d lt within same =
-    let m : j < length (map key xs) = rw (length-map xs key) within in
-    let n : i < length xs = omega arith in
-    h i j (key d) lt m (get_or-map key xs i d (key d) n ∙ same ∙ sym (get_or-map key xs j d (key d) within))
 
 equal : (o : Ordering) → is_lt o ≡ false → is_lt (ordering_reverse o) ≡ false → o ≡ Equal
 equal Less l r = cc

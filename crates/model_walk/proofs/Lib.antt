@@ -2,6 +2,7 @@ pub mod CleanShown
 pub mod ElementsSurfaced
 pub mod FormsRead
 pub mod GuidsDiffer
+pub mod KeysDiffer
 pub mod OneSetRead
 pub mod PiecesAdded
 pub mod PiecesKept
@@ -9,6 +10,8 @@ pub mod PlacesChecked
 pub mod PointsPooled
 pub mod SetEntities
 pub mod SetForms
+pub mod SketchesKept
 pub mod SketchesMade
+pub mod SlotsChained
 pub mod SurfacesPlaced
 pub mod WalkMade

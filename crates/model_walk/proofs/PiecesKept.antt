@@ -24,7 +24,7 @@ use Rattle.faceset.specs.Sets.{Joined}
 use Rattle.ifc_elements.specs.Items.{items_of, bodies_among, listed_by, body_items}
 use Rattle.ifc_elements.specs.Sound.{KeptItem}
 use Rattle.ifc_elements.specs.Surfaces.{placed_by}
-use Rattle.model_walk.specs.declared.element_sketches.Sketch.{Sketch}
+use Rattle.model_walk.specs.declared.sketch_list.Sketch.{Sketch}
 use Rattle.model_walk.specs.declared.element_sketches.Stock.{Stock}
 use Rattle.model_walk.specs.declared.shape_pieces.Piece.{Piece}
 use Rattle.model_walk.specs.declared.shape_pieces.Range.{Range}

@@ -24,7 +24,7 @@ use Rattle.ifc_elements.specs.Surfaces.{ItemSurface, placed_by}
 use Rattle.ifc_elements.proofs.TrianglesAdded.{joined_first, joined_length}
 use Rattle.model_walk.specs.declared.element_sketches.Drawn.{Drawn}
 use Rattle.model_walk.specs.declared.element_sketches.Placing.TheVariants.{By}
-use Rattle.model_walk.specs.declared.element_sketches.Sketch.{Sketch}
+use Rattle.model_walk.specs.declared.sketch_list.Sketch.{Sketch}
 use Rattle.model_walk.specs.declared.element_sketches.Stock.{Stock}
 use Rattle.model_walk.specs.Sketches.{range_triangles, element_of, elements_of, IsNearSketch}
 use Rattle.model_walk.specs.Stocked.{IsStocked, Grows, IsPlacing, IsSketch, Draws, AreDrawn}
@@ -104,19 +104,19 @@ all_still old new (s ∷ ss) g near = All-cons (IsNearSketch new) s ss (near_sti
 pub record DrawnSoFar (world : List Instance) (scale : Scale) (mode : Mode) (first stock : Stock) (ids : List ℕ) (drawn : Drawn) (count : ℕ) : Type 0 where
   pub stocked : IsStocked world scale mode stock
   pub grows : Grows first stock
-  pub each : AllZip (IsNearElement world scale mode) ids (elements_of stock drawn.elements.items drawn.sketches.items)
-  pub near : All (IsNearSketch stock) drawn.sketches.items
-  pub same : length drawn.elements.items ≡ length drawn.sketches.items
+  pub each : AllZip (IsNearElement world scale mode) ids (elements_of stock drawn.elements.items drawn.sketches)
+  pub near : All (IsNearSketch stock) drawn.sketches
+  pub same : length drawn.elements.items ≡ length drawn.sketches
   pub some : All (λ id. 0 < count_of world id) ids
   pub counted : count ≡ sum_by (count_of world) ids
 
 -- none yet
-pub drawn_none : (world : List Instance) (scale : Scale) (mode : Mode) (stock : Stock) (ids : List ℕ) (drawn : Drawn) → IsStocked world scale mode stock → drawn.elements.items ≡ [] → drawn.sketches.items ≡ []
+pub drawn_none : (world : List Instance) (scale : Scale) (mode : Mode) (stock : Stock) (ids : List ℕ) (drawn : Drawn) → IsStocked world scale mode stock → drawn.elements.items ≡ [] → drawn.sketches ≡ []
     → DrawnSoFar world scale mode stock stock (take 0 ids) drawn 0
 drawn_none world scale mode stock ids drawn stocked no_elements no_sketches = record {
   stocked = stocked;
   grows = same_stock stock;
-  each = subst (λ (es : List Element). AllZip (IsNearElement world scale mode) [] (elements_of stock es drawn.sketches.items)) (sym no_elements) tt;
+  each = subst (λ (es : List Element). AllZip (IsNearElement world scale mode) [] (elements_of stock es drawn.sketches)) (sym no_elements) tt;
   near = subst (All (IsNearSketch stock)) (sym no_sketches) (All-nil (IsNearSketch stock));
   same = ap length no_elements ∙ sym (ap length no_sketches);
   some = All-nil (λ id. 0 < count_of world id);
@@ -129,12 +129,12 @@ pub drawn_more : (world : List Instance) (scale : Scale) (mode : Mode) (first ol
 drawn_more world scale mode first old new ids at made grown before more i so_far lt found stocked g d =
     let id = get_or ids at 0 in
     let es = made.elements.items in
-    let ss = made.sketches.items in
+    let ss = made.sketches in
     let step : take (at + 1) ids ≡ take at ids ++ id ∷ [] = take_more ids at 0 lt in
     let still : AllZip (IsNearElement world scale mode) (take at ids) (elements_of new es ss) = subst (AllZip (IsNearElement world scale mode) (take at ids)) (sym (elements_still old new es ss g so_far.near)) so_far.each in
     let all = all_zipped_more (IsNearElement world scale mode) (take at ids) (elements_of new es ss) id (element_of new d.element d.sketch) still (element_near world scale mode new id i d.element d.sketch found d.is) in
-    let shows : elements_of new grown.elements.items grown.sketches.items ≡ elements_of new es ss ++ element_of new d.element d.sketch ∷ [] =
-    ap (λ (l : List Element). elements_of new l grown.sketches.items) d.elements ∙ ap (elements_of new (es ++ d.element ∷ [])) d.sketches ∙ elements_more new es ss d.element d.sketch so_far.same in
+    let shows : elements_of new grown.elements.items grown.sketches ≡ elements_of new es ss ++ element_of new d.element d.sketch ∷ [] =
+    ap (λ (l : List Element). elements_of new l grown.sketches) d.elements ∙ ap (elements_of new (es ++ d.element ∷ [])) d.sketches ∙ elements_more new es ss d.element d.sketch so_far.same in
     let count : more ≡ count_of world id = d.counted ∙ count_is world scale mode new id i d.element d.sketch found d.is in
     record {
       stocked = stocked;
@@ -156,7 +156,7 @@ are_drawn world scale mode first stock ids at drawn count le few so_far =
     let some = subst (All (λ k. 0 < count_of world k)) whole so_far.some in
     record {
       sound = sound_stock world scale mode stock so_far.stocked;
-      each = subst (λ (ks : List ℕ). AllZip (IsNearElement world scale mode) ks (elements_of stock drawn.elements.items drawn.sketches.items)) whole so_far.each;
+      each = subst (λ (ks : List ℕ). AllZip (IsNearElement world scale mode) ks (elements_of stock drawn.elements.items drawn.sketches)) whole so_far.each;
       near = so_far.near;
       same = so_far.same;
       some = λ id c. subst (λ k. 0 < count_of world k) c.2 (some c.0 id c.1);

@@ -24,7 +24,7 @@ use Rattle.model_walk.proofs.PlacesChecked.{never_kept}
 
 -- the elements of a walk are those of the file
 pub walked : (world : List Instance) (mode : Mode) (scale : Scale) (ids : List ℕ) (stock : Stock) (drawn : Drawn) → IsLengthUnit world scale → IsTree world → AllClean world scale mode → Lists (IsModelElement world) ids
-    → AreDrawn world scale mode stock ids drawn → Differ drawn.elements.items → IsWalked world mode (elements_of stock drawn.elements.items drawn.sketches.items)
+    → AreDrawn world scale mode stock ids drawn → Differ drawn.elements.items → IsWalked world mode (elements_of stock drawn.elements.items drawn.sketches)
 walked world mode scale ids stock drawn unit tree clean lists made differ = record {
   scale = scale;
   unit = unit;
@@ -35,7 +35,7 @@ walked world mode scale ids stock drawn unit tree clean lists made differ = reco
   each = made.each;
   some = made.some;
   few = made.few;
-  differ = surfaces_differ stock drawn.elements.items drawn.sketches.items made.same differ;
+  differ = surfaces_differ stock drawn.elements.items drawn.sketches made.same differ;
 }
 
 -- a new stock, once the sets are read

@@ -1,7 +1,9 @@
 pub mod Kept
+pub mod SketchLists
 pub mod Sketches
 pub mod Pieces
 pub mod Clean
 pub mod Stocked
 pub mod Walked
 pub mod Checked
+pub mod Slots

@@ -9,7 +9,7 @@ use Rattle.ifc_units.specs.Lengths.{reach}
 use Rattle.placement.specs.Frames.{IsFrame, AreWithin}
 use Rattle.ifc_elements.specs.Framed.{Framed}
 use Rattle.ifc_elements.specs.Surfaces.{placed_by}
-use Rattle.model_walk.specs.declared.element_sketches.Sketch.{Sketch}
+use Rattle.model_walk.specs.declared.sketch_list.Sketch.{Sketch}
 use Rattle.model_walk.specs.declared.element_sketches.Stock.{Stock}
 use Rattle.model_walk.specs.declared.set_pool.SetRows.{SetRows}
 use Rattle.model_walk.specs.declared.shape_pieces.Piece.{Piece}

@@ -19,7 +19,7 @@ use Rattle.ifc_elements.specs.Texts.{guid_of, name_of}
 use Rattle.model_walk.specs.declared.element_sketches.Drawn.{Drawn}
 use Rattle.model_walk.specs.declared.element_sketches.Placing.{Placing}
 use Rattle.model_walk.specs.declared.element_sketches.Placing.TheVariants.{Free, By, Unknown}
-use Rattle.model_walk.specs.declared.element_sketches.Sketch.{Sketch}
+use Rattle.model_walk.specs.declared.sketch_list.Sketch.{Sketch}
 use Rattle.model_walk.specs.declared.element_sketches.Stock.{Stock}
 use Rattle.model_walk.specs.declared.set_pool.SetRows.{SetRows}
 use Rattle.model_walk.specs.declared.shape_pieces.Piece.{Piece}
@@ -103,7 +103,7 @@ pub record Draws (world : List Instance) (scale : Scale) (mode : Mode) (stock : 
   pub element : Element
   pub sketch : Sketch
   pub elements : new.elements.items ≡ old.elements.items ++ element ∷ []
-  pub sketches : new.sketches.items ≡ old.sketches.items ++ sketch ∷ []
+  pub sketches : new.sketches ≡ old.sketches ++ sketch ∷ []
   pub is : IsSketch world scale mode stock i element sketch
   pub counted : count ≡ sketch.range.count
 
@@ -112,8 +112,8 @@ pub record AreDrawn (world : List Instance) (scale : Scale) (mode : Mode) (stock
     (drawn : Drawn) : Type 0 where
   pub sound : IsSoundStock stock
   pub each : AllZip (IsNearElement world scale mode) ids
-      (elements_of stock drawn.elements.items drawn.sketches.items)
-  pub near : All (IsNearSketch stock) drawn.sketches.items
-  pub same : length drawn.elements.items ≡ length drawn.sketches.items
+      (elements_of stock drawn.elements.items drawn.sketches)
+  pub near : All (IsNearSketch stock) drawn.sketches
+  pub same : length drawn.elements.items ≡ length drawn.sketches
   pub some : (id : ℕ) → Contains ids id → 0 < count_of world id
   pub few : sum_by (count_of world) ids ≤ MOST_TRIANGLES

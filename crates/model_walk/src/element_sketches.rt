@@ -16,12 +16,13 @@ ghost use Rattle.ifc_elements.specs.Texts.{guid_of};
 ghost use Rattle.model_walk.specs.Stocked.{shape_items, ShowsItems, IsStocked, Grows, IsPlacing, AddsBare, Draws, AreDrawn};
 ghost use Rattle.walk_rows.specs.Pools.{pooled};
 
+use crate::class_texts::LastClass;
 use crate::set_pool::SetRows;
 use crate::shape_pieces::{Piece, Range, add_shape};
+use crate::sketch_list::{Sketch, Sketches};
 use crate::sketched_surfaces::are_near;
-use bim_model::{Element, Guid, Items, MOST_TRIANGLES, Mode, Point, Text};
+use bim_model::{Element, Guid, Items, MOST_TRIANGLES, Mode, Point};
 use ifc_elements::{Names, guid_of, name_of, storey_name};
-use ifc_keywords::known_word;
 use ifc_units::Scale;
 use p21_table::{Exchange, InstanceRef};
 use placement::{Frame, Frames};
@@ -29,18 +30,12 @@ use spatial_tree::Tree;
 use std::alloc::{AllocError, Global};
 use walk_rows::Pool;
 
-/// How the surface of an element is made: the frame that carries it, and which pieces it shows.
-#[derive(Drop)]
-pub struct Sketch {
-    pub frame: Option<Frame>,
-    pub range: Range,
-}
-
 /// Elements without their surfaces, and the sketch of each, in the same order.
 #[derive(Drop)]
 pub struct Drawn {
     pub elements: Vec<Element>,
-    pub sketches: Vec<Sketch>,
+    pub sketches: Sketches,
+    pub classes: LastClass,
 }
 
 /// What elements are made of.
@@ -161,19 +156,6 @@ fn range_of(
     add_pieces(told, at, stock)
 }
 
-/// The class of an instance; none of a complex instance.
-fn class_of(alloc: Global, instance: &InstanceRef<'_>) -> Result<Option<Text>, AllocError>
-    ensures { IfOk result (λ found. IfSome found (λ class. instance.now.keyword ≡ Some class)) }
-{
-    if let Some(word) = known_word(instance.code()) {
-        return Ok(Some(Text::of(alloc, word)?));
-    }
-    match instance.keyword() {
-        Some(keyword) => Ok(Some(keyword.text(alloc)?)),
-        None => Ok(None),
-    }
-}
-
 /// Adds the element without its surface. False where it has no class.
 #[inline(always)]
 fn add_bare(
@@ -181,6 +163,7 @@ fn add_bare(
     told: &Told<'_>,
     instance: &InstanceRef<'_>,
     guid: Guid,
+    classes: &mut LastClass,
     elements: &mut Vec<Element>,
 ) -> Result<bool, AllocError>
     requires storeys { ListsStoreys told.now.exchange.now told.now.tree.now }
@@ -190,7 +173,7 @@ fn add_bare(
     ensures { IfOk result (λ added. OnTrue added
         (AddsBare told.now.exchange.now instance.now elements.old.items elements.new.items)) }
 {
-    let Some(class) = class_of(alloc, instance)? else {
+    let Some(class) = classes.class_of(alloc, instance)? else {
         return Ok(false);
     };
     elements.push(Element {
@@ -233,7 +216,14 @@ fn draw_by(
     if !are_near(stock, range, frame) {
         return Ok(None);
     }
-    if !add_bare(alloc, told, instance, guid, &mut drawn.elements)? {
+    if !add_bare(
+        alloc,
+        told,
+        instance,
+        guid,
+        &mut drawn.classes,
+        &mut drawn.elements,
+    )? {
         return Ok(None);
     }
     drawn.sketches.push(Sketch { frame, range })?;
@@ -284,7 +274,8 @@ pub fn drawn_of(
 {
     let mut drawn = Drawn {
         elements: Vec::with_capacity(alloc, ids.len())?,
-        sketches: Vec::with_capacity(alloc, ids.len())?,
+        sketches: Sketches::new(alloc, ids.len())?,
+        classes: LastClass::new(),
     };
     let mut count = 0;
     for id in ids {

@@ -2,10 +2,13 @@
 //! file without a fault; of any other file it says nothing.
 #![tactic(auto)]
 
+mod class_texts;
+mod distinct_guids;
 mod element_sketches;
 mod point_pool;
 mod set_pool;
 mod shape_pieces;
+mod sketch_list;
 mod sketched_surfaces;
 mod used_checks;
 mod walking;

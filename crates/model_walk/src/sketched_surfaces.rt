@@ -248,17 +248,18 @@ fn surface_of(
 /// The elements with their surfaces, each made in its place.
 pub fn surfaced(alloc: Global, stock: &Stock, drawn: Drawn) -> Result<Vec<Element>, AllocError>
     requires sound { IsSoundStock stock.now }
-    requires near { All (IsNearSketch stock.now) drawn.sketches.items }
-    requires same { length drawn.elements.items ≡ length drawn.sketches.items }
+    requires near { All (IsNearSketch stock.now) drawn.sketches }
+    requires same { length drawn.elements.items ≡ length drawn.sketches }
     ensures { IfOk result (λ made.
-        made.items ≡ elements_of stock.now drawn.elements.items drawn.sketches.items) }
+        made.items ≡ elements_of stock.now drawn.elements.items drawn.sketches) }
 {
     let Drawn {
         mut elements,
         sketches,
+        classes: _classes,
     } = drawn;
     for at in 0..elements.len() {
-        let sketch = &sketches[at];
+        let sketch = sketches.get(at);
         let made = surface_of(alloc, stock, sketch.range, &sketch.frame)?;
         elements[at].triangles = Items::from_vec(made);
     }

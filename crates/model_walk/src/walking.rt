@@ -12,6 +12,7 @@ ghost use Rattle.model_walk.specs.Kept.{ArePooled, HasLists, AreReadSets};
 ghost use Rattle.model_walk.specs.Stocked.{IsStocked};
 ghost use Rattle.model_walk.specs.Walked.{IsWalked};
 
+use crate::distinct_guids::differ_by_hash;
 use crate::element_sketches::{Drawn, Stock, Told, drawn_of};
 use crate::point_pool::points_in;
 use crate::set_pool::{SetRows, keep_set};
@@ -44,10 +45,10 @@ impl Model for Walked {
 
     ghost Value = { List Element };
 
-    ghost view = { λ w. elements_of w.stock w.drawn.elements.items w.drawn.sketches.items };
+    ghost view = { λ w. elements_of w.stock w.drawn.elements.items w.drawn.sketches };
 
-    ghost invariant = { λ w. IsSoundStock w.stock × All (IsNearSketch w.stock) w.drawn.sketches.items
-        × (length w.drawn.elements.items ≡ length w.drawn.sketches.items) };
+    ghost invariant = { λ w. IsSoundStock w.stock × All (IsNearSketch w.stock) w.drawn.sketches
+        × (length w.drawn.elements.items ≡ length w.drawn.sketches) };
 }
 
 /// Whether an instance that is used, and is no list of points nor a set, has the form of its row.
@@ -183,53 +184,55 @@ fn alternate(guids: &[[u8; 22]]) -> bool
 fn differ(alloc: Global, elements: &[Element]) -> Result<bool, AllocError>
     ensures { IfOk result (λ differ. OnTrue differ (Differ elements.now)) }
 {
+    if differ_by_hash(alloc, elements)? {
+        return Ok(true);
+    }
     let mut guids = guids_of(alloc, elements)?;
     guids.sort_unstable();
     Ok(alternate(&guids))
 }
 
-/// The numbers of the storeys that are used.
-fn storeys_in(alloc: Global, exchange: &Exchange, marks: &[Mark]) -> Result<Vec<u64>, AllocError>
+/// The numbers of the storeys and of the placements that are used.
+#[derive(Drop)]
+struct UsedParts {
+    storeys: Vec<u64>,
+    placements: Vec<u64>,
+}
+
+/// The storeys and placements that are used.
+fn used_parts(alloc: Global, exchange: &Exchange, marks: &[Mark]) -> Result<UsedParts, AllocError>
     requires { length marks.now ≡ length exchange.now }
 {
-    let mut ids = Vec::new(alloc);
+    let mut storeys = Vec::new(alloc);
+    let mut placements = Vec::new(alloc);
     for at in 0..marks.len() {
         if marks[at].is_seen() {
             let instance = exchange.instance(at);
-            if Entity::Storey.includes(&instance) {
-                ids.push(instance.id())?;
+            match Entity::at(&instance) {
+                Some(Entity::Storey) => storeys.push(instance.id())?,
+                Some(Entity::Placement) => placements.push(instance.id())?,
+                _ => {}
             }
         }
     }
-    Ok(ids)
+    Ok(UsedParts {
+        storeys,
+        placements,
+    })
 }
 
-/// The placements that the elements of these numbers name.
-fn placements_of(alloc: Global, exchange: &Exchange, ids: &[u64]) -> Result<Vec<u64>, AllocError> {
-    let mut named = Vec::new(alloc);
-    for id in ids {
-        if let Some(instance) = exchange.look(*id) {
-            if let Some(placement) = instance.reference_at(5) {
-                named.push(placement)?;
-            }
-        }
-    }
-    Ok(named)
-}
-
-/// The frames of the placements that the elements of these numbers name. None where a chain never ends, or a placement has no frame.
+/// The frames of these placements. None where a chain never ends, or a placement has no frame.
 fn frames_of(
     alloc: Global,
     exchange: &Exchange,
-    ids: &[u64],
+    placements: &[u64],
     scale: Scale,
     mode: Mode,
 ) -> Result<Option<Frames>, AllocError>
     ensures { IfOk result (λ found. IfSome found
         (λ frames. AllPlaced exchange.now scale mode (frame_in frames))) }
 {
-    let named = placements_of(alloc, exchange, ids)?;
-    match Chains::of(alloc, exchange, &named) {
+    match Chains::of(alloc, exchange, placements) {
         Ok(chains) => Frames::of(alloc, exchange, &chains, scale, mode),
         Err(BuildError::Memory) => Err(AllocError),
         Err(BuildError::Fault(_fault)) => Ok(None),
@@ -258,11 +261,11 @@ fn sketched(
 {
     let mut stock = stock;
     let ids = list_elements(alloc, exchange, bodied, work)?;
-    let Some(frames) = frames_of(alloc, exchange, &ids, scale, mode)? else {
+    let parts = used_parts(alloc, exchange, &work.marks)?;
+    let Some(frames) = frames_of(alloc, exchange, &parts.placements, scale, mode)? else {
         return Ok(None);
     };
-    let storeys = storeys_in(alloc, exchange, &work.marks)?;
-    let names = Names::of(alloc, exchange, &storeys)?;
+    let names = Names::of(alloc, exchange, &parts.storeys)?;
     let told = Told {
         exchange,
         tree: spatial,

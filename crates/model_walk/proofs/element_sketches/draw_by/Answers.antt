@@ -23,7 +23,7 @@ returns-clause-draws c =
       element = added.element;
       sketch = record { frame = c.args.frame; range = range };
       elements = added.grown;
-      sketches = c.in_ok-push.ensures.items;
+      sketches = c.in_ok-push.ensures;
       is = record {
         bare = added.bare;
         placed = c.requires.placed;

@@ -7,7 +7,7 @@ use Rattle.model_walk.proofs.element_sketches.drawn_of.Goals as goal
 pub loop-id-init : goal.loop-id-init
 loop-id-init c =
     let told = c.args.told.now in
-    (drawn_none told.exchange.now told.scale told.mode c.args.stock.now c.args.ids.now _ c.requires.stocked c.in_ok-with_capacity.ensures.items c.in_ok-with_capacity-2.ensures.items, omega arith)
+    (drawn_none told.exchange.now told.scale told.mode c.args.stock.now c.args.ids.now _ c.requires.stocked c.in_ok-with_capacity.ensures.items c.in_ok-new.ensures, omega arith)
 
 pub draw-requires-clause-stocked : goal.draw-requires-clause-stocked
 draw-requires-clause-stocked c = c.loop-id.invariant.0.stocked
