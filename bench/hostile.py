@@ -549,7 +549,42 @@ def wanting(flood, lanes=3):
     return f"a worker was refused more than {most / MIB:.0f} MiB, and went on"
 
 
-ROWS = {it.__name__: it for it in (drip, heads, lengths, odd, cuts, resets, pipelined, never_read, bodies, wanting)}
+def listed_faces(sets, times):
+    """A file of one pipe whose body is so many sets, each of which lists one convex face of 1,000 corners so often."""
+    start, end = (part.decode() for part in reference.file_of().split(b"ENDSEC;\nEND-ISO"))
+    corners = ",".join(f"({10 * n}.,{n * n}.,0.)" for n in range(-500, 500))
+    loop, names = ",".join(map(str, range(1, 1001))), ",".join(["#5"] * times)
+    places = ",".join(f"#{100 + n}" for n in range(sets))
+    return (f"{start}#4=IFCCARTESIANPOINTLIST3D(({corners}));\n#5=IFCINDEXEDPOLYGONALFACE(({loop}));\n"
+            f"#6=IFCSHAPEREPRESENTATION($,'Body','Tessellation',({places}));\n#7=IFCPRODUCTDEFINITIONSHAPE($,$,(#6));\n"
+            f"#8=IFCPIPESEGMENT('{'p' * 22}',$,$,$,$,$,#7,$,$);\n"
+            + "".join(f"#{100 + n}=IFCPOLYGONALFACESET(#4,$,({names}),$);\n" for n in range(sets))
+            + "ENDSEC;\nEND-ISO" + end).encode()
+
+
+def listed(flood, lanes=3):
+    """Files of some hundred kilobytes whose sets list one face again and again, so that they have millions of triangles: they
+    are refused for these, in memory for no more than a million, and others are answered meanwhile. A set that has nearly a
+    million makes a model."""
+    v = f"/coord/1/projects/{project_id(1)}"
+    file, size = listed_faces(flood.much(40, 400), 1002), 0
+    with Limited(flood.program, 160 * MIB, lanes=lanes) as server:
+        client = Client(server)
+
+        def upload():
+            it = client.ask("PUT", f"{v}/models/a", file)
+            want(it.status == 422 and it.reply == b'{"code":"U19","message":"U19 TooMany","what":"triangles"}',
+                 f"{it.status} {it.reply[:80]!r}")
+        logs, told = beside(server, 1, upload)
+        want(client.ask("PUT", f"{v}/models/b", listed_faces(1, 1001)).status == 201, "no version of 998,998 triangles")
+        client.close()
+        check_replies(flood.program, 1, logs)
+        size = memory(server)
+        end(server)
+    return f"{len(file) / 1000:.0f} KB, {told}, {size / MIB:.0f} MiB"
+
+
+ROWS = {it.__name__: it for it in (drip, heads, lengths, odd, cuts, resets, pipelined, never_read, bodies, listed, wanting)}
 
 
 def main():

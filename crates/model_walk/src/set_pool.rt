@@ -10,7 +10,7 @@ ghost use Rattle.model_walk.specs.declared.set_pool.SetRows.{SetRows};
 ghost use Rattle.walk_rows.specs.Pools.{Pools};
 ghost use Rattle.model_walk.specs.Kept.{ArePooled, IsRead};
 
-use bim_model::{Items, MOST_TRIANGLES, Point};
+use bim_model::{Items, Point};
 use p21_table::{Exchange, InstanceRef};
 use std::alloc::{AllocError, Global};
 use walk_rows::{Pool, Row, rows_of_set};
@@ -34,12 +34,13 @@ fn list_of(exchange: &Exchange, set: &InstanceRef<'_>) -> Option<usize>
     exchange.place_of(id)
 }
 
-/// What is kept of a set. None where it shows a fault.
+/// What is kept of a set. None where it shows a fault, or has more than so many rows.
 fn read_set(
     alloc: Global,
     exchange: &Exchange,
     points: &Pool<Items<Point>>,
     set: &InstanceRef<'_>,
+    most: usize,
 ) -> Result<Option<SetRows>, AllocError>
     requires set { is_set set.now ≡ true }
     requires points { (scale : Scale) × (mode : Mode) × ArePooled exchange.now scale mode points.now }
@@ -55,10 +56,10 @@ fn read_set(
     if found.len() >= MOST_POINTS {
         return Ok(None);
     }
-    let Some(rows) = rows_of_set(alloc, exchange, set, found.as_slice())? else {
+    let Some(rows) = rows_of_set(alloc, exchange, set, found.as_slice(), most)? else {
         return Ok(None);
     };
-    if rows.len() == 0 || rows.len() > MOST_TRIANGLES as usize {
+    if rows.len() == 0 || rows.len() > most {
         return Ok(None);
     }
     Ok(Some(SetRows {
@@ -67,13 +68,14 @@ fn read_set(
     }))
 }
 
-/// Keeps the rows of the set at a place. False where it shows a fault.
+/// Keeps the rows of the set at a place, for which there is so much room. False where it shows a fault, or has more rows.
 pub fn keep_set(
     alloc: Global,
     exchange: &Exchange,
     points: &Pool<Items<Point>>,
     set: &InstanceRef<'_>,
     at: usize,
+    room: &mut usize,
     pool: &mut Pool<SetRows>,
 ) -> Result<bool, AllocError>
     requires set { is_set set.now ≡ true }
@@ -84,9 +86,10 @@ pub fn keep_set(
         × IsRead exchange.now scale mode points.now kept set.now
         × Pools pool.old pool.new at kept)) }
 {
-    let Some(made) = read_set(alloc, exchange, points, set)? else {
+    let Some(made) = read_set(alloc, exchange, points, set, *room)? else {
         return Ok(false);
     };
+    *room = room.saturating_sub(made.rows.len());
     pool.put(at, made)?;
     Ok(true)
 }

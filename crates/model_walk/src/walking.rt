@@ -18,7 +18,7 @@ use crate::point_pool::points_in;
 use crate::set_pool::{SetRows, keep_set};
 use crate::sketched_surfaces::surfaced;
 use crate::used_checks::shows_none;
-use bim_model::{BuildError, Element, Items, Mode, Point};
+use bim_model::{BuildError, Element, Items, MOST_TRIANGLES, Mode, Point};
 use faceset::is_set;
 use ifc_elements::Names;
 use ifc_instances::Entity;
@@ -59,7 +59,8 @@ fn is_formed(exchange: &Exchange, bodied: bool, mapped: bool, instance: &Instanc
     instance_flaw(exchange, bodied, mapped, instance).is_none()
 }
 
-/// Looks at the instance at a place, which is used; whether it is mapped is given. False where it shows a fault.
+/// Looks at the instance at a place, which is used; whether it is mapped is given. False where it shows a fault, or has more rows than there
+/// is room for.
 fn look_at(
     alloc: Global,
     exchange: &Exchange,
@@ -69,6 +70,7 @@ fn look_at(
     scale: Scale,
     mode: Mode,
     points: &Pool<Items<Point>>,
+    room: &mut usize,
     sets: &mut Pool<SetRows>,
 ) -> Result<bool, AllocError>
     requires within { at < length exchange.now }
@@ -86,7 +88,7 @@ fn look_at(
         return Ok(false);
     }
     if is_set(&instance) {
-        return keep_set(alloc, exchange, points, &instance, at, sets);
+        return keep_set(alloc, exchange, points, &instance, at, room, sets);
     }
     if Entity::PointList.includes(&instance) {
         return Ok(true);
@@ -94,7 +96,7 @@ fn look_at(
     Ok(is_formed(exchange, bodied[at], mapped, &instance))
 }
 
-/// Looks at the instance at a place, where it is used. False where it shows a fault.
+/// Looks at the instance at a place, where it is used. False where it shows a fault, or has more rows than there is room for.
 fn check_at(
     alloc: Global,
     exchange: &Exchange,
@@ -104,6 +106,7 @@ fn check_at(
     scale: Scale,
     mode: Mode,
     points: &Pool<Items<Point>>,
+    room: &mut usize,
     sets: &mut Pool<SetRows>,
 ) -> Result<bool, AllocError>
     requires known { Known exchange.now work.now }
@@ -123,11 +126,12 @@ fn check_at(
     }
     let mapped = mark.is_mapped();
     look_at(
-        alloc, exchange, bodied, mapped, at, scale, mode, points, sets,
+        alloc, exchange, bodied, mapped, at, scale, mode, points, room, sets,
     )
 }
 
-/// The rows of the sets that are used, where nothing that is used shows a fault.
+/// The rows of the sets that are used, where nothing that is used shows a fault and all together have no more rows than a model may have
+/// triangles: a set may list a face again and again, so that its rows take much more room than its bytes.
 fn sets_in(
     alloc: Global,
     exchange: &Exchange,
@@ -145,10 +149,11 @@ fn sets_in(
     ensures clean { IfOk result (λ found. IfSome found (λ sets. AllClean exchange.now scale mode)) }
 {
     let places = exchange.len();
+    let mut room = MOST_TRIANGLES as usize;
     let mut sets = Pool::new(alloc, places)?;
     for at in 0..places {
         let clean = check_at(
-            alloc, exchange, bodied, work, at, scale, mode, points, &mut sets,
+            alloc, exchange, bodied, work, at, scale, mode, points, &mut room, &mut sets,
         )?;
         if !clean {
             return Ok(None);

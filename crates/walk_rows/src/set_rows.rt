@@ -9,7 +9,7 @@ ghost use Rattle.walk_rows.specs.SetRows.{HasNumbering, NamesFaces, NamesPoints}
 use crate::face_rows::rows_of_faces;
 use crate::row_places::{places_named, rows_of};
 use crate::triangle_rows::Row;
-use bim_model::{MOST_TRIANGLES, Point};
+use bim_model::Point;
 use faceset::{is_polygonal, numbering};
 use p21_table::{Exchange, InstanceRef, Values};
 use std::alloc::{AllocError, Global};
@@ -25,13 +25,14 @@ fn has_numbering(set: &InstanceRef<'_>) -> bool
     }
 }
 
-/// The rows of a set, by the places that its numbers name where it has them.
+/// The rows of a set, by the places that its numbers name where it has them; those of faces are at most so many.
 fn rows_by(
     alloc: Global,
     exchange: &Exchange,
     set: &InstanceRef<'_>,
     numbers: Option<&[u32]>,
     points: &[Point],
+    most: usize,
 ) -> Result<Option<Vec<Row>>, AllocError>
     requires few { length points.now < 2 ^ 32 }
     requires in_grid { All IsGridPoint points.now }
@@ -41,26 +42,20 @@ fn rows_by(
     ensures faces { IfOk result (λ found. IfSome found (λ rows. NamesFaces exchange.now set.now)) }
 {
     if is_polygonal(set) {
-        rows_of_faces(
-            alloc,
-            exchange,
-            &set.listed(2),
-            numbers,
-            points,
-            MOST_TRIANGLES as usize,
-        )
+        rows_of_faces(alloc, exchange, &set.listed(2), numbers, points, most)
     } else {
         rows_of(alloc, &set.listed(3), numbers, points.len())
     }
 }
 
 /// The rows of a set whose list has these points. None where its numbers of points aren't a list, an index or such a number names no point,
-/// a value in place of a face leads to none, or a face can't be cut.
+/// a value in place of a face leads to none, a face can't be cut, or its faces have more than so many triangles.
 pub fn rows_of_set(
     alloc: Global,
     exchange: &Exchange,
     set: &InstanceRef<'_>,
     points: &[Point],
+    most: usize,
 ) -> Result<Option<Vec<Row>>, AllocError>
     requires few { length points.now < 2 ^ 32 }
     requires in_grid { All IsGridPoint points.now }
@@ -75,10 +70,10 @@ pub fn rows_of_set(
         return Ok(None);
     }
     let Some(values) = numbering(set) else {
-        return rows_by(alloc, exchange, set, None, points);
+        return rows_by(alloc, exchange, set, None, points, most);
     };
     match places_named(alloc, &values, points.len())? {
-        Some(places) => rows_by(alloc, exchange, set, Some(&places), points),
+        Some(places) => rows_by(alloc, exchange, set, Some(&places), points, most),
         None => Ok(None),
     }
 }
