@@ -2,7 +2,7 @@
 # make replay            replays the stored run of cases/topics/stored_run over the built program, and prints what it writes
 # make check             the test command: the map of crates, the whole gate, then the end-to-end cases over the built program,
 #                        clients over sockets, calls of the C library that fail in turn, floods, and the speed of reading
-# make hostile           the last two whole, over the program as it was built last: some minutes
+# make hostile           failing calls and floods whole, over the program as it was built last: some minutes
 # make serve             serves on 127.0.0.1:8080 over the built program, until it is stopped
 # make crate NAME=..     proves one crate, over what earlier checks kept of those below it, and runs its tests
 # make cases [GROUP=..]  the end-to-end cases alone, over the program as it was built last: all, or those of the groups

@@ -32,6 +32,10 @@ def comb():
     return [(0, 0)] + teeth + [(5010, 0)]
 
 
+def convex():
+    return [(10 * n, n * n) for n in range(-500, 500)]
+
+
 def strip():
     """A strip that winds round itself."""
     def side(more):
@@ -126,6 +130,7 @@ INPUTS = {
     "one comb, listed 3,000 times": lambda: upload(polygons(comb(), 1, 3000)),
     "9 combs in each of 300 sets": lambda: upload(polygons(comb(), 9, sets=300)),
     "9 winding strips in each of 300 sets": lambda: upload(polygons(strip(), 9, sets=300)),
+    "one convex face, listed by each of 100 sets": lambda: upload(polygons(convex(), 1, 1002, sets=100)),
     "1,000 combs": lambda: upload(polygons(comb(), 1000)),
     "one comb, shared by 1,000 pipes": lambda: upload(polygons(comb(), 1, 1, 1000)),
     "a set mapped 1,000,000 times": lambda: upload(mapped(1000000)),
