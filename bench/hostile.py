@@ -567,14 +567,15 @@ def listed(flood, lanes=3):
     are refused for these, in memory for no more than a million, and others are answered meanwhile. A set that has nearly a
     million makes a model."""
     v = f"/coord/1/projects/{project_id(1)}"
-    file, size = listed_faces(flood.much(40, 400), 1002), 0
+    file = listed_faces(flood.much(40, 400), 1002)
     with Limited(flood.program, 160 * MIB, lanes=lanes) as server:
         client = Client(server)
 
         def upload():
-            it = client.ask("PUT", f"{v}/models/a", file)
-            want(it.status == 422 and it.reply == b'{"code":"U19","message":"U19 TooMany","what":"triangles"}',
-                 f"{it.status} {it.reply[:80]!r}")
+            for _ in range(5):
+                it = client.ask("PUT", f"{v}/models/a", file)
+                want(it.status == 422 and it.reply == b'{"code":"U19","message":"U19 TooMany","what":"triangles"}',
+                     f"{it.status} {it.reply[:80]!r}")
         logs, told = beside(server, 1, upload)
         want(client.ask("PUT", f"{v}/models/b", listed_faces(1, 1001)).status == 201, "no version of 998,998 triangles")
         client.close()
