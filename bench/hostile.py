@@ -585,7 +585,46 @@ def listed(flood, lanes=3):
     return f"{len(file) / 1000:.0f} KB, {told}, {size / MIB:.0f} MiB"
 
 
-ROWS = {it.__name__: it for it in (drip, heads, lengths, odd, cuts, resets, pipelined, never_read, bodies, listed, wanting)}
+VALUE = re.compile(rb"'[^']*'|#\d+|\.[A-Z]+\.|[-+\d][-+\d.E]*|[$*(]")
+
+
+def filled_file(instances, values):
+    """A file of one pipe, filled up to so many instances, or to so many values, where a number of them is given."""
+    start, end = reference.file_of((10, "p" * 22, "p", (0, 0, 0))).split(b"ENDSEC;\nEND-ISO")
+    lines = start[start.index(b"DATA;"):].splitlines()[1:]
+    if values:
+        # The values of an instance stand within its parentheses; a list counts one beside what it holds.
+        used = sum(len(VALUE.findall(line[line.index(b"(") + 1:-2])) for line in lines)
+        more = b"#999=A((" + b",".join([b"0"] * (values - used - 1)) + b"));\n"
+    else:
+        more = b"".join(b"#%d=A();\n" % (1000 + n) for n in range(instances - len(lines)))
+    return start + more + b"ENDSEC;\nEND-ISO" + end
+
+
+def at_limits(flood, lanes=3):
+    """A file with as many instances, or as many values, as a file may have makes a version; with one more it is refused."""
+    v, took = f"/coord/1/projects/{project_id(1)}", []
+    with Server(flood.program, lanes=lanes) as server:
+        client = Client(server)
+        for what, fill in ((b"instances", lambda more: filled_file(1000000 + more, 0)),
+                           (b"values", lambda more: filled_file(0, 8000000 + more))):
+            for more in range(2):
+                file, began = fill(more), time.monotonic()
+                it = client.ask("PUT", f"{v}/models/a", file)
+                took.append(time.monotonic() - began)
+                if more:
+                    want(it.status == 422 and it.reply == b'{"code":"U19","message":"U19 TooMany","what":"%s"}' % what,
+                         f"{it.status} {it.reply[:80]!r}")
+                else:
+                    want(it.status in (200, 201), f"{it.status} {it.reply[:80]!r}")
+        client.close()
+        size = memory(server)
+        end(server)
+    return f"each answered within {max(took):.1f} s, {size / MIB:.0f} MiB"
+
+
+ROWS = {it.__name__: it for it in (drip, heads, lengths, odd, cuts, resets, pipelined, never_read, bodies, at_limits, listed,
+                                   wanting)}
 
 
 def main():
