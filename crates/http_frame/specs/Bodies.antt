@@ -4,6 +4,7 @@ use Rattle.std.specs.List.{flat_map}
 use Rattle.httparse.specs.Ascii.{crlf_bytes}
 use Rattle.httparse.specs.Grammar.{ChunkLine, ReadsChunkLine, chunk_size, print_extension, Field, LineEnd, print_section, ReadsSection, HasNoSection}
 use Rattle.httparse.specs.Pieces.{FieldLines, BeginsLine}
+use Rattle.http_frame.specs.declared.limits.TheConstants.{MOST_FIELDS}
 use Rattle.http_frame.specs.declared.types.FrameFault.{FrameFault}
 use Rattle.http_frame.specs.declared.types.FrameFault.TheVariants.{HeadTooLong, BodyTooLong, BadChunk}
 use Rattle.http_frame.specs.Heads.{Framing, absent, sized, chunked, badly, most_head, front, line_at}
@@ -62,14 +63,14 @@ pub record ReadsTrailers (text rest : List ℕ) : Type 0 where
   pub last : LineEnd
   pub reads : ReadsSection text fields last rest
   pub short : length (print_section fields last) ≤ most_head
-  pub few : length fields ≤ 64
+  pub few : length fields ≤ MOST_FIELDS
 
 -- trailers that exceed those numbers
 abbrev pub HasLongTrailers : List ℕ → Type 0
 HasLongTrailers text =
     ((most_head ≤ length text) × HasNoSection (front text) × ¬ (HasBadTrailer (front text)))
     ⊎ ((fields : List Field) × (last : LineEnd) × (rest : List ℕ) × ReadsSection text fields last rest
-    × (length (print_section fields last) ≤ most_head) × (64 < length fields))
+    × (length (print_section fields last) ≤ most_head) × (MOST_FIELDS < length fields))
 
 -- the text begins with this body
 abbrev pub ReadsBody : ℕ → Framing → List ℕ → List ℕ → List ℕ → Type 0

@@ -5,6 +5,7 @@ use Rattle.std.specs.Char.{is_ascii_hexdigit, digit_value}
 use Rattle.std.specs.Str.Parse.{digits_value}
 use Rattle.httparse.specs.Grammar.{ChunkLine, chunk_size, Field}
 use Rattle.httparse.specs.Pieces.{FieldLines}
+use Rattle.http_frame.specs.declared.limits.TheConstants.{MOST_HEAD, MOST_FIELDS}
 use Rattle.http_frame.specs.declared.types.FrameFault.TheVariants.{HeadTooLong, BodyTooLong, BadChunk}
 use Rattle.http_frame.specs.declared.field_lines.Place.{Place}
 use Rattle.http_frame.specs.declared.field_lines.Place.TheVariants as place
@@ -46,16 +47,19 @@ size_turn spot.Wrong value room = step.Fault BadChunk
 -- one more byte of trailers that don't end with it
 abbrev pub trailers_on : Place → ℕ → ℕ → ℕ → ChunkStep
 trailers_on here fields count room =
-    if nat_le 16383 count then step.Fault HeadTooLong else step.On (Trailers here fields (count + 1)) room
+    if nat_le (MOST_HEAD - 1) count then step.Fault HeadTooLong
+    else step.On (Trailers here fields (count + 1)) room
 
 -- from the place behind a byte of the trailers, and whether it was LF
 abbrev pub trailer_turn : Place → ℕ → ℕ → ℕ → Bool → ChunkStep
-trailer_turn place.Start fields count room lf = trailers_on place.Start (min fields 64 + 1) count room
+trailer_turn place.Start fields count room lf =
+    trailers_on place.Start (min fields MOST_FIELDS + 1) count room
 trailer_turn place.Name fields count room lf = trailers_on place.Name fields count room
 trailer_turn place.Value fields count room lf = trailers_on place.Value fields count room
 trailer_turn place.Cr fields count room lf = trailers_on place.Cr fields count room
 trailer_turn place.Last fields count room lf = trailers_on place.Last fields count room
-trailer_turn place.Done fields count room lf = if nat_lt 64 fields then step.Fault HeadTooLong else step.Whole
+trailer_turn place.Done fields count room lf =
+    if nat_lt MOST_FIELDS fields then step.Fault HeadTooLong else step.Whole
 trailer_turn place.Dead fields count room lf =
     if lf then step.Fault BadChunk else trailers_on place.Dead fields count room
 

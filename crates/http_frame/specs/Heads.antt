@@ -8,6 +8,8 @@ use Rattle.httparse.specs.Grammar.{RequestHead, print_request, ReadsRequest, Has
 use Rattle.httparse.specs.Spans.{name_and_value}
 use Rattle.http1.specs.Fields.{values_named, elements_named, has_option}
 use Rattle.http1.specs.Text.{eq_ignore_case}
+use Rattle.bim_model.specs.declared.limits.TheConstants.{MOST_UPLOAD}
+use Rattle.http_frame.specs.declared.limits.TheConstants.{MOST_HEAD, MOST_FIELDS, MOST_BODY, MOST_USER}
 use Rattle.http_frame.specs.declared.types.FrameFault.{FrameFault}
 use Rattle.http_frame.specs.declared.types.FrameFault.TheVariants.{BadHead, HeadTooLong, BadLength, BodyTooLong, Version}
 
@@ -55,7 +57,7 @@ has_other_version (Some line) = ends_in_version (without_cr (reverse line))
 
 -- the most bytes of a head
 abbrev pub most_head : ℕ
-most_head = 16384
+most_head = MOST_HEAD
 
 -- the bytes in which a head may stand
 abbrev pub front : List ℕ → List ℕ
@@ -74,8 +76,8 @@ starts_with (a ∷ text) (b ∷ bytes) = a == b && starts_with text bytes
 -- the most bytes of a body: more where a model is put
 unfoldable pub most_body : RequestHead → ℕ
 most_body head =
-    if bytes_eq head.method (codes "PUT") && starts_with (codes "/coord/1/") head.target then 33554432
-    else 4194304
+    if bytes_eq head.method (codes "PUT") && starts_with (codes "/coord/1/") head.target then MOST_UPLOAD
+    else MOST_BODY
 
 -- digits alone, at least one
 abbrev pub are_digits : List ℕ → Bool
@@ -117,7 +119,7 @@ lacks_host head = head.minor == 1 && not (length (values_of (codes "host") head)
 unfoldable pub fault_of : RequestHead → Option FrameFault
 fault_of head =
     if lacks_host head then Some BadHead
-    else (if nat_lt 64 (length head.fields) then Some HeadTooLong
+    else (if nat_lt MOST_FIELDS (length head.fields) then Some HeadTooLong
     else framing_fault (most_body head) (framing head))
 
 -- the head asks for `100 Continue` before the body is read
@@ -139,7 +141,8 @@ is_encoded head =
 abbrev pub user_by : List (List ℕ) → List ℕ
 user_by [] = codes "anonymous"
 user_by (user ∷ []) =
-    if nat_lt 0 (length user) && nat_le (length user) 128 && is_utf8 user then user else codes "anonymous"
+    if nat_lt 0 (length user) && nat_le (length user) MOST_USER && is_utf8 user then user
+    else codes "anonymous"
 user_by (user ∷ other ∷ users) = codes "anonymous"
 
 -- the user that a head names

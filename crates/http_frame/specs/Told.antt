@@ -6,6 +6,8 @@ use Rattle.httparse.specs.declared.spans.RequestSpans.{RequestSpans}
 use Rattle.httparse.specs.Grammar.{RequestHead}
 use Rattle.httparse.specs.Spans.{span_bytes, header_bytes}
 use Rattle.http1.specs.Fields.{values_named, elements_named, has_option}
+use Rattle.bim_model.specs.declared.limits.TheConstants.{MOST_UPLOAD}
+use Rattle.http_frame.specs.declared.limits.TheConstants.{MOST_FIELDS, MOST_BODY}
 use Rattle.http_frame.specs.declared.types.FrameFault.{FrameFault}
 use Rattle.http_frame.specs.declared.types.FrameFault.TheVariants.{BadHead, HeadTooLong, BadLength, BodyTooLong}
 use Rattle.http_frame.specs.declared.head.HeadFacts.{HeadFacts}
@@ -17,7 +19,7 @@ use Rattle.http_frame.specs.Facts.{has_value, has_other_value, values_at}
 -- the most bytes of a body, by method and target
 abbrev pub most_by : List ℕ → List ℕ → ℕ
 most_by method target =
-    if bytes_eq method (codes "PUT") && starts_with (codes "/coord/1/") target then 33554432 else 4194304
+    if bytes_eq method (codes "PUT") && starts_with (codes "/coord/1/") target then MOST_UPLOAD else MOST_BODY
 
 -- how the body comes, or the fault of its length
 abbrev pub plan_of : ℕ → Framing → Result Plan FrameFault
@@ -34,7 +36,7 @@ lacks_host minor hosts = minor == 1 && not (length hosts == 1)
 unfoldable pub checked_by : List ℕ → List ℕ → ℕ → ℕ → List (List ℕ × List ℕ) → Result Plan FrameFault
 checked_by method target minor count fields =
     if lacks_host minor (values_named (codes "host") fields) then Err BadHead
-    else (if nat_lt 64 count then Err HeadTooLong
+    else (if nat_lt MOST_FIELDS count then Err HeadTooLong
     else plan_of (most_by method target)
     (framing_by (values_named (codes "content-length") fields)
     (values_named (codes "transfer-encoding") fields) minor))

@@ -4,6 +4,7 @@ ghost use Rattle.std.specs.Char.{digit_value};
 ghost use Rattle.http_frame.specs.Chunks.{value_step, size_turn, trailers_on, trailer_turn, chunk_step, data_left, is_over, IsOrdered, Advances};
 
 use crate::field_lines::{Place, place_behind};
+use crate::limits::{MOST_FIELDS, MOST_HEAD};
 use crate::moves::move_down;
 use crate::size_line::{SizeSpot, size_spot_behind};
 use crate::types::FrameFault;
@@ -57,10 +58,8 @@ pub struct Taken {
     pub end: ChunkEnd,
 }
 
-const MOST_FIELDS: usize = 64;
-
 // One less than the most bytes of trailers.
-const LAST_TRAILER: usize = 16_383;
+const LAST_TRAILER: usize = MOST_HEAD - 1;
 
 fn digit_value(b: u8) -> u64
     ensures { result ≡ digit_value b }

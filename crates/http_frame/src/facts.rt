@@ -7,6 +7,7 @@ ghost use Rattle.http1.specs.Fields.{values_named, elements_named, has_option};
 ghost use Rattle.http_frame.specs.Heads.{user_by};
 ghost use Rattle.http_frame.specs.Facts.{has_name, has_value, has_other_value, values_at, IsFirst, IsOnly, user_in};
 
+use crate::limits::MOST_USER;
 use bim_model::Text;
 use http1::fields::KnownFields;
 use httparse::spans::{HeaderSpan, Span};
@@ -136,7 +137,7 @@ pub fn lists_close(block: &[u8], headers: &[HeaderSpan]) -> bool
 fn user_in(alloc: Global, value: &[u8]) -> Result<Text, AllocError>
     ensures { IfOk result (λ user. user ≡ user_in value.now) }
 {
-    if value.is_empty() || value.len() > 128 {
+    if value.is_empty() || value.len() > MOST_USER {
         return Text::of(alloc, "anonymous");
     }
     match str::from_utf8(value) {

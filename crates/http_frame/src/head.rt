@@ -1,5 +1,6 @@
 //! What a whole head says.
 ghost use Rattle.std.specs.Prelude.{◌≡◌, ◌≤◌, ◌==◌, ◌&&◌, ◌||◌, ℕ, true, IfOk, Some, None, length, map, take, All, codes, bytes_eq, nat_lt, if◌then◌else◌};
+ghost use Rattle.bim_model.specs.declared.limits.TheConstants.{MOST_UPLOAD};
 ghost use Rattle.std.specs.List.{list_all, list_any};
 ghost use Rattle.std.specs.Char.{is_ascii_digit};
 ghost use Rattle.std.specs.Str.Parse.{digits_value};
@@ -13,8 +14,9 @@ ghost use Rattle.http_frame.specs.Told.{most_by, plan_of, lacks_host, checked_by
 use crate::facts::{
     Only, any_other_value, any_value, count_named, lists_close, only_named, user_of,
 };
+use crate::limits::{MOST_BODY, MOST_FIELDS};
 use crate::types::FrameFault;
-use bim_model::{Bytes, Text};
+use bim_model::{Bytes, MOST_UPLOAD, Text};
 use httparse::spans::{HeaderSpan, RequestSpans};
 use std::alloc::{AllocError, Global};
 
@@ -39,14 +41,6 @@ pub enum Plan {
     Chunked(usize),
 }
 
-/// The most bytes of a model's body, and of any other.
-const MOST_MODEL: usize = 33_554_432;
-
-const MOST_BODY: usize = 4_194_304;
-
-// The most fields of a head.
-const MOST_FIELDS: usize = 64;
-
 fn is_same(bytes: &[u8], wanted: &[u8]) -> bool
     ensures { result ≡ bytes_eq bytes.now wanted.now }
 {
@@ -61,10 +55,10 @@ fn starts_with(text: &[u8], bytes: &[u8]) -> bool
 
 fn most_body(method: &[u8], target: &[u8]) -> usize
     ensures most { result ≡ most_by method.now target.now }
-    ensures small { result ≤ 33554432 }
+    ensures small { result ≤ MOST_UPLOAD }
 {
     if is_same(method, b"PUT") && starts_with(b"/coord/1/", target) {
-        MOST_MODEL
+        MOST_UPLOAD
     } else {
         MOST_BODY
     }
@@ -79,7 +73,7 @@ fn are_digits(text: &[u8]) -> bool
 // The number that the digits write, where it is not above the most.
 fn number_up_to(text: &[u8], most: usize) -> Option<usize>
     requires digits { list_all is_ascii_digit text.now ≡ true }
-    requires most { most ≤ 33554432 }
+    requires most { most ≤ MOST_UPLOAD }
     ensures { result ≡ (if nat_lt most (digits_value 10 text.now) then None
         else Some (digits_value 10 text.now)) }
 {
@@ -95,7 +89,7 @@ fn number_up_to(text: &[u8], most: usize) -> Option<usize>
 
 // From the lone value of Content-Length.
 fn sized_plan(text: &[u8], most: usize) -> Result<Plan, FrameFault>
-    requires { most ≤ 33554432 }
+    requires { most ≤ MOST_UPLOAD }
     ensures { result ≡ plan_of most
         (if are_digits text.now then sized (digits_value 10 text.now) else badly) }
 {
@@ -132,7 +126,7 @@ fn chunked_plan(text: &[u8], minor: u8, most: usize) -> Result<Plan, FrameFault>
 
 fn plan_of(block: &[u8], headers: &[HeaderSpan], minor: u8, most: usize) -> Result<Plan, FrameFault>
     requires headers { All (IsHeaderWithin (length block.now)) headers.now }
-    requires most { most ≤ 33554432 }
+    requires most { most ≤ MOST_UPLOAD }
     ensures { result ≡ plan_of most (framing_by (values_at (codes "content-length") block.now headers.now)
         (values_at (codes "transfer-encoding") block.now headers.now) minor) }
 {

@@ -9,6 +9,7 @@ mod framer_steps;
 mod head;
 mod http_version;
 mod laws;
+mod limits;
 mod moves;
 mod parser;
 mod seen;
@@ -21,4 +22,5 @@ pub use framer::Framer;
 pub use laws::{
     a_whole_line_may_become_a_head, answers_are_the_events, bytes_have_one_reading, readings_stay,
 };
+pub use limits::{MOST_BODY, MOST_FIELDS, MOST_HEAD, MOST_USER};
 pub use types::{FrameError, FrameFault, FrameStep, HttpRequest};

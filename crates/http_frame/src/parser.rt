@@ -1,5 +1,6 @@
 //! What the parser tells of the front of some bytes.
 ghost use Rattle.std.specs.Prelude.{◌≡◌, ◌≤◌, ℕ, List, length};
+ghost use Rattle.http_frame.specs.declared.limits.TheConstants.{MOST_HEAD};
 ghost use Rattle.httparse.specs.Grammar.{HasNoRequest, NeverHasRequest};
 ghost use Rattle.httparse.specs.Spans.{IsRequestOf};
 ghost use Rattle.http_frame.specs.Judged.{IsJudged, is_crowded};
@@ -36,7 +37,7 @@ fn is_crowded(error: Error) -> bool
 
 /// Asks the parser. With room for 6,000 fields, more than so many bytes can hold, it is never crowded.
 pub fn ask_parser(front: &[u8], headers: &mut [HeaderSpan]) -> Judged
-    requires { length front.now ≤ 16384 }
+    requires { length front.now ≤ MOST_HEAD }
     ensures { IsJudged front.now headers.new result }
 {
     match parse_request(front, headers) {

@@ -9,13 +9,11 @@ ghost use Rattle.http_frame.specs.Seen.{IsPlaced, IsHeadAt, IsSeen, IsSeenWith};
 
 use crate::head::{HeadFacts, Plan, asks, checked, facts_of};
 use crate::http_version::has_other_version;
+use crate::limits::{MOST_FIELDS, MOST_HEAD};
 use crate::types::FrameFault;
 use crate::watch::{Look, Watch};
 use httparse::spans::{EMPTY_HEADER_SPAN, HeaderSpan, RequestSpans};
 use std::alloc::{AllocError, Global};
-
-/// The most bytes of a head.
-const MOST_HEAD: usize = 16_384;
 
 /// A head without a fault.
 #[derive(Drop)]
@@ -170,7 +168,7 @@ pub fn seen_of(alloc: Global, watch: Watch, bytes: &[u8]) -> Result<Seen, AllocE
     requires watch { IsWatch watch (take watch.seen (front bytes.now)) }
     ensures { IfOk result (IsSeen bytes.now) }
 {
-    let mut headers = [EMPTY_HEADER_SPAN; 64];
+    let mut headers = [EMPTY_HEADER_SPAN; MOST_FIELDS];
     match seen_with(alloc, watch, bytes, &mut headers)? {
         Some(seen) => Ok(seen),
         None => seen_in_room(alloc, watch, bytes),

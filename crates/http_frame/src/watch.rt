@@ -1,5 +1,6 @@
 //! The head of a request while its bytes come: each byte is walked over once, and the parser is asked twice.
 ghost use Rattle.std.specs.Prelude.{◌≡◌, ◌≤◌, length, take, drop};
+ghost use Rattle.http_frame.specs.declared.limits.TheConstants.{MOST_HEAD};
 ghost use Rattle.http_frame.specs.Watched.{IsWatch, IsLook, is_early, look_of};
 
 use crate::field_lines::{Spot, is_open, walk_on};
@@ -55,7 +56,7 @@ fn look_of(judged: Judged) -> Look
 impl Watch {
     /// Takes the bytes that are new.
     pub fn look(self, front: &[u8], headers: &mut [HeaderSpan]) -> (Watch, Look)
-        requires short { length front.now ≤ 16384 }
+        requires short { length front.now ≤ MOST_HEAD }
         requires within { self.seen ≤ length front.now }
         requires watch { IsWatch self (take self.seen front.now) }
         ensures look { IsLook front.now headers.new result.1 }

@@ -6,7 +6,7 @@ use Rattle.http_frame.proofs.facts.user_in.Goals as goal
 pub returns-in-Ok : goal.returns-in-Ok
 returns-in-Ok c =
     let some : 0 < length c.args.value.now = grind (arith, common_steps) in
-    let is = named_user c.args.value.now some c.if-value-gt128.false c.in-Ok.ensures.cases.1 in
+    let is = named_user c.args.value.now some c.if-value-gt-MOST_USER.false c.in-Ok.ensures.cases.1 in
     rw (is, ← c.in-Ok.ensures.cases.0) c.of-in-Ok.ensures
 
 pub returns-in-Err : goal.returns-in-Err
