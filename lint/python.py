@@ -1,8 +1,8 @@
 """Shows that the Python beside the product is laid out, typed and free of what linters find:
 python3 -m lint.python. Runs Debian's black, isort, flake8 and mypy over tests/, lint/, bench/ and
-tools/ by the settings of pyproject.toml and .flake8, and shellcheck over their shell scripts; and lists the
-functions of more than 60 lines. A program that isn't there is installed by its Debian package, or
-named. Exit status 1 if there is any.
+tools/ by the settings of pyproject.toml and .flake8, and shellcheck over their shell scripts; and
+lists the functions of more than 60 lines. A program that isn't there is installed by its Debian
+package, or named. Exit status 1 if there is any.
 """
 
 import ast

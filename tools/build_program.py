@@ -6,8 +6,8 @@
 Crates that don't stand on each other are proved at the same time, as many as there are processors
 and memory for. For each crate that is done a line says how many are, which it is, and how long the
 build has taken so far. What is proved is kept on this machine by rt ci, so an interrupted build
-goes on where it was, and the gate takes it from there. What the prover says goes to out/build.log. The
-must-fail edits and the crates of tests are left to the gate.
+goes on where it was, and the gate takes it from there. What the prover says goes to
+out/build.log. The must-fail edits and the crates of tests are left to the gate.
 """
 
 import os
