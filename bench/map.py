@@ -1,7 +1,7 @@
 #!/usr/bin/env python3
-"""Shows that the map of crates is whole: bench/map.py [--draw]. crates.txt and docs/ARCHITECTURE.md have to name the same groups, in each the same
-crates in the same order, and of each crate the same that it stands on, of this repository and of the kit; each crate stands below those that it stands
-on, and has its folder, its page under docs/crates and its row in the README's table; a file name stands under src/ of one crate only, but for those that
+"""Shows that the map of crates is whole: bench/map.py [--draw]. crates.txt and docs/ARCHITECTURE.md have to name the same groups, and in each
+the same crates in the same order; each crate stands below those that it stands on, and has its folder, its page under docs/crates and a claim in
+docs/CLAIMS.md, but for crates of tests, which share the page docs/crates/tests.md; a file name stands under src/ of one crate only, but for those that
 have one role in every crate; and docs/crates.svg is the picture that this script draws of crates.txt. Prints each difference, and ends with status 1 if
 there is one. With --draw it draws the picture anew before it looks."""
 import os
@@ -39,39 +39,28 @@ def listed():
 
 
 def mapped():
-    """The crates of the tables under the headings `### NAME` of docs/ARCHITECTURE.md, with the own crates that they stand on and those of the kit."""
+    """The crates of the tables under the headings `### NAME` of docs/ARCHITECTURE.md."""
     found, group = [], None
     for line in text_of("docs/ARCHITECTURE.md").split("\n"):
         if line.startswith("## "):
             group = None
         if line.startswith("### "):
             group = line[4:].strip()
-        row = [cell.strip() for cell in line.strip("|").split(" | ")] if line.startswith("| [`") or line.startswith("| `") else []
-        if group and len(row) == 4:
-            name, _, own, kit = row
-            found.append((Crate(re.search(r"`(\w+)`", name)[1], group, re.findall(r"`(\w+)`", own)), re.findall(r"`(\w+)`", kit)))
+        row = re.match(r"\| \[`(\w+)`\]\(crates/[^)]*\) \|", line)
+        if group and row:
+            found.append(Crate(row[1], group, []))
     return found
 
 
 # ---- what differs
 
 def same_groups(crates, rows):
-    for of_list, of_map in zip(crates + [None], [row for row, _ in rows] + [None]):
+    for of_list, of_map in zip(crates + [None], rows + [None]):
         ours = f"{of_list.group}: {of_list.name}" if of_list else "the end"
         theirs = f"{of_map.group}: {of_map.name}" if of_map else "the end"
         if ours != theirs:
             yield f"crates.txt goes on with {ours}, docs/ARCHITECTURE.md with {theirs}"
             return
-
-
-def same_uses(crates, rows):
-    names = {crate.name for crate in crates}
-    told = {row.name: (row.uses, kit) for row, kit in rows}
-    for crate in crates:
-        ours = [use for use in crate.uses if use in names], [use for use in crate.uses if use not in names]
-        for kind, mine, other in zip(("own crates", "the kit's"), ours, told.get(crate.name, ours)):
-            if sorted(mine) != sorted(other):
-                yield f"{crate.name} stands on {' '.join(mine) or 'none'} of {kind}, docs/ARCHITECTURE.md says {' '.join(other) or 'none'}"
 
 
 def below(crates):
@@ -88,17 +77,21 @@ def in_place(crates):
     for name in sorted(os.listdir(os.path.join(TOP, "crates"))):
         if name not in names and os.path.isdir(os.path.join(TOP, "crates", name, "src")):
             yield f"crates/{name} isn't in crates.txt"
-    rows = re.findall(r"^\| \[`(\w+)`\]", text_of("README.md"), re.M)
+    claimed = set(re.findall(r"\]\(crates/(\w+)\.md", text_of("docs/CLAIMS.md")))
+    tests = text_of("docs/crates/tests.md").split("\n")
     for name in names:
         if not os.path.isdir(os.path.join(TOP, "crates", name)):
             yield f"crates/{name} isn't there"
+        if name.endswith("_tests"):
+            if f"## {name}" not in tests:
+                yield f"docs/crates/tests.md has no part on {name}"
+            continue
         if not os.path.isfile(os.path.join(TOP, "docs/crates", name + ".md")):
             yield f"docs/crates/{name}.md isn't there"
-        if rows.count(name) != 1:
-            yield f"the README's table has {rows.count(name)} rows for {name}"
-    for name in rows:
-        if name not in names:
-            yield f"the README's table has a row for {name}, which is no crate"
+        if name not in claimed:
+            yield f"docs/CLAIMS.md has no claim of {name}"
+    for name in sorted(claimed - {*names, "tests"}):
+        yield f"docs/CLAIMS.md has a claim of {name}, which is no crate"
 
 
 def named_once(crates):
@@ -228,7 +221,7 @@ def main():
     if sys.argv[1:] == ["--draw"]:
         with open(os.path.join(TOP, PICTURE), "w", encoding="utf-8") as file:
             file.write(drawn(crates))
-    found = [*same_groups(crates, rows), *same_uses(crates, rows), *below(crates), *in_place(crates), *named_once(crates)]
+    found = [*same_groups(crates, rows), *below(crates), *in_place(crates), *named_once(crates)]
     if not os.path.isfile(os.path.join(TOP, PICTURE)) or text_of(PICTURE) != drawn(crates):
         found.append(f"{PICTURE} isn't the picture of crates.txt: python3 bench/map.py --draw")
     for difference in found:
