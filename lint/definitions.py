@@ -7,6 +7,7 @@ definitions of that name. Exit status 1 if a crate isn't there or nothing is fou
 
 import argparse
 import re
+import signal
 import sys
 from collections.abc import Iterator
 from pathlib import Path
@@ -37,6 +38,7 @@ def definitions(path: Path) -> Iterator[tuple[int, str, str]]:
 
 def main() -> int:
     """Prints the definitions, file by file."""
+    signal.signal(signal.SIGPIPE, signal.SIG_DFL)  # `| head` ends it quietly
     parser = argparse.ArgumentParser(description="Lists definitions with the line that says each in words.")
     parser.add_argument("crates", nargs="*", metavar="CRATE")
     parser.add_argument("--name", help="only definitions of this name")
