@@ -39,7 +39,9 @@ def definitions(path: Path) -> Iterator[tuple[int, str, str]]:
 def main() -> int:
     """Prints the definitions, file by file."""
     signal.signal(signal.SIGPIPE, signal.SIG_DFL)  # `| head` ends it quietly
-    parser = argparse.ArgumentParser(description="Lists definitions with the line that says each in words.")
+    parser = argparse.ArgumentParser(
+        description="Lists definitions with the line that says each in words."
+    )
     parser.add_argument("crates", nargs="*", metavar="CRATE")
     parser.add_argument("--name", help="only definitions of this name")
     asked = parser.parse_args()
