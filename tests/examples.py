@@ -134,7 +134,8 @@ def main() -> int:
     if not program.is_file():
         print(f"{program} isn't there: make build, or make try", file=sys.stderr)
         return 1
-    port, count, found = free_port(), 0, []
+    port, count = free_port(), 0
+    found: list[str] = []
     words = [program, "serve", "--addr", f"127.0.0.1:{port}"]
     with subprocess.Popen(words, stdout=subprocess.DEVNULL) as server:
         try:
