@@ -1,5 +1,6 @@
-#!/usr/bin/env python3
-"""Lists the definitions of specs with the line that says each in words: python3 -m lint.definitions [--name NAME] [CRATE ..].
+"""Lists the definitions of specs, each with the line that says it in words:
+
+    python3 -m lint.definitions [--name NAME] [CRATE ..]
 
 Reads crates/*/specs/**/*.antt, of all crates or of those that are named. With --name it lists only
 definitions of that name. Exit status 1 if a crate isn't there or nothing is found.
