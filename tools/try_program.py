@@ -1,11 +1,12 @@
 #!/usr/bin/env python3
-"""Builds the program without any proof, leaves it at out/try/bim_server, and replays the stored run over it.
+"""Builds the program without any proof, leaves it at out/try/bim_server, replays the stored run.
 
-    python3 tools/try.py
+    python3 -m tools.try_program
 
-The program is of the same sources as the proved one, compiled with checks: it stops at an index out of bounds, a
-bad access or an overflow, and takes 10 times as long for a small request and up to 200 times for an upload. It says
-how the server behaves, and nothing of what is proved. It ends with status 0 if the stored run prints what is stored.
+The program is of the same sources as the proved one, compiled with checks: it stops at an index out
+of bounds, a bad access or an overflow, and takes 10 times as long for a small request and up to 200
+times for an upload. It shows how the server behaves, and nothing of what is proved. The status is 0
+if the stored run prints what is stored.
 """
 
 import os
@@ -51,18 +52,43 @@ def keep(built: Path) -> None:
 def show(begun: float) -> None:
     """Says on a terminal how long the build has taken so far."""
     if sys.stderr.isatty():
-        print(f"\r  building: {time.monotonic() - begun:.0f} s of some 150", end="", file=sys.stderr, flush=True)
+        print(
+            f"\r  building: {time.monotonic() - begun:.0f} s of some 150",
+            end="",
+            file=sys.stderr,
+            flush=True,
+        )
 
 
 def build(begun: float) -> str:
     """Builds the program, and returns why that failed, or nothing.
 
-    The compiler removes the program when its run has ended, so it is run as a server and copied while it runs."""
-    with tempfile.TemporaryDirectory(prefix="yulfrets-try-") as room, tempfile.TemporaryFile() as said:
+    The compiler removes the program when its run has ended, so it is run as a server and copied
+    while it runs.
+    """
+    with tempfile.TemporaryDirectory(
+        prefix="yulfrets-try-"
+    ) as room, tempfile.TemporaryFile() as said:
         port = free_port()
-        words = ["rt", "try", "--steps", "1", "--seconds", "60", "--", "serve", "--addr", f"127.0.0.1:{port}"]
+        words = [
+            "rt",
+            "try",
+            "--steps",
+            "1",
+            "--seconds",
+            "60",
+            "--",
+            "serve",
+            "--addr",
+            f"127.0.0.1:{port}",
+        ]
         tool = subprocess.Popen(
-            words, cwd=CRATE, env={**os.environ, "TMPDIR": room}, stdin=subprocess.DEVNULL, stdout=said, stderr=said
+            words,
+            cwd=CRATE,
+            env={**os.environ, "TMPDIR": room},
+            stdin=subprocess.DEVNULL,
+            stdout=said,
+            stderr=said,
         )
         try:
             while tool.poll() is None:
@@ -79,7 +105,8 @@ def build(begun: float) -> str:
 
 
 def replays_the_stored_run() -> bool:
-    """Replays the stored run over the program, prints what it writes, and returns whether that is what is stored."""
+    """Replays the stored run over the program, prints what it writes, and returns whether that is
+    what is stored."""
     words = (STORED_RUN / "args").read_text().split()
     with open(STORED_RUN / "stdin", "rb") as given:
         ran = subprocess.run([PROGRAM, *words], stdin=given, stdout=subprocess.PIPE, timeout=60)
@@ -89,17 +116,29 @@ def replays_the_stored_run() -> bool:
 
 def main() -> int:
     begun = time.monotonic()
-    print("make try: an unproved build: no contract was checked, so it promises nothing", file=sys.stderr)
+    print(
+        "make try: an unproved build: no contract was checked, so it promises nothing",
+        file=sys.stderr,
+    )
     failed = build(begun)
     if sys.stderr.isatty():
         print(file=sys.stderr)
     if failed:
-        print(f"{failed}\nmake try: the program was not built; what the compiler said is above", file=sys.stderr)
+        print(
+            f"{failed}\nmake try: the program was not built; what the compiler said is above",
+            file=sys.stderr,
+        )
         return 1
     if not replays_the_stored_run():
-        print("make try: the stored run did not print what cases/topics/stored_run/stdout has", file=sys.stderr)
+        print(
+            "make try: the stored run did not print what cases/topics/stored_run/stdout has",
+            file=sys.stderr,
+        )
         return 1
-    print(f"make try: built in {time.monotonic() - begun:.0f} s: {PROGRAM.relative_to(TOP)}", file=sys.stderr)
+    print(
+        f"make try: built in {time.monotonic() - begun:.0f} s: {PROGRAM.relative_to(TOP)}",
+        file=sys.stderr,
+    )
     return 0
 
 
