@@ -3,6 +3,7 @@ docs/CLAIMS.md names a crate, and public functions, laws or types of it with the
 brackets; each of these has to be in the crate's code. Exit status 1 if one isn't.
 """
 
+import functools
 import re
 import sys
 from collections.abc import Iterator
@@ -37,32 +38,36 @@ def rows() -> Iterator[Row]:
             yield Row(number, crate, cells[2])
 
 
-def code_of(crate: str) -> str:
-    """The code and the definitions of a crate, as one text."""
-    folders = (("src", ".rt"), ("specs", ".antt"))
-    paths = [
-        f"crates/{crate}/{folder}/{file}"
-        for folder, end in folders
-        for file in files_in(f"crates/{crate}/{folder}", end)
-    ]
-    return "\n".join(text_of(path) for path in paths)
+@dataclass
+class Names:
+    """The names that a crate's code and definitions declare, and those of its clauses."""
+
+    declared: set[str]
+    clauses: set[str]
 
 
-def is_named(name: str, code: str) -> bool:
-    """Whether a function, a type, a trait, a definition or a law of that name is declared there."""
-    last = name.split("::")[-1]
-    declared = rf"\b(?:fn|struct|enum|trait|type|record|ghost) {last}\b|^[\w ]*\b{last} :"
-    return bool(re.search(declared, code, re.M))
+@functools.cache
+def names_of(crate: str) -> Names:
+    """What is declared in a crate."""
+    declared: set[str] = set()
+    clauses: set[str] = set()
+    for folder, ending in (("src", ".rt"), ("specs", ".antt")):
+        for file in files_in(f"crates/{crate}/{folder}", ending):
+            text = text_of(f"crates/{crate}/{folder}/{file}")
+            declared.update(re.findall(r"\b(?:fn|struct|enum|trait|type|record|ghost) (\w+)", text))
+            declared.update(re.findall(r"^(?:pub |abbrev |unfoldable )*(\w+) :", text, re.M))
+            clauses.update(re.findall(r"\bensures (\w+) ", text))
+    return Names(declared, clauses)
 
 
 def faults(row: Row) -> Iterator[str]:
     """The names of a row that aren't in the crate's code."""
-    code = code_of(row.crate)
+    names = names_of(row.crate)
     for clauses, name in SPAN.findall(row.clauses):
-        if name and name != "proofs" and not is_named(name, code):
+        if name and name.split("::")[-1] not in names.declared:
             yield f"{PAGE}:{row.line}: {row.crate} has no {name}"
         for clause in re.findall(r"\w+", clauses):
-            if not re.search(rf"\bensures {clause} ", code):
+            if clause not in names.clauses:
                 yield f"{PAGE}:{row.line}: {row.crate} has no clause {clause}"
 
 
