@@ -1,0 +1,10 @@
+"""Where the files of the repository are."""
+
+from pathlib import Path
+
+ROOT = Path(__file__).resolve().parent.parent
+DOCUMENT = ROOT / "docs" / "openapi.yaml"
+API_MD = ROOT / "docs" / "API.md"
+CASES = ROOT / "cases"
+FAILING_C = ROOT / "bench" / "failing.c"
+STANDARD = Path("/usr/share/openapi-specification/schemas/v3.0/schema.json")
