@@ -40,7 +40,7 @@ class Agreement:
 
     def _path(self, operation: Operation) -> str:
         letters = {it["name"]: it["x-letter"] for it in operation.of("path")}
-        return re.sub(r"\{(\w+)\}", lambda match: letters[match[1]], operation.path)
+        return re.sub(r"\{(\w+)\}", lambda match: str(letters[match[1]]), operation.path)
 
     def _properties(self, schema: Node) -> Node:
         properties: Node = self.document.at(schema).get("properties", {})
@@ -176,14 +176,22 @@ class Agreement:
 
     def queries(self) -> Iterator[str]:
         """The parts of queries."""
-        there = {self._section(it): {p["name"] for p in it.of("query")} for it in self.document.operations}
+        there = {
+            self._section(it): {p["name"] for p in it.of("query")}
+            for it in self.document.operations
+        }
         for section, names in there.items():
             here = self.api.query_of_section.get(section, set())
             yield from _only(f"{section}: the part of the query", here, names)
 
     def headers(self) -> Iterator[str]:
         """The fields of responses. OpenAPI leaves Content-Type to the media type, and nobody describes a length."""
-        there = {name for it in self.document.operations for r in it.responses.values() for name in r.headers}
+        there = {
+            name
+            for it in self.document.operations
+            for r in it.responses.values()
+            for name in r.headers
+        }
         there |= {name for it in self.document.others.values() for name in it.headers}
         there |= {"Content-Type", "Content-Length"}
         yield from _only("the field of a head", self.api.headers, there)

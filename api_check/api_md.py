@@ -134,10 +134,10 @@ def _shown_members(api: ApiText, text: str) -> None:
             if "the other members of its body" in match[1]:
                 names |= set(api.bodies.get(kind, {}))
             api.shown[kind] = {it for it in names if re.fullmatch(r"\w+", it)}
-    if match := re.search(r"An element has (.*?)\.(?: |$)", text):
-        api.shown["element"] = set(quoted(match[1]))
-    if match := re.search(r"an object with (`name` and `project_id`)", text):
-        api.shown["project"] = set(quoted(match[1]))
+    if element := re.search(r"An element has (.*?)\.(?: |$)", text):
+        api.shown["element"] = set(quoted(element[1]))
+    if project := re.search(r"an object with (`name` and `project_id`)", text):
+        api.shown["project"] = set(quoted(project[1]))
 
 
 def _one_table(section: Section, table: Table, api: ApiText) -> None:
@@ -171,8 +171,8 @@ def read_api(text: str) -> ApiText:
             if match[1]:
                 _add_code(api, match[2], match[3], int(match[1]), set())
                 api.codes_of_section.setdefault("everywhere", set()).add(match[2])
-        if match := re.search(r"`503 (M1) (\w+)`", section.text):
-            _add_code(api, match[1], match[2], 503, set())
+        if memory := re.search(r"`503 (M1) (\w+)`", section.text):
+            _add_code(api, memory[1], memory[2], 503, set())
             api.codes_of_section.setdefault("everywhere", set()).add("M1")
         for sentence in re.findall(r"The query may say [^.]*\.", section.text):
             names = {it.partition("=")[0] for it in quoted(sentence) if "=" in it}

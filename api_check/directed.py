@@ -48,20 +48,20 @@ def body_name(operation: Operation) -> str:
     return "file" if operation.body else ""
 
 
-def good_body(operation: Operation) -> bytes | None:
-    """A body that is taken."""
-    name = body_name(operation)
-    if name == "file":
-        return TWO_PIPES
-    return json.dumps(BODIES[name]).encode() if name else None
-
-
 class Directed:
     """Makes the requests of a prepared server."""
 
     def __init__(self, document: Document, scene: Scene) -> None:
         self.document = document
         self.scene = scene
+
+    @staticmethod
+    def body(operation: Operation) -> bytes | None:
+        """A body that is taken."""
+        name = body_name(operation)
+        if name == "file":
+            return TWO_PIPES
+        return json.dumps(BODIES[name]).encode() if name else None
 
     def good(self, operation: Operation) -> Request:
         """A request that is taken. What is deleted is made before."""
@@ -73,11 +73,11 @@ class Directed:
             ids[f"{kind.rstrip('s')}_guid"] = self.scene.make(kind)
         if operation.name in ("putModel", "deleteModel"):
             ids["model_name"] = "other"
-        return Request(operation.method, target(operation, ids), good_body(operation))
+        return Request(operation.method, target(operation, ids), self.body(operation))
 
     def _at(self, operation: Operation, **ids: str) -> Request:
         where = target(operation, {**self.scene.ids, **ids})
-        return Request(operation.method, where, good_body(operation))
+        return Request(operation.method, where, self.body(operation))
 
     def _not_found(self, operation: Operation) -> Iterator[tuple[str, Request]]:
         """A request for each code of 404."""

@@ -33,7 +33,7 @@ class Response:
     examples: Mapping[str, Node]
 
 
-@dataclass(frozen=True)
+@dataclass(frozen=True, repr=False)
 class Operation:
     """A method of a path."""
 
@@ -64,7 +64,7 @@ class Document:
     def read(cls, path: Path) -> Document:
         """Reads a YAML file."""
         with path.open(encoding="utf-8") as file:
-            return cls(yaml.safe_load(file))
+            return cls(yaml.load(file, Loader=getattr(yaml, "CSafeLoader", yaml.SafeLoader)))
 
     def at(self, node: Any) -> Any:
         """The node, or what its reference leads to."""

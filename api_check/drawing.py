@@ -14,7 +14,8 @@ from .document import Document, Node
 Values = st.SearchStrategy[Any]
 LONG_TEXT, MANY = 9_000, 1_001
 FIRST_DAY, LAST_DAY = datetime.datetime(1970, 1, 2), datetime.datetime(9999, 12, 28)
-TEXTS = st.text(st.characters(blacklist_categories=["Cs"]), max_size=24)
+TEXTS = st.text(max_size=24)
+WORDS = st.text(min_size=1, max_size=24)
 
 JUNK: Values = st.one_of(
     st.none(),
@@ -67,8 +68,8 @@ class Drawing:
         return self._of_kind(node, kinds)
 
     def _of_kind(self, node: Node, kind: str) -> Values:
-        made = {
-            "null": lambda: st.none(),
+        made: dict[str, Callable[[], Values]] = {
+            "null": st.none,
             "boolean": st.booleans,
             "string": lambda: self._text(node),
             "integer": lambda: st.integers(node.get("minimum", -9), node.get("maximum", 10**6)),
@@ -83,7 +84,7 @@ class Drawing:
         if "pattern" in node:
             return st.from_regex(re.compile(f"(?:{node['pattern']})\\Z", re.ASCII))
         least = node.get("minLength", 0)
-        return TEXTS.filter(lambda it: len(it) >= least) if least else TEXTS
+        return WORDS if least else TEXTS
 
     def _object(self, node: Node) -> Values:
         members = {name: self.fits(it) for name, it in node.get("properties", {}).items()}
@@ -108,7 +109,9 @@ class Drawing:
 def _places(value: Any) -> list[tuple[Any, Any]]:
     """All members and items of a value, as what they stand in and their name there."""
     found: list[tuple[Any, Any]] = []
-    keys = value if isinstance(value, dict) else range(len(value)) if isinstance(value, list) else []
+    keys = (
+        value if isinstance(value, dict) else range(len(value)) if isinstance(value, list) else []
+    )
     for key in keys:
         found.append((value, key))
         found += _places(value[key])

@@ -10,7 +10,6 @@ from typing import Any
 from hypothesis import HealthCheck, Phase, given, seed, settings
 
 from .document import Node
-from .examples import compact
 from .faults_of_bytes import faulty
 from .files import files_of_cases
 from .judge import Judge
@@ -219,6 +218,3 @@ def check_drawn(judge: Judge, scene: Scene, count: int, number: int) -> list[str
     run: Callable[[], Any] = asks
     run()
     return drawn.faults
-
-
-__all__ = ["check_drawn", "compact"]

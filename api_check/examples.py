@@ -21,7 +21,9 @@ def _bytes(media: str, value: Any) -> bytes:
 
 
 def _first_difference(one: bytes, other: bytes) -> str:
-    at = next((at for at, (a, b) in enumerate(zip(one, other)) if a != b), min(len(one), len(other)))
+    at = next(
+        (at for at, (a, b) in enumerate(zip(one, other)) if a != b), min(len(one), len(other))
+    )
     return f"byte {at}: {one[at:at + 30]!r} here, {other[at:at + 30]!r} in the case"
 
 

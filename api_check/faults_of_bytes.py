@@ -116,7 +116,9 @@ def _other_requests() -> list[Bytes]:
         Bytes("GET of a model", "GET", model, _line("GET", model), 405, "H8"),
         Bytes("HEAD", "HEAD", BCF, _line("HEAD", BCF), 405),
         Bytes("rubbish", "GET", "", b"\x00\x01\r\n\r\n", 400, "H1", closes=True),
-        Bytes("TLS", "GET", "", b"\x16\x03\x01\x00\xc8\x01\x00\x00\xc4\r\n", 400, "H1", closes=True),
+        Bytes(
+            "TLS", "GET", "", b"\x16\x03\x01\x00\xc8\x01\x00\x00\xc4\r\n", 400, "H1", closes=True
+        ),
     ]
 
 
@@ -132,7 +134,9 @@ def _tried(judge: Judge, port: int, it: Bytes) -> list[str]:
     finally:
         client.close()
     if reply.status == 400 and operation is None and it.code == "H1":
-        operation = document.operations[0]  # bytes that are no request are answered alike everywhere
+        operation = document.operations[
+            0
+        ]  # bytes that are no request are answered alike everywhere
     faults = judge.judge(operation, reply, it.method)
     if reply.status != it.status or f'"code":"{it.code}"'.encode() not in reply.body and it.code:
         faults.append(f"{reply.status} {reply.body[:80]!r}, wanted {it.status} {it.code}")

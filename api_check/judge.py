@@ -40,6 +40,12 @@ class Judge:
         self.codes: Counter[str] = Counter()
         self.count = 0
 
+    def add(self, other: Judge) -> None:
+        """Adds what another judge has seen."""
+        self.seen += other.seen
+        self.codes += other.codes
+        self.count += other.count
+
     def _header_faults(self, described: Response, reply: Reply, with_body: bool) -> list[str]:
         faults = []
         names = [name for name, _ in reply.headers]

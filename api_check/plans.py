@@ -5,6 +5,7 @@ from __future__ import annotations
 import json
 from collections.abc import Callable
 from dataclasses import dataclass
+from functools import lru_cache
 from typing import Any
 
 from hypothesis import strategies as st
@@ -21,7 +22,7 @@ FAULTS = tuple(faulty(Request("GET", "/")))
 LARGE = 2**20
 
 
-@dataclass(frozen=True)
+@dataclass(frozen=True, repr=False)
 class Plan:
     """What is asked, but for the objects that only the running server knows."""
 
@@ -41,68 +42,89 @@ class Plan:
         """The bytes of the body."""
         if "application/json" in self.operation.body:
             ascii_only = self.which % 2 == 0
-            return self.data or json.dumps(self.tree, ensure_ascii=ascii_only).encode()
+            if self.data is not None:
+                return self.data
+            return json.dumps(self.tree, ensure_ascii=ascii_only).encode()
         return files[self.file % len(files)] if self.operation.body else self.data
 
 
+@lru_cache(maxsize=None)
 def _seldom(one_in: int) -> Values:
-    return st.integers(0, one_in - 1).map(lambda it: it == 0)
+    return st.sampled_from((True,) + (False,) * (one_in - 1))
+
+
+class _Parts:
+    """The strategies for one operation, each made once."""
+
+    def __init__(self, drawing: Drawing, operation: Operation) -> None:
+        self.operation = operation
+        self.path = [it["name"] for it in operation.of("path")]
+        self.query = [
+            (it["name"], st.one_of(drawing.fits(it["schema"]), st.sampled_from(ODD_QUERIES)))
+            for it in operation.of("query")
+        ]
+        self.trees: Values | None = None
+        if "application/json" in operation.body:
+            schema = operation.body["application/json"]["schema"]
+            good, bad = drawing.fits(schema), drawing.broken(schema)
+            self.trees = st.one_of(good, good, bad)
+
+
+ODD_PARTS = st.one_of(
+    st.uuids().map(str),
+    st.sampled_from(["0" * 16, "newest", "x", "%7B", "1" * 16]),
+    st.from_regex(r"\A[A-Za-z0-9._~-]{1,70}\Z"),
+)
+NUMBERS, SPELLINGS = st.integers(0, LARGE), st.integers(0, 17)
+HOW_OFTEN = st.sampled_from([0, 0, 0, 1, 1, 1, 1, 2])
+OTHER_DATA = st.sampled_from([None, None, None, b"", b"x"])
+WRONG_DATA = st.sampled_from(NO_JSON)
+ANY_USER = st.sampled_from([None, None, *USERS])
+ANY_FAULT = st.sampled_from(FAULTS)
 
 
 class Plans:
     """The strategy of plans."""
 
     def __init__(self, document: Document) -> None:
-        self._document = document
-        self._drawing = Drawing(document)
-        self._weighted = [it for it in document.operations for _ in range(self._weight(it))]
-        self._odd = st.one_of(
-            st.uuids().map(str),
-            st.sampled_from(["0" * 16, "newest", "x", "%7B", "1" * 16]),
-            st.from_regex(r"\A[A-Za-z0-9._~-]{1,70}\Z"),
-        )
+        drawing = Drawing(document)
+        parts = [_Parts(drawing, it) for it in document.operations]
+        self._parts = [it for it in parts for _ in range(self._weight(it.operation))]
+        self._which = st.integers(0, len(self._parts) - 1)
 
     @staticmethod
     def _weight(operation: Operation) -> int:
         return 3 if operation.body else 2 if operation.of("query") else 1
 
-    def _query(self, draw: Callable[[Values], Any], operation: Operation) -> list[tuple[str, str]]:
+    @staticmethod
+    def _query(draw: Callable[[Values], Any], parts: _Parts) -> list[tuple[str, str]]:
         query = []
-        for part in operation.of("query"):
-            values = st.one_of(self._drawing.fits(part["schema"]), st.sampled_from(ODD_QUERIES))
-            for _ in range(draw(st.sampled_from([0, 0, 0, 1, 1, 1, 1, 2]))):
-                query.append((part["name"], str(draw(values))))
+        for name, values in parts.query:
+            query += [(name, str(draw(values))) for _ in range(draw(HOW_OFTEN))]
         return query + [("other", "x")] * draw(_seldom(8))
 
-    def _tree(self, draw: Callable[[Values], Any], operation: Operation) -> Any:
-        content = operation.body.get("application/json")
-        if content is None:
-            return None
-        schema = content["schema"]
-        kinds = [self._drawing.fits(schema)] * 3 + [self._drawing.broken(schema)] * 2
-        return draw(kinds[draw(st.integers(0, 4))])
-
-    def _data(self, draw: Callable[[Values], Any], operation: Operation) -> bytes | None:
-        if "application/json" in operation.body:
-            return draw(st.sampled_from(NO_JSON[1:])) if draw(_seldom(20)) else None
-        return draw(st.sampled_from([None, None, None, b"", b"x"]))
+    @staticmethod
+    def _data(draw: Callable[[Values], Any], parts: _Parts) -> bytes | None:
+        """Bytes in place of a JSON body, or a body where none is asked for."""
+        if parts.trees is not None:
+            return draw(WRONG_DATA) if draw(_seldom(20)) else None
+        return None if parts.operation.body else draw(OTHER_DATA)
 
     def draw(self, draw: Callable[[Values], Any]) -> Plan:
         """Draws one plan."""
-        operation = draw(st.sampled_from(self._weighted))
-        odd = {it["name"]: draw(self._odd) for it in operation.of("path") if draw(_seldom(16))}
+        parts = self._parts[draw(self._which)]
         return Plan(
-            operation=operation,
-            which=draw(st.integers(0, LARGE)),
-            spelling=draw(st.integers(0, 17)),
-            odd=odd,
-            query=tuple(self._query(draw, operation)),
-            tree=self._tree(draw, operation),
-            data=self._data(draw, operation),
-            file=draw(st.integers(0, LARGE)),
-            user=draw(st.sampled_from([None, None, *USERS])),
+            operation=parts.operation,
+            which=draw(NUMBERS),
+            spelling=draw(SPELLINGS),
+            odd={name: draw(ODD_PARTS) for name in parts.path if draw(_seldom(16))},
+            query=tuple(self._query(draw, parts)),
+            tree=None if parts.trees is None else draw(parts.trees),
+            data=self._data(draw, parts),
+            file=draw(NUMBERS),
+            user=draw(ANY_USER),
             gzip=draw(_seldom(40)),
-            fault=draw(st.sampled_from(FAULTS)) if draw(_seldom(30)) else None,
+            fault=draw(ANY_FAULT) if draw(_seldom(30)) else None,
         )
 
     def strategy(self) -> st.SearchStrategy[Plan]:

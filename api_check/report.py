@@ -18,7 +18,9 @@ class Report:
             self.failed += 1
         else:
             self.passed += 1
-        print(f"{'FAILED' if faults else 'passed'}  {name}{': ' + note if note else ''}", flush=True)
+        print(
+            f"{'FAILED' if faults else 'passed'}  {name}{': ' + note if note else ''}", flush=True
+        )
         for fault in faults[:SHOWN]:
             print(f"        {fault}", flush=True)
         if len(faults) > SHOWN:
