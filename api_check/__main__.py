@@ -21,21 +21,26 @@ from .places import API_MD, DOCUMENT
 from .report import Report
 from .scene import NotReady, Scene
 from .server import Server
-from .wire import Client
+from .style import check_style
+from .wire import Client, CutOff
 
 REQUESTS = 3_000
 
 
-def check_document(report: Report, document: Document, api_text: str) -> None:
-    """Everything that needs no server."""
+def check_document(report: Report, document: Document, api_text: str) -> bool:
+    """Everything that needs no server. Returns whether the document is sound enough to go on."""
+    failed = report.failed
     report.add("the standard's schema", standard.by_the_standard(document))
     report.add("JSON Schema 2020-12", standard.by_json_schema(document))
     report.add("references", standard.by_references(document))
+    if report.failed > failed:
+        return False
     report.add("operations", standard.by_operations(document))
     count, faults = examples.check_examples(document)
     report.add("examples", faults, f"{count} compared with their cases")
     for name, found in agreement.Agreement(api_md.read_api(api_text), document).parts():
         report.add(f"docs/API.md: {name}", found)
+    return True
 
 
 def _note(asked: int, began: float) -> str:
@@ -91,6 +96,7 @@ def _words() -> argparse.Namespace:
     words.add_argument("program", metavar="PROGRAM", nargs="?", help="the built bim_server")
     words.add_argument("--seed", type=int, help="draw the same requests again")
     words.add_argument("--requests", type=int, default=REQUESTS, help="how many are drawn")
+    words.add_argument("--style", action="store_true", help="run the linters too")
     words.add_argument("--document", type=Path, default=DOCUMENT)
     words.add_argument("--api", type=Path, default=API_MD)
     return words.parse_args()
@@ -101,9 +107,11 @@ def main() -> int:
     given = _words()
     seed = random.SystemRandom().randrange(10**6) if given.seed is None else given.seed
     report = Report()
+    if given.style:
+        check_style(report)
     document = Document.read(given.document)
-    check_document(report, document, given.api.read_text(encoding="utf-8"))
-    if given.program is not None:
+    sound = check_document(report, document, given.api.read_text(encoding="utf-8"))
+    if sound and given.program is not None:
         program = os.path.abspath(given.program)
         if not os.access(program, os.X_OK):
             print(
@@ -115,7 +123,7 @@ def main() -> int:
             os.environ["HYPOTHESIS_STORAGE_DIRECTORY"] = folder
             try:
                 check_program(report, document, program, given.requests, seed)
-            except (NotReady, OSError) as why:
+            except (NotReady, CutOff, OSError) as why:
                 report.add("the program answers", [str(why)])
     return report.end()
 

@@ -6,7 +6,7 @@ import re
 from collections.abc import Iterable, Iterator
 from typing import Any
 
-from .api_md import TOPICS, ApiText
+from .api_md import TOPICS, ApiText, read_api
 from .document import Document, Node, Operation
 
 API, DOC = "docs/API.md", "docs/openapi.yaml"
@@ -209,3 +209,9 @@ class Agreement:
             "headers",
         ):
             yield name.replace("_", " "), list(getattr(self, name)())
+
+
+def check_agreement(document: Document, api_text: str) -> list[str]:
+    """All that stands in one of the two alone."""
+    parts = Agreement(read_api(api_text), document).parts()
+    return [fault for _, faults in parts for fault in faults]

@@ -28,17 +28,4 @@ if [ -n "$missing" ]; then
         { echo "api_check: install$missing by apt-get, then run this again" >&2; exit 2; }
 fi
 
-python=/usr/bin/python3
-failed=0
-step() {
-    name=$1
-    shift
-    if "$@"; then echo "passed  $name"; else echo "FAILED  $name"; failed=1; fi
-}
-step "black" "$python" -m black --quiet --check --config api_check/pyproject.toml api_check
-step "flake8" "$python" -m flake8 --config api_check/.flake8 api_check
-step "mypy" "$python" -m mypy --config-file api_check/pyproject.toml --no-error-summary --cache-dir /tmp/api_check_mypy api_check
-step "yamllint" yamllint --strict -c api_check/yamllint.yaml docs/openapi.yaml
-
-timeout 600 "$python" -m api_check "$@" || failed=1
-exit "$failed"
+exec timeout 600 /usr/bin/python3 -m api_check --style "$@"

@@ -132,7 +132,7 @@ class Directed:
         yield Asked(method, good.bytes(), status)
 
 
-def _unexpected(asked: Asked, reply: Reply) -> list[str]:
+def unexpected(asked: Asked, reply: Reply) -> list[str]:
     right = reply.status == asked.status
     if asked.code:
         right = right and f'"code":"{asked.code}'.encode() in reply.body
@@ -154,5 +154,5 @@ def check_directed(judge: Judge, scene: Scene) -> tuple[int, list[str]]:
                 faults.append(f"{operation.name}: {why}")
                 continue
             faults += judge.judge(operation, reply, asked.method)
-            faults += [f"{operation.name}: {it}" for it in _unexpected(asked, reply)]
+            faults += [f"{operation.name}: {it}" for it in unexpected(asked, reply)]
     return count, faults

@@ -39,8 +39,10 @@ class Server:
                 return self
             except OSError:
                 time.sleep(0.02)
+        status = self._run.poll()
         self.stop()
-        raise OSError(f"the server isn't there after {START_SECONDS} s: is PROGRAM a bim_server?")
+        ended = f"ended with {status}" if status is not None else "is silent"
+        raise OSError(f"bim_server serve {ended} at port {self.port}: build it, or give its path")
 
     def __exit__(
         self,
