@@ -7,20 +7,22 @@ import concurrent.futures
 import os
 import random
 import sys
-import tempfile
 import time
 from pathlib import Path
 
 from . import agreement, api_md, coverage, examples, standard
 from .directed import check_directed
 from .document import Document
+from .drawn import check_drawn
 from .faults_of_bytes import check_bytes
 from .full_book import check_full
+from .full_lists import check_lists
 from .judge import Judge
 from .places import API_MD, DOCUMENT
 from .report import Report
 from .scene import NotReady, Scene
 from .server import Server
+from .sessions import check_memory, check_pending
 from .style import check_style
 from .wire import Client, CutOff
 
@@ -49,8 +51,6 @@ def _note(asked: int, began: float) -> str:
 
 def _started(report: Report, judge: Judge, program: str, count: int, seed: int) -> None:
     """What is asked of a server that goes on."""
-    from .drawn import check_drawn
-
     with Server(program) as server:
         scene = Scene(Client(server.port))
         scene.prepare()
@@ -68,12 +68,11 @@ def _started(report: Report, judge: Judge, program: str, count: int, seed: int) 
 
 def check_program(report: Report, document: Document, program: str, count: int, seed: int) -> None:
     """Everything that is asked of the program."""
-    from .sessions import check_memory, check_pending
-
-    judge, full_judge = Judge(document), Judge(document)
-    with concurrent.futures.ThreadPoolExecutor(1) as pool:
+    judge, full_judge, lists_judge = Judge(document), Judge(document), Judge(document)
+    with concurrent.futures.ThreadPoolExecutor(2) as pool:
         began = time.monotonic()
         full = pool.submit(check_full, full_judge, program)
+        lists = pool.submit(check_lists, lists_judge, program)
         report.add("202, by a replay", check_pending(judge, program))
         _started(report, judge, program, count, seed)
         memory = check_memory(judge, program)
@@ -83,9 +82,13 @@ def check_program(report: Report, document: Document, program: str, count: int, 
         seconds = time.monotonic() - began
         note = filled.reason or f"{filled.count} requests, within {seconds:.1f} s"
         report.add("507, of a full journal", filled.faults, note)
+        listed = lists.result()
+        seconds = time.monotonic() - began
+        note = listed.reason or f"{listed.count} requests, within {seconds:.1f} s"
+        report.add("507, of full lists", listed.faults, note)
     judge.add(full_judge)
-    reasons = {503: memory.reason, 507: filled.reason}
-    excused = {status: reason for status, reason in reasons.items() if reason}
+    judge.add(lists_judge)
+    excused = coverage.excuses(memory.reason, filled.reason, listed.reason)
     note, missing = coverage.check_coverage(judge, excused)
     report.add("coverage", missing, note)
     coverage.print_table(judge, excused)
@@ -119,12 +122,10 @@ def main() -> int:
             )
             return 2
         print(f"seed {seed}")
-        with tempfile.TemporaryDirectory() as folder:
-            os.environ["HYPOTHESIS_STORAGE_DIRECTORY"] = folder
-            try:
-                check_program(report, document, program, given.requests, seed)
-            except (NotReady, CutOff, OSError) as why:
-                report.add("the program answers", [str(why)])
+        try:
+            check_program(report, document, program, given.requests, seed)
+        except (NotReady, CutOff, OSError) as why:
+            report.add("the program answers", [str(why)])
     return report.end()
 
 

@@ -19,6 +19,7 @@ SHOWN = {
     "element": "Element",
     "project": "Project",
 }
+SHOWN_SOMEWHERE = {"rule": "Rule"}
 
 
 def _only(what: str, here: Iterable[Any], there: Iterable[Any]) -> Iterator[str]:
@@ -133,6 +134,10 @@ class Agreement:
         for kind, name in SHOWN.items():
             there = self._properties(self.schemas[name])
             yield from _only(f"{name}: the member", self.api.shown.get(kind, set()), there)
+        for kind, name in SHOWN_SOMEWHERE.items():
+            if kind in self.api.shown:
+                there = self._properties(self.schemas[name])
+                yield from _only(f"{name}: the member", self.api.shown[kind], there)
 
     def _nested(self, schema: Node) -> dict[str, Node]:
         """The members of a body and of the objects in it, but not those of a component."""

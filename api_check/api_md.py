@@ -136,6 +136,8 @@ def _shown_members(api: ApiText, text: str) -> None:
             api.shown[kind] = {it for it in names if re.fullmatch(r"\w+", it)}
     if element := re.search(r"An element has (.*?)\.(?: |$)", text):
         api.shown["element"] = set(quoted(element[1]))
+    if rule := re.search(r"A rule has (.*?)\.(?: |$)", text):
+        api.shown["rule"] = set(quoted(rule[1]))
     if project := re.search(r"an object with (`name` and `project_id`)", text):
         api.shown["project"] = set(quoted(project[1]))
 

@@ -8,11 +8,13 @@ from collections.abc import Callable
 from typing import Any
 
 from hypothesis import HealthCheck, Phase, given, seed, settings
+from hypothesis.configuration import set_hypothesis_home_dir
 
 from .document import Node
 from .faults_of_bytes import faulty
 from .files import files_of_cases
 from .judge import Judge
+from .places import KEPT
 from .plans import Plan, Plans
 from .scene import Scene, project
 from .wire import CutOff, Reply, Request
@@ -201,6 +203,7 @@ class Drawn:
 
 def check_drawn(judge: Judge, scene: Scene, count: int, number: int) -> list[str]:
     """Draws and asks so many requests, by the seed."""
+    set_hypothesis_home_dir(str(KEPT / "hypothesis"))
     drawn = Drawn(judge, scene)
 
     @seed(number)

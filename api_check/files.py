@@ -53,6 +53,17 @@ def twins(*cells: int) -> bytes:
     return file_of([(low, high), (low, high)])
 
 
+def many_elements(count: int) -> bytes:
+    """So many elements at one place, which share their shape."""
+    lines = FRONT + _element(1, ((0, 0, 0), (100, 100, 0)))
+    shape = 13
+    lines += [
+        f"#{100 + n}=IFCPIPESEGMENT('{n:022}',$,'x',$,$,$,#{shape},$,$);"
+        for n in range(2, count + 1)
+    ]
+    return "".join(it + "\n" for it in [*lines, "ENDSEC;", "END-ISO-10303-21;"]).encode()
+
+
 TWO_PIPES = file_of([((0, 0, 0), (100, 100, 0)), ((0, 0, 40), (100, 100, 40))])
 
 

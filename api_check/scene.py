@@ -28,6 +28,11 @@ def project(number: int) -> str:
     return f"{number:08x}-0000-8000-8000-000000000000"
 
 
+def guid(number: int) -> str:
+    """The identifier of an object of the first project."""
+    return f"{project(1)[:-12]}{number:012x}"
+
+
 def target(operation: Operation, ids: Mapping[str, str]) -> str:
     """The path of an operation with its parts filled in."""
     return re.sub(r"\{(\w+)\}", lambda match: ids[match[1]], operation.path)

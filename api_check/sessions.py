@@ -14,7 +14,7 @@ from .directed import Directed
 from .document import Operation
 from .judge import Judge
 from .places import FAILING_C
-from .scene import Scene, project, target
+from .scene import Scene, guid, project, target
 from .wire import Client, Reply, Request
 
 REPLAY_SECONDS = 60
@@ -28,16 +28,12 @@ ORDER = (
 ).split()
 
 
-def _guid(number: int) -> str:
-    return f"{project(1)[:-12]}{number:012x}"
-
-
 # The topic of the clash is number 1 and its viewpoint 2.
 IDS = {
     "project_id": project(1),
-    "topic_guid": _guid(3),
-    "comment_guid": _guid(4),
-    "viewpoint_guid": _guid(5),
+    "topic_guid": guid(3),
+    "comment_guid": guid(4),
+    "viewpoint_guid": guid(5),
     "version": "2",
     "place": "0",
     "model_name": "m",

@@ -5,7 +5,7 @@ from __future__ import annotations
 import subprocess
 import sys
 
-from .places import DOCUMENT, ROOT
+from .places import DOCUMENT, KEPT, ROOT
 from .report import Report
 
 HERE = ROOT / "api_check"
@@ -14,7 +14,7 @@ HERE = ROOT / "api_check"
 def _commands() -> dict[str, list[str]]:
     settings = str(HERE / "pyproject.toml")
     python = [sys.executable, "-m"]
-    kept = "/tmp/api_check_mypy"
+    kept = str(KEPT / "mypy")
     return {
         "black": [*python, "black", "--quiet", "--check", "--config", settings, str(HERE)],
         "flake8": [*python, "flake8", "--config", str(HERE / ".flake8"), str(HERE)],
