@@ -38,6 +38,8 @@ def run_group(program: str, group: Group, planted: Edits, only: str = "") -> dic
             found.update({name: f"not started: {fault}" for name in wanted if name not in found})
         finally:
             front.stop()
+            if any(found.values()):
+                print((Path(folder) / "error.log").read_text()[-3000:], file=sys.stderr)
     return found
 
 

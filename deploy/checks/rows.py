@@ -63,7 +63,6 @@ GROUPS: dict[str, Group] = {
             "BCF API: addresses in versions": walk.addresses,
             "the server stopped and started again": limits.server_stopped,
             "HAProxy stopped and started again": limits.queue_stopped,
-            "eighty wrong passwords are slowed down": users.guesses_are_slowed,
             "the password server stopped": limits.password_server_stopped,
         }
     ),
@@ -88,6 +87,10 @@ GROUPS: dict[str, Group] = {
             "nginx/http.conf": [("rate=400r/s", "rate=5r/s")],
             "nginx/proxy.conf": [("burst=1000", "burst=20")],
         },
+    ),
+    "guesses": Group(
+        {"wrong passwords are bounded": users.guesses_are_bounded},
+        edits={"nginx/passwords.conf": [("rate=5r/s", "rate=1r/m"), ("burst=20", "burst=3")]},
     ),
     "hang": Group(
         {"a server that hangs: 504 and 503": limits.server_hangs},

@@ -16,24 +16,23 @@ OTHER = 4 * 1024 * 1024
 
 def body_of_32_mib(front: Front) -> None:
     """It reaches the server, which finds that it is no Part 21 file."""
-    answer = ask(front, "PUT", f"{COORD}/models/m", b"x" * MODEL, timeout="90")
+    answer = ask(front, "PUT", f"{COORD}/models/m", bytes(MODEL), timeout="90")
     is_answer(answer, 422, "U1")
 
 
 def body_of_32_mib_and_one(front: Front) -> None:
-    answer = ask(front, "PUT", f"{COORD}/models/m", b"x" * (MODEL + 1), Expect="100-continue")
+    answer = ask(front, "PUT", f"{COORD}/models/m", bytes(MODEL + 1), Expect="100-continue")
     is_answer(answer, 413, "H4")
 
 
 def body_in_chunks(front: Front) -> None:
     """Chunks become one body of a known length; a byte too many is refused as well."""
-    piece = b"x" * (1 << 20)
+    piece = bytes(1 << 20)
     connection = Tls(front, timeout=90)
-    fields = {**basic("eva"), "Transfer-Encoding": "chunked"}
     for more, status, code in (([b""], 422, "U1"), ([b"x"], 413, "H4")):
         chunks = [piece] * 32 + [each for each in more if each]
         try:
-            answer = ask_on(connection, "PUT", f"{COORD}/models/m", chunks, **fields)
+            answer = ask_on(connection, "PUT", f"{COORD}/models/m", chunks, **basic("eva"))
         except (BrokenPipeError, ConnectionResetError, ssl.SSLError):
             must(status == 413, "the connection was cut within the body")
             continue
@@ -171,7 +170,7 @@ def queue_stopped(front: Front) -> None:
 def password_server_stopped(front: Front) -> None:
     """A user who isn't remembered gets 500 as JSON, and nobody gets in."""
     front.stop_part("passwords")
-    is_answer(ask(front, "GET", BCF, user="reader"), 500, "F7")
+    is_answer(ask(front, "GET", BCF, user="late"), 500, "F7")
 
 
 def server_hangs(front: Front) -> None:

@@ -72,40 +72,40 @@ def current_user(front: Front) -> None:
 
 
 def password_is_hashed_once(front: Front) -> None:
-    """A hash of the users' file takes some 0.1 s: sixty would take six."""
+    """The hash of eva's password takes 0.2 s or more: sixty would take over twelve."""
     connection = Tls(front)
     ask_on(connection, "GET", "/bcf/3.0/current-user", **basic("eva"))
     start = time.monotonic()
     for _ in range(60):
         is_answer(ask_on(connection, "GET", "/bcf/3.0/current-user", **basic("eva")), 200)
     took = time.monotonic() - start
-    must(took < 3, f"sixty requests took {took:.1f} s")
+    must(took < 6, f"sixty requests took {took:.1f} s")
 
 
-def guesses_are_slowed(front: Front) -> None:
-    """Of eighty wrong passwords some are refused unread, and a known user waits for none."""
+def guesses_are_bounded(front: Front) -> None:
+    """With the bound at four at once: of thirty wrong passwords most are refused unread.
+
+    A user who is known already waits for none of them.
+    """
+    connection = Tls(front)
+    is_answer(ask_on(connection, "GET", "/bcf/3.0/current-user", **basic("eva")), 200)
     statuses: list[int] = []
 
     def guess(number: int) -> None:
         fields = basic("eva", f"guess {number}")
         statuses.append(ask(front, "GET", BCF, user="", **fields).status)
 
-    ask(front, "GET", BCF)
-    threads = [Thread(target=guess, args=(number,)) for number in range(80)]
+    threads = [Thread(target=guess, args=(number,)) for number in range(30)]
     for each in threads:
         each.start()
-    time.sleep(0.3)
-    connection = Tls(front)
-    ask_on(connection, "GET", "/bcf/3.0/current-user", **basic("eva"))
-    longest = 0.0
-    for _ in range(20):
-        start = time.monotonic()
-        is_answer(ask_on(connection, "GET", "/bcf/3.0/current-user", **basic("eva")), 200)
-        longest = max(longest, time.monotonic() - start)
+    start = time.monotonic()
+    is_answer(ask_on(connection, "GET", "/bcf/3.0/current-user", **basic("eva")), 200)
+    took = time.monotonic() - start
     for each in threads:
         each.join()
-    must(set(statuses) == {401, 429}, f"eighty wrong passwords: {sorted(set(statuses))}")
-    must(longest < 1.5, f"a known user waited {longest:.1f} s for others' guesses")
+    must(set(statuses) == {401, 429}, f"thirty wrong passwords: {sorted(set(statuses))}")
+    must(statuses.count(429) >= 20, f"{statuses.count(429)} of thirty were refused unread")
+    must(took < 3, f"a known user waited {took:.1f} s for others' guesses")
 
 
 def certificate(front: Front) -> None:
