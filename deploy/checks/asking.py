@@ -79,9 +79,7 @@ def ask_on(
     return Answer(response.status, response.headers, response.read())
 
 
-def ask(
-    front: Front, method: str, target: str, body: Any = None, user: str = "eva", **fields: str
-) -> Answer:
+def ask(front: Front, method: str, target: str, body: Any = None, user: str = "eva", **fields: str) -> Answer:
     """A request over a connection of its own, by a user; nobody where the user is empty."""
     connection = Tls(front, fields.pop("certificate", ""), float(fields.pop("timeout", "60")))
     try:

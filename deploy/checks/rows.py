@@ -70,13 +70,9 @@ GROUPS: dict[str, Group] = {
         {"pages of other origins": browsers.other_origins},
         edits={"nginx/site.conf": [('# "https://viewer.example" 1', '"https://viewer.example" 1')]},
     ),
-    "certificates": Group(
-        {"certificates alone": users.certificates_alone}, mode="certificates"
-    ),
+    "certificates": Group({"certificates alone": users.certificates_alone}, mode="certificates"),
     "subrequest": Group({"single sign-on by a subrequest": users.by_provider}, mode="subrequest"),
-    "echo": Group(
-        {"what of a request reaches the server": browsers.what_reaches_the_server}, server=False
-    ),
+    "echo": Group({"what of a request reaches the server": browsers.what_reaches_the_server}, server=False),
     "rate of a user": Group(
         {"a user's requests are bounded": limits.rate_of_a_user},
         edits={QUEUE: [("gt 2000", "gt 30")]},
@@ -94,8 +90,12 @@ GROUPS: dict[str, Group] = {
     ),
     "hang": Group(
         {"a server that hangs: 504 and 503": limits.server_hangs},
-        edits={QUEUE: [("timeout queue 10s", "timeout queue 1s"), ("timeout server 120s", "timeout server 2s")]},
+        edits={
+            QUEUE: [("timeout queue 10s", "timeout queue 1s"), ("timeout server 120s", "timeout server 2s")]
+        },
     ),
 }
 # preflight needs a listed origin as well
-GROUPS["origins"].rows["OPTIONS before the password"] = GROUPS["plain"].rows.pop("OPTIONS before the password")
+GROUPS["origins"].rows["OPTIONS before the password"] = GROUPS["plain"].rows.pop(
+    "OPTIONS before the password"
+)

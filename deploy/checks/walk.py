@@ -49,7 +49,7 @@ def each_has(*names: str) -> Shape:
 
 def is_empty_list(value: Any) -> bool:
     """What a server answers that keeps none of these things."""
-    return value == []
+    return isinstance(value, list) and not value
 
 
 def is_absent(value: Any) -> bool:
@@ -65,12 +65,12 @@ def names_versions(value: Any) -> bool:
 
 def offers_basic(value: Any) -> bool:
     """Passwords are taken, and no OAuth is claimed."""
-    return value == {"http_basic_supported": True}
+    return bool(value == {"http_basic_supported": True})
 
 
 def is_eva(value: Any) -> bool:
     """The user of the walk."""
-    return value == {"id": "eva", "name": "eva"}
+    return bool(value == {"id": "eva", "name": "eva"})
 
 
 def is_extensions(version: str) -> Shape:
@@ -151,7 +151,7 @@ def endings(version: str) -> list[Call]:
     """Deletions, last; 3.0 alone has that of a viewpoint and files_information."""
 
     def is_deleted(value: Any) -> bool:
-        return value == {}
+        return bool(value == {})
 
     calls = [
         Call("DELETE", "P/topics/T/comments/C", "server", 200, is_deleted),
