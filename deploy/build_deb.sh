@@ -86,7 +86,7 @@ lay_out_client() {
     chmod 755 "$FILES/usr/bin/yulfrets"
     {
         echo 'client:Recommends=python3 (>= 3.11), python3-requests'
-        echo 'client:Suggests=python3-openpyxl, python3-rich, python3-typer'
+        echo 'client:Suggests=python3-openpyxl, python3-pil, python3-rich'
     } >>"$TREE/debian/parts.substvars"
     local page
     for page in "$CLIENT"/*.1; do if [ -f "$page" ]; then cp "$page" "$TREE/man/"; fi; done

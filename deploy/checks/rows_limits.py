@@ -20,9 +20,18 @@ def body_of_32_mib(front: Front) -> None:
     is_answer(answer, 422, "U1")
 
 
+def refused_by_nginx(front: Front, count: int) -> None:
+    """The last requests of the log were answered 413, and the server wasn't asked."""
+    time.sleep(0.1)
+    lines = (front.folder / "access.log").read_text().splitlines()[-count:]
+    for line in lines:
+        must(" 413 " in line and "server=-/-" in line, f"not refused by nginx: {line}")
+
+
 def body_of_32_mib_and_one(front: Front) -> None:
     answer = ask(front, "PUT", f"{COORD}/models/m", bytes(MODEL + 1), Expect="100-continue")
     is_answer(answer, 413, "H4")
+    refused_by_nginx(front, 1)
 
 
 def body_in_chunks(front: Front) -> None:
@@ -37,6 +46,7 @@ def body_in_chunks(front: Front) -> None:
             must(status == 413, "the connection was cut within the body")
             continue
         is_answer(answer, status, code)
+    refused_by_nginx(front, 1)
 
 
 def body_of_a_topic(front: Front) -> None:
@@ -44,6 +54,7 @@ def body_of_a_topic(front: Front) -> None:
     is_answer(answer, 400, "H9")
     answer = ask(front, "POST", f"{BCF}/topics", b" " * (OTHER + 1), Expect="100-continue")
     is_answer(answer, 413, "H4")
+    refused_by_nginx(front, 1)
 
 
 def head_too_long(front: Front) -> None:
@@ -90,6 +101,7 @@ def idle_clients(front: Front) -> None:
         connection = Tls(front)
         answer = ask_on(connection, "GET", BCF, **basic("eva"))
         must(answer.status == 200, f"client {number}: {answer.said()}")
+        must(connection.sock is not None, f"client {number}: its connection isn't kept")
         held.append(connection)
     answered_within(front, 3, "200 idle clients")
     again = ask_on(held[0], "GET", BCF, **basic("eva"))
