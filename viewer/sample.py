@@ -66,9 +66,7 @@ class File:
         indices = ",".join("(%d,%d,%d)" % f for f in faces)
         at = self.add(f"IFCCARTESIANPOINTLIST3D(({corners}))")
         item = self.add(f"IFCTRIANGULATEDFACESET({at},$,.T.,({indices}),$)")
-        body = self.add(
-            f"IFCSHAPEREPRESENTATION($,'Body','Tessellation',({item}))"
-        )
+        body = self.add(f"IFCSHAPEREPRESENTATION($,'Body','Tessellation',({item}))")
         shape = self.add(f"IFCPRODUCTDEFINITIONSHAPE($,$,({body}))")
         more = 6 if kind in ("IFCDOOR", "IFCWINDOW") else 2
         rest = ",$" * more
@@ -78,14 +76,10 @@ class File:
     def box(self, kind: str, name: str, storey: str, low: Point, high: Point) -> None:
         """An element that is a box."""
         ends = (low, high)
-        points = [
-            (ends[n & 1][0], ends[n >> 1 & 1][1], ends[n >> 2][2]) for n in range(8)
-        ]
+        points = [(ends[n & 1][0], ends[n >> 1 & 1][1], ends[n >> 2][2]) for n in range(8)]
         self.mesh(kind, name, storey, points, BOX_FACES)
 
-    def pipe(
-        self, name: str, storey: str, begin: Point, end: Point, radius: int
-    ) -> None:
+    def pipe(self, name: str, storey: str, begin: Point, end: Point, radius: int) -> None:
         """A pipe along one axis, with eight sides."""
         axis = next(k for k in range(3) if begin[k] != end[k])
         one, two = [k for k in range(3) if k != axis]
@@ -108,9 +102,7 @@ class File:
     def tree(self) -> None:
         """The storeys and what is in them."""
         names = [
-            self.add(
-                f"IFCBUILDINGSTOREY('{self.guid(name)}',$,'{name}',$,$,$,$,$,.ELEMENT.,{n * HEIGHT}.)"
-            )
+            self.add(f"IFCBUILDINGSTOREY('{self.guid(name)}',$,'{name}',$,$,$,$,$,.ELEMENT.,{n * HEIGHT}.)")
             for n, name in enumerate(self.storeys)
         ]
         all_names = ",".join(names)
@@ -118,9 +110,7 @@ class File:
         for name, elements in zip(names, self.storeys.values()):
             if elements:
                 inside = ",".join(elements)
-                self.add(
-                    f"IFCRELCONTAINEDINSPATIALSTRUCTURE('{self.guid(inside)}',$,$,$,({inside}),{name})"
-                )
+                self.add(f"IFCRELCONTAINEDINSPATIALSTRUCTURE('{self.guid(inside)}',$,$,$,({inside}),{name})")
 
     def text(self) -> str:
         """The whole file."""
@@ -147,9 +137,7 @@ def facade(out: File, storey: str, base: int, bay: int) -> None:
         low, high = x + 200, x + BAY - 200
         name = f"{side} {bay + 1}"
         top = base + HEIGHT - 250
-        out.box(
-            "IFCWALL", f"Parapet {name}", storey, (low, y, base), (high, y + 300, base + 900)
-        )
+        out.box("IFCWALL", f"Parapet {name}", storey, (low, y, base), (high, y + 300, base + 900))
         out.box(
             "IFCWINDOW",
             f"Window {name}",
@@ -157,9 +145,7 @@ def facade(out: File, storey: str, base: int, bay: int) -> None:
             (low, y + 110, base + 900),
             (high, y + 190, base + 2500),
         )
-        out.box(
-            "IFCWALL", f"Lintel {name}", storey, (low, y, base + 2500), (high, y + 300, top)
-        )
+        out.box("IFCWALL", f"Lintel {name}", storey, (low, y, base + 2500), (high, y + 300, top))
 
 
 def rooms(out: File, storey: str, base: int) -> None:
@@ -169,9 +155,7 @@ def rooms(out: File, storey: str, base: int) -> None:
         for bay in range(BAYS):
             x = bay * BAY + 200
             name = f"{side} {bay + 1}"
-            out.box(
-                "IFCWALL", f"Corridor wall {name}", storey, (x, y, base), (x + 4400, y + 150, top)
-            )
+            out.box("IFCWALL", f"Corridor wall {name}", storey, (x, y, base), (x + 4400, y + 150, top))
             out.box(
                 "IFCDOOR",
                 f"Door {name}",
@@ -180,9 +164,7 @@ def rooms(out: File, storey: str, base: int) -> None:
                 (x + 5400, y + 110, base + 2100),
             )
     for side, x in (("west", -100), ("east", BAYS * BAY - 200)):
-        out.box(
-            "IFCWALL", f"End wall {side}", storey, (x, 300, base), (x + 300, DEPTH - 300, top)
-        )
+        out.box("IFCWALL", f"End wall {side}", storey, (x, 300, base), (x + 300, DEPTH - 300, top))
 
 
 def frame(out: File, storey: str, base: int) -> None:
@@ -212,9 +194,7 @@ def arch() -> str:
     out = File("1ARCH")
     for n, storey in enumerate([*STOREYS, ROOF]):
         low = (-300, -200, n * HEIGHT - 250)
-        out.box(
-            "IFCSLAB", f"Slab {storey}", storey, low, (BAYS * BAY + 300, DEPTH + 200, n * HEIGHT)
-        )
+        out.box("IFCSLAB", f"Slab {storey}", storey, low, (BAYS * BAY + 300, DEPTH + 200, n * HEIGHT))
     for n, storey in enumerate(STOREYS):
         base = n * HEIGHT
         frame(out, storey, base)

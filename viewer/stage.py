@@ -83,9 +83,7 @@ class Stage:
     def start(self, words: list[str], port: int) -> None:
         """Starts a program and waits until its port is open."""
         with open(self.run / "log", "ab") as log:
-            process = subprocess.Popen(
-                words, stdout=log, stderr=log, start_new_session=True
-            )
+            process = subprocess.Popen(words, stdout=log, stderr=log, start_new_session=True)
         self.started.append(process)
         for _ in range(200):
             if is_open(port):
@@ -122,9 +120,7 @@ class Stage:
     def generate(self, count: int, number: int) -> bytes:
         """A model that the program makes up."""
         words = ["generate", "--count", str(count), "--number", str(number), "--file"]
-        return subprocess.run(
-            [self.program, *words], check=True, capture_output=True, timeout=300
-        ).stdout
+        return subprocess.run([self.program, *words], check=True, capture_output=True, timeout=300).stdout
 
     def stop(self) -> None:
         """Ends what was started, front first."""
@@ -147,9 +143,7 @@ def convert(house: str) -> bytes | None:
         return None
     with tempfile.TemporaryDirectory() as folder:
         out = Path(folder) / "house.ifc"
-        made = subprocess.run(
-            [str(converter), house, str(out)], capture_output=True, timeout=120
-        )
+        made = subprocess.run([str(converter), house, str(out)], capture_output=True, timeout=120)
         return out.read_bytes() if made.returncode in (0, 1) else None
 
 

@@ -1,5 +1,5 @@
 /** The eye that turns around a target, and what the pointer and the keys do to it. Lengths are millimetres from the scene's origin. */
-import { add, times, cross, unit, perspective, view, multiply, centre, diagonal } from './matrix.js';
+import { add, minus, times, dot, cross, unit, perspective, view, multiply, centre, corners } from './matrix.js';
 
 const ANGLE = Math.PI / 4;
 const STEEPEST = Math.PI / 2 - 0.001;
@@ -44,9 +44,18 @@ export class Camera {
     return 2 * this.distance * Math.tan(ANGLE / 2);
   }
 
-  frame(box, aspect, room = 1.15) {
+  /** Looks at a box from where the eye is: all its corners are in the picture, with some room around. */
+  frame(box, aspect, room = 1.12) {
     this.target = centre(box);
-    this.distance = room * Math.max(300, diagonal(box) / 2) / Math.sin(ANGLE / 2) / Math.min(1, aspect);
+    const { right, up, back } = this.directions();
+    const k = Math.tan(ANGLE / 2);
+    this.distance = 0;
+    for (const corner of corners(box)) {
+      const at = minus(corner, this.target);
+      const side = Math.max(Math.abs(dot(at, right)) / aspect, Math.abs(dot(at, up)));
+      this.distance = Math.max(this.distance, side * room / k + dot(at, back));
+    }
+    this.distance = Math.max(this.distance, 300);
   }
 
   turn(across, along) {

@@ -12,6 +12,8 @@ export const unit = a => times(a, 1 / (length(a) || 1));
 export const centre = box => [0, 1, 2].map(k => (box[k] + box[k + 3]) / 2);
 export const diagonal = box => Math.hypot(box[3] - box[0], box[4] - box[1], box[5] - box[2]);
 
+export const corners = box => Array.from({ length: 8 }, (_, n) => [0, 1, 2].map(k => box[(n >> k) & 1 ? k + 3 : k]));
+
 /** The least box around boxes, or null around none. */
 export function hull(boxes) {
   if (!boxes.length) return null;

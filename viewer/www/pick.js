@@ -1,5 +1,5 @@
 /** What is under the pointer: the nearest shown element that a ray meets, the point, and the corner that is near it. */
-import { add, minus, times, dot, cross, length } from './matrix.js';
+import { add, minus, times, dot, cross, length, corners } from './matrix.js';
 
 /** Where the ray comes into a box, as a length, or Infinity. */
 export function meetsBox(ray, low, high) {
@@ -32,7 +32,6 @@ function meetsTriangle(ray, at, n) {
   return t > 0 ? t : Infinity;
 }
 
-const corners = (low, high) => Array.from({ length: 8 }, (_, n) => [0, 1, 2].map(k => ((n >> k) & 1 ? high : low)[k]));
 const inside = (at, low, high) => at.every((v, k) => v >= low[k] - 0.5 && v <= high[k] + 0.5);
 
 /** The nearest place of one element's triangles that isn't cut away, with the triangle's corners. */
@@ -64,7 +63,7 @@ export function pick(ray, scene, boxes, shown) {
     const nearest = best ? best.t : Infinity;
     if (t >= nearest) return;
     const run = runs.get(place);
-    const found = run ? inRun(ray, scene.triangles.at, run, cut, nearest) : { t, corners: corners(low, high) };
+    const found = run ? inRun(ray, scene.triangles.at, run, cut, nearest) : { t, corners: corners(low.concat(high)) };
     if (found) best = Object.assign(found, { place });
   });
   if (!best) return null;

@@ -5,7 +5,7 @@
  */
 import { programs } from './shaders.js';
 
-const FRAME = 36;
+const FRAME = 30;
 const REST = 220;
 const WIDE = 1024;
 const CORNERS = [0, 1, 2, 3, 4, 5, 6, 7];
@@ -16,7 +16,7 @@ const corner = (box, n, origin) => [0, 1, 2].map(k => box[(n >> k) & 1 ? k + 3 :
 
 export class Scene {
   constructor(canvas, camera) {
-    const gl = canvas.getContext('webgl2', { alpha: false, antialias: false, preserveDrawingBuffer: true });
+    const gl = canvas.getContext('webgl2', { alpha: false, antialias: false });
     if (!gl) throw new Error('noWebGL');
     Object.assign(this, { canvas, camera, gl, programs: programs(gl), origin: [0, 0, 0], count: 0, bytes: 0, frames: 0 });
     this.low = [-1e9, -1e9, -1e9];
@@ -182,25 +182,30 @@ export class Scene {
 
   draw() {
     this.fit();
-    const started = performance.now();
-    const turning = started - this.moved < REST;
+    const turning = performance.now() - this.moved < REST;
     if (!this.dirty && !(this.short && !turning)) return;
     this.dirty = false;
     const total = this.total();
     this.short = turning && this.budget < total;
+    const started = turning ? this.settled() : 0;
     this.render(this.short ? this.budget : total);
     ++this.frames;
-    if (turning && total) this.learn(started, total);
+    if (turning && total) this.learn(this.settled() - started, total);
   }
 
   total() {
     return (this.boxMesh ? this.boxMesh.triangles : 0) + (this.triangleMesh ? this.triangleMesh.triangles : 0);
   }
 
-  /** Waits until the picture is there, and draws more or less next time by how long it took. */
-  learn(started, total) {
+  /** The time once all that was asked of the graphics is done. */
+  settled() {
     this.gl.readPixels(0, 0, 1, 1, this.gl.RGBA, this.gl.UNSIGNED_BYTE, this.pixel);
-    const factor = Math.min(1.3, Math.max(0.4, FRAME / (performance.now() - started)));
+    return performance.now();
+  }
+
+  /** Draws more or less next time, by how long a picture took. */
+  learn(time, total) {
+    const factor = Math.min(1.3, Math.max(0.4, FRAME / Math.max(1, time)));
     this.budget = Math.max(1200, Math.min(total, Math.round(Math.min(this.budget, total) * factor)));
   }
 

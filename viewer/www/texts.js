@@ -2,7 +2,7 @@
 
 export const LANGUAGES = { en: 'English', de: 'Deutsch' };
 
-const TEXTS = {
+export const TEXTS = {
   'title': ['Coordination', 'Koordination'],
   'skip': ['Skip to clashes and topics', 'Zu Kollisionen und Themen springen'],
   'project': ['Project', 'Projekt'],
