@@ -6,7 +6,7 @@ import argparse
 from collections.abc import Callable
 
 from . import VERSION
-from .commands import clashes, export, push, rules, topics, versions
+from .commands import clashes, export, import_bcf, push, rules, topics, versions
 from .context import Context
 from .tables import GROUPS
 
@@ -161,6 +161,20 @@ def add_export(build: Builder) -> None:
     add_filters(made)
 
 
+def add_import(build: Builder) -> None:
+    """`import bcf`."""
+    inner = Builder(build.add("import", "read files of other programs"), "format", build.shared)
+    made = inner.add("bcf", "make the topics of a BCF file", import_bcf.run)
+    made.add_argument("file", metavar="FILE")
+    made.add_argument(
+        "--update", action="store_true", help="bring topics that are there up to date"
+    )
+    made.add_argument(
+        "--own-name", action="store_true", help="be the author of all, not the file's"
+    )
+    made.add_argument("--dry-run", action="store_true", help="read the file and change nothing")
+
+
 def parser() -> argparse.ArgumentParser:
     """The whole command line."""
     shared = common()
@@ -173,6 +187,14 @@ def parser() -> argparse.ArgumentParser:
     )
     made.add_argument("-V", action="version", version=f"yulfrets {VERSION}")
     build = Builder(made, "command", shared)
-    for adds in (add_push, add_clashes, add_topics, add_rules, add_versions, add_export):
+    for adds in (
+        add_push,
+        add_clashes,
+        add_topics,
+        add_rules,
+        add_versions,
+        add_export,
+        add_import,
+    ):
         adds(build)
     return made
