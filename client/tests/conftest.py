@@ -112,12 +112,13 @@ class Runner:
 class Server:
     """The program that is tested against, until it is stopped."""
 
-    def __init__(self, program: str, *words: str) -> None:
+    def __init__(self, program: str, lanes: int = 4) -> None:
         for _ in range(5):
             self.port = free_port()
             address = f"127.0.0.1:{self.port}"
+            words = ["--addr", address, "--lanes", str(lanes), "--projects", "2"]
             self.process = subprocess.Popen(
-                [program, "serve", "--addr", address, "--lanes", "4", "--projects", "2", *words],
+                [program, "serve", *words],
                 stdin=subprocess.DEVNULL,
                 stdout=subprocess.DEVNULL,
                 stderr=subprocess.DEVNULL,

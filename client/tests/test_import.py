@@ -124,7 +124,8 @@ VIEW = f"""<VisualizationInfo Guid="c1b2c3d4-0000-4000-8000-000000000001"><Compo
    <AuthoringToolId>7</AuthoringToolId></Component>
  </Selection>
  <Visibility DefaultVisibility="true"/>
- <Coloring><Color Color="80FF0000"><Component IfcGuid="{WALL.guid}"/></Color></Coloring></Components>
+ <Coloring><Color Color="80FF0000"><Component IfcGuid="{WALL.guid}"/></Color></Coloring>
+ </Components>
  <OrthogonalCamera><CameraViewPoint>{POINT}</CameraViewPoint>
   <CameraDirection>{POINT}</CameraDirection><CameraUpVector>{POINT}</CameraUpVector>
   <ViewToWorldScale>1</ViewToWorldScale></OrthogonalCamera>
@@ -249,7 +250,7 @@ def test_what_is_too_long_is_cut_and_counted(run: Runner) -> None:
     done = run.ok("import", "bcf", foreign(run.folder / "a.bcf", **parts), "--json").json
     not_kept = done["not_kept"]
     assert not_kept["ends of long texts"] == 2 and not_kept["labels"] == 5
-    # one component of the selection too many and one of the coloring, of 1,003 and 1
+    # 1,003 components are selected and one is colored, and the server takes 1,000
     assert (not_kept["identifiers"], not_kept["components"]) == (1, 4)
     topic = run.ok("topics", "--json").json[0]
     assert topic["title"] == "ä" * 512 and topic["labels"] == [str(n) for n in range(20)]

@@ -6,8 +6,10 @@ import argparse
 from collections.abc import Callable
 
 from . import VERSION
-from .commands import clashes, export, import_bcf, push, rules, topics, versions
+from .commands import clashes, export, import_bcf, push, report, rules, topics, versions, watch
+from .completion import completion
 from .context import Context
+from .errors import ExitStatus
 from .tables import GROUPS
 
 Run = Callable[[Context], int]
@@ -175,6 +177,32 @@ def add_import(build: Builder) -> None:
     made.add_argument("--dry-run", action="store_true", help="read the file and change nothing")
 
 
+def add_report(build: Builder) -> None:
+    """`report` and `watch`."""
+    made = build.add("report", "write clashes and topics as one HTML file", report.run)
+    made.add_argument("file", metavar="FILE.html")
+    add_version(made)
+    made.add_argument("--most", type=natural, default=60, metavar="N", help="clashes shown (60)")
+    made.add_argument("--no-topics", action="store_true", help="clashes alone")
+    seen = build.add("watch", "print a line for each change", watch.run)
+    seen.add_argument("--every", type=seconds, default=5.0, help="seconds between looks (5)")
+    seen.add_argument("--for", dest="duration", type=seconds, help="end after so many seconds")
+    seen.add_argument("--comments", action="store_true", help="look at comments too")
+    seen.add_argument("--from-start", action="store_true", help="print what is there already")
+
+
+def run_completion(context: Context) -> int:
+    """Prints the script of a shell."""
+    print(completion(parser(), context.words.shell), end="")
+    return ExitStatus.DONE
+
+
+def add_completion(build: Builder) -> None:
+    """`completion`."""
+    made = build.add("completion", "print the completion of a shell", run_completion)
+    made.add_argument("shell", choices=("bash", "zsh"))
+
+
 def parser() -> argparse.ArgumentParser:
     """The whole command line."""
     shared = common()
@@ -187,14 +215,8 @@ def parser() -> argparse.ArgumentParser:
     )
     made.add_argument("-V", action="version", version=f"yulfrets {VERSION}")
     build = Builder(made, "command", shared)
-    for adds in (
-        add_push,
-        add_clashes,
-        add_topics,
-        add_rules,
-        add_versions,
-        add_export,
-        add_import,
-    ):
+    for adds in (add_push, add_clashes, add_topics, add_rules, add_versions):
+        adds(build)
+    for adds in (add_export, add_import, add_report, add_completion):
         adds(build)
     return made

@@ -7,7 +7,7 @@ import importlib.util
 import json
 import sys
 import time
-from collections.abc import Iterator, Sequence
+from collections.abc import Container, Iterator, Sequence
 from typing import TYPE_CHECKING, Any
 
 from .api import Progress
@@ -18,6 +18,7 @@ if TYPE_CHECKING:
 Cell = str | int | None
 QUIET_SECONDS = 1.5
 SHOWN_ROWS = 50
+MOST_COLUMNS = 6
 
 
 def has_rich() -> bool:
@@ -63,22 +64,32 @@ class Console:
             print(plain(line), flush=True)
 
     def table(
-        self, head: Sequence[str], rows: Sequence[Sequence[Cell]], whole: bool = True
+        self,
+        head: Sequence[str],
+        rows: Sequence[Sequence[Cell]],
+        whole: bool = True,
+        narrow: Container[str] = (),
     ) -> None:
         """Rows as a table as wide as the terminal, or as lines with tabs in a pipe.
 
-        A table that isn't asked for whole ends after some rows.
+        A table that isn't asked for whole ends after some rows. On a terminal one of many columns
+        shows those of `narrow` alone.
         """
         if self.quiet or self.as_json:
             return
         shown = rows if whole or len(rows) <= SHOWN_ROWS else rows[:SHOWN_ROWS]
         if sys.stdout.isatty() and has_rich():
-            self._rich_table(head, shown)
+            wanted = [at for at, name in enumerate(head) if name in narrow]
+            wanted = wanted if len(head) > MOST_COLUMNS else list(range(len(head)))
+            cells = [[row[at] for at in wanted] for row in shown]
+            self._rich_table([head[at] for at in wanted], cells)
+            if len(wanted) < len(head):
+                self.note(f"{len(head) - len(wanted)} more columns: --csv FILE, or in a pipe")
         else:
             for row in [list(head), *shown]:
                 print("\t".join(plain(cell) for cell in row))
         if len(shown) < len(rows):
-            self.note(f"{len(rows) - len(shown)} more: add --all, or --csv FILE")
+            self.note(f"{len(rows) - len(shown)} more rows: --all, or --csv FILE")
 
     def _rich_table(self, head: Sequence[str], rows: Sequence[Sequence[Cell]]) -> None:
         """A table whose columns fit the terminal; long cells are folded."""

@@ -30,18 +30,35 @@ CLASH_HEAD = [
     "b storey",
     "b guid",
 ]
-TOPIC_HEAD = [
-    "server_assigned_id",
+TOPIC_MEMBERS = {
+    "number": "server_assigned_id",
+    "title": "title",
+    "type": "topic_type",
+    "status": "topic_status",
+    "priority": "priority",
+    "assigned to": "assigned_to",
+    "due": "due_date",
+    "author": "creation_author",
+    "created": "creation_date",
+    "modified": "modified_date",
+}
+"""The columns of topics, and the members that they show."""
+TOPIC_HEAD = list(TOPIC_MEMBERS)
+NARROW = {
+    "place",
+    "rule",
+    "a class",
+    "a name",
+    "a storey",
+    "b class",
+    "b name",
+    "b storey",
+    "number",
     "title",
-    "topic_type",
-    "topic_status",
-    "priority",
-    "assigned_to",
-    "due_date",
-    "creation_author",
-    "creation_date",
-    "modified_date",
-]
+    "status",
+    "assigned to",
+}
+"""The columns that a terminal shows of rows that are too long for it."""
 GROUPS = ("rule", "storey", "class")
 NOT_IN_XML = re.compile(r"[\x00-\x08\x0b\x0c\x0e-\x1f\ufffe\uffff\ud800-\udfff]")
 Elements = dict[ElementKey, Element]
@@ -82,7 +99,8 @@ def clash_rows(
 
 def topic_rows(topics: Sequence[TopicRecord]) -> list[list[Cell]]:
     """A row for each topic."""
-    return [[topic.get(member) for member in TOPIC_HEAD] for topic in topics]  # type: ignore[misc]
+    members = TOPIC_MEMBERS.values()
+    return [[topic.get(member) for member in members] for topic in topics]  # type: ignore[misc]
 
 
 def rule_words(number: int, rules: Sequence[Rule]) -> str:

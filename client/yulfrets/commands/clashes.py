@@ -9,7 +9,16 @@ from ..console import Cell
 from ..context import Context
 from ..errors import ExitStatus
 from ..records import Clash
-from ..tables import CLASH_HEAD, Elements, clash_json, clash_rows, grouped, write_csv, write_xlsx
+from ..tables import (
+    CLASH_HEAD,
+    NARROW,
+    Elements,
+    clash_json,
+    clash_rows,
+    grouped,
+    write_csv,
+    write_xlsx,
+)
 
 
 @dataclass
@@ -56,10 +65,17 @@ def write_files(context: Context, head: list[str], rows: list[list[Cell]], title
     if words.xlsx:
         write_xlsx(words.xlsx, head, rows, title)
     if not words.csv and not words.xlsx:
-        context.console.table(head, rows, whole=words.all)
+        context.console.table(head, rows, whole=words.all, narrow=NARROW)
     for path in (words.csv, words.xlsx):
         if path and path != "-":
             context.console.say(f"{path}: {len(rows)} rows")
+
+
+def with_base(context: Context, found: Found, elements: Elements) -> Elements:
+    """The elements of a version and those of the one that it is compared with."""
+    if found.base is None or not found.changes or not found.changes.gone:
+        return elements
+    return elements_of(context.project.version(found.base)) | elements
 
 
 def print_clashes(context: Context, found: Found, elements: Elements) -> None:
@@ -73,7 +89,8 @@ def print_clashes(context: Context, found: Found, elements: Elements) -> None:
     }
     if found.changes is not None:
         record["base"] = found.base
-        record["gone"] = [clash_json(one, elements) for one in found.changes.gone]
+        before = with_base(context, found, elements)
+        record["gone"] = [clash_json(one, before) for one in found.changes.gone]
     context.console.give(record)
 
 
