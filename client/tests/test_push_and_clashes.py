@@ -106,6 +106,12 @@ def stand_in(run: Runner, body: str) -> Path:
     return path
 
 
+REPORT = (
+    '{"elements": 1, "left_out": [{"instance": 7, "class": "IFCSLAB", "guid": "3x", "at": 9,'
+    ' "reason": "no body"}], "partly": [], "in_doubt": [], "doubts": ["far away"]}'
+)
+
+
 def test_a_file_of_another_schema_is_converted(run: Runner) -> None:
     run.file("good.ifc", WALLS)
     program = stand_in(
@@ -113,8 +119,7 @@ def test_a_file_of_another_schema_is_converted(run: Runner) -> None:
         'test "$3" = --report && test "$5" = --origin-file || exit 2\n'
         'grep -q IFC2X3 "$1" || exit 3\n'
         f'cp {run.folder}/good.ifc "$2"\n'
-        'echo \'{"lost": ["#7 IFCSLAB: no body"], "doubt": []}\' >"$4"\n'
-        "exit 1\n",
+        f"echo '{REPORT}' >\"$4\"; exit 1\n",
     )
     old = run.file("old.ifc", model([], "IFC2X3"))
     words = ("push", old, "--converter", program, "--origin-file", "o.txt")
@@ -122,7 +127,8 @@ def test_a_file_of_another_schema_is_converted(run: Runner) -> None:
     assert done.status == 8, done
     pushed = done.json["pushed"][0]
     assert (pushed["converted"], pushed["whole"], pushed["elements"]) == (True, False, 1)
-    assert pushed["left_out"] == ["#7 IFCSLAB: no body"] and pushed["model"] == "old"
+    assert pushed["left_out"] == ["left out: IFCSLAB 3x: no body", "in doubt: far away"]
+    assert pushed["model"] == "old"
     assert "IFCSLAB" in run(*words).err
     # a file of the profile isn't converted, and without the converter nothing is
     assert (
@@ -131,6 +137,28 @@ def test_a_file_of_another_schema_is_converted(run: Runner) -> None:
     )
     done = run("push", old, "--convert", "never", "--json")
     assert (done.status, done.fault["code"]) == (3, "U4")
+
+
+def test_a_model_that_is_converted_into_several(run: Runner) -> None:
+    run.file("one.ifc", WALLS)
+    run.file("two.ifc", PIPES)
+    old = run.file("old.ifc", model([], "IFC2X3"))
+    parts = 'cp one.ifc "${2%.ifc}.2.ifc"; cp two.ifc "${2%.ifc}.10.ifc"\n'
+    program = stand_in(run, parts)
+    done = run.ok("push", old, "--converter", program, "--json").json
+    assert [(one["model"], one["elements"]) for one in done["pushed"]] == [
+        ("old.2", 1),
+        ("old.10", 3),
+    ]
+    # what an earlier push left under another name is named
+    run.ok("push", "old=one.ifc", "other=one.ifc", "--no-wait")
+    err = run.ok("push", old, "--converter", program).err
+    assert "still has old: yulfrets remove old" in err and "other" not in err
+    # a part that is refused is named, and what came before it
+    run.file("two.ifc", "nothing")
+    done = run("push", old, "--converter", program, "--json")
+    assert (done.status, done.fault["code"]) == (3, "U1")
+    assert [one["model"] for one in done.fault["pushed"]] == ["old.2"]
 
 
 def test_a_converter_that_fails(run: Runner) -> None:

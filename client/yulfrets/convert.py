@@ -15,14 +15,22 @@ from .errors import FileFault, Refused, UsageFault
 PROGRAM = "ifc2grid"
 MENDED = {"U4", "U7", "U8", "U9", "U10", "U11", "U13", "U14", "U15", "U16", "U17", "U18", "U19"}
 """The refusals of a file that the converter may mend; it can't mend one that is broken."""
+NOTES = {
+    "left_out": "left out",
+    "partly": "left out in part",
+    "in_doubt": "in doubt",
+    "doubts": "in doubt",
+}
+"""The lists of the converter's report, and what their entries say."""
 LONGEST = 3600.0
 
 
 @dataclass
 class Converted:
-    """A file that was converted."""
+    """What a file was converted to: one file, or several where the server's limits ask for it."""
 
-    path: Path
+    parts: dict[str, Path]
+    """The files by what is put behind the model's name: nothing, or `.1`, `.2` and so on."""
     whole: bool
     report: dict[str, Any] = field(default_factory=dict)
 
@@ -45,39 +53,67 @@ def read_report(path: Path) -> dict[str, Any]:
     return read if isinstance(read, dict) else {}
 
 
-def convert(program: str, source: Path, folder: Path, origin: str | None) -> Converted:
-    """Converts a file into a folder, or fails with the converter's own words."""
+def convert(
+    program: str, source: Path, folder: Path, origin: str | None, shows: bool = False
+) -> Converted:
+    """Converts a file into a folder, or fails with the converter's own words.
+
+    The converter's progress is seen where `shows` says so.
+    """
     target, report = folder / "converted.ifc", folder / "report.json"
     words = [program, str(source), str(target), "--report", str(report)]
     words += ["--origin-file", origin] if origin else []
     try:
         done = subprocess.run(
-            words, stdin=subprocess.DEVNULL, capture_output=True, timeout=LONGEST, check=False
+            words,
+            stdin=subprocess.DEVNULL,
+            stdout=subprocess.DEVNULL,
+            stderr=None if shows else subprocess.PIPE,
+            timeout=LONGEST,
+            check=False,
         )
     except subprocess.TimeoutExpired as fault:
-        raise Refused(
-            f"{source.name}: the converter took over an hour", "split the file"
-        ) from fault
+        raise Refused(f"{source}: the converter took over an hour", "split the file") from fault
     except OSError as fault:
         raise FileFault(f"{program}: {fault.strerror or fault}") from fault
     if done.returncode not in (0, 1):
-        lines = done.stderr.decode("utf-8", "replace").strip().splitlines()
-        why = lines[-1] if lines else f"status {done.returncode}"
-        raise Refused(
-            f"{source.name}: {Path(program).name} can't convert it: {why}",
-            "export the model anew as IFC4 Reference View",
-            converter_status=done.returncode,
-        )
-    if not target.exists():
-        raise Refused(f"{source.name}: {Path(program).name} wrote no file", "see its report")
-    return Converted(target, done.returncode == 0, read_report(report))
+        raise not_converted(program, source, done)
+    parts = parts_of(target)
+    if not parts:
+        raise Refused(f"{source}: {Path(program).name} wrote no file", "see its report")
+    return Converted(parts, done.returncode == 0, read_report(report))
+
+
+def not_converted(program: str, source: Path, done: subprocess.CompletedProcess[bytes]) -> Refused:
+    """Why the converter made nothing."""
+    lines = (done.stderr or b"").decode("utf-8", "replace").strip().splitlines()
+    why = lines[-1] if lines else f"it ended with status {done.returncode}"
+    return Refused(
+        f"{source}: {Path(program).name} can't convert it: {why}",
+        "export the model anew as IFC4 Reference View",
+        converter_status=done.returncode,
+    )
+
+
+def parts_of(target: Path) -> dict[str, Path]:
+    """The files that the converter wrote: OUT.ifc, or OUT.1.ifc, OUT.2.ifc and so on."""
+    if target.exists():
+        return {"": target}
+    found = {}
+    for path in target.parent.glob(f"{target.stem}.*.ifc"):
+        number = path.name.removeprefix(target.stem + ".").removesuffix(".ifc")
+        if number.isdecimal():
+            found[int(number)] = path
+    return {f".{number}": found[number] for number in sorted(found)}
 
 
 def left_out(report: dict[str, Any]) -> list[str]:
     """What the converter left out or doubts, in lines, from the lists of its report."""
     lines: list[str] = []
-    for member in ("lost", "left_out", "doubt", "doubts", "warnings"):
+    for member, words in NOTES.items():
         value = report.get(member)
-        if isinstance(value, list):
-            lines += [one if isinstance(one, str) else json.dumps(one) for one in value]
+        for one in value if isinstance(value, list) else []:
+            if isinstance(one, dict):
+                one = f"{one.get('class')} {one.get('guid')}: {one.get('reason')}"
+            lines.append(f"{words}: {one}")
     return lines

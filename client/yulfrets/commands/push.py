@@ -2,6 +2,8 @@
 
 from __future__ import annotations
 
+import re
+import sys
 import tempfile
 from dataclasses import dataclass
 from pathlib import Path
@@ -12,7 +14,7 @@ from ..context import Context
 from ..convert import MENDED, Converted, convert, converter, left_out
 from ..errors import ExitStatus, Failure, FileFault, Refused
 from ..hints import with_hint
-from ..names import Source, sources_of
+from ..names import MOST_NAME, Source, sources_of
 from ..part21 import place_of
 from ..records import Changed, Clash, Version
 from ..tables import Elements, clash_json
@@ -68,36 +70,60 @@ def upload(context: Context, source: Source, path: Path) -> Changed:
         return context.project.put_model(source.name, path, context.words.grid, progress)
 
 
-def convert_and_upload(context: Context, source: Source, program: str) -> Pushed:
-    """Converts a file and sends what comes of it."""
+def add(context: Context, pushed: list[Pushed], one: Pushed) -> None:
+    """Takes up a model that was uploaded, and says so."""
+    pushed.append(one)
+    context.console.say(said_of(one))
+
+
+def convert_and_upload(
+    context: Context, source: Source, program: str, pushed: list[Pushed]
+) -> None:
+    """Converts a file and sends what comes of it, which may be several models."""
+    console = context.console
     with tempfile.TemporaryDirectory(prefix="yulfrets.") as folder:
-        context.console.note(f"{source.path}: converted by {Path(program).name} ..")
+        console.note(f"{source.path}: converted by {Path(program).name} ..")
         # the connection is given back: it would hold one of the server's lanes meanwhile
         context.transport.close()
-        made = convert(program, source.path, Path(folder), context.words.origin_file)
-        try:
-            changed = upload(context, source, made.path)
-        except Refused as fault:
-            raise explained(fault, source, made.path) from fault
-    for line in left_out(made.report)[:SHOWN]:
-        context.console.note(f"  left out or in doubt: {line}")
-    return Pushed(source, changed, made)
+        shows = sys.stderr.isatty() and not console.quiet
+        made = convert(program, source.path, Path(folder), context.words.origin_file, shows)
+        for suffix, path in made.parts.items():
+            part = Source(source.name[: MOST_NAME - len(suffix)] + suffix, source.path)
+            try:
+                add(context, pushed, Pushed(part, upload(context, part, path), made))
+            except Refused as fault:
+                raise explained(fault, part, path) from fault
+    notes = left_out(made.report)
+    for line in notes[:SHOWN]:
+        console.note(f"  {line}")
+    if len(notes) > SHOWN:
+        console.note(f"  and {len(notes) - SHOWN} more: --json lists them")
 
 
-def push_one(context: Context, source: Source) -> Pushed:
+def push_one(context: Context, source: Source, pushed: list[Pushed]) -> None:
     """Sends a file as it is, and converts it where the server refuses it and that may help."""
     mode = context.words.convert
     program = converter(context.words.converter) if mode != "never" else None
     if mode == "always" and program is None:
         raise FileFault("the converter ifc2grid isn't there", "install it, or see --converter")
     if mode == "always" and program:
-        return convert_and_upload(context, source, program)
+        convert_and_upload(context, source, program, pushed)
+        return
     try:
-        return Pushed(source, upload(context, source, source.path), None)
+        add(context, pushed, Pushed(source, upload(context, source, source.path), None))
     except Refused as fault:
-        if program and fault.code in MENDED:
-            return convert_and_upload(context, source, program)
-        raise explained(fault, source, source.path) from fault
+        if not program or fault.code not in MENDED:
+            raise explained(fault, source, source.path) from fault
+        convert_and_upload(context, source, program, pushed)
+
+
+def note_older_parts(context: Context, version: Version, pushed: list[Pushed]) -> None:
+    """Names the models that an earlier push of the same files left under other names."""
+    now = {one.source.name for one in pushed}
+    for name in sorted(one["name"] for one in version["models"]):
+        for base in {re.sub(r"\.\d+$", "", one) for one in now if name not in now}:
+            if re.fullmatch(re.escape(base) + r"(\.\d+)?", name):
+                context.console.note(f"the project still has {name}: yulfrets remove {name}")
 
 
 def said_of(pushed: Pushed) -> str:
@@ -106,7 +132,9 @@ def said_of(pushed: Pushed) -> str:
     line = f"version {changed['version']}: {pushed.source.name}, {changed['elements']} elements"
     line += f", {changed['triangles']} triangles"
     if pushed.converted:
-        line += ", converted" + ("" if pushed.converted.whole else " (elements were left out)")
+        line += ", converted" + (
+            "" if pushed.converted.whole else " (some is left out or in doubt)"
+        )
     return line
 
 
@@ -134,8 +162,9 @@ def report_difference(
     """What is new and gone, for people and as JSON."""
     clashes, changes = found
     number = pushed[-1].changed["version"]
-    elements = elements_of(context.project.version(number))
-    old = elements_of(before)
+    version = context.project.version(number)
+    note_older_parts(context, version, pushed)
+    elements, old = elements_of(version), elements_of(before)
     context.console.say(
         f"clashes of version {number}: {len(clashes)}, compared with version {before['version']}:"
     )
@@ -162,11 +191,10 @@ def run(context: Context) -> int:
     pushed: list[Pushed] = []
     for source in sources:
         try:
-            pushed.append(push_one(context, source))
+            push_one(context, source, pushed)
         except Failure as fault:
             fault.fields["pushed"] = [one.as_json() for one in pushed]
             raise
-        context.console.say(said_of(pushed[-1]))
     lost = any(one.converted and not one.converted.whole for one in pushed)
     if before is None:
         context.console.give({"pushed": [one.as_json() for one in pushed]})
