@@ -63,6 +63,7 @@ lint:
 
 tests: program
 	python3 -m tests.cases $(PROGRAM)
+	python3 -m tests.examples $(PROGRAM)
 	python3 -m tests.serve $(PROGRAM) pipelined interleaved clashes curl cut end_by_links end_by_signal
 	python3 -m tests.failing $(PROGRAM) --some 60
 	python3 -m tests.hostile $(PROGRAM)
