@@ -1,4 +1,6 @@
-# make build             proves the crates that the program stands on, and leaves it at crates/bim_server/out/bim_server
+# make try               builds the program without any proof, at out/try/bim_server, and replays the stored run: three minutes
+# make build             proves the crates that the program stands on, and leaves it at crates/bim_server/out/bim_server; crates
+#                        that don't stand on each other are proved at the same time, and an interrupted build goes on
 # make replay            replays the stored run of cases/topics/stored_run over the built program, and prints what it writes
 # make serve             serves on 127.0.0.1:8080 over the built program, until it is stopped
 #
@@ -20,11 +22,14 @@ PROGRAM ?= $(SERVER)
 # What of convert, deploy, api, client and viewer the gate runs, each by its target check-NAME.
 BESIDE :=
 
-.PHONY: build replay serve check lint tests hostile cases crate program
+.PHONY: try build replay serve check lint tests hostile cases crate program
 .PHONY: check-convert check-deploy check-api check-client check-viewer
 
+try:
+	@python3 -m tools.try_program
+
 build:
-	@cd crates/bim_server && rt run -- replay </dev/null >&2
+	@python3 -m tools.build_program
 
 # The program that is asked for: the built one is built where it lacks, another has to be there.
 program:
@@ -79,18 +84,18 @@ check-convert: program
 	@test -x convert/check.sh || { echo "make: convert/check.sh isn't there"; exit 2; }
 	convert/check.sh $(PROGRAM)
 
-check-deploy:
+check-deploy: program
 	@test -x deploy/check.sh || { echo "make: deploy/check.sh isn't there"; exit 2; }
-	deploy/check.sh
+	deploy/check.sh $(PROGRAM)
 
-check-api:
+check-api: program
 	@test -x api_check/check.sh || { echo "make: api_check/check.sh isn't there"; exit 2; }
-	api_check/check.sh
+	api_check/check.sh $(PROGRAM)
 
-check-client:
+check-client: program
 	@test -x client/check.sh || { echo "make: client/check.sh isn't there"; exit 2; }
-	client/check.sh
+	client/check.sh $(PROGRAM)
 
-check-viewer:
+check-viewer: program
 	@test -x viewer/check.sh || { echo "make: viewer/check.sh isn't there"; exit 2; }
-	viewer/check.sh
+	viewer/check.sh $(PROGRAM)

@@ -19,6 +19,7 @@ LINTS = (
     "docstrings",
     "edits",
     "pages",
+    "claims",
     "spec_names",
 )
 

@@ -1,8 +1,8 @@
 """Shows that the map of crates is whole: python3 -m lint.map [--draw]. crates.txt and
-docs/ARCHITECTURE.md have to name the same groups, in each the same crates in the same order, and of
-each crate the same that it uses, of this repository and of the kit; each crate is below those that
-it uses, and has its folder, its page under docs/crates and its row in the README's table; a file
-name is under src/ of one crate only, but for those that have one role in every crate; and
+docs/ARCHITECTURE.md have to name the same groups, and in each the same crates in the same order;
+each crate is below those that it uses, and has its folder, its page under docs/crates and a claim
+in docs/CLAIMS.md, but for crates of tests, which share the page docs/crates/tests.md; a file name
+is under src/ of one crate only, but for those that have one role in every crate; and
 docs/crates.svg shows the crates, groups and lines of crates.txt. Prints each difference, and ends
 with status 1 if there is one. With --draw it has Graphviz draw the picture anew before it looks
 (Debian's package graphviz).
@@ -19,51 +19,30 @@ from lint.crates_list import Crate, listed, own_uses
 from lint.repository import TOP, all_crates, files_in, text_of
 
 IN_EVERY_CRATE = ("lib.rt", "main.rt", "tests.rt", "laws.rt", "limits.rt")
-Rows = list[tuple[Crate, list[str]]]
 
 
-def mapped() -> Rows:
-    """The crates of the tables under the headings `### NAME` of docs/ARCHITECTURE.md, with the own
-    crates that they use and those of the kit."""
+def mapped() -> list[Crate]:
+    """The crates of the tables under the headings `### NAME` of docs/ARCHITECTURE.md."""
     found, group = [], ""
     for line in text_of("docs/ARCHITECTURE.md").split("\n"):
         if line.startswith("## "):
             group = ""
         if line.startswith("### "):
             group = line[4:].strip()
-        is_row = line.startswith(("| [`", "| `"))
-        row = [cell.strip() for cell in line.strip("|").split(" | ")] if is_row else []
-        if group and len(row) == 4:
-            name, _, own, kit = row
-            uses = re.findall(r"`(\w+)`", own)
-            found.append(
-                (Crate(re.findall(r"`(\w+)`", name)[0], group, uses), re.findall(r"`(\w+)`", kit))
-            )
+        row = re.match(r"\| \[`(\w+)`\]\(crates/[^)]*\) \|", line)
+        if group and row:
+            found.append(Crate(row[1], group, []))
     return found
 
 
-def same_groups(crates: list[Crate], rows: Rows) -> Iterator[str]:
+def same_groups(crates: list[Crate], rows: list[Crate]) -> Iterator[str]:
     """The first place at which the list and the map name other crates."""
     ours = [f"{crate.group}: {crate.name}" for crate in crates] + ["the end"]
-    theirs = [f"{row.group}: {row.name}" for row, _ in rows] + ["the end"]
+    theirs = [f"{row.group}: {row.name}" for row in rows] + ["the end"]
     for mine, other in zip(ours, theirs):
         if mine != other:
             yield f"crates.txt goes on with {mine}, docs/ARCHITECTURE.md with {other}"
             return
-
-
-def same_uses(crates: list[Crate], rows: Rows) -> Iterator[str]:
-    """Crates of which the list and the map say otherwise what they use."""
-    own = own_uses(crates)
-    of_map = {row.name: (row.uses, kit) for row, kit in rows}
-    for crate in crates:
-        ours = own[crate.name], [use for use in crate.uses if use not in own]
-        for kind, mine, other in zip(
-            ("own crates", "the kit's"), ours, of_map.get(crate.name, ours)
-        ):
-            if sorted(mine) != sorted(other):
-                names, others = " ".join(mine) or "none", " ".join(other) or "none"
-                yield f"{crate.name} uses {names} of {kind}, docs/ARCHITECTURE.md says {others}"
 
 
 def below(crates: list[Crate]) -> Iterator[str]:
@@ -77,22 +56,31 @@ def below(crates: list[Crate]) -> Iterator[str]:
 
 
 def in_place(crates: list[Crate]) -> Iterator[str]:
-    """Folders, pages and rows that lack, or that are of no crate."""
+    """Folders and pages that lack, or that are of no crate."""
     names = [crate.name for crate in crates]
     for name in all_crates():
         if name not in names and os.path.isdir(os.path.join(TOP, "crates", name, "src")):
             yield f"crates/{name} isn't in crates.txt"
-    rows = re.findall(r"^\| \[`(\w+)`\]", text_of("README.md"), re.M)
+    tests = text_of("docs/crates/tests.md").split("\n")
     for name in names:
         if name not in all_crates():
             yield f"crates/{name} isn't there"
-        if not os.path.isfile(os.path.join(TOP, "docs/crates", name + ".md")):
+        if name.endswith("_tests"):
+            if f"## {name}" not in tests:
+                yield f"docs/crates/tests.md has no part on {name}"
+        elif not os.path.isfile(os.path.join(TOP, "docs/crates", name + ".md")):
             yield f"docs/crates/{name}.md isn't there"
-        if rows.count(name) != 1:
-            yield f"the README's table has {rows.count(name)} rows for {name}"
-    for name in rows:
-        if name not in names:
-            yield f"the README's table has a row for {name}, which is no crate"
+
+
+def claimed(crates: list[Crate]) -> Iterator[str]:
+    """Crates of the product without a claim, and claims of no crate."""
+    names = {crate.name for crate in crates}
+    found = set(re.findall(r"\]\(crates/(\w+)\.md", text_of("docs/CLAIMS.md"))) - {"tests"}
+    for name in sorted(names - found):
+        if not name.endswith("_tests"):
+            yield f"docs/CLAIMS.md has no claim of {name}"
+    for name in sorted(found - names):
+        yield f"docs/CLAIMS.md has a claim of {name}, which is no crate"
 
 
 def named_once(crates: list[Crate]) -> Iterator[str]:
@@ -131,9 +119,9 @@ def main() -> int:
             file.write(text)
     found = [
         *same_groups(crates, rows),
-        *same_uses(crates, rows),
         *below(crates),
         *in_place(crates),
+        *claimed(crates),
     ]
     found += [*named_once(crates), *picture_of(crates)]
     for difference in found:

@@ -1,7 +1,7 @@
 """Shows that the pages lead where they say: python3 -m lint.pages. Prints each link of README.md,
-CONTRIBUTING.md, docs/ and the READMEs of folders whose file or heading isn't there; and that
-README.md has 250 lines or more, or a paragraph of more than six, if it has. Exit status 1 if there
-is any.
+CONTRIBUTING.md, CHANGELOG.md, docs/ and the READMEs of folders whose file or heading isn't there;
+and that README.md has more than 150 lines, or a paragraph of more than six, if it has. Exit status
+1 if there is any.
 """
 
 import os
@@ -11,8 +11,9 @@ from collections.abc import Iterator
 
 from lint.repository import TOP, files_below, text_of
 
+TOP_PAGES = ("README.md", "CONTRIBUTING.md", "CHANGELOG.md")
 FOLDERS = ("bench", "cases", "tests", "lint")
-MOST_LINES = 249
+MOST_LINES = 150
 MOST_IN_A_PARAGRAPH = 6
 
 
@@ -58,8 +59,8 @@ def too_long(page: str) -> Iterator[str]:
 
 
 def all_pages() -> list[str]:
-    """The pages that are there: the two at the top, those of the folders, those under docs/."""
-    pages = ["README.md", "CONTRIBUTING.md", *(f"{folder}/README.md" for folder in FOLDERS)]
+    """The pages that are there: the three at the top, those of the folders, those under docs/."""
+    pages = [*TOP_PAGES, *(f"{folder}/README.md" for folder in FOLDERS)]
     return [
         *(page for page in pages if os.path.isfile(os.path.join(TOP, page))),
         *files_below("docs", ".md"),

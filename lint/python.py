@@ -1,8 +1,8 @@
 """Shows that the Python beside the product is laid out, typed and free of what linters find:
-python3 -m lint.python. Runs Debian's black, isort, flake8 and mypy over tests/, lint/ and bench/ by
-the settings of pyproject.toml and .flake8, and shellcheck over their shell scripts; and lists the
-functions of more than 60 lines. A program that isn't there is installed by its Debian package, or
-named. Exit status 1 if there is any.
+python3 -m lint.python. Runs Debian's black, isort, flake8 and mypy over tests/, lint/, bench/ and
+tools/ by the settings of pyproject.toml and .flake8, and shellcheck over their shell scripts; and
+lists the functions of more than 60 lines. A program that isn't there is installed by its Debian
+package, or named. Exit status 1 if there is any.
 """
 
 import ast
@@ -14,7 +14,7 @@ from collections.abc import Iterator
 
 from lint.repository import TOP, files_below, text_of
 
-FOLDERS = ("tests", "lint", "bench")
+FOLDERS = ("tests", "lint", "bench", "tools")
 MOST = 60  # lines of a function
 # Each is called as a program, Debian's own before any other that is on the path: versions lay out
 # otherwise.
@@ -34,7 +34,10 @@ def programs() -> dict[str, str]:
     lacking = [name for name in wanted if not shutil.which(name, path=PATH)]
     if lacking and shutil.which("apt-get"):
         words = ["apt-get", "install", "-y", "--no-install-recommends", *lacking]
-        subprocess.run(words, stdout=subprocess.DEVNULL, check=False)
+        # A new machine may have no list of packages yet.
+        if subprocess.run(words, stdout=subprocess.DEVNULL, check=False).returncode:
+            subprocess.run(["apt-get", "update"], stdout=subprocess.DEVNULL, check=False)
+            subprocess.run(words, stdout=subprocess.DEVNULL, check=False)
     found = {name: shutil.which(name, path=PATH) for name in wanted}
     lacking = [name for name, path in found.items() if path is None]
     if lacking:

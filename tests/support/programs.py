@@ -16,7 +16,10 @@ def need(program: str) -> None:
     packages = PACKAGES[program]
     if shutil.which("apt-get"):
         words = ["apt-get", "install", "-y", "--no-install-recommends", *packages]
-        subprocess.run(words, stdout=subprocess.DEVNULL, check=False)
+        # A new machine may have no list of packages yet.
+        if subprocess.run(words, stdout=subprocess.DEVNULL, check=False).returncode:
+            subprocess.run(["apt-get", "update"], stdout=subprocess.DEVNULL, check=False)
+            subprocess.run(words, stdout=subprocess.DEVNULL, check=False)
     if not shutil.which(program):
         sys.exit(f"there is no {program}: install {' '.join(packages)}")
 

@@ -1,0 +1,52 @@
+"""Sections and tables of a Markdown file."""
+
+from __future__ import annotations
+
+import re
+from dataclasses import dataclass, field
+
+
+@dataclass
+class Table:
+    """A table: the cells of its first row, and those of the others."""
+
+    head: list[str]
+    rows: list[list[str]] = field(default_factory=list)
+
+
+@dataclass
+class Section:
+    """What stands below a heading."""
+
+    title: str
+    text: str = ""
+    tables: list[Table] = field(default_factory=list)
+
+
+def _cells(line: str) -> list[str]:
+    return [it.strip() for it in line.strip().strip("|").split("|")]
+
+
+def read_sections(text: str) -> list[Section]:
+    """The sections of a file, in their order. What stands in a table isn't part of the text."""
+    sections = [Section("")]
+    table: Table | None = None
+    for line in text.splitlines():
+        here = sections[-1]
+        if heading := re.match(r"#+ (.*)", line):
+            sections.append(Section(heading[1]))
+            table = None
+        elif not line.startswith("|"):
+            here.text += line + "\n"
+            table = None
+        elif table is None:
+            table = Table(_cells(line))
+            here.tables.append(table)
+        elif not re.fullmatch(r"[|\s:-]+", line):
+            table.rows.append(_cells(line))
+    return sections
+
+
+def quoted(text: str) -> list[str]:
+    """What stands between backticks."""
+    return re.findall(r"`([^`]+)`", text)

@@ -1,0 +1,140 @@
+"""Recorded sessions: 202 by a replay that checks no bucket, and 503 by allocations that fail in turn."""
+
+from __future__ import annotations
+
+import os
+import subprocess
+import tempfile
+from collections.abc import Iterator
+from dataclasses import dataclass
+from pathlib import Path
+
+from .case_reader import read_responses
+from .directed import Directed
+from .document import Operation
+from .judge import Judge
+from .places import FAILING_C
+from .scene import Scene, guid, project, target
+from .wire import Client, Reply, Request
+
+REPLAY_SECONDS = 60
+MOST_RUNS = 4_000
+NOWHERE = 1 << 40
+ORDER = (
+    "putRules putModel listClashes createTopicOfClash createTopic createComment createViewpoint "
+    "listProjects getProject listTopics getTopic replaceTopic listComments getComment "
+    "replaceComment listViewpoints getViewpoint getSelection getColoring getVisibility getVersion "
+    "deleteViewpoint deleteComment deleteTopic deleteModel"
+).split()
+
+
+# The topic of the clash is number 1 and its viewpoint 2.
+IDS = {
+    "project_id": project(1),
+    "topic_guid": guid(3),
+    "comment_guid": guid(4),
+    "viewpoint_guid": guid(5),
+    "version": "2",
+    "place": "0",
+    "model_name": "m",
+}
+
+
+@dataclass(frozen=True)
+class Session:
+    """Requests over one connection, each for an operation."""
+
+    operations: tuple[Operation, ...]
+    data: bytes
+
+
+def session_of(judge: Judge, names: list[str]) -> Session:
+    """A session of one request for each name."""
+    operations = tuple(judge.document.named(it) for it in names)
+    directed = Directed(judge.document, Scene(Client(0)))
+    requests = [Request(it.method, target(it, IDS), directed.body(it)) for it in operations]
+    return Session(operations, b"".join(it.bytes() for it in requests))
+
+
+def _judged(judge: Judge, session: Session, output: bytes) -> list[str]:
+    faults = []
+    for operation, it in zip(session.operations, read_responses(output)):
+        reply = Reply(it.status, it.headers, it.body)
+        faults += judge.judge(operation, reply, operation.method)
+    return faults
+
+
+def check_pending(judge: Judge, program: str) -> list[str]:
+    """202: a replay that checks no bucket behind its answers."""
+    session = session_of(judge, ORDER[:4])
+    run = subprocess.run(
+        [program, "replay", "--buckets", "0"],
+        input=session.data,
+        stdout=subprocess.PIPE,
+        timeout=REPLAY_SECONDS,
+        check=False,
+    )
+    faults = _judged(judge, session, run.stdout)
+    statuses = [it.status for it in read_responses(run.stdout)]
+    if statuses != [200, 201, 202, 202]:
+        faults.append(f"replay --buckets 0 gave {statuses}, wanted 200, 201, 202, 202")
+    return faults
+
+
+class Failing:
+    """Runs the program with one allocation after another failing, by the library of bench/failing.c."""
+
+    def __init__(self, program: str, folder: str, session: Session) -> None:
+        self.program = program
+        self.library = os.path.join(folder, "failing.so")
+        self.input = os.path.join(folder, "input")
+        Path(self.input).write_bytes(session.data)
+        build = ["cc", "-O1", "-shared", "-fPIC", "-o", self.library, str(FAILING_C), "-ldl"]
+        subprocess.run(build, check=True)
+
+    def runs(self, first: int, last: int) -> Iterator[tuple[int, bytes]]:
+        """How many allocations each run made, and what it wrote."""
+        read, write = os.pipe()
+        settings = {"KIND": "memory", "EACH": f"{first}-{last}", "INPUT": self.input, "OUT": write}
+        given = {f"FAIL_{name}": str(value) for name, value in settings.items()}
+        run = subprocess.Popen(
+            [self.program, "replay"],
+            env=dict(os.environ, LD_PRELOAD=self.library, **given),
+            pass_fds=[write],
+            stdin=subprocess.DEVNULL,
+            stderr=subprocess.DEVNULL,
+        )
+        os.close(write)
+        with os.fdopen(read, "rb") as file:
+            while line := file.readline():
+                _, _, calls, length = map(int, line.split())
+                yield calls, file.read(length)
+        run.wait()
+
+
+@dataclass
+class MemoryResult:
+    """How many runs there were, what was wrong, and why none could be made."""
+
+    runs: int
+    faults: list[str]
+    reason: str = ""
+
+
+def check_memory(judge: Judge, program: str) -> MemoryResult:
+    """503: each allocation of a session of all operations fails alone, or as many as are allowed."""
+    session = session_of(judge, ORDER)
+    with tempfile.TemporaryDirectory() as folder:
+        failing = Failing(program, folder, session)
+        whole = list(failing.runs(NOWHERE, NOWHERE))
+        if not whole or whole[0][0] == 0:
+            reason = "the program's allocations can't be made to fail (one with memory checks)"
+            return MemoryResult(0, [], reason)
+        count, faults = 0, []
+        step = max(1, -(-whole[0][0] // MOST_RUNS))
+        ranges = [(1, whole[0][0])] if step == 1 else [(n, n) for n in range(1, whole[0][0], step)]
+        for first, last in ranges:
+            for _, output in failing.runs(first, last):
+                count += 1
+                faults += _judged(judge, session, output)
+        return MemoryResult(count, faults)
