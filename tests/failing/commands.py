@@ -117,6 +117,7 @@ def each_of(
         for on in (None, 1) if kind == "memory" else (None,):
             most = tool.chance.randint(7, 40) if kind in ("read", "write") else None
             runs = tool.all(words, kind, b"", cwd=folder, most=most, on=on)
+            expect(runs, f"{' '.join(words)}: there is no {kind} that could fail")
             for run in runs:
                 judge_batch(words, kind, wanted, failed, run)
             counts.append(f"{words[0]} {len(runs)} {kind}")
