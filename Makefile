@@ -13,7 +13,11 @@
 # make cases [GROUP=..]  the end-to-end cases alone, over the program as it was built last: all, or those of the groups
 #                        (upload/u07), or with one of the words in their path; cases/README.md names the groups
 # make crate NAME=..     proves one crate, over what earlier checks kept of those below it, and runs its tests
-# make check-NAME        what stands beside the server alone: convert, deploy, api, client or viewer
+# make check-NAME        what is beside the server alone: convert, deploy, api, client or viewer
+#
+# make convert           builds the converter, convert/target/release/ifc2grid, in a minute
+# make view              starts a server with a building, a front and the page on the loopback, and prints the address
+# make deb VERSION=..    builds the Debian package of the program and of what is beside it, in out/deb
 #
 # make .. PROGRAM=path   replay, serve, tests, hostile, cases and check-convert over another program than the built one
 
@@ -23,7 +27,7 @@ PROGRAM ?= $(SERVER)
 BESIDE :=
 
 .PHONY: try build replay serve check lint tests hostile cases crate program
-.PHONY: check-convert check-deploy check-api check-client check-viewer
+.PHONY: check-convert check-deploy check-api check-client check-viewer convert view deb
 
 try:
 	@python3 -m tools.try_program
@@ -63,6 +67,7 @@ lint:
 
 tests: program
 	python3 -m tests.cases $(PROGRAM)
+	python3 -m tests.examples $(PROGRAM)
 	python3 -m tests.serve $(PROGRAM) pipelined interleaved clashes curl cut end_by_links end_by_signal
 	python3 -m tests.failing $(PROGRAM) --some 60
 	python3 -m tests.hostile $(PROGRAM)
@@ -79,7 +84,7 @@ crate:
 	@test -d "crates/$(NAME)/src" || { echo "make crate NAME=.. wants one of: $$(ls crates | xargs)"; exit 2; }
 	cd crates/$(NAME) && rt check && rt test
 
-# What stands beside the server has a check script of its own.
+# What is beside the server has a check script of its own.
 check-convert: program
 	@test -x convert/check.sh || { echo "make: convert/check.sh isn't there"; exit 2; }
 	convert/check.sh $(PROGRAM)
@@ -99,3 +104,15 @@ check-client: program
 check-viewer: program
 	@test -x viewer/check.sh || { echo "make: viewer/check.sh isn't there"; exit 2; }
 	viewer/check.sh $(PROGRAM)
+
+convert:
+	@command -v cargo >/dev/null || { echo "make: there is no cargo: apt-get install cargo"; exit 2; }
+	cd convert && cargo build --release --offline
+
+view: program
+	@viewer/view.sh $(PROGRAM)
+
+VERSION ?= 0.9.0
+
+deb: program
+	deploy/build_deb.sh $(PROGRAM) $(VERSION) out/deb
