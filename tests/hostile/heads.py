@@ -150,14 +150,13 @@ def lengths(flood: Flood, lanes: int = 8) -> str:
     with Server(flood.program, lanes=lanes) as server:
         server.connect().close()
         parts = [partial(lie_on, server, count // 4, made, seed) for seed in flood.seeds(4)]
-        logs, others = beside(server, 2, partial(in_threads, parts))
+        _, others = beside(server, 2, partial(in_threads, parts))
         with Client(server) as last:
             listed = json.loads(last.ask("GET", topics_of()).reply)
         kept = [it for it in listed if it["title"] != "beside"]
         expect(
             len(kept) == len(made), f"{len(kept)} topics are there, and {len(made)} were answered"
         )
-        check_replies(flood.program, 1, logs)
         taken = bounded(server, lanes, book=MIB)
         server.stop()
     return f"{count} connections, {len(made)} of which asked for something, {others}, {taken}"
