@@ -2,7 +2,7 @@
 bench.slow_inputs PROGRAM [WORD ..], all or those with one of the words in their name. A line has
 the size in megabytes, the seconds of a processor (the least of three runs where one takes less than
 a second), megabytes in a second, the most memory, and what is answered. Uploads are read without
-the work behind them, and of clashes the work alone is told.
+the work after them, and of clashes the work alone is measured.
 """
 
 import os
@@ -71,7 +71,7 @@ INPUTS: dict[str, Callable[[], bytes]] = {
     "a zero of 100,000 digits, read 20,000 times": lambda: upload(
         mapped(20000, "0" * 100000 + ".")
     ),
-    "a zero behind a comment, read 20,000 times": lambda: upload(
+    "a zero after a comment, read 20,000 times": lambda: upload(
         mapped(20000, "/*" + "*" * 100000 + "*/0.")
     ),
     "a chain of 300,000 placements": lambda: upload(chain(300000, 100)),

@@ -4,7 +4,7 @@ Each figure is the least of N (5) runs of `replay`, less that of the same sessio
 request.
 
 - growth: an upload of 1,000 to 20,000 boxes of 400 mm at constant density, all with one rule, and
-  the work behind it;
+  the work after it;
 - change: 20,000 boxes uploaded, then once more with one box moved by a millimetre: the second
   upload's time and work as a ratio to the first's;
 - pages: 1,415 boxes that all clash make a million pairs: the first and the last page of them.

@@ -3,7 +3,7 @@
     python3 -m lint.dead_names [CRATE ..]
 
 It reads text only. A name is cited where it is outside its own definition: in its file, or in a
-file that imports it from its module, or behind its module's path. What only dead names cite is dead
+file that imports it from its module, or after its module's path. What only dead names cite is dead
 too. Answers to goals, invariants and measures are cited by the check, and fields and constructors
 belong to their types, and examples that compute by refl are there for themselves, so they don't
 count. Exit status 1 if there is any.
@@ -136,7 +136,7 @@ class Text:
         return [line for line in stated if not line.startswith("unfolding")] == [f"{word} = refl"]
 
     def end_of(self, at: int, indent: int, word: str) -> int:
-        """The line behind the definition that begins there: its clauses, and what is farther in."""
+        """The line after the definition that begins there: its clauses, and what is farther in."""
         last = at + 1
         for k in range(at + 1, len(self.lines)):
             line = self.lines[k]

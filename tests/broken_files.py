@@ -41,10 +41,10 @@ def broken() -> Iterator[bytes]:
             if body[place] != other:
                 yield body[:place] + bytes([other]) + body[place + 1 :]
     drawn = random.Random(1)
-    front = body[: body.index(b"DATA;") + 5]
+    prefix = body[: body.index(b"DATA;") + 5]
     for _ in range(2000):
         noise = bytes(drawn.randrange(256) for _ in range(drawn.randrange(200)))
-        yield noise if drawn.random() < 0.5 else front + noise
+        yield noise if drawn.random() < 0.5 else prefix + noise
 
 
 def answers(program: str, bodies: list[bytes]) -> Iterator[tuple[int, str]]:

@@ -8,17 +8,17 @@ import re
 from collections.abc import Iterator
 from typing import Any
 
-# A body has no line end of its own: the next response begins behind it.
+# A body has no line end of its own: the next response begins after it.
 LINE = re.compile(rb"(?<=\n)|(?=HTTP/1\.1 \d{3} )")
 ABSENT = object()
 
 
 def difference(printed: bytes, wanted: bytes) -> list[str]:
-    """Returns lines that tell the first place where two outputs differ: a member of a JSON body, or
+    """The lines that show the first place where two outputs differ: a member of a JSON body, or
     a line."""
     pairs = list(itertools.zip_longest(LINE.split(printed), LINE.split(wanted), fillvalue=b""))
     at = next(at for at, (one, other) in enumerate(pairs) if one != other)
-    # A length differs because of its body, which tells more.
+    # A length differs because of its body, which says more.
     if at + 2 < len(pairs) and all(it.startswith(b"Content-Length:") for it in pairs[at]):
         if pairs[at + 1][0] == pairs[at + 1][1] and pairs[at + 2][0] != pairs[at + 2][1]:
             at += 2

@@ -30,10 +30,10 @@ CONTINUE = b"HTTP/1.1 100 Continue\r\n\r\n"
 Call = Callable[[], object]
 
 
-def body_size(head: bytes, behind: bytes) -> int | None:
-    """How long the body is that comes behind a head, or None where that isn't known yet."""
+def body_size(head: bytes, after: bytes) -> int | None:
+    """How long the body is that comes after a head, or None where that isn't known yet."""
     if re.search(rb"(?i)\r\ntransfer-encoding: *chunked", head):
-        end = behind.find(b"0\r\n\r\n")
+        end = after.find(b"0\r\n\r\n")
         return None if end < 0 else end + 5
     length = re.search(rb"(?i)\r\ncontent-length: *(\d+)", head)
     return int(length.group(1)) if length else 0
@@ -68,14 +68,14 @@ class Listener:
 
     def answer_one(self, link: socket.socket) -> bool:
         """Answers the next request where it is whole. Whether it was."""
-        head, blank, behind = self.taken[self.answered :].partition(b"\r\n\r\n")
+        head, blank, after = self.taken[self.answered :].partition(b"\r\n\r\n")
         if not blank:
             return False
         if re.search(rb"(?i)\r\nexpect: 100-continue", head) and not self.continued:
             self.continued = True
             link.sendall(CONTINUE)
-        size = body_size(head, behind)
-        if size is None or len(behind) < size:
+        size = body_size(head, after)
+        if size is None or len(after) < size:
             return False
         self.answered += len(head) + 4 + size
         self.continued = False

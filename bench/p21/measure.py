@@ -35,9 +35,9 @@ def speed(size: int, micros: int) -> str:
     return f"{size / max(micros, 1):.0f} MB/s ({micros / 1000:.1f} ms)"
 
 
-def write_input(path: str, front: bytes, piece: bytes) -> None:
+def write_input(path: str, prefix: bytes, piece: bytes) -> None:
     with open(path, "wb") as file:
-        file.write(front)
+        file.write(prefix)
         for _ in range(SIZE // len(piece) // 1024):
             file.write(piece * 1024)
 
@@ -67,9 +67,9 @@ def main() -> int:
     words.add_argument("files", nargs="*")
     given = words.parse_args()
     files = list(given.files)
-    for name, (front, piece) in INPUTS.items():
+    for name, (prefix, piece) in INPUTS.items():
         path = os.path.join(given.out, name + ".p21")
-        write_input(path, front, piece)
+        write_input(path, prefix, piece)
         files.append(path)
     own = run(given.program, "/dev/null")[1]
     for path in files:

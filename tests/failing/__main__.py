@@ -3,7 +3,7 @@ that opens its doors and each thread, by a small library that is loaded before t
 (failing.c, built here). What must come of it:
 
 - a read that fails ends a session with status 4 once all that came before was answered, a write
-  with status 5 and a front;
+  with status 5 and a prefix;
 - where memory is refused each reply is as it would be, or 503 `M1`, and then the request changed
   nothing, or the run ends with status 6 between two replies. What a reply would be is worked out by
   tests/oracle, request by request;

@@ -18,7 +18,7 @@ HOUSE = "by_another_program/check/check_independent_147_a_house"
 def replay_reads(tool: Tool) -> str:
     """Each read of the session fails: all requests that had come whole are answered, and nothing
     else; status 4."""
-    data, told = b"".join(SESSION), []
+    data, seen = b"".join(SESSION), []
     replies = healthy()
     ends = [sum(map(len, SESSION[:n])) for n in range(len(SESSION) + 1)]
     for most in [tool.chance.randint(20, 60), tool.chance.randint(200, 900)]:
@@ -32,13 +32,13 @@ def replay_reads(tool: Tool) -> str:
                     (status, output) == (4, wanted),
                     f"read {number} of {most} bytes fails: {status} {output[-200:]!r}",
                 )
-        told.append(f"{len(runs)} of {most} bytes")
-    return "reads: " + ", ".join(told) + ", by three errors"
+        seen.append(f"{len(runs)} of {most} bytes")
+    return "reads: " + ", ".join(seen) + ", by three errors"
 
 
 def replay_writes(tool: Tool) -> str:
-    """Each write of the session fails: all before it stands, and nothing else; status 5."""
-    data, told = b"".join(SESSION), []
+    """Each write of the session fails: all before it is written, and nothing else; status 5."""
+    data, seen = b"".join(SESSION), []
     replies = healthy()
     for most in [tool.chance.randint(5, 20), tool.chance.randint(50, 200)]:
         pieces = [it[at : at + most] for it in replies for at in range(0, len(it), most)]
@@ -51,13 +51,13 @@ def replay_writes(tool: Tool) -> str:
                     (status, output) == (5, wanted),
                     f"write {number} of {most} bytes fails: {status} {output[-200:]!r}",
                 )
-        told.append(f"{len(runs)} of {most} bytes")
-    return "writes: " + ", ".join(told) + ", by three errors"
+        seen.append(f"{len(runs)} of {most} bytes")
+    return "writes: " + ", ".join(seen) + ", by three errors"
 
 
 def replay_memory(tool: Tool) -> str:
-    """Each allocation of the session is refused, alone, and with all behind it."""
-    data, told = b"".join(SESSION), []
+    """Each allocation of the session is refused, alone, and with all after it."""
+    data, seen = b"".join(SESSION), []
     run = tool.healthy(REPLAY, "memory", data)
     right = (run.status, run.output) == (0, b"".join(healthy()))
     expect(right, "the session is not answered as the reference says")
@@ -70,11 +70,11 @@ def replay_memory(tool: Tool) -> str:
             if (status, output) not in judged:
                 judged[status, output] = judge_session(number, status, output)
             ends[judged[status, output]] += 1
-        how = "and all behind" if on else "alone"
-        told.append(
+        how = "and all after" if on else "alone"
+        seen.append(
             f"{len(runs)} {how}: " + ", ".join(f"{n} {end}" for end, n in sorted(ends.items()))
         )
-    return "allocations: " + "; ".join(told)
+    return "allocations: " + "; ".join(seen)
 
 
 def stored_run(tool: Tool) -> str:
@@ -89,8 +89,8 @@ def stored_run(tool: Tool) -> str:
     expect(counts == (len(data) + 1, len(wanted)), f"{counts[0]} reads, {counts[1]} writes")
     for number, status, _, output in reads:
         came = number - 1
-        front = b"".join(replies[: (came >= first) + (came >= len(data))])
-        expect((status, output) == (4, front), f"read {number} fails: {status} {output!r}")
+        prefix = b"".join(replies[: (came >= first) + (came >= len(data))])
+        expect((status, output) == (4, prefix), f"read {number} fails: {status} {output!r}")
     for number, status, _, output in writes:
         right = (status, output) == (5, wanted[: number - 1])
         expect(right, f"write {number} fails: {status} {output!r}")
@@ -98,7 +98,7 @@ def stored_run(tool: Tool) -> str:
 
 
 def judge_batch(words: list[str], kind: str, wanted: bytes, failed: int, run: Run) -> None:
-    """Judges a run of a command that prints: it ends so with a front of the output, or as where
+    """Judges a run of a command that prints: it ends so with a prefix of the output, or as where
     nothing fails."""
     name = f"{' '.join(words)}: {kind} {run.number} fails"
     right = run.status == failed and wanted.startswith(run.output)
@@ -117,6 +117,7 @@ def each_of(
         for on in (None, 1) if kind == "memory" else (None,):
             most = tool.chance.randint(7, 40) if kind in ("read", "write") else None
             runs = tool.all(words, kind, b"", cwd=folder, most=most, on=on)
+            expect(runs, f"{' '.join(words)}: there is no {kind} that could fail")
             for run in runs:
                 judge_batch(words, kind, wanted, failed, run)
             counts.append(f"{words[0]} {len(runs)} {kind}")
@@ -133,9 +134,9 @@ def commands(tool: Tool) -> str:
     is_file = made.status == 0 and made.output.startswith(begins) and made.output.endswith(ends)
     expect(is_file, "no file is generated")
     counted = tool.healthy(to_counts, "memory", b"")
-    front = b"elements 3\ntriangles 36\nclashes "
+    prefix = b"elements 3\ntriangles 36\nclashes "
     expect(
-        counted.status == 0 and counted.output.startswith(front), f"{counted.output!r} is printed"
+        counted.status == 0 and counted.output.startswith(prefix), f"{counted.output!r} is printed"
     )
     check = ["check", "--rules", "r.json", "m=b.ifc"]
     counts = each_of(tool, check, clashes, files, {"open": 4, "read": 4, "write": 5, "memory": 6})
@@ -156,25 +157,25 @@ def cut_house(tool: Tool) -> int:
     """A file of a house cut at each length is refused by what its bytes end in, and makes no
     version; without its last line feed it is whole. At how many lengths."""
     house = read(os.path.join(HERE, HOUSE, "files"), "c.ifc")
-    fronts = [house[:n] for n in range(len(house) - 1)]
-    data = b"".join(request("PUT", f"{PROJECT}/models/m", it) for it in fronts)
+    prefixes = [house[:n] for n in range(len(house) - 1)]
+    data = b"".join(request("PUT", f"{PROJECT}/models/m", it) for it in prefixes)
     data += request("GET", f"{PROJECT}/versions/newest") + request(
         "PUT", f"{PROJECT}/models/m", house[:-1]
     )
     replies = replayed(tool, data)
-    expect(len(replies) == len(fronts) + 2, f"{len(replies)} replies")
+    expect(len(replies) == len(prefixes) + 2, f"{len(replies)} replies")
     refused = re.compile(rb'HTTP/1\.1 422 [^\x00]*\r\n\r\n\{("at":\d+,)?"code":"U[123]"')
     for length, reply in enumerate(replies[:-2]):
         expect(refused.match(reply), f"cut at {length}: {reply!r}")
     empty = b'{"models":[],"newest":0,"rules":[],"version":0}'
     expect(replies[-2].endswith(empty), f"{replies[-2]!r}")
     expect(replies[-1].startswith(b"HTTP/1.1 201 "), f"{replies[-1]!r}")
-    return len(fronts)
+    return len(prefixes)
 
 
 def broken_uploads(tool: Tool) -> str:
     """A file of a house is cut at each length. Parentheses open too deep are refused, and so are
-    201 rules, behind which uploads go on."""
+    201 rules, after which uploads go on."""
     count = cut_house(tool)
     faces, nested = b"TRIANGULATEDFACESET(#4,$,", b"(" * 32 + b"$" + b")" * 32
     deep = oracle.SMALL_FILE.replace(faces, b"TRIANGULATEDFACESET(#4," + nested + b",")
@@ -188,4 +189,4 @@ def broken_uploads(tool: Tool) -> str:
     expect(re.fullmatch(too_deep, bodies[0]), f"{bodies[0]!r}")
     expect(bodies[1] == b'{"code":"C2","count":201,"message":"C2 TooManyRules"}', f"{bodies[1]!r}")
     expect(bodies[2] == b'{"elements":4,"left":2,"triangles":4,"version":1}', f"{bodies[2]!r}")
-    return f"{count} fronts of a file"
+    return f"{count} prefixes of a file"

@@ -19,7 +19,7 @@ Talk = tuple[list[bytes] | None, bytes]
 
 def say(it: socket.socket, requests: list[bytes], replies: list[bytes]) -> bytes:
     """Sends the requests one after another, and collects the replies that came whole. What came
-    behind them."""
+    after them."""
     got = b""
     for asked in requests:
         it.sendall(asked)
@@ -38,7 +38,7 @@ def say(it: socket.socket, requests: list[bytes], replies: list[bytes]) -> bytes
 
 def talk(server: FailingServer, requests: list[bytes]) -> Talk:
     """Sends the requests one after another over a connection of its own, and gives the replies to
-    them that came whole, and what came behind; no replies where there is no connection."""
+    them that came whole, and what came after; no replies where there is no connection."""
     try:
         it = server.connect(10)
     except CheckFailed:
@@ -89,7 +89,7 @@ def serve_links(tool: Tool) -> str:
     """Each read and each write of a connection fails: it ends there, what it made is there, and the
     next one is served."""
     plain = [like(it) for it in replies_in(oracle.replay(b"".join(ON_TOPICS), 1, MOMENT)[0])[0]]
-    told = []
+    seen = []
     for kind in ("read", "write"):
         most = tool.chance.randint(15, 40)
         with FailingServer(tool, kind, most=most) as server:
@@ -100,8 +100,8 @@ def serve_links(tool: Tool) -> str:
         one = partial(one_link, tool, plain, kind, most)
         for it in [tool.workers.submit(one, number) for number in tool.drawn(count)]:
             it.result()
-        told.append(f"{min(count, tool.some or count)} of {count} {kind}s")
-    return ", ".join(told)
+        seen.append(f"{min(count, tool.some or count)} of {count} {kind}s")
+    return ", ".join(seen)
 
 
 def opens(server: FailingServer, patience: float = 20) -> bool:
@@ -136,7 +136,7 @@ def serve_doors(tool: Tool) -> str:
     that can't be listened at ends the server with status 4; a connection that can't be accepted or
     set up is passed over, and the next ones are served. Where accepts go on failing, the doors
     fail, and the status is 4."""
-    told = []
+    seen = []
     for kind, error, least in (
         ("door", 98, 3),
         ("option", 92, 4),
@@ -150,10 +150,10 @@ def serve_doors(tool: Tool) -> str:
                 break
             closed, number = closed + ended, number + 1
         expect(number > least, f"{number - 1} calls of {kind}")
-        told.append(f"{number - 1} of {kind}, {closed} of which end it")
+        seen.append(f"{number - 1} of {kind}, {closed} of which end it")
     for it in [tool.workers.submit(accepts_fail, tool, *how) for how in ((1, 1), (3, 1), (1, 2))]:
         it.result()
-    return ", ".join(told)
+    return ", ".join(seen)
 
 
 def accepts_fail(tool: Tool, lanes: int, first: int) -> None:
@@ -182,28 +182,28 @@ def serve_threads(tool: Tool) -> str:
 
 
 def one_allocation(tool: Tool, requests: list[bytes], number: int, on: bool) -> str:
-    """An allocation of a server is refused, alone or with all behind it. How that ended."""
-    name = f"allocation {number}{' and all behind' if on else ''}"
+    """An allocation of a server is refused, alone or with all after it. How that ended."""
+    name = f"allocation {number}{' and all after' if on else ''}"
     last = FOR_EVER if on else number
     with FailingServer(tool, "memory", links=1, first=number, last=last, error=12) as server:
         replies, rest = talk(server, requests)
         status = server.status(20)
     expect(status in (0, 4, 6), f"{name}: status {status}")
-    expect(rest == b"", f"{name}: {rest!r} behind {len(replies or [])} replies")
+    expect(rest == b"", f"{name}: {rest!r} after {len(replies or [])} replies")
     if replies is None:
         expect(status in (4, 6), f"{name}: no connection, status {status}")
         return f"status {status} before a connection"
-    expect(status != 4 or replies == [], f"{name}: status 4 behind {len(replies)} replies")
+    expect(status != 4 or replies == [], f"{name}: status 4 after {len(replies)} replies")
     judge = Judge()
     for asked, reply in zip(requests, replies):
         judge_loosely(judge, asked, reply, name)
     whole = len(replies) == len(requests)
     expect(whole or status != 0, f"{name}: {len(replies)} replies, status {status}")
-    return f"status {status}" + (" behind 503" if NO_MEMORY in replies else "")
+    return f"status {status}" + (" after 503" if NO_MEMORY in replies else "")
 
 
 def serve_memory(tool: Tool) -> str:
-    """Allocations of a server are refused, alone and with all behind them."""
+    """Allocations of a server are refused, alone and with all after them."""
     requests = [SESSION[0], SESSION[1], SESSION[3], SESSION[4], SESSION[5], *SESSION[7:]]
     with FailingServer(tool, "memory", links=1) as server:
         replies, _ = talk(server, requests)
@@ -216,5 +216,5 @@ def serve_memory(tool: Tool) -> str:
         tool.workers.submit(one, number, on) for on in (False, True) for number in tool.drawn(count)
     ]
     ends = Counter(job.result() for job in jobs)
-    told = ", ".join(f"{n} {end}" for end, n in sorted(ends.items()))
-    return f"{len(jobs)} runs of some {count} allocations: {told}"
+    seen = ", ".join(f"{n} {end}" for end, n in sorted(ends.items()))
+    return f"{len(jobs)} runs of some {count} allocations: {seen}"

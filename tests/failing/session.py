@@ -101,7 +101,7 @@ def judge_session(number: int, status: int, output: bytes) -> str:
         except CheckFailed as fault:
             raise CheckFailed(f"{name}, status {status}: {fault}") from None
     count = replies.count(NO_MEMORY)
-    return f"status {status} behind {count} of 503" if count else f"status {status}"
+    return f"status {status} after {count} of 503" if count else f"status {status}"
 
 
 def like(reply: bytes) -> bytes:

@@ -42,7 +42,7 @@ class Tool:
         self.workers = concurrent.futures.ThreadPoolExecutor(max(2, PROCESSORS))
 
     def settings(self, kind: str, **settings: int | str | None) -> dict[str, str]:
-        """What of the environment tells the library which calls are to fail."""
+        """The environment by which the library knows which calls are to fail."""
         given = {
             "FAIL_" + name.upper(): str(value)
             for name, value in settings.items()
@@ -75,15 +75,15 @@ class Tool:
         )
         os.close(write)
         with os.fdopen(read, "rb") as pipe:
-            told = pipe.read()
+            output = pipe.read()
         expect(run.wait() == 0, f"the runs end with {run.returncode}")
         os.remove(made)
         runs = []
-        while told:
-            line, _, told = told.partition(b"\n")
+        while output:
+            line, _, output = output.partition(b"\n")
             number, status, calls, length = map(int, line.split())
-            runs.append(Run(number, os.waitstatus_to_exitcode(status), calls, told[:length]))
-            told = told[length:]
+            runs.append(Run(number, os.waitstatus_to_exitcode(status), calls, output[:length]))
+            output = output[length:]
         return runs
 
     def healthy(

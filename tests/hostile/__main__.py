@@ -5,7 +5,7 @@ rules say, the server's memory stays below a bound that is stated here, and it e
     python3 -m tests.hostile PROGRAM [--seed N] [--full] [ROW ..]
 
 With --full as many and as long as a real flood, some minutes; else a part of it, in seconds, and
-the script ends after two minutes. What each flood costs is told in docs/SECURITY.md.
+the script ends after two minutes. What each flood costs is in docs/SECURITY.md.
 """
 
 import resource

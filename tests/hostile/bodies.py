@@ -50,11 +50,11 @@ def bodies(flood: Flood, lanes: int = 5) -> str:
             for _ in range(times):
                 in_threads([partial(long_body, server, size, n % 3) for n in range(lanes - 2)])
 
-        logs, told = beside(server, 2, large)
+        logs, others = beside(server, 2, large)
         check_replies(flood.program, 1, logs)
         taken = bounded(server, lanes - 2, body=size, book=MIB)
         server.stop()
-    return f"{lanes - 2} bodies of {size / MIB:.0f} MiB at once, {told}, {taken}"
+    return f"{lanes - 2} bodies of {size / MIB:.0f} MiB at once, {others}, {taken}"
 
 
 def is_no_memory(it: Exchange) -> None:
@@ -96,7 +96,7 @@ def wait_for_refusal(server: Server) -> int:
 
 def refused_work(flood: Flood, lanes: int) -> int:
     """A version with more pairs than memory lasts stays to be checked, and the worker goes on with
-    versions behind it. The most that the server took."""
+    versions after it. The most that the server took."""
     with Server(flood.program, lanes=lanes, space=112 * MIB) as server:
         with Client(server) as client:
             client.ask("PUT", f"{coord_of()}/rules", RULES[1])
@@ -119,7 +119,7 @@ def refused_work(flood: Flood, lanes: int) -> int:
 def wanting(flood: Flood, lanes: int = 3) -> str:
     """A version whose list is longer than memory lasts, a body whose tree is, and a version with
     more pairs than it lasts: the first two are answered 503, the third stays to be checked, and all
-    else goes on, on the lanes and at the worker, also of versions made behind them."""
+    else goes on, on the lanes and at the worker, also of versions made after them."""
     refused_reply(flood, lanes)
     most = refused_work(flood, lanes)
     return f"a worker was refused more than {most / MIB:.0f} MiB, and went on"
@@ -143,13 +143,13 @@ def listed(flood: Flood, lanes: int = 3) -> str:
                 for _ in range(5):
                     is_too_many(client.ask("PUT", f"{MODELS}/a", file), "triangles")
 
-            logs, told = beside(server, 1, upload)
+            logs, others = beside(server, 1, upload)
             made = client.ask("PUT", f"{MODELS}/b", listed_faces(1, 1001))
             expect(made.status == 201, "no version of 998,998 triangles")
         check_replies(flood.program, 1, logs)
         size = server.memory()
         server.stop()
-    return f"{len(file) / 1000:.0f} KB, {told}, {size / MIB:.0f} MiB"
+    return f"{len(file) / 1000:.0f} KB, {others}, {size / MIB:.0f} MiB"
 
 
 def at_limits(flood: Flood, lanes: int = 3) -> str:

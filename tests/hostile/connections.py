@@ -150,7 +150,7 @@ def never_read(flood: Flood, lanes: int = 8) -> str:
         first = Client(server)
         fill(first, 300)
         stuck = [server.connect() for _ in range(lanes - 3)]
-        logs, told = beside(server, 2, partial(ask_unread, stuck, 2))
+        logs, others = beside(server, 2, partial(ask_unread, stuck, 2))
         taken = bounded(server, lanes, body=MIB, book=4 * MIB)
         freed = lanes_freed(server) if flood.full else ""
         for it in stuck:
@@ -159,4 +159,4 @@ def never_read(flood: Flood, lanes: int = 8) -> str:
         first.close()
         check_replies(flood.program, 1, [*logs, first.log, second])
         server.stop()
-    return f"{len(stuck)} of them, {told}{freed}, {taken}"
+    return f"{len(stuck)} of them, {others}{freed}, {taken}"

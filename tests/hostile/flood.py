@@ -34,7 +34,7 @@ class Flood:
 
 
 def bounded(server: Server, lanes: int, body: int = 0, book: int = 0) -> str:
-    """Checks the bound, and tells what was taken."""
+    """Checks the bound, and says what was taken."""
     most = IDLE + lanes * (LANE + BODY * body) + book
     taken = server.memory()
     expect(taken <= most, f"{taken / MIB:.1f} MiB were taken, and {most / MIB:.1f} is the bound")

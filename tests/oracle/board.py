@@ -27,8 +27,8 @@ class Board:
         return f"{self.number:08x}-0000-8000-8000-{serial:012x}"
 
     def serial(self, identifier: bytes) -> int | None:
-        front = self.number.to_bytes(4, "big") + bytes.fromhex("000080008000")
-        return int.from_bytes(identifier[10:], "big") if identifier[:10] == front else None
+        prefix = self.number.to_bytes(4, "big") + bytes.fromhex("000080008000")
+        return int.from_bytes(identifier[10:], "big") if identifier[:10] == prefix else None
 
     def next(self) -> int:
         self.made += 1

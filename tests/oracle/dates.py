@@ -18,9 +18,9 @@ KNOWN_NOTE = re.compile(r"!u-ca=x|u-ca=gregory|Europe/Berlin|[+-]\d\d:\d\d")
 
 
 def has_unknown_calendar(notes: list[str]) -> bool:
-    """Whether what is noted behind a date has it refused."""
+    """Whether what is noted after a date has it refused."""
     if any(not KNOWN_NOTE.fullmatch(note) for note in notes):
-        raise Beyond("what is noted behind a date")
+        raise Beyond("what is noted after a date")
     return "!u-ca=x" in notes
 
 

@@ -28,7 +28,7 @@ class Request:
     close: bool
     encoded: bool
     continues: bool  # whether 100 Continue comes before its answer
-    behind: int  # where its body begins
+    after: int  # where its body begins
     most: int  # the longest body that it may have
     length: int | None
     chunked: bool
@@ -36,7 +36,7 @@ class Request:
 
 
 def whole_line(data: bytes, at: int) -> tuple[bytes, int] | None:
-    """The line at a place, without its end, and the place behind it; None where no LF follows."""
+    """The line at a place, without its end, and the place after it; None where no LF follows."""
     end = data.find(b"\n", at)
     if end < 0:
         return None
@@ -45,8 +45,8 @@ def whole_line(data: bytes, at: int) -> tuple[bytes, int] | None:
 
 
 def read_fields(data: bytes, at: int, early: bool = False) -> tuple[Fields, int | None]:
-    """The fields of a section and the place behind it, None where it isn't whole. What can't become
-    a field is told at once where that is asked for, else once its line is whole."""
+    """The fields of a section and the place after it, None where it isn't whole. What can't become
+    a field is a fault at once where that is asked for, else once its line is whole."""
     fields: Fields = []
     while True:
         got = whole_line(data, at)
@@ -73,7 +73,7 @@ def values(fields: Fields, name: bytes) -> list[bytes]:
 
 
 def size_of(data: bytes, at: int) -> tuple[int, int]:
-    """The size of the chunk that begins at a place, and the place behind its line."""
+    """The size of the chunk that begins at a place, and the place after its line."""
     line = SIZE_LINE.match(data[at : at + 300])
     if line:
         return int(line.group(1), 16), at + line.end()
@@ -83,22 +83,22 @@ def size_of(data: bytes, at: int) -> tuple[int, int]:
 
 
 def read_trailers(data: bytes, at: int) -> int:
-    """The place behind the trailers that begin at a place."""
+    """The place after the trailers that begin at a place."""
     try:
-        trailers, behind = read_fields(data, at)
+        trailers, after = read_fields(data, at)
     except Fault:
         raise Fault("BadChunk") from None
-    if behind is None:
+    if after is None:
         if len(data) - at >= MOST_HEAD:
             raise Fault("HeadTooLong")
         raise Unfinished
-    if len(trailers) > MOST_FIELDS or behind - at > MOST_HEAD:
+    if len(trailers) > MOST_FIELDS or after - at > MOST_HEAD:
         raise Fault("HeadTooLong")
-    return behind
+    return after
 
 
 def read_chunks(data: bytes, at: int, most: int) -> tuple[bytes, int]:
-    """A body in chunks, and the place behind it."""
+    """A body in chunks, and the place after it."""
     body = b""
     while True:
         size, at = size_of(data, at)
@@ -116,7 +116,7 @@ def read_chunks(data: bytes, at: int, most: int) -> tuple[bytes, int]:
 
 def first_line(data: bytes, start: int) -> tuple["re.Match[bytes]", int]:
     """The first line of the request at a place, without the empty lines before it, and the place
-    behind it."""
+    after it."""
     at = start
     while data[at : at + 1] == b"\n" or data[at : at + 2] == b"\r\n":
         at += 1 if data[at : at + 1] == b"\n" else 2
@@ -125,22 +125,22 @@ def first_line(data: bytes, start: int) -> tuple["re.Match[bytes]", int]:
         if len(data) - start >= MOST_HEAD:
             raise Fault("HeadTooLong")
         raise Unfinished
-    line, behind = first
+    line, after = first
     if re.search(rb" HTTP/[0-9]\.[0-9]$", line) and not re.search(rb" HTTP/1\.[01]$", line):
         raise Fault("Version")
     match = REQUEST_LINE.match(line)
     if not match:
         raise Fault("BadHead")
-    return match, behind
+    return match, after
 
 
 def head_fields(
-    data: bytes, start: int, behind: int, target: bytes, minor: int
+    data: bytes, start: int, after: int, target: bytes, minor: int
 ) -> tuple[Fields, int]:
-    """The fields of the head whose first line has been read, and the place behind it."""
+    """The fields of the head whose first line has been read, and the place after it."""
     try:
         target.decode()
-        fields, at = read_fields(data[: start + MOST_HEAD], behind, True)
+        fields, at = read_fields(data[: start + MOST_HEAD], after, True)
     except (UnicodeDecodeError, Fault):
         raise Fault("BadHead") from None
     if at is None:
@@ -178,9 +178,9 @@ def user_in(fields: Fields) -> str:
 
 def read_request(data: bytes, start: int) -> Request:
     """The request at a place, without its body."""
-    match, behind = first_line(data, start)
+    match, after = first_line(data, start)
     method, target, minor = match.group(1), match.group(2), int(match.group(3))
-    fields, at = head_fields(data, start, behind, target, minor)
+    fields, at = head_fields(data, start, after, target, minor)
     most = MOST_UPLOAD if method == b"PUT" and target.startswith(b"/coord/1/") else MOST_BODY
     length, chunked = length_in(fields, minor, most)
     options = [
@@ -195,7 +195,7 @@ def read_request(data: bytes, start: int) -> Request:
         close=minor == 0 or b"close" in options,
         encoded=any(v.lower() != b"identity" for v in values(fields, b"content-encoding")),
         continues=minor == 1 and has_body and expects,
-        behind=at,
+        after=at,
         most=most,
         length=length,
         chunked=chunked,
@@ -203,8 +203,8 @@ def read_request(data: bytes, start: int) -> Request:
 
 
 def read_body(data: bytes, request: Request) -> int:
-    """Reads the request's body, and tells the place behind it."""
-    at = request.behind
+    """Reads the request's body, and returns the place after it."""
+    at = request.after
     if request.chunked:
         request.body, at = read_chunks(data, at, request.most)
     elif request.length is not None:

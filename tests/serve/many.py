@@ -46,7 +46,7 @@ def many_clients(program: str) -> str:
             for _ in range(3):
                 client.ask("POST", topics_of(), b'{"title":"%d"}' % number)
             expect(client.ask("GET", topics_of(), last=True).close, "the connection stays open")
-            expect(client.socket.recv(1) == b"", "bytes behind the last reply")
+            expect(client.socket.recv(1) == b"", "bytes after the last reply")
             client.close()
 
         in_threads([partial(job, number) for number in range(40)])
@@ -119,8 +119,8 @@ def clashes(program: str) -> str:
         wait_for_clashes(idle, newest)
         fresh = time.monotonic() - began
         logs.append(idle.log)
-    told = compared(program, 1, logs)
-    return f"{told}; an upload to sleeping workers was checked after {fresh * 1000:.1f} ms"
+    counts = compared(program, 1, logs)
+    return f"{counts}; an upload to sleeping workers was checked after {fresh * 1000:.1f} ms"
 
 
 class Curl:
@@ -144,7 +144,7 @@ class Curl:
         run = subprocess.run(words, stdout=subprocess.PIPE, check=True)
         it.came = time.monotonic()
         got = take_response(run.stdout)
-        expect(got and got.rest == b"", f"no reply, or bytes behind it: {run.stdout[-80:]!r}")
+        expect(got and got.rest == b"", f"no reply, or bytes after it: {run.stdout[-80:]!r}")
         if got:
             it.status, it.turn, it.reply = got.status, got.turn, got.body
         self.log.append(it)

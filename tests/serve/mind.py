@@ -81,7 +81,7 @@ class Mind:
         ]
 
     def learn(self, it: Exchange) -> None:
-        """Takes down what a reply tells: a topic or a comment that was made."""
+        """Notes what a reply says was made: a topic or a comment."""
         if it.status != 201 or it.method != "POST":
             return
         guid = json.loads(it.reply)["guid"]

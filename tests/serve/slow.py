@@ -71,8 +71,8 @@ def never_reads(program: str) -> str:
         second = Client(server)
         second.ask("GET", topics_of())
         logs = [first.log, second.log]
-    told = compared(program, 1, logs)
-    return f"{sent} requests unread, 30 replies beside them in {took:.3f} s, {told}"
+    counts = compared(program, 1, logs)
+    return f"{sent} requests unread, 30 replies beside them in {took:.3f} s, {counts}"
 
 
 def is_answered(server: Server, patience: float) -> None:
@@ -156,7 +156,7 @@ def all_until_end(it: socket.socket) -> bytes:
 
 def refused_at_once(program: str) -> str:
     """A request that is refused before its body came is answered, and the answer reaches a client
-    that goes on sending; so does that to a request that asks for closing, behind which more was
+    that goes on sending; so does that to a request that asks for closing, after which more was
     sent."""
     closing = Exchange("GET", topics_of()).bytes_of(last=True)
     with Server(program, lanes=2) as server:

@@ -3,6 +3,7 @@
 import argparse
 import random
 import signal
+import subprocess
 import sys
 import time
 from collections.abc import Callable, Mapping
@@ -52,7 +53,7 @@ def run_rows(rows: Mapping[str, Callable[[], str]]) -> int:
         except TooLong as fault:
             print(f"{name}: FAILS: {fault}", flush=True)
             break
-        except (CheckFailed, OSError) as fault:
+        except (CheckFailed, OSError, subprocess.SubprocessError) as fault:
             print(f"{name}: FAILS: {type(fault).__name__} {fault}", flush=True)
         else:
             passed += 1

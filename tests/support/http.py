@@ -17,7 +17,7 @@ NO_MEMORY = (
 
 
 class Response(NamedTuple):
-    """The first reply in some bytes, and what is behind it."""
+    """The first reply in some bytes, and what is after it."""
 
     status: int
     turn: int | None
@@ -94,7 +94,7 @@ def take_response(data: bytes) -> Response | None:
 
 
 def replies_in(data: bytes) -> tuple[list[bytes], bytes]:
-    """The bytes of each reply, and what is left behind the last whole one."""
+    """The bytes of each reply, and what is left after the last whole one."""
     replies = []
     while data:
         got = take_response(data)

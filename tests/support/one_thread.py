@@ -57,7 +57,7 @@ def find_shelved(log: Log) -> None:
                 f"a shelved reply prints turn {it.turn}, and {printed} was printed last",
             )
         else:
-            expect(it.turn > printed, f"turn {it.turn} is printed behind {printed}")
+            expect(it.turn > printed, f"turn {it.turn} is printed after {printed}")
         if asked:
             shelf.add((asked[1], str(json.loads(it.reply)["version"])))
         printed = it.turn
@@ -81,7 +81,7 @@ def check_turns(logs: list[Log]) -> None:
 
 def check_reply(it: Exchange, done: Response, undone: Response) -> None:
     """A reply is one thread's; where it says how many buckets are left, no fewer than where all
-    were checked behind each answer, and no more than where none was."""
+    were checked after each answer, and no more than where none was."""
     text = f"turn {it.turn} {it.method} {it.target}: {it.status} {it.reply[:200]!r}"
     text += f", one thread {done.status} {done.body[:200]!r}"
     expect(it.status == done.status, text)
