@@ -17,8 +17,10 @@ from .drawn import check_drawn
 from .faults_of_bytes import check_bytes
 from .full_book import check_full
 from .full_lists import check_lists
+from .generated_client import check_generated
 from .judge import Judge
 from .places import API_MD, DOCUMENT
+from .planted import plant_live, plant_texts
 from .report import Report
 from .scene import NotReady, Scene
 from .server import Server
@@ -75,6 +77,8 @@ def check_program(report: Report, document: Document, program: str, count: int, 
         lists = pool.submit(check_lists, lists_judge, program)
         report.add("202, by a replay", check_pending(judge, program))
         _started(report, judge, program, count, seed)
+        called, faults = check_generated(document, program)
+        report.add("a generated client", faults, f"{called} calls")
         memory = check_memory(judge, program)
         note = memory.reason or f"{memory.runs} runs"
         report.add("503, by allocations that fail", memory.faults, note)
@@ -99,6 +103,7 @@ def _words() -> argparse.Namespace:
     words.add_argument("program", metavar="PROGRAM", nargs="?", help="the built bim_server")
     words.add_argument("--seed", type=int, help="draw the same requests again")
     words.add_argument("--requests", type=int, default=REQUESTS, help="how many are drawn")
+    words.add_argument("--planted", action="store_true", help="plant faults too, and see them")
     words.add_argument("--style", action="store_true", help="run the linters too")
     words.add_argument("--document", type=Path, default=DOCUMENT)
     words.add_argument("--api", type=Path, default=API_MD)
@@ -124,6 +129,9 @@ def main() -> int:
         print(f"seed {seed}")
         try:
             check_program(report, document, program, given.requests, seed)
+            if given.planted:
+                plant_texts(report, document)
+                plant_live(report, document, program)
         except (NotReady, CutOff, OSError) as why:
             report.add("the program answers", [str(why)])
     return report.end()

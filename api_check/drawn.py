@@ -203,7 +203,7 @@ class Drawn:
 
 def check_drawn(judge: Judge, scene: Scene, count: int, number: int) -> list[str]:
     """Draws and asks so many requests, by the seed."""
-    set_hypothesis_home_dir(str(KEPT / "hypothesis"))
+    set_hypothesis_home_dir(str(KEPT / "hypothesis"))  # type: ignore[no-untyped-call]
     drawn = Drawn(judge, scene)
 
     @seed(number)
