@@ -63,8 +63,8 @@ def _started(report: Report, judge: Judge, program: str, count: int, seed: int) 
         asked, faults = check_bytes(judge, server.port)
         report.add("faults of bytes", faults, _note(asked, began))
         began = time.monotonic()
-        faults = check_drawn(judge, scene, count, seed)
-        report.add(f"drawn requests, seed {seed}", faults, _note(count, began))
+        asked, faults = check_drawn(judge, scene, count, seed)
+        report.add(f"drawn requests, seed {seed}", faults, _note(asked, began))
         report.add("the server is still there", [] if server.runs() else ["it ended"])
 
 

@@ -25,7 +25,7 @@ from .scene import NotReady, Scene
 from .server import Server
 from .wire import Client, CutOff, Reply
 
-DRAWN = 250
+DRAWN = 400
 SEED = 7
 SOME = ("getProject", "createTopic", "getVersion", "listClashes")
 Tree = dict[str, Any]
@@ -213,10 +213,8 @@ def of_drawn_documents() -> list[tuple[str, Change]]:
     def title_not_needed(tree: Tree) -> None:
         _schemas(tree)["TopicBody"].pop("required")
 
-    def null_not_taken(tree: Tree) -> None:
-        for member in _schemas(tree)["TopicBody"]["properties"].values():
-            if isinstance(member["type"], list):
-                member["type"] = member["type"][0]
+    def null_as_title(tree: Tree) -> None:
+        _schemas(tree)["TopicBody"]["properties"]["title"]["type"] = ["string", "null"]
 
     def any_word(tree: Tree) -> None:
         for name in ("kind", "storey", "models"):
@@ -227,7 +225,7 @@ def of_drawn_documents() -> list[tuple[str, Change]]:
 
     return [
         ("a title that needn't be there", title_not_needed),
-        ("null that isn't taken", null_not_taken),
+        ("a title that may be null", null_as_title),
         ("any word in a rule", any_word),
         ("another bound of a query", count_more),
     ]
@@ -327,7 +325,7 @@ def plant_live(report: Report, document: Document, program: str) -> None:
                 found = _asked(Judge(document), document, scene, proxy.port)
             _seen(report, f"responses: {name}", found)
         for name, change in of_drawn_documents():
-            found = check_drawn(Judge(_planted(document, change)), scene, DRAWN, SEED)
+            _, found = check_drawn(Judge(_planted(document, change)), scene, DRAWN, SEED)
             _seen(report, f"document, seen by drawn requests: {name}", found)
 
 
