@@ -57,12 +57,15 @@ def _started(report: Report, judge: Judge, program: str, count: int, seed: int) 
         scene = Scene(Client(server.port))
         scene.prepare()
         began = time.monotonic()
+        report.doing("asking for each status")
         asked, faults = check_directed(judge, scene)
         report.add("each status by a request of its own", faults, _note(asked, began))
         began = time.monotonic()
+        report.doing("sending faults of bytes")
         asked, faults = check_bytes(judge, server.port)
         report.add("faults of bytes", faults, _note(asked, began))
         began = time.monotonic()
+        report.doing(f"drawing {count} requests")
         asked, faults = check_drawn(judge, scene, count, seed)
         report.add(f"drawn requests, seed {seed}", faults, _note(asked, began))
         report.add("the server is still there", [] if server.runs() else ["it ended"])
@@ -79,9 +82,11 @@ def check_program(report: Report, document: Document, program: str, count: int, 
         _started(report, judge, program, count, seed)
         called, faults = check_generated(document, program)
         report.add("a generated client", faults, f"{called} calls")
+        report.doing("failing allocations")
         memory = check_memory(judge, program)
         note = memory.reason or f"{memory.runs} runs"
         report.add("503, by allocations that fail", memory.faults, note)
+        report.doing("filling a journal and lists")
         filled = full.result()
         seconds = time.monotonic() - began
         note = filled.reason or f"{filled.count} requests, within {seconds:.1f} s"
@@ -113,19 +118,17 @@ def _words() -> argparse.Namespace:
 def main() -> int:
     """Runs all, and returns the exit status."""
     given = _words()
+    program = None if given.program is None else os.path.abspath(given.program)
+    if program is not None and not os.access(program, os.X_OK):
+        print(f"api_check: {program} is no program: build bim_server first", file=sys.stderr)
+        return 2
     seed = random.SystemRandom().randrange(10**6) if given.seed is None else given.seed
     report = Report()
     if given.style:
         check_style(report)
     document = Document.read(given.document)
     sound = check_document(report, document, given.api.read_text(encoding="utf-8"))
-    if sound and given.program is not None:
-        program = os.path.abspath(given.program)
-        if not os.access(program, os.X_OK):
-            print(
-                f"api_check: {given.program} is no program: build bim_server first", file=sys.stderr
-            )
-            return 2
+    if sound and program is not None:
         print(f"seed {seed}")
         try:
             check_program(report, document, program, given.requests, seed)

@@ -155,6 +155,7 @@ def _planted(document: Document, change: Change) -> Document:
 def plant_texts(report: Report, document: Document) -> None:
     """Plants the faults that need no server."""
     text = API_MD.read_text(encoding="utf-8")
+    report.doing("planting faults")
     for plant in in_the_document():
         found = _faults_of(_planted(document, plant.change), text, plant.check)
         _seen(report, f"document: {plant.name}", found)
