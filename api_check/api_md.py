@@ -14,7 +14,7 @@ CODE = re.compile(r"(?:(\d{3}) )?`([HUCBKM]\d{1,2}) (\w+)`")
 
 @dataclass(frozen=True)
 class Code:
-    """A code with its name, the status that it comes with, and the members that stand beside it."""
+    """A code with its name, the status that it comes with, and the members that come with it."""
 
     name: str
     status: int

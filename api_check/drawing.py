@@ -118,7 +118,7 @@ class Drawing:
 
 
 def _places(value: Any) -> list[tuple[Any, Any]]:
-    """All members and items of a value, as what they stand in and their name there."""
+    """All members and items of a value, as the object or list that has them and their name in it."""
     found: list[tuple[Any, Any]] = []
     keys = (
         value if isinstance(value, dict) else range(len(value)) if isinstance(value, list) else []

@@ -16,7 +16,7 @@ class Table:
 
 @dataclass
 class Section:
-    """What stands below a heading."""
+    """The text and the tables below a heading."""
 
     title: str
     text: str = ""
@@ -28,7 +28,7 @@ def _cells(line: str) -> list[str]:
 
 
 def read_sections(text: str) -> list[Section]:
-    """The sections of a file, in their order. What stands in a table isn't part of the text."""
+    """The sections of a file, in their order. The text of a section leaves its tables out."""
     sections = [Section("")]
     table: Table | None = None
     for line in text.splitlines():
@@ -48,5 +48,5 @@ def read_sections(text: str) -> list[Section]:
 
 
 def quoted(text: str) -> list[str]:
-    """What stands between backticks."""
+    """The parts in backticks."""
     return re.findall(r"`([^`]+)`", text)

@@ -59,8 +59,8 @@ def _topic_example(tree: Tree) -> Tree:
     return found
 
 
-def in_the_document() -> list[Plant]:
-    """Faults of the document that need no server to be seen."""
+def _in_the_form() -> list[Plant]:
+    """Faults of the document alone."""
     return [
         Plant("a word that OpenAPI hasn't", lambda t: t["info"].update(titel="x"), "standard"),
         Plant(
@@ -84,6 +84,12 @@ def in_the_document() -> list[Plant]:
             lambda t: _topic_example(t).update({"x-request": 2}),
             "examples",
         ),
+    ]
+
+
+def _beside_api_md() -> list[Plant]:
+    """Faults of the document by which it differs from docs/API.md."""
+    return [
         Plant("a route less", lambda t: t["paths"].pop(CLASHES), "agreement"),
         Plant("a method less", lambda t: t["paths"][TOPICS].pop("post"), "agreement"),
         Plant("a code less", lambda t: _schemas(t)["ErrorCode"]["enum"].remove("K9"), "agreement"),
@@ -116,6 +122,11 @@ def in_the_document() -> list[Plant]:
         ),
         Plant("a query less", lambda t: t["paths"][CLASHES]["get"].pop("parameters"), "agreement"),
     ]
+
+
+def in_the_document() -> list[Plant]:
+    """Faults of the document that need no server to be seen."""
+    return _in_the_form() + _beside_api_md()
 
 
 def in_api_md() -> list[tuple[str, str, str]]:

@@ -124,7 +124,9 @@ def by_operations(document: Document) -> list[str]:
             node = item[method]
             name = node.get("operationId", "")
             if not re.fullmatch("[a-z][A-Za-z]+", name) or name in names:
-                faults.append(f"{method} {path}: operationId {name!r} is no name or stands twice")
+                faults.append(
+                    f"{method} {path}: operationId {name!r} isn't a name, or isn't the only one"
+                )
             names.add(name)
             if not node.get("tags") or set(node["tags"]) - tags or not node.get("summary"):
                 faults.append(f"{name}: a tag that isn't described, or no summary")
