@@ -1,46 +1,118 @@
-# make build             proves the crates that the program stands on, and leaves it at crates/bim_server/out/bim_server
+# make try               builds the program without any proof, at out/try/bim_server, and replays the stored run: three minutes
+# make build             proves the crates that the program stands on, and leaves it at crates/bim_server/out/bim_server; crates
+#                        that don't stand on each other are proved at the same time, and an interrupted build goes on
 # make replay            replays the stored run of cases/topics/stored_run over the built program, and prints what it writes
-# make check             the test command: the map of crates, the whole gate, then the end-to-end cases over the built program,
-#                        clients over sockets, calls of the C library that fail in turn, floods, and the speed of reading
-# make hostile           failing calls and floods whole, over the program as it was built last: some minutes
 # make serve             serves on 127.0.0.1:8080 over the built program, until it is stopped
-# make crate NAME=..     proves one crate, over what earlier checks kept of those below it, and runs its tests
+#
+# make check             the test command, in this order: the lints (make lint); the gate of the toolchain (rt ci); then, over
+#                        the program that it built, the end-to-end cases, clients over sockets, calls of the C library that
+#                        fail in turn, floods, and the speed of reading; then what stands beside the server (BESIDE)
+# make lint              what is listed of the repository, and the linters of the Python beside it: below a minute, no toolchain
+# make tests             what make check runs over the built program, without the lints and the toolchain
+# make hostile           failing calls and floods whole, over the program as it was built last: some minutes
 # make cases [GROUP=..]  the end-to-end cases alone, over the program as it was built last: all, or those of the groups
 #                        (upload/u07), or with one of the words in their path; cases/README.md names the groups
+# make crate NAME=..     proves one crate, over what earlier checks kept of those below it, and runs its tests
+# make check-NAME        what is beside the server alone: convert, deploy, api, client or viewer
+#
+# make convert           builds the converter, convert/target/release/ifc2grid, in a minute
+# make view              starts a server with a building, a front and the page on the loopback, and prints the address
+# make deb VERSION=..    builds the Debian package of the program and of what is beside it, in out/deb
+#
+# make .. PROGRAM=path   replay, serve, tests, hostile, cases and check-convert over another program than the built one
 
 SERVER := crates/bim_server/out/bim_server
+PROGRAM ?= $(SERVER)
+# What of convert, deploy, api, client and viewer the gate runs, each by its target check-NAME.
+BESIDE :=
 
-.PHONY: build replay serve check hostile crate cases
+.PHONY: try build replay serve check lint tests hostile cases crate program
+.PHONY: check-convert check-deploy check-api check-client check-viewer convert view deb
+
+try:
+	@python3 -m tools.try_program
 
 build:
-	@cd crates/bim_server && rt run -- replay </dev/null >&2
+	@python3 -m tools.build_program
 
-replay: build
-	@$(SERVER) $$(cat cases/topics/stored_run/args) <cases/topics/stored_run/stdin
+# The program that is asked for: the built one is built where it lacks, another has to be there.
+program:
+	@test -x "$(PROGRAM)" || { test "$(PROGRAM)" = "$(SERVER)" && $(MAKE) --no-print-directory build; } \
+		|| { echo "make: $(PROGRAM) is no program"; exit 2; }
 
-serve: build
-	@$(SERVER) serve
+# Where PROGRAM is another program, nothing is proved or built for these two.
+ifeq ($(PROGRAM),$(SERVER))
+replay serve: build
+else
+replay serve: program
+endif
 
-# rt ci leaves the program that it proved and built
-check:
-	python3 bench/map.py
+replay:
+	@$(PROGRAM) $$(cat cases/topics/stored_run/args) <cases/topics/stored_run/stdin
+
+serve:
+	@$(PROGRAM) serve
+
+# What fails in seconds comes before what takes hours: the lints take below a minute. rt ci is one command, which decides its own
+# order: it proves each crate and its tests, has the prover refuse each must-fail edit, and runs the tests and the program; it
+# leaves the program that it proved and built. The rest takes minutes over that program. Each ends the gate with its status
+# where it fails.
+check: lint
 	rt ci
-	@test -x $(SERVER) || $(MAKE) --no-print-directory build
-	python3 cases/run.py $(SERVER)
-	python3 bench/serve.py $(SERVER) pipelined interleaved clashes curl cut end_by_links end_by_signal
-	python3 bench/failing.py $(SERVER) --some 60
-	python3 bench/hostile.py $(SERVER)
-	python3 bench/reading.py $(SERVER)
+	@$(MAKE) --no-print-directory tests PROGRAM=$(SERVER)
+	@for name in $(BESIDE); do $(MAKE) --no-print-directory check-$$name PROGRAM=$(SERVER) || exit; done
 
-hostile:
-	@test -x $(SERVER) || $(MAKE) --no-print-directory build
-	python3 bench/failing.py $(SERVER)
-	python3 bench/hostile.py $(SERVER) --full
+lint:
+	python3 -m lint
+
+tests: program
+	python3 -m tests.cases $(PROGRAM)
+	python3 -m tests.examples $(PROGRAM)
+	python3 -m tests.serve $(PROGRAM) pipelined interleaved clashes curl cut end_by_links end_by_signal
+	python3 -m tests.failing $(PROGRAM) --some 60
+	python3 -m tests.hostile $(PROGRAM)
+	python3 -m tests.reading $(PROGRAM)
+
+hostile: program
+	python3 -m tests.failing $(PROGRAM)
+	python3 -m tests.hostile $(PROGRAM) --full
+
+cases: program
+	@python3 -m tests.cases $(PROGRAM) $(GROUP)
 
 crate:
 	@test -d "crates/$(NAME)/src" || { echo "make crate NAME=.. wants one of: $$(ls crates | xargs)"; exit 2; }
 	cd crates/$(NAME) && rt check && rt test
 
-cases:
-	@test -x $(SERVER) || $(MAKE) --no-print-directory build
-	@python3 cases/run.py $(SERVER) $(GROUP)
+# What is beside the server has a check script of its own.
+check-convert: program
+	@test -x convert/check.sh || { echo "make: convert/check.sh isn't there"; exit 2; }
+	convert/check.sh $(PROGRAM)
+
+check-deploy: program
+	@test -x deploy/check.sh || { echo "make: deploy/check.sh isn't there"; exit 2; }
+	deploy/check.sh $(PROGRAM)
+
+check-api: program
+	@test -x api_check/check.sh || { echo "make: api_check/check.sh isn't there"; exit 2; }
+	api_check/check.sh $(PROGRAM)
+
+check-client: program
+	@test -x client/check.sh || { echo "make: client/check.sh isn't there"; exit 2; }
+	client/check.sh $(PROGRAM)
+
+check-viewer: program
+	@test -x viewer/check.sh || { echo "make: viewer/check.sh isn't there"; exit 2; }
+	viewer/check.sh $(PROGRAM)
+
+convert:
+	@command -v cargo >/dev/null || { echo "make: there is no cargo: apt-get install cargo"; exit 2; }
+	cd convert && cargo build --release --offline
+
+view: program
+	@viewer/view.sh $(PROGRAM)
+
+VERSION ?= 0.9.0
+
+deb: program
+	deploy/build_deb.sh $(PROGRAM) $(VERSION) out/deb

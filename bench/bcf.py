@@ -1,101 +1,110 @@
-#!/usr/bin/env python3
-"""How the time of topics, comments and viewpoints grows with their number: python3 bench/bcf.py PROGRAM [RUNS]
+"""How the time of topics, comments and viewpoints grows with their number: python3 -m bench.bcf
+PROGRAM [--runs N]
 
-Each figure is of a processor's time, the least of RUNS (5) runs of `replay`, less that of the same session without the
-requests that are measured. A session has at most 10,000 requests, so it holds up to 9,000 objects. The ratio stands against the first
-figure of the same line.
+Each figure is of a processor's time, the least of N (5) runs of `replay`, less that of the same
+session without the requests that are measured. A session has at most 10,000 requests, so it holds
+up to 9,000 objects. The ratio is against the first figure of the same line.
 
 - make: a POST of a topic, a comment or a viewpoint, where there are 900 or 9,000 already;
 - read: a GET of one of them, all over the book;
 - replace: a PUT of a topic or a comment;
 - list: microseconds for each object that is listed.
 """
-import resource
-import subprocess
-import sys
 
-PROJECT = "/bcf/3.0/projects/00000001-0000-8000-8000-000000000000"
+import sys
+from collections.abc import Callable
+
+from bench.timing import least_of_processor, replay_words, request
+from tests.support.checks import arguments
+from tests.support.http import topics_of
+from tests.support.programs import built
+
+TOPICS = topics_of()
 TITLE, WORDS = '{"title":"Pipe"}', '{"comment":"Move it"}'
 VIEW = '{"components":{"selection":[{"ifc_guid":"0000000000000000000011"}]}}'
-# how often a measured request comes
-TIMES = 900
+TIMES = 900  # how often a measured request comes
+Requests = Callable[[int], list[bytes]]
 
 
-def guid(serial):
+def guid(serial: int) -> str:
     return f"00000001-0000-8000-8000-{serial:012x}"
 
 
-def request(method, target, body=""):
-    return f"{method} {PROJECT}{target} HTTP/1.1\r\nHost: h\r\nContent-Length: {len(body)}\r\n\r\n{body}".encode()
+COMMENTS, VIEWS = f"{TOPICS}/{guid(1)}/comments", f"{TOPICS}/{guid(1)}/viewpoints"
 
 
-def of_children():
-    """The seconds of a processor that the programs run so far took."""
-    used = resource.getrusage(resource.RUSAGE_CHILDREN)
-    return used.ru_utime + used.ru_stime
+def topics(count: int) -> list[bytes]:
+    return [request("POST", TOPICS, TITLE)] * count
 
 
-def taken(program, runs, requests):
-    session, best = b"".join(requests), None
-    for _ in range(runs):
-        start = of_children()
-        run = subprocess.run([program, "replay", "--at", "0"], input=session, stdout=subprocess.PIPE, check=True)
-        elapsed = of_children() - start
-        assert run.stdout.count(b"X-Book-Turn: ") == len(requests) and b'"code"' not in run.stdout
-        best = elapsed if best is None else min(best, elapsed)
-    return best
+def comments(count: int) -> list[bytes]:
+    """A topic and its comments."""
+    return topics(1) + [request("POST", COMMENTS, WORDS)] * (count - 1)
 
 
-def show(name, program, runs, measured):
-    """Prints the microseconds of `measured(count)`: the requests before, those that are measured, and how many parts."""
-    base = None
-    for count in (900, 3000, 9000):
-        before, behind, parts = measured(count)
-        each = 1e6 * (taken(program, runs, before + behind) - taken(program, runs, before)) / parts
-        base = base or each
-        print(f"{name}: {count} there, {each:.2f} us, ratio {each / base:.2f}")
+def views(count: int) -> list[bytes]:
+    """A topic and its viewpoints."""
+    return topics(1) + [request("POST", VIEWS, VIEW)] * (count - 1)
 
 
-def topics(count):
-    return [request("POST", "/topics", TITLE)] * count
+def always(method: str, target: str, body: str = "", times: int = TIMES) -> Requests:
+    """One request so often."""
+    return lambda count: [request(method, target, body)] * times
 
 
-def on_one_topic(part, body, count):
-    return [request("POST", "/topics", TITLE)] + [request("POST", f"/topics/{guid(1)}/{part}", body)] * (count - 1)
-
-
-def spread(method, target, count, first, body=""):
+def all_over(method: str, target: str, first: int, body: str = "") -> Requests:
     """Requests for TIMES objects, which are spread over those from the first serial number on."""
-    step = max(1, (count - first) // TIMES)
-    serials = [first + (place * step) % (count - first) for place in range(TIMES)]
-    return [request(method, target.format(guid(serial)), body) for serial in serials]
+
+    def make(count: int) -> list[bytes]:
+        step = max(1, (count - first) // TIMES)
+        serials = (first + (place * step) % (count - first) for place in range(TIMES))
+        return [request(method, f"{target}/{guid(serial)}", body) for serial in serials]
+
+    return make
 
 
-def main():
-    program, runs = sys.argv[1], int(sys.argv[2]) if len(sys.argv) > 2 else 5
-    comment, view = f"/topics/{guid(1)}/comments", f"/topics/{guid(1)}/viewpoints"
+# What is measured: its name, the requests before, those that are measured, and how many objects
+# each of these lists.
+ROWS: list[tuple[str, Requests, Requests, bool]] = [
+    ("make a topic", topics, always("POST", TOPICS, TITLE), False),
+    ("make a comment", comments, always("POST", COMMENTS, WORDS), False),
+    ("make a viewpoint", views, always("POST", VIEWS, VIEW), False),
+    ("read a topic", topics, all_over("GET", TOPICS, 1), False),
+    ("read a comment", comments, all_over("GET", COMMENTS, 2), False),
+    ("read a viewpoint", views, all_over("GET", VIEWS, 2), False),
+    ("replace a topic", topics, all_over("PUT", TOPICS, 1, TITLE), False),
+    ("replace a comment", comments, all_over("PUT", COMMENTS, 2, WORDS), False),
+    ("list topics", topics, always("GET", TOPICS, times=10), True),
+    ("list comments", comments, always("GET", COMMENTS, times=10), True),
+    ("list viewpoints", views, always("GET", VIEWS, times=10), True),
+]
 
-    def measure(name, before, behind, parts=lambda count: TIMES):
-        show(name, program, runs, lambda count: (before(count), behind(count), parts(count)))
 
-    def comments(count):
-        return on_one_topic("comments", WORDS, count)
+def taken(program: str, runs: int, requests: list[bytes]) -> float:
+    """The processor's seconds of a session, each of whose requests is answered without a fault."""
 
-    def views(count):
-        return on_one_topic("viewpoints", VIEW, count)
+    def check(output: bytes) -> None:
+        if output.count(b"X-Book-Turn: ") != len(requests) or b'"code"' in output:
+            sys.exit(f"not each request was answered: {output[-200:]!r}")
 
-    measure("make a topic", topics, lambda count: [request("POST", "/topics", TITLE)] * TIMES)
-    measure("make a comment", comments, lambda count: [request("POST", comment, WORDS)] * TIMES)
-    measure("make a viewpoint", views, lambda count: [request("POST", view, VIEW)] * TIMES)
-    measure("read a topic", topics, lambda count: spread("GET", "/topics/{}", count, 1))
-    measure("read a comment", comments, lambda count: spread("GET", comment + "/{}", count, 2))
-    measure("read a viewpoint", views, lambda count: spread("GET", view + "/{}", count, 2))
-    measure("replace a topic", topics, lambda count: spread("PUT", "/topics/{}", count, 1, TITLE))
-    measure("replace a comment", comments, lambda count: spread("PUT", comment + "/{}", count, 2, WORDS))
-    measure("list topics", topics, lambda count: [request("GET", "/topics")] * 10, lambda count: 10 * count)
-    measure("list comments", comments, lambda count: [request("GET", comment)] * 10, lambda count: 10 * count)
-    measure("list viewpoints", views, lambda count: [request("GET", view)] * 10, lambda count: 10 * count)
+    return least_of_processor(replay_words(program), b"".join(requests), runs, check)
+
+
+def main() -> int:
+    parser = arguments(__doc__)
+    parser.add_argument("--runs", metavar="N", type=int, default=5)
+    given = parser.parse_args()
+    program = built(given.program)
+    for name, before, measured, lists in ROWS:
+        base = None
+        for count in (900, 3000, 9000):
+            first, then = before(count), measured(count)
+            spent = taken(program, given.runs, first + then) - taken(program, given.runs, first)
+            each = 1e6 * spent / (len(then) * count if lists else len(then))
+            base = base or each
+            print(f"{name}: {count} there, {each:.2f} us, ratio {each / base:.2f}")
+    return 0
 
 
 if __name__ == "__main__":
-    main()
+    sys.exit(main())

@@ -1,41 +1,32 @@
-#!/usr/bin/env python3
 """Runs the grids of grid.json, which another program worked out, over the built crate.
 
-    bench/bucket_grid/vectors.py [FILE]
+    python3 -m bench.bucket_grid.vectors [FILE]
 
-FILE has a list of versions: `models`, each a `name` and `boxes` of six numbers in millimetres; `memberships`, and
-`too_spread` where they are more than there may be; else `bucket_count`, `owners` of some pairs (null where they share
-no cell) and, where they are few, `buckets` with their members as [model, place]. Copies the crates into a scratch
-folder, adds the program of vectors.txt, builds it proved, and runs it once for each version.
+FILE has a list of versions: `models`, each a `name` and `boxes` of six numbers in millimetres;
+`memberships`, and `too_spread` where they are more than there may be; else `bucket_count`, `owners`
+of some pairs (null where they share no cell) and, where they are few, `buckets` with their members
+as [model, place]. Copies the crates into a scratch folder, adds the program of vectors.txt, builds
+it proved, and runs it once for each version.
 """
-import json, os, shutil, subprocess, sys, tempfile
 
-HERE = os.path.dirname(os.path.abspath(__file__))
-TOP = os.path.dirname(os.path.dirname(HERE))
-sys.path.insert(0, os.path.join(TOP, "bench"))
-from stands_on import stands_on  # noqa: E402
+import argparse
+import json
+import pathlib
+import subprocess
+import sys
+import tempfile
+from collections.abc import Iterator
+from typing import Any
 
+from bench.scratch import built_over
+
+HERE = pathlib.Path(__file__).resolve().parent
 BELOW = ["exact_arith", "bim_model", "tri_exact", "clearance", "box_lanes", "bucket_grid"]
-CRATES = stands_on(BELOW) | {"vectors": "bucket_grid bim_model anyhow"}
+USES = "bucket_grid bim_model anyhow"
+Numbers = dict[tuple[int, ...], int]
 
 
-def build(work):
-    """The path of the program."""
-    for name in CRATES:
-        if name != "vectors":
-            shutil.copytree(f"{TOP}/crates/{name}", f"{work}/crates/{name}", ignore=shutil.ignore_patterns("out"))
-    os.makedirs(f"{work}/crates/vectors/src")
-    shutil.copy(f"{HERE}/vectors.txt", f"{work}/crates/vectors/src/main.rt")
-    with open(f"{work}/crates.txt", "w") as f:
-        f.writelines(f"{name}: {deps}\n" for name, deps in CRATES.items())
-    subprocess.run(["git", "-C", work, "init", "-q"], check=True)
-    made = subprocess.run(["rt", "run"], cwd=f"{work}/crates/vectors", stdin=subprocess.DEVNULL, capture_output=True, text=True)
-    if made.returncode != 0:
-        sys.exit(made.stdout[-4000:] + made.stderr[-4000:])
-    return f"{work}/crates/vectors/out/vectors"
-
-
-def lines_in(case, number):
+def lines_in(case: Any, number: Numbers) -> Iterator[str]:
     """What the program is given."""
     for model in case["models"]:
         yield f"model {model['name']}"
@@ -47,7 +38,7 @@ def lines_in(case, number):
         yield "list"
 
 
-def lines_out(case, number):
+def lines_out(case: Any, number: Numbers) -> Iterator[str]:
     """What it has to answer."""
     if case["too_spread"]:
         yield f"too spread {case['memberships']}"
@@ -61,31 +52,40 @@ def lines_out(case, number):
         yield "none" if pair["cell"] is None else "owner " + " ".join(map(str, pair["cell"]))
 
 
-def main():
-    file = sys.argv[1] if len(sys.argv) > 1 else f"{HERE}/grid.json"
-    with open(file) as f:
-        cases = json.load(f)
-    work = tempfile.mkdtemp()
+def numbers_of(case: Any) -> Numbers:
+    """The number of each element, by its model and its place there."""
+    places = ((m, e) for m, model in enumerate(case["models"]) for e in range(len(model["boxes"])))
+    return {place: number for number, place in enumerate(places)}
+
+
+def main() -> int:
+    words = argparse.ArgumentParser(
+        description=__doc__, formatter_class=argparse.RawDescriptionHelpFormatter
+    )
+    words.add_argument(
+        "file", metavar="FILE", nargs="?", type=pathlib.Path, default=HERE / "grid.json"
+    )
+    cases = json.loads(words.parse_args().file.read_text())
     agreed = 0
-    try:
-        program = build(work)
+    with tempfile.TemporaryDirectory() as scratch:
+        program = built_over(
+            pathlib.Path(scratch), BELOW, "vectors", USES, HERE / "vectors.txt", ("out",)
+        )
         for place, case in enumerate(cases):
-            number = {}
-            for m, model in enumerate(case["models"]):
-                for e in range(len(model["boxes"])):
-                    number[(m, e)] = len(number)
+            number = numbers_of(case)
             given = "".join(line + "\n" for line in lines_in(case, number))
             wanted = "".join(line + "\n" for line in lines_out(case, number))
-            ran = subprocess.run([program], input=given, capture_output=True, text=True)
+            ran = subprocess.run(
+                [program], input=given, capture_output=True, text=True, check=False
+            )
             if ran.returncode == 0 and ran.stdout == wanted:
                 agreed += 1
             else:
                 print(f"case {place} ({case['name']}) differs: status {ran.returncode}")
                 print(ran.stdout[:400], ran.stderr[:400])
-    finally:
-        shutil.rmtree(work)
     print(f"{agreed} of {len(cases)} agree")
-    sys.exit(0 if agreed == len(cases) else 1)
+    return 0 if agreed == len(cases) else 1
 
 
-main()
+if __name__ == "__main__":
+    sys.exit(main())

@@ -1,23 +1,11 @@
 //! The coordination server for building models.
 #![tactic(auto)]
 
-mod alone;
-mod commands;
-mod one_thread;
-mod replay;
-mod replay_words;
-mod serve;
-#[cfg(test)]
-mod serve_tests;
-mod serve_words;
-#[cfg(test)]
-mod tests;
-
 use bim_files::StdFiles;
 use bim_io::{StdSink, StdSource, SystemClock};
 use bim_model::Text;
 use bim_sockets::NetHost;
-use commands::run;
+use server_commands::run;
 use std::alloc::AllocError;
 use std::env;
 use std::io::{self, ErrorKind};

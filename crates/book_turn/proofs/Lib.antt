@@ -3,4 +3,3 @@ pub mod Prefixes
 pub mod Keeps
 pub mod Calls
 pub mod Ends
-mod Counting

@@ -5,4 +5,3 @@ pub mod Steps
 pub mod Rule
 pub mod Passes
 pub mod Faults
-pub mod Counts

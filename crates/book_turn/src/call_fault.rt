@@ -25,7 +25,8 @@ impl Model for SpentPass {
 }
 
 impl SpentPass {
-    pub(crate) fn new(pass: u32, turns: u64) -> SpentPass
+    /// The fault of a pass that has made so many turns, which is all that a pass may make.
+    pub fn new(pass: u32, turns: u64) -> SpentPass
         requires { turns ≡ MOST_TURNS }
         ensures { result ≡ pass }
     {

@@ -14,8 +14,6 @@ pub mod object;
 pub mod pass;
 mod plays;
 mod rule;
-#[cfg(test)]
-mod tests;
 mod tickets;
 pub mod turn;
 mod wait;

@@ -2,8 +2,6 @@
 //! another. Several work over one book, each in a thread of its own, and their passes are joined into one.
 #![tactic(auto)]
 
-#[cfg(test)]
-mod tests;
 mod work;
 mod workers;
 

@@ -11,6 +11,3 @@ pub use by_turn::ByTurn;
 pub use caller::Caller;
 pub use link::serve_link;
 pub use session::{Progress, run_session};
-
-#[cfg(test)]
-mod tests;

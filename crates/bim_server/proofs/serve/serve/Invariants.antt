@@ -1,5 +1,0 @@
-use Rattle.bim_server.specs.Serving.{service_of}
-use Rattle.bim_server.proofs.serve.serve.Given as goal
-
-abbrev pub ghosts-serve_doors : goal.ghosts-serve_doors
-ghosts-serve_doors g a = record { service = service_of a.counts (g.H.Host.seen a.host.now) }

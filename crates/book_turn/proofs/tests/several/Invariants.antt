@@ -1,5 +1,0 @@
-use Rattle.book_turn.specs.Passes.{IsSingle}
-use Rattle.book_turn.proofs.tests.several.Given as goal
-
-abbrev pub invariant-loop : goal.invariant-loop
-invariant-loop g l = IsSingle l.fn.turn l.pass

@@ -1,0 +1,1 @@
+"""Fills the book of the built program's server up to its limits."""

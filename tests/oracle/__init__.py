@@ -1,0 +1,32 @@
+"""What `replay --at N` must write for the bytes of one connection: the HTTP profile read anew, in
+plain Python, from its own text (docs/API.md) and not from the program. Cases of heads, chunks,
+clients and bodies are worked out with it. It knows topics, comments and viewpoints, versions, and
+uploads of four small files; where a stream asks for more it stops (Beyond).
+
+    python3 -m tests.oracle --at N [--projects N] [--buckets N] <input >output
+    python3 -m tests.oracle --cases [GROUP ..]        compares with the cases that it can follow
+    python3 -m tests.cases tests/oracle.sh clients    runs cases over it, in place of the program
+"""
+
+from tests.oracle.answers import answer
+from tests.oracle.book import Book
+from tests.oracle.faults import Answer, Beyond, Fault, Unfinished
+from tests.oracle.files import BLOCKS, FILES, SMALL_FILE
+from tests.oracle.framing import read_body, read_request
+from tests.oracle.session import replay, response
+
+__all__ = [
+    "BLOCKS",
+    "FILES",
+    "SMALL_FILE",
+    "Answer",
+    "Beyond",
+    "Book",
+    "Fault",
+    "Unfinished",
+    "answer",
+    "read_body",
+    "read_request",
+    "replay",
+    "response",
+]

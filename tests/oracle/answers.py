@@ -1,0 +1,256 @@
+"""The answer to a request, and what it changes."""
+
+import re
+import urllib.parse
+from dataclasses import dataclass
+from typing import Any
+
+from tests.oracle.board import on_comments, on_topics, on_views
+from tests.oracle.bodies import comment_in, identifier_in, object_in, rules_in, topic_in, view_in
+from tests.oracle.book import Book
+from tests.oracle.faults import Answer, Beyond, Refused, Tree, error
+from tests.oracle.files import FILES
+from tests.oracle.framing import Request
+from tests.oracle.versions import Version
+
+PART = r"([^/]+)"
+TOPIC = f"/bcf/3.0/projects/{PART}/topics/{PART}"
+ROWS = [
+    (re.compile("/bcf/3.0/projects$"), "projects", ["GET"]),
+    (re.compile(f"/bcf/3.0/projects/{PART}$"), "project", ["GET"]),
+    (re.compile(f"/bcf/3.0/projects/{PART}/topics$"), "topics", ["GET", "POST"]),
+    (re.compile(f"{TOPIC}$"), "topics", ["GET", "PUT", "DELETE"]),
+    (re.compile(f"{TOPIC}/comments$"), "comments", ["GET", "POST"]),
+    (re.compile(f"{TOPIC}/comments/{PART}$"), "comments", ["GET", "PUT", "DELETE"]),
+    (re.compile(f"{TOPIC}/viewpoints$"), "views", ["GET", "POST"]),
+    (re.compile(f"{TOPIC}/viewpoints/{PART}$"), "views", ["GET", "DELETE"]),
+    (re.compile(f"{TOPIC}/viewpoints/{PART}/(selection|coloring|visibility)$"), "part", ["GET"]),
+    (
+        re.compile(f"/coord/1/projects/{PART}/versions/{PART}/clashes/{PART}/topic$"),
+        "clash topic",
+        ["POST"],
+    ),
+    (re.compile(f"/coord/1/projects/{PART}/models/{PART}$"), "model", ["PUT", "DELETE"]),
+    (re.compile(f"/coord/1/projects/{PART}/rules$"), "rules", ["PUT"]),
+    (re.compile(f"/coord/1/projects/{PART}/versions/{PART}$"), "version", ["GET"]),
+    (re.compile(f"/coord/1/projects/{PART}/versions/{PART}/clashes$"), "clashes", ["GET"]),
+]
+
+
+READERS: dict[str, Any] = {
+    "topics": topic_in,
+    "comments": comment_in,
+    "views": view_in,
+    "rules": rules_in,
+}
+QUERIES = {"model": [b"grid"], "clashes": [b"first", b"count"]}
+PARTS = ("selection", "coloring", "visibility")
+
+
+@dataclass
+class Resource:
+    """What a path names: its kind, its methods, the pieces of the path that tell it apart, the
+    identifiers among them."""
+
+    kind: str
+    methods: list[str]
+    pieces: tuple[str, ...]
+    ids: list[bytes]
+
+
+@dataclass
+class Asked:
+    """A request whose form is right: what it names, how, by whom, with which body and query."""
+
+    resource: Resource
+    method: str
+    user: str
+    body: Any
+    query: dict[bytes, bytes]
+    file: bytes
+
+
+def path_of(target: str) -> str | None:
+    """The path of a target, which may be a whole URL of http."""
+    path = target.partition("?")[0]
+    if not path.startswith("http://"):
+        return path
+    slash = path.find("/", 7)
+    return None if slash < 0 else path[slash:]
+
+
+def has_names(kind: str, pieces: tuple[str, ...]) -> bool:
+    """Whether the pieces of a path that aren't identifiers are spelled as they must be."""
+    if kind == "model":
+        return re.fullmatch(r"[A-Za-z0-9_.\-]{1,64}", pieces[1]) is not None
+    if kind == "clash topic" and not re.fullmatch("[0-9]{1,15}", pieces[2]):
+        return False
+    if kind in ("version", "clashes", "clash topic"):
+        return re.fullmatch("newest|[0-9]{1,15}", pieces[1]) is not None
+    return True
+
+
+def resource_of(target: str) -> Resource | None:
+    """What a target names, or None."""
+    path = path_of(target)
+    if path is None:
+        return None
+    for row, kind, methods in ROWS:
+        found = row.match(path)
+        if found:
+            break
+    else:
+        return None
+    pieces = found.groups()
+    named = [
+        piece for piece in (pieces if "/bcf/" in row.pattern else pieces[:1]) if piece not in PARTS
+    ]
+    ids = [identifier_in(piece) for piece in named]
+    known = [it for it in ids if it is not None]
+    if len(known) < len(ids) or not has_names(kind, pieces):
+        return None
+    return Resource(kind, methods, pieces, known)
+
+
+def is_good(name: bytes, value: bytes) -> bool:
+    """Whether a parameter of a query may have the value."""
+    if name == b"grid":
+        return value in (b"exact", b"snap")
+    return re.fullmatch(rb"[0-9]{1,15}", value) is not None and (
+        name == b"first" or 1 <= int(value) <= 1000
+    )
+
+
+def query_of(kind: str, target: str) -> dict[bytes, bytes]:
+    """The parameters of a query that the resource knows."""
+    given: dict[bytes, bytes] = {}
+    for piece in filter(None, target.partition("?")[2].split("&")):
+        name, value = (
+            urllib.parse.unquote_to_bytes(p.replace("+", " ")) for p in piece.partition("=")[::2]
+        )
+        if name not in QUERIES.get(kind, []):
+            continue
+        if name in given or not is_good(name, value):
+            raise Refused("H11", "Query", 400, name=name.decode())
+        given[name] = value
+    return given
+
+
+def body_of(kind: str, method: str, body: bytes) -> Any:
+    """What a body says, where the request has one that is read."""
+    if kind == "model" and method == "PUT" and body not in FILES:
+        raise Beyond("another file")
+    if method not in ("POST", "PUT") or kind not in READERS:
+        return None
+    try:
+        return READERS[kind](object_in(body))
+    except (ValueError, RecursionError):
+        raise Refused("H9", "BadJson", 400) from None
+
+
+def answer(book: Book, request: Request) -> Answer:
+    """Status, tree, turn or None, and the methods of Allow."""
+    target, method = request.target.decode("latin-1"), request.method.decode()
+    resource = resource_of(target)
+    if resource is None:
+        return Refused("H7", "NoRoute", 404).answer()
+    if method not in resource.methods:
+        return 405, error("H8", "Method"), None, resource.methods
+    if request.encoded:
+        return Refused("H12", "Encoding", 415).answer()
+    try:
+        query = query_of(resource.kind, target)
+        body = body_of(resource.kind, method, request.body)
+    except Refused as fault:
+        return fault.answer()
+    return in_turn(book, Asked(resource, method, request.user, body, query, request.body))
+
+
+def project_tree(number: int) -> Tree:
+    return {"name": f"Project {number}", "project_id": f"{number:08x}-0000-8000-8000-000000000000"}
+
+
+def in_turn(book: Book, asked: Asked) -> Answer:
+    """The answer at the book's turn to a request whose form is right."""
+    kind, ids = asked.resource.kind, asked.resource.ids
+    if kind == "projects":
+        return book.booked(200, [project_tree(n) for n in sorted(book.boards)])
+    number = book.project(ids[0])
+    if number is None:
+        return book.booked(404, error("K1", "NoProject"))
+    if kind == "project":
+        return book.booked(200, project_tree(number))
+    board = book.boards[number]
+    if kind == "topics":
+        return book.booked(*on_topics(board, asked.method, asked.body, asked.user, ids[1:]))
+    if kind == "comments":
+        return book.booked(*on_comments(board, asked.method, asked.body, asked.user, ids[1:]))
+    if kind in ("views", "part"):
+        part = asked.resource.pieces[-1] if kind == "part" else None
+        return book.booked(*on_views(board, asked.method, asked.body, ids[1:], part))
+    if kind in ("rules", "model"):
+        return on_models(book, number, asked)
+    return on_versions(book, number, asked)
+
+
+def on_models(book: Book, number: int, asked: Asked) -> Answer:
+    """The answer to a request that makes a version."""
+    last = book.versions[number][-1]
+    if asked.resource.kind == "rules":
+        return book.changed(200, number, last.models, asked.body)
+    name = asked.resource.pieces[1]
+    if asked.method == "PUT":
+        model = FILES[asked.file]
+        return book.changed(201, number, dict(last.models, **{name: model}), last.rules, model)
+    if name not in last.models:
+        return book.booked(404, error("K2", "NoModel"))
+    left = {other: model for other, model in last.models.items() if other != name}
+    return book.changed(200, number, left, last.rules)
+
+
+def on_versions(book: Book, number: int, asked: Asked) -> Answer:
+    """The answer to a request that asks for a version, its clashes, or a topic of one of them."""
+    named, newest = asked.resource.pieces[1], len(book.versions[number]) - 1
+    wanted = newest if named == "newest" else int(named)
+    if wanted > newest:
+        return book.booked(404, error("K3", "NoVersion", newest=newest))
+    if wanted + 16 <= newest:
+        return book.booked(410, error("K4", "VersionDropped", newest=newest, version=wanted))
+    version = book.versions[number][wanted]
+    if asked.resource.kind == "version":
+        models = [{"elements": model, "name": name} for name, model in version.models.items()]
+        tree = {"models": models, "newest": newest, "rules": version.rules, "version": wanted}
+        return book.booked(200, tree)
+    if version.undone:
+        return book.booked(202, {"left": len(version.undone), "version": wanted})
+    if asked.resource.kind == "clash topic":
+        return clash_topic(book, number, version, asked)
+    tree = page(version, wanted, asked.query)
+    if (number, wanted) in book.shelf and named != "newest":
+        return 200, tree, book.printed, []
+    book.shelf.add((number, wanted))
+    return book.booked(200, tree)
+
+
+def page(version: Version, number: int, query: dict[bytes, bytes]) -> Tree:
+    """A page of a version's clashes."""
+    pairs, first = version.clashes(), int(query.get(b"first", b"0"))
+    some = pairs[first : first + int(query.get(b"count", b"1000"))]
+    return {"clashes": some, "first": first, "total": len(pairs), "version": number}
+
+
+def clash_topic(book: Book, number: int, version: Version, asked: Asked) -> Answer:
+    """Makes a topic of a clash, and its viewpoint."""
+    board, pairs, place = book.boards[number], version.clashes(), int(asked.resource.pieces[2])
+    if place >= len(pairs):
+        return book.booked(404, error("K12", "NoClash", place=place, total=len(pairs)))
+    a, b = pairs[place]["a"]["guid"], pairs[place]["b"]["guid"]
+    members = {"title": f"Clash of {a} and {b}", "topic_type": "Clash", "topic_status": "Open"}
+    topic = board.topic(board.next(), members, asked.user)
+    parts = {
+        "selection": [{"ifc_guid": a}, {"ifc_guid": b}],
+        "coloring": [],
+        "visibility": {"default_visibility": False, "exceptions": []},
+    }
+    board.view(board.made, board.next(), {}, parts)
+    return book.booked(201, topic)

@@ -1,0 +1,2 @@
+"""Serves over real sockets on the loopback address, and checks each reply against what one thread
+answers."""

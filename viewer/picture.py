@@ -1,0 +1,56 @@
+#!/usr/bin/python3
+"""picture.py PROGRAM OUT.png: the page as a coordinator sees it, a new clash chosen, for README."""
+import io
+import sys
+from pathlib import Path
+
+from PIL import Image
+
+from stage import Failure
+from tests.case import Case
+
+MOST = 300_000
+
+
+def take(case: Case) -> bytes:
+    """The page with a clash of a duct and a wall."""
+    b = case.browser
+    case.load()
+    b.open(case.address)
+    case.ready()
+    b.until("page.state.all.length")
+    b.js("page.view.camera.azimuth = -0.9; page.view.camera.elevation = 0.42")
+    b.js("document.querySelector('#clash-list button').click()")
+    b.js("page.view.camera.zoom(0.8); page.view.scene.dirty = true")
+    b.js("document.activeElement.blur()")
+    b.later("for (let n = 0; n < 4; ++n) await new Promise(done => requestAnimationFrame(done))")
+    picture = Image.open(io.BytesIO(b.driver.get_screenshot_as_png())).convert("RGB")
+    out = io.BytesIO()
+    picture.save(out, "PNG", optimize=True)
+    return out.getvalue()
+
+
+def main() -> int:
+    """Writes the picture."""
+    if len(sys.argv) != 3:
+        print("picture.py PROGRAM OUT.png", file=sys.stderr)
+        return 2
+    case = None
+    try:
+        case = Case(sys.argv[1], False)
+        data = take(case)
+        if len(data) > MOST:
+            raise Failure(f"the picture has {len(data)} bytes, more than {MOST}")
+        Path(sys.argv[2]).write_bytes(data)
+        print(f"{sys.argv[2]}: {len(data)} bytes")
+        return 0
+    except Failure as failure:
+        print(f"picture: {failure}", file=sys.stderr)
+        return 1
+    finally:
+        if case:
+            case.close()
+
+
+if __name__ == "__main__":
+    sys.exit(main())

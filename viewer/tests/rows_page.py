@@ -1,0 +1,166 @@
+"""Rows: languages, keyboard, screen reader, light and dark, the content policy, the console."""
+from .case import Case, Rows, same
+from .pictures import alike
+
+
+def languages(case: Case) -> None:
+    """German and back; no text is missing in either."""
+    b = case.browser
+    texts = b.later("return Object.entries((await import('/texts.js')).TEXTS)")
+    same([key for key, pair in texts if len(pair) != 2 or not all(pair)], [])
+    holes = [
+        key
+        for key, (one, two) in texts
+        if [f"{{{n}}}" in one for n in range(9)] != [f"{{{n}}}" in two for n in range(9)]
+    ]
+    same(holes, [])
+    b.choose("#language", "de")
+    same(
+        [b.text("h1"), b.text("#tab-clashes span"), b.js("return document.documentElement.lang")],
+        ["Koordination", "Kollisionen", "de"],
+    )
+    same(
+        b.js(
+            "return [...document.querySelectorAll('[data-text]')].filter(e => e.textContent === e.dataset.text && /[a-z][A-Z]/.test(e.textContent)).length"
+        ),
+        0,
+    )
+    b.choose("#language", "en")
+    same(b.text("h1"), "Coordination")
+
+
+def used_texts(case: Case) -> None:
+    """Each key that the page's files name has a text."""
+    b = case.browser
+    missing = b.later(
+        """const { TEXTS } = await import('/texts.js'), out = [];
+        for (const name of arguments[0]) {
+            const source = await (await fetch('/' + name)).text();
+            for (const [, key] of source.matchAll(/\\btext\\('([^']+)'[,)]|data-(?:text|label)="([^"]+)"/g)) if (key && !(key in TEXTS)) out.push(key);
+            for (const [, key] of source.matchAll(/data-(?:text|label)="([^"]+)"/g)) if (!(key in TEXTS)) out.push(key);
+        }
+        return out""",
+        [path.name for path in sorted(case.page.iterdir()) if path.suffix in (".js", ".html")],
+    )
+    same(missing, [])
+
+
+def keyboard(case: Case) -> None:
+    """The picture, the tabs and the lists go by keys alone."""
+    b = case.browser
+    case.reset()
+    before = b.picture()
+    b.later(
+        """const canvas = document.getElementById('canvas'); canvas.focus();
+        for (const key of ['ArrowLeft', 'ArrowUp', '+']) canvas.dispatchEvent(new KeyboardEvent('keydown', { key, bubbles: true, cancelable: true }))"""
+    )
+    same(alike(before, b.picture()), False)
+    b.find("#canvas").send_keys("\ue011")  # Home
+    b.find("#tab-clashes").send_keys("\ue014")  # right
+    same(
+        b.js("return [document.activeElement.id, document.getElementById('pane-topics').hidden]"), ["tab-topics", False]
+    )
+    b.find("#tab-topics").send_keys("\ue012")  # left
+    b.find("#clash-list button").send_keys("\ue015")  # down
+    same(b.js("return [...document.querySelectorAll('#clash-list button')].indexOf(document.activeElement)"), 1)
+    b.driver.switch_to.active_element.send_keys("\ue007")  # enter
+    same(b.js("return page.state.marked.size"), 2)
+    same(b.js("return [...document.querySelectorAll('#clash-list button')].indexOf(document.activeElement)"), 1)
+    case.reset()
+
+
+def names(case: Case) -> None:
+    """Whatever can be used has a name for a screen reader, in each tab."""
+    b = case.browser
+    bare = []
+    for tab in ("topics", "rules", "versions", "clashes"):
+        b.click(f"#tab-{tab}")
+        bare += b.js(
+            """const name = e => (e.getAttribute('aria-label') || (e.labels && [...e.labels].map(l => l.textContent.trim()).join('')) ||
+                (e.tagName === 'BUTTON' || e.tagName === 'A' ? e.textContent.trim() : '') || e.title || '').trim();
+            return [...document.querySelectorAll('button, input, select, textarea, a, canvas')]
+                .filter(e => e.offsetParent && !name(e))
+                .map(e => e.outerHTML.slice(0, 120))"""
+        )
+    same(bare, [])
+    tree = b.driver.execute_cdp_cmd("Accessibility.getFullAXTree", {})["nodes"]
+    roles = {(n.get("role", {}).get("value"), n.get("name", {}).get("value")) for n in tree}
+    same(
+        [
+            r
+            for r in (
+                ("tab", "Rules"),
+                ("button", "Measure"),
+                ("combobox", "Version"),
+                ("toolbar", "Tools of the view"),
+            )
+            if r not in roles
+        ],
+        [],
+    )
+
+
+def dark(case: Case) -> None:
+    """With a dark system both the page and the picture are dark, and texts can be read on them."""
+    b = case.browser
+    case.reset()
+    light = b.picture().getpixel((2, 2))
+    contrast = """
+        const part = c => { c /= 255; return c <= 0.03928 ? c / 12.92 : ((c + 0.055) / 1.055) ** 2.4; };
+        const lum = s => { const [r, g, b] = s.match(/\\d+/g).map(Number).map(part); return 0.2126 * r + 0.7152 * g + 0.0722 * b; };
+        const back = lum(getComputedStyle(document.body).backgroundColor);
+        return ['body', '.soft', '.word-new', '.word-kept', '.word-gone'].map(s => { const l = lum(getComputedStyle(document.querySelector(s)).color);
+            return (Math.max(l, back) + 0.05) / (Math.min(l, back) + 0.05); })"""
+    ratios = b.js(contrast)
+    b.driver.execute_cdp_cmd(
+        "Emulation.setEmulatedMedia", {"features": [{"name": "prefers-color-scheme", "value": "dark"}]}
+    )
+    b.until("page.view.scene.background[0] < 0.3")
+    ratios += b.js(contrast)
+    night = b.picture().getpixel((2, 2))
+    b.driver.execute_cdp_cmd("Emulation.setEmulatedMedia", {"features": []})
+    b.until("page.view.scene.background[0] > 0.7")
+    same([sum(light) > 600, sum(night) < 200], [True, True])
+    same([r for r in ratios if r < 4.5], [])
+
+
+def policy(case: Case) -> None:
+    """Only this host is asked, and no script or style that stands in the page runs."""
+    b = case.browser
+    hosts = b.js("return [...new Set(performance.getEntriesByType('resource').map(e => new URL(e.name).host))]")
+    same(hosts, [case.address.split("/")[2]])
+    same(b.console(), [])
+    b.js(
+        """const s = document.createElement('script'); s.textContent = 'window.broken = 1'; document.body.append(s);
+        const d = document.createElement('div'); d.innerHTML = '<b style="color:red" onclick="window.broken=1">x</b>'; document.body.append(d);
+        d.firstChild.click(); window.red = getComputedStyle(d.firstChild).color; d.remove(); s.remove()"""
+    )
+    same(b.js("return [window.broken === undefined, window.red === 'rgb(255, 0, 0)']"), [True, False])
+    lines = b.console()
+    same([len(lines) > 0, [line for line in lines if "Content Security Policy" not in line]], [True, []])
+
+
+def newer(case: Case) -> None:
+    """A version that another made is offered, and opened at a press."""
+    b = case.browser
+    made = case.stage.put_rules([{"a": "*", "b": "*", "distance": 0, "models": "other"}])["version"]
+    b.until("!document.getElementById('newer').hidden", 15)
+    b.click("#newer")
+    b.until(f"page.state.version === {made} && page.state.loadingClashes === ''")
+
+
+def console(case: Case) -> None:
+    """All that was done since has left no line on the console."""
+    same(case.browser.console(), [])
+
+
+ROWS: Rows = [
+    ("English and German", languages),
+    ("no text is missing", used_texts),
+    ("keyboard", keyboard),
+    ("names for a screen reader", names),
+    ("light and dark", dark),
+    ("a strict content policy", policy),
+    ("a newer version is offered", newer),
+    ("no line on the console", console),
+]
