@@ -18,8 +18,8 @@ SHOWN = {
     "viewpoint": "Viewpoint",
     "element": "Element",
     "project": "Project",
+    "rule": "Rule",
 }
-SHOWN_SOMEWHERE = {"rule": "Rule"}
 
 
 def _only(what: str, here: Iterable[Any], there: Iterable[Any]) -> Iterator[str]:
@@ -134,10 +134,6 @@ class Agreement:
         for kind, name in SHOWN.items():
             there = self._properties(self.schemas[name])
             yield from _only(f"{name}: the member", self.api.shown.get(kind, set()), there)
-        for kind, name in SHOWN_SOMEWHERE.items():
-            if kind in self.api.shown:
-                there = self._properties(self.schemas[name])
-                yield from _only(f"{name}: the member", self.api.shown[kind], there)
 
     def _nested(self, schema: Node) -> dict[str, Node]:
         """The members of a body and of the objects in it, but not those of a component."""

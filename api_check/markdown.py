@@ -27,6 +27,18 @@ def _cells(line: str) -> list[str]:
     return [it.strip() for it in line.strip().strip("|").split("|")]
 
 
+def _unwrapped(text: str) -> str:
+    """The text with each paragraph and each item of a list on a line of its own."""
+    lines: list[str] = []
+    for line in text.splitlines():
+        begins = not line.strip() or re.match(r"\s*- ", line) or line.startswith("    ")
+        if begins or not lines or not lines[-1].strip():
+            lines.append(line)
+        else:
+            lines[-1] += " " + line.strip()
+    return "\n".join(lines)
+
+
 def read_sections(text: str) -> list[Section]:
     """The sections of a file, in their order. The text of a section leaves its tables out."""
     sections = [Section("")]
@@ -44,6 +56,8 @@ def read_sections(text: str) -> list[Section]:
             here.tables.append(table)
         elif not re.fullmatch(r"[|\s:-]+", line):
             table.rows.append(_cells(line))
+    for section in sections:
+        section.text = _unwrapped(section.text)
     return sections
 
 

@@ -140,7 +140,11 @@ def in_api_md() -> list[tuple[str, str, str]]:
         ("a member more", "`labels` | at most", "`labels`, `tags` | at most"),
         ("a member less", "the members `place` and `total`", "the members `place`"),
         ("another bound", "texts of up to 64 bytes", "texts of up to 65 bytes"),
-        ("a field more", "`Allow` (405 alone)", "`Allow` (405 alone), `ETag`"),
+        (
+            "a field more",
+            "`X-Book-Turn`, `Connection: close`",
+            "`X-Book-Turn`, `ETag`, `Connection: close`",
+        ),
     ]
 
 
