@@ -17,8 +17,10 @@ from .drawn import check_drawn
 from .faults_of_bytes import check_bytes
 from .full_book import check_full
 from .full_lists import check_lists
+from .generated_client import check_generated
 from .judge import Judge
 from .places import API_MD, DOCUMENT
+from .planted import plant_live, plant_texts
 from .report import Report
 from .scene import NotReady, Scene
 from .server import Server
@@ -55,14 +57,17 @@ def _started(report: Report, judge: Judge, program: str, count: int, seed: int) 
         scene = Scene(Client(server.port))
         scene.prepare()
         began = time.monotonic()
+        report.doing("asking for each status")
         asked, faults = check_directed(judge, scene)
         report.add("each status by a request of its own", faults, _note(asked, began))
         began = time.monotonic()
+        report.doing("sending faults of bytes")
         asked, faults = check_bytes(judge, server.port)
         report.add("faults of bytes", faults, _note(asked, began))
         began = time.monotonic()
-        faults = check_drawn(judge, scene, count, seed)
-        report.add(f"drawn requests, seed {seed}", faults, _note(count, began))
+        report.doing(f"drawing {count} requests")
+        asked, faults = check_drawn(judge, scene, count, seed)
+        report.add(f"drawn requests, seed {seed}", faults, _note(asked, began))
         report.add("the server is still there", [] if server.runs() else ["it ended"])
 
 
@@ -75,9 +80,13 @@ def check_program(report: Report, document: Document, program: str, count: int, 
         lists = pool.submit(check_lists, lists_judge, program)
         report.add("202, by a replay", check_pending(judge, program))
         _started(report, judge, program, count, seed)
+        called, faults = check_generated(document, program)
+        report.add("a generated client", faults, f"{called} calls")
+        report.doing("failing allocations")
         memory = check_memory(judge, program)
         note = memory.reason or f"{memory.runs} runs"
         report.add("503, by allocations that fail", memory.faults, note)
+        report.doing("filling a journal and lists")
         filled = full.result()
         seconds = time.monotonic() - began
         note = filled.reason or f"{filled.count} requests, within {seconds:.1f} s"
@@ -99,6 +108,7 @@ def _words() -> argparse.Namespace:
     words.add_argument("program", metavar="PROGRAM", nargs="?", help="the built bim_server")
     words.add_argument("--seed", type=int, help="draw the same requests again")
     words.add_argument("--requests", type=int, default=REQUESTS, help="how many are drawn")
+    words.add_argument("--planted", action="store_true", help="plant faults too, and see them")
     words.add_argument("--style", action="store_true", help="run the linters too")
     words.add_argument("--document", type=Path, default=DOCUMENT)
     words.add_argument("--api", type=Path, default=API_MD)
@@ -108,22 +118,23 @@ def _words() -> argparse.Namespace:
 def main() -> int:
     """Runs all, and returns the exit status."""
     given = _words()
+    program = None if given.program is None else os.path.abspath(given.program)
+    if program is not None and not os.access(program, os.X_OK):
+        print(f"api_check: {program} is no program: build bim_server first", file=sys.stderr)
+        return 2
     seed = random.SystemRandom().randrange(10**6) if given.seed is None else given.seed
     report = Report()
     if given.style:
         check_style(report)
     document = Document.read(given.document)
     sound = check_document(report, document, given.api.read_text(encoding="utf-8"))
-    if sound and given.program is not None:
-        program = os.path.abspath(given.program)
-        if not os.access(program, os.X_OK):
-            print(
-                f"api_check: {given.program} is no program: build bim_server first", file=sys.stderr
-            )
-            return 2
+    if sound and program is not None:
         print(f"seed {seed}")
         try:
             check_program(report, document, program, given.requests, seed)
+            if given.planted:
+                plant_texts(report, document)
+                plant_live(report, document, program)
         except (NotReady, CutOff, OSError) as why:
             report.add("the program answers", [str(why)])
     return report.end()

@@ -1,4 +1,4 @@
-"""Do docs/API.md and docs/openapi.yaml say the same? What stands in one alone is named."""
+"""Do docs/API.md and docs/openapi.yaml say the same? What only one of them has is named."""
 
 from __future__ import annotations
 
@@ -18,17 +18,17 @@ SHOWN = {
     "viewpoint": "Viewpoint",
     "element": "Element",
     "project": "Project",
+    "rule": "Rule",
 }
-SHOWN_SOMEWHERE = {"rule": "Rule"}
 
 
 def _only(what: str, here: Iterable[Any], there: Iterable[Any]) -> Iterator[str]:
     """What one of the two has and the other hasn't."""
     one, other = set(here), set(there)
     for it in sorted(one - other, key=str):
-        yield f"{what} {it} stands in {API} alone"
+        yield f"{what} {it} is only in {API}"
     for it in sorted(other - one, key=str):
-        yield f"{what} {it} stands in {DOC} alone"
+        yield f"{what} {it} is only in {DOC}"
 
 
 class Agreement:
@@ -59,7 +59,7 @@ class Agreement:
         described = {(it.method, self._path(it)) for it in self.document.operations}
         yield from _only("the route", self.api.routes, described)
         for route in sorted(self.api.headings - described):
-            yield f"the heading {route} stands in {API} alone"
+            yield f"the heading {route} is only in {API}"
 
     def statuses(self) -> Iterator[str]:
         """The statuses of requests that are taken, as far as the tables give them."""
@@ -134,10 +134,6 @@ class Agreement:
         for kind, name in SHOWN.items():
             there = self._properties(self.schemas[name])
             yield from _only(f"{name}: the member", self.api.shown.get(kind, set()), there)
-        for kind, name in SHOWN_SOMEWHERE.items():
-            if kind in self.api.shown:
-                there = self._properties(self.schemas[name])
-                yield from _only(f"{name}: the member", self.api.shown[kind], there)
 
     def _nested(self, schema: Node) -> dict[str, Node]:
         """The members of a body and of the objects in it, but not those of a component."""
@@ -174,7 +170,7 @@ class Agreement:
             if deep.get("x-max-bytes") != most:
                 yield f"{where}: {most} bytes in {API}, {deep.get('x-max-bytes')} in {DOC}"
         if "x-max-bytes" in deep and "bytes" not in text:
-            yield f"{where}: a bound of bytes stands in {DOC} alone"
+            yield f"{where}: a bound of bytes is only in {DOC}"
         words = {it for it in schema.get("enum", []) if it is not None}
         if words:
             yield from _only(f"{where}: the word", set(re.findall(r"`([a-z]+)`", text)), words)
@@ -217,6 +213,6 @@ class Agreement:
 
 
 def check_agreement(document: Document, api_text: str) -> list[str]:
-    """All that stands in one of the two alone."""
+    """All that only one of the two has."""
     parts = Agreement(read_api(api_text), document).parts()
     return [fault for _, faults in parts for fault in faults]

@@ -14,7 +14,7 @@ CODE = re.compile(r"(?:(\d{3}) )?`([HUCBKM]\d{1,2}) (\w+)`")
 
 @dataclass(frozen=True)
 class Code:
-    """A code with its name, the status that it comes with, and the members that stand beside it."""
+    """A code with its name, the status that it comes with, and the members that come with it."""
 
     name: str
     status: int
@@ -136,8 +136,8 @@ def _shown_members(api: ApiText, text: str) -> None:
             api.shown[kind] = {it for it in names if re.fullmatch(r"\w+", it)}
     if element := re.search(r"An element has (.*?)\.(?: |$)", text):
         api.shown["element"] = set(quoted(element[1]))
-    if rule := re.search(r"A rule has (.*?)\.(?: |$)", text):
-        api.shown["rule"] = set(quoted(rule[1]))
+    for rule in re.findall(r"A (?:clash )?rule has ([^.]*)\.", text):
+        api.shown.setdefault("rule", set()).update(quoted(rule))
     if project := re.search(r"an object with (`name` and `project_id`)", text):
         api.shown["project"] = set(quoted(project[1]))
 
@@ -146,7 +146,7 @@ def _one_table(section: Section, table: Table, api: ApiText) -> None:
     head = table.head
     if head[0] == "Request":
         api.routes |= _routes_in_front(table)
-    elif head[0].startswith("Path behind"):
+    elif re.match(r"Path \w+ `", head[0]):
         _topic_routes(table, api)
     elif head[0] == "Answer":
         _answers(section, table, api)
@@ -180,6 +180,6 @@ def read_api(text: str) -> ApiText:
             names = {it.partition("=")[0] for it in quoted(sentence) if "=" in it}
             api.query_of_section.setdefault(section.title, set()).update(names)
         _shown_members(api, section.text)
-        if line := re.search(r"lines of a head stand in this order: (.*?)\. A body", section.text):
+        if line := re.search(r"lines of a head \w+ in this order: (.*?)\. A body", section.text):
             api.headers = {it.partition(":")[0] for it in quoted(line[1])}
     return api

@@ -56,7 +56,7 @@ def _requests(data: bytes) -> Iterator[CaseRequest]:
 
 
 def read_responses(data: bytes) -> Iterator[CaseResponse]:
-    """The responses that stand one behind the other."""
+    """All responses, one after another."""
     stream = _Kept(data)
     while stream.tell() < len(data):
         response = http.client.HTTPResponse(stream)  # type: ignore[arg-type]

@@ -50,7 +50,7 @@ class Operation:
         return method == self.method and re.fullmatch(pattern, path) is not None
 
     def of(self, place: str) -> list[Node]:
-        """The parameters that stand in the path, the query or a header."""
+        """The parameters in the path, the query or a header."""
         return [it for it in self.parameters if it["in"] == place]
 
 

@@ -46,16 +46,16 @@ class Drawing:
 
     def __init__(self, document: Document) -> None:
         self._document = document
-        self._made: dict[int, Values] = {}
+        self._made: dict[int, tuple[Node, Values]] = {}
 
     def fits(self, schema: Node) -> Values:
         """Values that the schema takes, in most cases: what a word of it forbids is judged later."""
         node = self._document.at(schema)
         found = self._made.get(id(node))
         if found is None:
-            found = self._make(node)
+            found = (node, self._make(node))
             self._made[id(node)] = found
-        return found
+        return found[1]
 
     def _make(self, node: Node) -> Values:
         if "enum" in node:
@@ -64,7 +64,8 @@ class Drawing:
             return st.one_of([self.fits(it) for it in node["oneOf"]])
         kinds = node.get("type", "object")
         if isinstance(kinds, list):
-            return st.one_of([self._of_kind(node, it) for it in kinds])
+            often = [it for it in kinds if it != "null"] * 3 + ["null"]
+            return st.one_of([self._of_kind(node, it) for it in often])
         return self._of_kind(node, kinds)
 
     def _of_kind(self, node: Node, kind: str) -> Values:
@@ -87,8 +88,18 @@ class Drawing:
         return WORDS if least else TEXTS
 
     def _object(self, node: Node) -> Values:
-        members = {name: self.fits(it) for name, it in node.get("properties", {}).items()}
-        required = {name: it for name, it in members.items() if name in node.get("required", [])}
+        """Objects of one of the branches that the schema has, if it has some."""
+        branches = node.get("anyOf", [{}])
+        return st.one_of([self._members(node, it) for it in branches])
+
+    def _members(self, node: Node, branch: Node) -> Values:
+        names = {*node.get("required", []), *branch.get("required", [])}
+        narrower = branch.get("properties", {})
+        members = {
+            name: self.fits({**it, **narrower[name]} if name in narrower else it)
+            for name, it in node.get("properties", {}).items()
+        }
+        required = {name: it for name, it in members.items() if name in names}
         rest = {name: it for name, it in members.items() if name not in required}
         return st.fixed_dictionaries(required, optional=rest)
 
@@ -107,7 +118,7 @@ class Drawing:
 
 
 def _places(value: Any) -> list[tuple[Any, Any]]:
-    """All members and items of a value, as what they stand in and their name there."""
+    """All members and items of a value, as the object or list that has them and their name in it."""
     found: list[tuple[Any, Any]] = []
     keys = (
         value if isinstance(value, dict) else range(len(value)) if isinstance(value, list) else []

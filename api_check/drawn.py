@@ -8,6 +8,7 @@ from collections.abc import Callable
 from typing import Any
 
 from hypothesis import HealthCheck, Phase, given, seed, settings
+from hypothesis import strategies as st
 from hypothesis.configuration import set_hypothesis_home_dir
 
 from .document import Node
@@ -20,6 +21,7 @@ from .scene import Scene, project
 from .wire import CutOff, Reply, Request
 
 RECENT = 60
+ROUNDS = 4
 Ids = dict[str, str]
 
 
@@ -201,10 +203,8 @@ class Drawn:
         self.faults.append(f"{request.method} {request.target} {shown!r}: {fault}")
 
 
-def check_drawn(judge: Judge, scene: Scene, count: int, number: int) -> list[str]:
-    """Draws and asks so many requests, by the seed."""
-    set_hypothesis_home_dir(str(KEPT / "hypothesis"))
-    drawn = Drawn(judge, scene)
+def _run(drawn: Drawn, plans: st.SearchStrategy[Plan], count: int, number: int) -> None:
+    """Asks so many plans."""
 
     @seed(number)
     @settings(
@@ -214,10 +214,20 @@ def check_drawn(judge: Judge, scene: Scene, count: int, number: int) -> list[str
         phases=[Phase.generate],
         suppress_health_check=list(HealthCheck),
     )
-    @given(Plans(judge.document).strategy())
+    @given(plans)
     def asks(plan: Plan) -> None:
         drawn.ask(plan)
 
     run: Callable[[], Any] = asks
     run()
-    return drawn.faults
+
+
+def check_drawn(judge: Judge, scene: Scene, count: int, number: int) -> tuple[int, list[str]]:
+    """Draws and asks about so many requests, by the seed: some of each operation, in rounds."""
+    set_hypothesis_home_dir(str(KEPT / "hypothesis"))  # type: ignore[no-untyped-call]
+    drawn, plans = Drawn(judge, scene), Plans(judge.document)
+    for turn in range(ROUNDS):
+        shares = plans.shares(count // ROUNDS)
+        for place, (name, share) in enumerate(shares.items()):
+            _run(drawn, plans.of(name), share, (number * ROUNDS + turn) * len(shares) + place)
+    return drawn.count, drawn.faults

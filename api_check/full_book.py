@@ -17,6 +17,7 @@ MOST_ENTRIES = 4_000_000
 SIDE = 100
 TRIAL_SIDE = 30
 MOST_SECONDS = 45
+FEW_ENTRIES = 100
 LAST_ENTRIES = 200
 COORD = f"/coord/1/projects/{project(2)}"
 
@@ -74,7 +75,8 @@ class Filling:
             rules = {"rules": [{"a": "*", "b": "*", "distance": distance}]}
             body = json.dumps(rules).encode()
             self._version("putRules", Request("PUT", f"{COORD}/rules", body))
-        self._model(largest(MOST_ENTRIES - self.used - 1))
+        while MOST_ENTRIES - self.used > FEW_ENTRIES:
+            self._model(largest(MOST_ENTRIES - self.used - 1))
         topic = Request("POST", f"/bcf/3.0/projects/{project(2)}/topics", b'{"title":"x"}')
         for _ in range(LAST_ENTRIES):
             if self._ask("createTopic", topic).status == 507:

@@ -15,13 +15,13 @@ ORDER = ["Content-Type", "Allow", "X-Book-Turn", "Connection", "Content-Length"]
 
 
 class Twice(ValueError):
-    """A member stands twice in an object."""
+    """An object has a member twice."""
 
 
 def _once(pairs: list[tuple[str, Any]]) -> dict[str, Any]:
     found = dict(pairs)
     if len(found) != len(pairs):
-        raise Twice("a member stands twice")
+        raise Twice("a member is there twice")
     return found
 
 
@@ -72,7 +72,7 @@ class Judge:
         return [f"{name} is {value!r}: {why}"] if why else []
 
     def _turn_fault(self, described: Response, reply: Reply, tree: Any) -> list[str]:
-        """An error's schema says whether a turn stands beside it."""
+        """An error's schema says whether a turn comes with it."""
         code = tree.get("code") if isinstance(tree, dict) else None
         schema = self.document.errors.get(code) if isinstance(code, str) else None
         if schema is None or reply.status < 400:
@@ -80,7 +80,7 @@ class Judge:
         self.codes[str(code)] += 1
         there = reply.field("X-Book-Turn") is not None
         if there != schema["x-book-turn"]:
-            return [f"X-Book-Turn {'stands' if there else 'is missing'} beside {code}"]
+            return [f"X-Book-Turn {'comes' if there else 'is missing'} with {code}"]
         return []
 
     def _body_faults(self, described: Response, reply: Reply) -> list[str]:

@@ -16,7 +16,7 @@ class Table:
 
 @dataclass
 class Section:
-    """What stands below a heading."""
+    """The text and the tables below a heading."""
 
     title: str
     text: str = ""
@@ -27,8 +27,20 @@ def _cells(line: str) -> list[str]:
     return [it.strip() for it in line.strip().strip("|").split("|")]
 
 
+def _unwrapped(text: str) -> str:
+    """The text with each paragraph and each item of a list on a line of its own."""
+    lines: list[str] = []
+    for line in text.splitlines():
+        begins = not line.strip() or re.match(r"\s*- ", line) or line.startswith("    ")
+        if begins or not lines or not lines[-1].strip():
+            lines.append(line)
+        else:
+            lines[-1] += " " + line.strip()
+    return "\n".join(lines)
+
+
 def read_sections(text: str) -> list[Section]:
-    """The sections of a file, in their order. What stands in a table isn't part of the text."""
+    """The sections of a file, in their order. The text of a section leaves its tables out."""
     sections = [Section("")]
     table: Table | None = None
     for line in text.splitlines():
@@ -44,9 +56,11 @@ def read_sections(text: str) -> list[Section]:
             here.tables.append(table)
         elif not re.fullmatch(r"[|\s:-]+", line):
             table.rows.append(_cells(line))
+    for section in sections:
+        section.text = _unwrapped(section.text)
     return sections
 
 
 def quoted(text: str) -> list[str]:
-    """What stands between backticks."""
+    """The parts in backticks."""
     return re.findall(r"`([^`]+)`", text)

@@ -84,17 +84,20 @@ ANY_FAULT = st.sampled_from(FAULTS)
 
 
 class Plans:
-    """The strategy of plans."""
+    """The strategies of plans."""
 
     def __init__(self, document: Document) -> None:
         drawing = Drawing(document)
-        parts = [_Parts(drawing, it) for it in document.operations]
-        self._parts = [it for it in parts for _ in range(self._weight(it.operation))]
-        self._which = st.integers(0, len(self._parts) - 1)
+        self._parts = {it.name: _Parts(drawing, it) for it in document.operations}
 
-    @staticmethod
-    def _weight(operation: Operation) -> int:
-        return 3 if operation.body else 2 if operation.of("query") else 1
+    def shares(self, count: int) -> dict[str, int]:
+        """How many of so many plans are for each operation. What has a body gets more."""
+        weights = {
+            name: 3 if it.operation.body else 2 if it.query else 1
+            for name, it in self._parts.items()
+        }
+        total = sum(weights.values())
+        return {name: max(1, count * weight // total) for name, weight in weights.items()}
 
     @staticmethod
     def _query(draw: Callable[[Values], Any], parts: _Parts) -> list[tuple[str, str]]:
@@ -110,9 +113,8 @@ class Plans:
             return draw(WRONG_DATA) if draw(_seldom(20)) else None
         return None if parts.operation.body else draw(OTHER_DATA)
 
-    def draw(self, draw: Callable[[Values], Any]) -> Plan:
-        """Draws one plan."""
-        parts = self._parts[draw(self._which)]
+    def _draw(self, draw: Callable[[Values], Any], name: str) -> Plan:
+        parts = self._parts[name]
         return Plan(
             operation=parts.operation,
             which=draw(NUMBERS),
@@ -127,6 +129,6 @@ class Plans:
             fault=draw(ANY_FAULT) if draw(_seldom(30)) else None,
         )
 
-    def strategy(self) -> st.SearchStrategy[Plan]:
-        """Plans, as hypothesis draws them."""
-        return st.composite(self.draw)()
+    def of(self, name: str) -> st.SearchStrategy[Plan]:
+        """Plans for an operation, as hypothesis draws them."""
+        return st.composite(self._draw)(name)

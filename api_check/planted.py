@@ -25,7 +25,7 @@ from .scene import NotReady, Scene
 from .server import Server
 from .wire import Client, CutOff, Reply
 
-DRAWN = 250
+DRAWN = 400
 SEED = 7
 SOME = ("getProject", "createTopic", "getVersion", "listClashes")
 Tree = dict[str, Any]
@@ -59,8 +59,8 @@ def _topic_example(tree: Tree) -> Tree:
     return found
 
 
-def in_the_document() -> list[Plant]:
-    """Faults of the document that need no server to be seen."""
+def _in_the_form() -> list[Plant]:
+    """Faults of the document alone."""
     return [
         Plant("a word that OpenAPI hasn't", lambda t: t["info"].update(titel="x"), "standard"),
         Plant(
@@ -84,6 +84,12 @@ def in_the_document() -> list[Plant]:
             lambda t: _topic_example(t).update({"x-request": 2}),
             "examples",
         ),
+    ]
+
+
+def _beside_api_md() -> list[Plant]:
+    """Faults of the document by which it differs from docs/API.md."""
+    return [
         Plant("a route less", lambda t: t["paths"].pop(CLASHES), "agreement"),
         Plant("a method less", lambda t: t["paths"][TOPICS].pop("post"), "agreement"),
         Plant("a code less", lambda t: _schemas(t)["ErrorCode"]["enum"].remove("K9"), "agreement"),
@@ -118,6 +124,11 @@ def in_the_document() -> list[Plant]:
     ]
 
 
+def in_the_document() -> list[Plant]:
+    """Faults of the document that need no server to be seen."""
+    return _in_the_form() + _beside_api_md()
+
+
 def in_api_md() -> list[tuple[str, str, str]]:
     """Faults of docs/API.md: a name, what is taken out or replaced, and by what."""
     return [
@@ -129,7 +140,11 @@ def in_api_md() -> list[tuple[str, str, str]]:
         ("a member more", "`labels` | at most", "`labels`, `tags` | at most"),
         ("a member less", "the members `place` and `total`", "the members `place`"),
         ("another bound", "texts of up to 64 bytes", "texts of up to 65 bytes"),
-        ("a field more", "`Allow` (405 alone)", "`Allow` (405 alone), `ETag`"),
+        (
+            "a field more",
+            "`X-Book-Turn`, `Connection: close`",
+            "`X-Book-Turn`, `ETag`, `Connection: close`",
+        ),
     ]
 
 
@@ -155,6 +170,7 @@ def _planted(document: Document, change: Change) -> Document:
 def plant_texts(report: Report, document: Document) -> None:
     """Plants the faults that need no server."""
     text = API_MD.read_text(encoding="utf-8")
+    report.doing("planting faults")
     for plant in in_the_document():
         found = _faults_of(_planted(document, plant.change), text, plant.check)
         _seen(report, f"document: {plant.name}", found)
@@ -213,10 +229,8 @@ def of_drawn_documents() -> list[tuple[str, Change]]:
     def title_not_needed(tree: Tree) -> None:
         _schemas(tree)["TopicBody"].pop("required")
 
-    def null_not_taken(tree: Tree) -> None:
-        for member in _schemas(tree)["TopicBody"]["properties"].values():
-            if isinstance(member["type"], list):
-                member["type"] = member["type"][0]
+    def null_as_title(tree: Tree) -> None:
+        _schemas(tree)["TopicBody"]["properties"]["title"]["type"] = ["string", "null"]
 
     def any_word(tree: Tree) -> None:
         for name in ("kind", "storey", "models"):
@@ -227,7 +241,7 @@ def of_drawn_documents() -> list[tuple[str, Change]]:
 
     return [
         ("a title that needn't be there", title_not_needed),
-        ("null that isn't taken", null_not_taken),
+        ("a title that may be null", null_as_title),
         ("any word in a rule", any_word),
         ("another bound of a query", count_more),
     ]
@@ -327,7 +341,7 @@ def plant_live(report: Report, document: Document, program: str) -> None:
                 found = _asked(Judge(document), document, scene, proxy.port)
             _seen(report, f"responses: {name}", found)
         for name, change in of_drawn_documents():
-            found = check_drawn(Judge(_planted(document, change)), scene, DRAWN, SEED)
+            _, found = check_drawn(Judge(_planted(document, change)), scene, DRAWN, SEED)
             _seen(report, f"document, seen by drawn requests: {name}", found)
 
 

@@ -1,5 +1,6 @@
 """What passed and what failed, and the last line that says how many."""
 
+import sys
 from collections.abc import Sequence
 
 SHOWN = 12
@@ -11,6 +12,11 @@ class Report:
     def __init__(self) -> None:
         self.passed = 0
         self.failed = 0
+
+    def doing(self, what: str) -> None:
+        """Says on a terminal what goes on, until the next line is printed."""
+        if sys.stderr.isatty():
+            print(f"{what} ..{' ' * 60}", end="\r", file=sys.stderr, flush=True)
 
     def add(self, name: str, faults: Sequence[str], note: str = "") -> None:
         """Prints one check. It passes where there are no faults."""

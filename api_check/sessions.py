@@ -82,7 +82,7 @@ def check_pending(judge: Judge, program: str) -> list[str]:
 
 
 class Failing:
-    """Runs the program with one allocation after another failing, by the library of bench/failing.c."""
+    """Runs the program with one allocation after another failing, by the library of tests/failing/failing.c."""
 
     def __init__(self, program: str, folder: str, session: Session) -> None:
         self.program = program

@@ -16,40 +16,20 @@ from typing import Any
 from jsonschema import Draft4Validator, Draft202012Validator
 from jsonschema.exceptions import SchemaError
 
+from .as_30 import as_30
 from .document import METHODS, Document
 from .places import STANDARD
 
 
-def _as_30(node: Any) -> Any:
-    """The same with the words of 3.0: `nullable` for the type null, and `enum` for `const`."""
-    if isinstance(node, list):
-        return [_as_30(it) for it in node]
-    if not isinstance(node, dict):
-        return node
-    node = {key: _as_30(value) for key, value in node.items()}
-    kinds = node.get("type")
-    if isinstance(kinds, list):
-        rest = [it for it in kinds if it != "null"]
-        node["type"] = rest[0]
-        node["nullable"] = True
-    elif kinds == "null":
-        del node["type"]
-        node.update(nullable=True, enum=[None])
-    if "const" in node:
-        node["enum"] = [node.pop("const")]
-    return node
-
-
 def by_the_standard(document: Document) -> list[str]:
     """The faults by the official schema."""
-    tree = _as_30(document.tree)
     faults = []
-    if not re.fullmatch(r"3\.1\.\d+", str(tree["openapi"])):
-        faults.append(f"openapi: {tree['openapi']} isn't 3.1")
-    tree["openapi"] = "3.0.3"
+    version = str(document.tree.get("openapi"))
+    if not re.fullmatch(r"3\.1\.\d+", version):
+        faults.append(f"openapi: {version} isn't 3.1")
     with STANDARD.open(encoding="utf-8") as file:
         official = json.load(file)
-    for error in Draft4Validator(official).iter_errors(tree):
+    for error in Draft4Validator(official).iter_errors(as_30(document)):
         deepest = max(error.context or [error], key=lambda it: len(it.absolute_path))
         where = "/".join(map(str, deepest.absolute_path))
         faults.append(f"{where}: {deepest.message[:160]}")
@@ -144,7 +124,9 @@ def by_operations(document: Document) -> list[str]:
             node = item[method]
             name = node.get("operationId", "")
             if not re.fullmatch("[a-z][A-Za-z]+", name) or name in names:
-                faults.append(f"{method} {path}: operationId {name!r} is no name or stands twice")
+                faults.append(
+                    f"{method} {path}: operationId {name!r} isn't a name, or isn't the only one"
+                )
             names.add(name)
             if not node.get("tags") or set(node["tags"]) - tags or not node.get("summary"):
                 faults.append(f"{name}: a tag that isn't described, or no summary")

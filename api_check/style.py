@@ -26,6 +26,7 @@ def _commands() -> dict[str, list[str]]:
 def check_style(report: Report) -> None:
     """Runs each, and adds what it says where it isn't content."""
     for name, words in _commands().items():
+        report.doing(f"running {name}")
         run = subprocess.run(words, cwd=ROOT, capture_output=True, text=True, check=False)
         said = (run.stdout + run.stderr).splitlines()
         faults = said or [f"status {run.returncode}"]
