@@ -107,14 +107,17 @@ def show(
         pace = measure(address, target, connections, seconds)
         print(
             f"lanes {lanes:2} maxconn {most:2}  {kind:22} {way:10} {connections:3} connections:"
-            f" {pace.rate:8.0f} requests/s, median {pace.median:7.2f} ms, 99% {pace.tail:7.2f} ms, failed {pace.failed}",
+            f" {pace.rate:8.0f} requests/s, median {pace.median:7.2f} ms,"
+            f" 99% {pace.tail:7.2f} ms, failed {pace.failed}",
             flush=True,
         )
 
 
 def main() -> None:
     """Reads the words and runs all."""
-    words = argparse.ArgumentParser(description=__doc__, formatter_class=argparse.RawDescriptionHelpFormatter)
+    words = argparse.ArgumentParser(
+        description=__doc__, formatter_class=argparse.RawDescriptionHelpFormatter
+    )
     words.add_argument("program")
     words.add_argument("--seconds", type=float, default=4)
     words.add_argument("--elements", type=int, default=2000)

@@ -129,7 +129,9 @@ def errors_of_the_server(front: Front) -> None:
     """The server's own errors come through as they are."""
     is_answer(ask(front, "GET", f"{BCF}/none"), 404, "H7")
     is_answer(ask(front, "POST", f"{BCF}/topics", {}), 422, "B3")
-    is_answer(ask(front, "POST", f"{BCF}/topics", {"title": "a"}, Content_Encoding="gzip"), 415, "H12")
+    is_answer(
+        ask(front, "POST", f"{BCF}/topics", {"title": "a"}, Content_Encoding="gzip"), 415, "H12"
+    )
     is_answer(ask(front, "PATCH", f"{BCF}/topics"), 405, "H8")
 
 
