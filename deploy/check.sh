@@ -134,8 +134,8 @@ check_front() {
 
 # ---- package
 check_package() {
-    need debhelper fakeroot dpkg-dev lintian
-    need nginx-light haproxy
+    need debhelper fakeroot dpkg-dev lintian nginx-light haproxy openssl
+    export DPKG_DEB_COMPRESSOR_LEVEL=1
     # shellcheck source=checks/package.sh
     . "$DEPLOY/checks/package.sh"
     row "the package is built" built 0.1

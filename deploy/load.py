@@ -59,7 +59,9 @@ def measure(address: str, target: str, connections: int, seconds: float) -> Pace
         words += ["-H", each]
     done = subprocess.run([*words, address + target], capture_output=True, text=True, check=True)
     text = done.stdout
-    seen = dict(re.findall(r"^\s+(50|99)%\s+(\S+)$", text, re.M))
+    seen = dict(re.findall(r"^\s+(50|99)%\s+([0-9.]+(?:us|ms|s|m))\s*$", text, re.M))
+    if len(seen) != 2:
+        sys.exit(f"load.py: wrk says no times: {text}")
     rate = float(re.search(r"Requests/sec:\s+([0-9.]+)", text).group(1))  # type: ignore[union-attr]
     failed = sum(int(each) for each in re.findall(r"Non-2xx or 3xx responses: (\d+)", text))
     failed += sum(int(each) for each in re.findall(r"timeout (\d+)", text))
@@ -84,7 +86,7 @@ def lines_of(program: str, lanes: int, seconds: float, elements: int) -> None:
         "haproxy/queue.cfg": [("gt 2000", "gt 1000000000"), ("maxconn 8 ", f"maxconn {most} ")],
     }
     edits["haproxy/queue.cfg"].append(("pool-max-conn 8", f"pool-max-conn {most}"))
-    with tempfile.TemporaryDirectory(prefix="yulfrets-load-") as folder:
+    with tempfile.TemporaryDirectory(prefix="yulfrets-load-", dir="/tmp") as folder:
         Path(folder).chmod(0o755)
         with Front(program, Path(folder), edits=edits, lanes=lanes, workers=2) as front:
             size = fill(front, elements)

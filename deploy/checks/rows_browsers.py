@@ -21,9 +21,14 @@ def own_origin(front: Front) -> str:
     return f"https://{HOST}:{front.ports['tls']}"
 
 
+KINDS = {".html": "text/html", ".js": "javascript", ".css": "text/css", ".svg": "image/svg+xml"}
+
+
 def page(front: Front) -> None:
-    kinds = {"/": "text/html", "/app.js": "javascript", "/app.css": "text/css"}
-    for target, kind in kinds.items():
+    """Every file of the viewer, with its type and the policy; nothing else, and no POST."""
+    folder = front.folder / "viewer"
+    kinds = {f"/{path.name}": KINDS.get(path.suffix, "") for path in folder.iterdir()}
+    for target, kind in {"/": "text/html", **kinds}.items():
         answer = ask(front, "GET", target, Host=f"{HOST}:{front.ports['tls']}")
         is_answer(answer, 200)
         must(kind in answer.field("Content-Type"), f"{target}: {answer.field('Content-Type')}")
