@@ -76,6 +76,7 @@ FRONT: dict[str, list[tuple[str, str, str]]] = {
     "what of a request reaches": [
         (PROXY, "proxy_pass_request_headers off", "proxy_pass_request_headers on")
     ],
+    "slow readers hold no lane": [(PROXY, "proxy_buffering on", "proxy_buffering off")],
     "a user's requests are bounded": [(QUEUE, "if is_fast", "if is_fast FALSE")],
     "an address's requests": [
         (PROXY, "limit_req zone=yulfrets_requests burst=1000 nodelay;", "# burst=1000")

@@ -73,7 +73,11 @@ GROUPS: dict[str, Group] = {
     "certificates": Group({"certificates alone": users.certificates_alone}, mode="certificates"),
     "subrequest": Group({"single sign-on by a subrequest": users.by_provider}, mode="subrequest"),
     "echo": Group(
-        {"what of a request reaches the server": browsers.what_reaches_the_server}, server=False
+        {
+            "what of a request reaches the server": browsers.what_reaches_the_server,
+            "slow readers hold no lane": browsers.slow_readers,
+        },
+        server=False,
     ),
     "rate of a user": Group(
         {"a user's requests are bounded": limits.rate_of_a_user},

@@ -6,6 +6,7 @@ import gzip
 import http.client
 import socket
 import ssl
+import time
 from http.server import BaseHTTPRequestHandler, ThreadingHTTPServer
 from threading import Thread
 
@@ -159,6 +160,46 @@ class Echo(BaseHTTPRequestHandler):
 
     def log_message(self, *_: object) -> None:  # pylint: disable=arguments-differ
         return
+
+
+class Large(Echo):
+    """In the server's place: answers with 24 MB, and counts the answers that were taken."""
+
+    taken: list[str] = []
+
+    def answer(self) -> None:
+        """The lane is free once the last byte was taken."""
+        self.send_response(200)
+        self.send_header("Content-Length", str(24 << 20))
+        self.end_headers()
+        try:
+            self.wfile.write(bytes(24 << 20))
+            self.taken.append(self.path)
+        except OSError:
+            self.close_connection = True
+
+    do_GET = answer
+
+
+def slow_readers(front: Front) -> None:
+    """Four clients that read nothing of a long reply: nginx takes it, and the lanes are free."""
+    Large.taken.clear()
+    large = ThreadingHTTPServer(("127.0.0.1", front.ports["server"]), Large)
+    Thread(target=large.serve_forever, daemon=True).start()
+    held = [Tls(front) for _ in range(4)]
+    try:
+        for connection in held:
+            connection.request("GET", BCF, headers=basic("eva"))
+        end = time.monotonic() + 20
+        while len(Large.taken) < len(held) and time.monotonic() < end:
+            time.sleep(0.1)
+        taken = len(Large.taken)
+    finally:
+        for connection in held:
+            connection.close()
+        large.shutdown()
+        large.server_close()
+    must(taken == len(held), f"of four long replies that nobody reads {taken} left the server")
 
 
 def what_reaches_the_server(front: Front) -> None:
