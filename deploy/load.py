@@ -4,8 +4,9 @@
     load.py PROGRAM [--seconds 4]
 
 By wrk (Debian's package): small replies (a project) and large ones (a version of 2,000 elements),
-for 8, 18 and 32 lanes. Straight there is one connection fewer than lanes; through the front 8, 32
-and 100. Bounds of requests are lifted. The load of the machine stands in the first line.
+for 8, 18 and 32 lanes; and what nginx answers without the server. Straight there is one connection
+fewer than lanes; through the front 8, 32 and 100. Bounds of requests are lifted. The load of the
+machine stands in the first line.
 """
 
 from __future__ import annotations
@@ -33,6 +34,8 @@ LIFTED = {
     ],
 }
 SMALL, LARGE = BCF, f"{COORD}/versions/newest"
+# what nginx answers by itself once it knows the user: the front's own cost
+ALONE = "/bcf/3.0/current-user"
 
 
 @dataclass
@@ -92,6 +95,8 @@ def lines_of(program: str, lanes: int, seconds: float, elements: int) -> None:
             size = fill(front, elements)
             straight = f"http://127.0.0.1:{front.ports['server']}"
             behind = f"https://127.0.0.1:{front.ports['tls']}"
+            runs = [("nginx, TLS", behind, count) for count in (8, 32, 100)]
+            show(lanes, most, "without the server", ALONE, runs, seconds)
             for kind, target in (("small", SMALL), (f"large ({size} bytes)", LARGE)):
                 front.stop_part("queue")
                 runs = [("straight", straight, lanes - 1)]
