@@ -120,7 +120,7 @@ def certificate_beyond_ascii(front: Front) -> None:
 
 def certificate_of_a_stranger(front: Front) -> None:
     answer = ask(front, "GET", BCF, user="", certificate="stranger")
-    must(answer.status in (400, 401), f"another CA's certificate: {answer.said()}")
+    is_answer(answer, 401, "F3")
 
 
 def certificates_alone(front: Front) -> None:
