@@ -120,7 +120,7 @@ SHELL: list[tuple[str, str, str, str, str]] = [
     ),
     ("units", "yulfrets-passwords.service: exposure", PASSWORD_UNIT, "SystemCallFilter=", "#"),
     ("package", "the package is built", RULES, "dh $@", "dh $@ && false"),
-    ("package", "lintian is quiet", "debian/yulfrets.dirs", "", "usr/local/share/yulfrets\n"),
+    ("package", "lintian is quiet", "debian/control", "Section: science", "Section: nonsense"),
     (
         "package",
         "the package has its files",
