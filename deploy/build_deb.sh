@@ -82,7 +82,7 @@ lay_out_client() {
     mkdir -p "$FILES/usr/share/yulfrets/client" "$FILES/usr/bin"
     cp -r "$CLIENT/yulfrets" "$FILES/usr/share/yulfrets/client/"
     find "$FILES/usr/share/yulfrets/client" -name __pycache__ -prune -exec rm -rf {} +
-    printf '#!/usr/bin/python3\nimport sys\n\nsys.path.insert(0, "/usr/share/yulfrets/client")\n\nimport runpy  # noqa: E402\n\nrunpy.run_module("yulfrets", run_name="__main__", alter_sys=True)\n' >"$FILES/usr/bin/yulfrets"
+    printf '#!/usr/bin/python3\nimport sys\n\nsys.dont_write_bytecode = True\nsys.path.insert(0, "/usr/share/yulfrets/client")\n\nimport runpy  # noqa: E402\n\nrunpy.run_module("yulfrets", run_name="__main__", alter_sys=True)\n' >"$FILES/usr/bin/yulfrets"
     chmod 755 "$FILES/usr/bin/yulfrets"
     {
         echo 'client:Recommends=python3 (>= 3.11), python3-requests'

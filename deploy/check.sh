@@ -75,10 +75,11 @@ names_in_memory() {
 }
 
 check_lint() {
-    need shellcheck black mypy pyflakes3 mandoc
+    need shellcheck black isort flake8 mypy mandoc
     row "shell scripts: shellcheck" shellcheck -x -P "$DEPLOY" "$DEPLOY"/check.sh "$DEPLOY"/build_deb.sh "$DEPLOY"/checks/package.sh
-    row "Python: black" black --quiet --check --diff --line-length 110 "$DEPLOY/checks" "$DEPLOY/load.py"
-    row "Python: pyflakes" pyflakes3 "$DEPLOY/checks" "$DEPLOY/load.py"
+    row "Python: black" black --quiet --check --diff --line-length 100 "$DEPLOY/checks" "$DEPLOY/load.py"
+    row "Python: isort" isort --profile black --line-length 100 --check --diff "$DEPLOY/checks" "$DEPLOY/load.py"
+    row "Python: flake8" flake8 --isolated --max-line-length 100 --extend-ignore E203,W503 "$DEPLOY/checks" "$DEPLOY/load.py"
     row "Python: mypy" env MYPYPATH="$DEPLOY/checks" mypy --strict --cache-dir "$WORK/mypy" "$DEPLOY/checks" "$DEPLOY/load.py"
     row "the man page: mandoc" mandoc -T lint -W warning "$DEPLOY/debian/bim_server.1"
     row "static answers are JSON" json_files
@@ -128,13 +129,13 @@ check_front() {
         *) FAILED=$((FAILED + 1)) ;;
         esac
         echo "$line"
-    done < <(timeout 170 python3 "$DEPLOY/checks/check_front.py" "$PROGRAM" 2>"$WORK/front.log" </dev/null || echo "FAILED the front's rows ended: $(tail -n 3 "$WORK/front.log" | tr '\n' ' ')")
+    done < <(timeout 400 python3 "$DEPLOY/checks/check_front.py" "$PROGRAM" 2>"$WORK/front.log" </dev/null || echo "FAILED the front's rows ended: $(tail -n 3 "$WORK/front.log" | tr '\n' ' ')")
 }
 
 # ---- package
 check_package() {
-    need debhelper fakeroot dpkg-dev lintian
-    need nginx-light haproxy
+    need debhelper fakeroot dpkg-dev lintian nginx-light haproxy openssl
+    export DPKG_DEB_COMPRESSOR_LEVEL=1
     # shellcheck source=checks/package.sh
     . "$DEPLOY/checks/package.sh"
     row "the package is built" built 0.1

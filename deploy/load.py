@@ -4,8 +4,9 @@
     load.py PROGRAM [--seconds 4]
 
 By wrk (Debian's package): small replies (a project) and large ones (a version of 2,000 elements),
-for 8, 18 and 32 lanes. Straight there is one connection fewer than lanes; through the front 8, 32
-and 100. Bounds of requests are lifted. The load of the machine stands in the first line.
+for 8, 18 and 32 lanes; and what nginx answers without the server. Straight there is one connection
+fewer than lanes; through the front 8, 32 and 100. Bounds of requests are lifted. The load of the
+machine stands in the first line.
 """
 
 from __future__ import annotations
@@ -33,6 +34,8 @@ LIFTED = {
     ],
 }
 SMALL, LARGE = BCF, f"{COORD}/versions/newest"
+# what nginx answers by itself once it knows the user: the front's own cost
+ALONE = "/bcf/3.0/current-user"
 
 
 @dataclass
@@ -59,7 +62,9 @@ def measure(address: str, target: str, connections: int, seconds: float) -> Pace
         words += ["-H", each]
     done = subprocess.run([*words, address + target], capture_output=True, text=True, check=True)
     text = done.stdout
-    seen = dict(re.findall(r"^\s+(50|99)%\s+(\S+)$", text, re.M))
+    seen = dict(re.findall(r"^\s+(50|99)%\s+([0-9.]+(?:us|ms|s|m))\s*$", text, re.M))
+    if len(seen) != 2:
+        sys.exit(f"load.py: wrk says no times: {text}")
     rate = float(re.search(r"Requests/sec:\s+([0-9.]+)", text).group(1))  # type: ignore[union-attr]
     failed = sum(int(each) for each in re.findall(r"Non-2xx or 3xx responses: (\d+)", text))
     failed += sum(int(each) for each in re.findall(r"timeout (\d+)", text))
@@ -84,12 +89,14 @@ def lines_of(program: str, lanes: int, seconds: float, elements: int) -> None:
         "haproxy/queue.cfg": [("gt 2000", "gt 1000000000"), ("maxconn 8 ", f"maxconn {most} ")],
     }
     edits["haproxy/queue.cfg"].append(("pool-max-conn 8", f"pool-max-conn {most}"))
-    with tempfile.TemporaryDirectory(prefix="yulfrets-load-") as folder:
+    with tempfile.TemporaryDirectory(prefix="yulfrets-load-", dir="/tmp") as folder:
         Path(folder).chmod(0o755)
         with Front(program, Path(folder), edits=edits, lanes=lanes, workers=2) as front:
             size = fill(front, elements)
             straight = f"http://127.0.0.1:{front.ports['server']}"
             behind = f"https://127.0.0.1:{front.ports['tls']}"
+            runs = [("nginx, TLS", behind, count) for count in (8, 32, 100)]
+            show(lanes, most, "without the server", ALONE, runs, seconds)
             for kind, target in (("small", SMALL), (f"large ({size} bytes)", LARGE)):
                 front.stop_part("queue")
                 runs = [("straight", straight, lanes - 1)]
@@ -107,14 +114,17 @@ def show(
         pace = measure(address, target, connections, seconds)
         print(
             f"lanes {lanes:2} maxconn {most:2}  {kind:22} {way:10} {connections:3} connections:"
-            f" {pace.rate:8.0f} requests/s, median {pace.median:7.2f} ms, 99% {pace.tail:7.2f} ms, failed {pace.failed}",
+            f" {pace.rate:8.0f} requests/s, median {pace.median:7.2f} ms,"
+            f" 99% {pace.tail:7.2f} ms, failed {pace.failed}",
             flush=True,
         )
 
 
 def main() -> None:
     """Reads the words and runs all."""
-    words = argparse.ArgumentParser(description=__doc__, formatter_class=argparse.RawDescriptionHelpFormatter)
+    words = argparse.ArgumentParser(
+        description=__doc__, formatter_class=argparse.RawDescriptionHelpFormatter
+    )
     words.add_argument("program")
     words.add_argument("--seconds", type=float, default=4)
     words.add_argument("--elements", type=int, default=2000)

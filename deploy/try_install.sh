@@ -58,6 +58,8 @@ $C https://bim.test/health
 $C -u eva:secret $P/topics/00000001-0000-8000-8000-000000000001/files
 systemctl reload yulfrets-queue && systemctl reload yulfrets-passwords && echo reloaded
 $C -u eva:secret $P/extensions
+dpkg -i /root/yulfrets.deb
+$C -u eva:secret $P/topics | grep -q 'First topic' && echo kept at an upgrade
 systemctl stop yulfrets
 $C https://bim.test/health
 systemctl start yulfrets
@@ -94,5 +96,6 @@ timeout 300 systemd-nspawn --quiet --register=no --keep-unit --directory="$WORK/
 cat "$WORK/root/root/steps.log"
 grep -q '"creation_author":"eva".*\[201\]' "$WORK/root/root/steps.log" || { echo "no topic was made through TLS"; exit 1; }
 grep -q '^reloaded' "$WORK/root/root/steps.log" || { echo "the queue or the password service can't be reloaded"; exit 1; }
+grep -q '^kept at an upgrade' "$WORK/root/root/steps.log" || { echo "an upgrade lost the topic"; exit 1; }
 grep -q 'all steps were run' "$WORK/root/root/steps.log" || { echo "the steps ended early"; exit 1; }
 echo installed

@@ -69,7 +69,11 @@ class Tls(http.client.HTTPSConnection):
 
 
 def ask_on(
-    connection: http.client.HTTPConnection, method: str, target: str, body: Any = None, **fields: str
+    connection: http.client.HTTPConnection,
+    method: str,
+    target: str,
+    body: Any = None,
+    **fields: str,
 ) -> Answer:
     """A request over a connection. A body of bytes goes as it is, another as JSON."""
     data = body if body is None or isinstance(body, (bytes, list)) else json.dumps(body).encode()
@@ -79,7 +83,9 @@ def ask_on(
     return Answer(response.status, response.headers, response.read())
 
 
-def ask(front: Front, method: str, target: str, body: Any = None, user: str = "eva", **fields: str) -> Answer:
+def ask(
+    front: Front, method: str, target: str, body: Any = None, user: str = "eva", **fields: str
+) -> Answer:
     """A request over a connection of its own, by a user; nobody where the user is empty."""
     connection = Tls(front, fields.pop("certificate", ""), float(fields.pop("timeout", "60")))
     try:

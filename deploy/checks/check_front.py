@@ -11,7 +11,7 @@ from pathlib import Path
 
 import walk
 from front import Front, StartFault
-from rows import GROUPS, Edits, Group
+from rows import GROUPS, Edits, Group, Row
 
 
 def merged(first: Edits, second: Edits) -> Edits:
@@ -20,30 +20,45 @@ def merged(first: Edits, second: Edits) -> Edits:
     return {name: [*second.get(name, []), *first.get(name, [])] for name in names}
 
 
+def started(program: str, folder: Path, group: Group, edits: Edits) -> Front:
+    """A front that runs; on other ports where a port was taken meanwhile, three times."""
+    for attempt in range(3):
+        front = Front(program, folder, mode=group.mode, edits=edits)
+        try:
+            front.start(server=group.server)
+            return front
+        except StartFault:
+            front.stop()
+            if attempt == 2:
+                raise
+    raise AssertionError("not reached")
+
+
 def run_group(program: str, group: Group, planted: Edits, only: str = "") -> dict[str, str]:
     """Each row's fault, empty where it passed."""
     wanted = {name: row for name, row in group.rows.items() if only in name}
     found: dict[str, str] = {}
     if not wanted:
         return found
-    with tempfile.TemporaryDirectory(prefix="yulfrets-front-") as folder:
-        Path(folder).chmod(0o755)
-        edits = merged(group.edits, planted)
-        front = Front(program, Path(folder), mode=group.mode, edits=edits)
+    # /tmp: nginx's workers, which run as www-data, have to reach it
+    with tempfile.TemporaryDirectory(prefix="yulfrets-front-", dir="/tmp") as name:
+        folder = Path(name)
+        folder.chmod(0o755)
         try:
-            front.start(server=group.server)
+            front = started(program, folder, group, merged(group.edits, planted))
+        except StartFault as fault:
+            return {name: f"not started: {fault}" for name in wanted}
+        try:
             for name, row in wanted.items():
                 found[name] = fault_of(row, front)
-        except StartFault as fault:
-            found.update({name: f"not started: {fault}" for name in wanted if name not in found})
         finally:
             front.stop()
-            if any(found.values()):
-                print((Path(folder) / "error.log").read_text()[-3000:], file=sys.stderr)
+        if any(found.values()):
+            print((folder / "error.log").read_text()[-3000:], file=sys.stderr)
     return found
 
 
-def fault_of(row, front: Front) -> str:  # type: ignore[no-untyped-def]
+def fault_of(row: Row, front: Front) -> str:
     """What a row found wrong, in one line; empty where it passed."""
     try:
         row(front)
@@ -63,7 +78,7 @@ def main() -> int:
     words.add_argument("--table", action="store_true", help="print the walk instead")
     given = words.parse_args()
     if given.table:
-        with tempfile.TemporaryDirectory(prefix="yulfrets-front-") as folder:
+        with tempfile.TemporaryDirectory(prefix="yulfrets-front-", dir="/tmp") as folder:
             Path(folder).chmod(0o755)
             with Front(given.program, Path(folder)) as front:
                 print(walk.table(front))

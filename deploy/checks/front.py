@@ -102,6 +102,8 @@ class Front:
             "/etc/yulfrets": f"{self.folder}/etc",
             "/run/yulfrets-": f"{self.folder}/run-",
             "/var/log/nginx/yulfrets.log": f"{self.folder}/access.log",
+            # what a process may open is little on some machines
+            "    maxconn 4000": "    maxconn 400",
         }
         for old, new in places.items():
             text = text.replace(old, new)
@@ -122,11 +124,7 @@ class Front:
         """All files of the front, the viewer's stand-in, users."""
         for name in ("tmp", "etc", "run-passwords"):
             (self.folder / name).mkdir(parents=True, exist_ok=True)
-        if not (self.folder / "viewer").exists():
-            (self.folder / "viewer").mkdir()
-            (self.folder / "viewer/index.html").write_text(PAGE)
-            (self.folder / "viewer/app.js").write_text("export const one = 1;\n")
-            (self.folder / "viewer/app.css").write_text("body { margin: 0 }\n")
+        self.write_viewer()
         for path in sorted(DEPLOY.glob("nginx/**/*.conf")):
             name = str(path.relative_to(DEPLOY))
             to = self.folder / name
@@ -134,7 +132,7 @@ class Front:
             text = path.read_text()
             text = self.site(text) if path.name == "site.conf" else text
             to.write_text(self.replaced(name, text))
-        shutil.move(self.folder / "nginx/site.conf", self.folder / "site.conf")
+        shutil.copy(self.folder / "nginx/site.conf", self.folder / "site.conf")
         shutil.copy(self.folder / "nginx/who/subrequest.conf", self.folder / "etc")
         queue = (DEPLOY / "haproxy/queue.cfg").read_text()
         (self.folder / "queue.cfg").write_text(self.replaced("haproxy/queue.cfg", queue))
@@ -151,6 +149,16 @@ class Front:
         if os.getuid() == 0:
             for each in (self.folder, *self.folder.rglob("*")):
                 shutil.chown(each, "www-data", "www-data")
+
+    def write_viewer(self) -> None:
+        """The viewer's files where the checkout has them, and a stand-in of each kind."""
+        folder = self.folder / "viewer"
+        folder.mkdir(exist_ok=True)
+        (folder / "index.html").write_text(PAGE)
+        (folder / "app.js").write_text("export const one = 1;\n")
+        (folder / "app.css").write_text("body { margin: 0 }\n")
+        if (DEPLOY.parent / "viewer/www/index.html").exists():
+            shutil.copytree(DEPLOY.parent / "viewer/www", folder, dirs_exist_ok=True)
 
     def spawn(self, name: str, *words: str) -> None:
         """Starts a part; its output goes into a log of its own."""

@@ -97,6 +97,9 @@ upgrades() {
     dpkg-deb --ctrl-tarfile "$WORK/out/yulfrets_0.1_$ARCH.deb" | tar -xO ./prerm |
         awk '/deb-systemd-invoke stop/ { found = 1; if (last !~ /"\$1" = remove/) bad = 1 } { last = $0 } END { exit bad || !found }' ||
         { echo "prerm stops the server at an upgrade"; return 1; }
+    # what the new one's does after it: start, which leaves a running server as it is
+    grep -q "deb-systemd-invoke start 'yulfrets.service'" "$WORK/next/DEBIAN/postinst" ||
+        { echo "postinst doesn't start the server, or starts it again at an upgrade"; return 1; }
 }
 
 is_removed() {

@@ -35,7 +35,9 @@ FRONT: dict[str, list[tuple[str, str, str]]] = {
     "a forged X-User isn't taken": [(PROXY, "X-User $yulfrets_user", "X-User $http_x_user")],
     "who may read alone may not write": [(QUEUE, "if is_reader is_change", "if is_reader FALSE")],
     "current-user names the user": [(SERVER, '"id":"$yulfrets_user"', '"id":"eva"')],
-    "a password is hashed once a minute": [(BY_PASSWORD, "proxy_cache yulfrets_names;", "proxy_cache off;")],
+    "a password is hashed once a minute": [
+        (BY_PASSWORD, "proxy_cache yulfrets_names;", "proxy_cache off;")
+    ],
     "a client certificate names the user": [(HTTP, CERTIFICATE, '"passwords:SUCCESS" eva;')],
     "a certificate's name beyond ASCII": [(QUEUE, " or has_odd_user", "")],
     "a certificate of another CA": [
@@ -55,7 +57,9 @@ FRONT: dict[str, list[tuple[str, str, str]]] = {
     "a body of one byte more": [(SERVER, "client_max_body_size 32m", "client_max_body_size 33m")],
     "bodies in chunks": [(SERVER, "client_max_body_size 32m", "client_max_body_size 40m")],
     "a topic's body": [(SERVER, "client_max_body_size 4m", "client_max_body_size 5m")],
-    "heads: 8 KiB a line": [(SERVER, "large_client_header_buffers 2 8k", "large_client_header_buffers 2 4k")],
+    "heads: 8 KiB a line": [
+        (SERVER, "large_client_header_buffers 2 8k", "large_client_header_buffers 2 4k")
+    ],
     "twenty slow senders": [(PROXY, "proxy_request_buffering on", "proxy_request_buffering off")],
     "200 idle clients": [(SERVER, "keepalive_timeout 65s", "keepalive_timeout 0")],
     "forty clients at once": [(SITE, "server 127.0.0.1:8081", "server 127.0.0.1:8080")],
@@ -69,12 +73,17 @@ FRONT: dict[str, list[tuple[str, str, str]]] = {
     "pages of other origins": [(HTTP, '"~^.+\\|00$" 1;', "")],
     "certificates alone": [("nginx/who/certificates.conf", NO_CERTIFICATE, "")],
     "single sign-on": [(HTTP, "$upstream_http_x_auth_request_user", "$http_x_auth_request_user")],
-    "what of a request reaches": [(PROXY, "proxy_pass_request_headers off", "proxy_pass_request_headers on")],
+    "what of a request reaches": [
+        (PROXY, "proxy_pass_request_headers off", "proxy_pass_request_headers on")
+    ],
+    "slow readers hold no lane": [(PROXY, "proxy_buffering on", "proxy_buffering off")],
     "a user's requests are bounded": [(QUEUE, "if is_fast", "if is_fast FALSE")],
     "an address's requests": [
         (PROXY, "limit_req zone=yulfrets_requests burst=1000 nodelay;", "# burst=1000")
     ],
-    "wrong passwords are bounded": [(PASSWORDS, "limit_req zone=guesses burst=20 nodelay;", "# burst=20")],
+    "wrong passwords are bounded": [
+        (PASSWORDS, "limit_req zone=guesses burst=20 nodelay;", "# burst=20")
+    ],
     "a server that hangs": [(QUEUE, "maxconn 8 ", "maxconn 100 ")],
 }
 
@@ -85,20 +94,33 @@ LEFT = '#!/bin/sh\nset -e\n#DEBHELPER#\necho x >"$DPKG_ROOT/etc/left"\n'
 SHELL: list[tuple[str, str, str, str, str]] = [
     ("lint", "shell scripts: shellcheck", "build_deb.sh", "", "echo $OUT/*\n"),
     ("lint", "Python: black", "checks/walk.py", "", "x = {  1 }\n"),
-    ("lint", "Python: pyflakes", "checks/walk.py", "", "import os\n"),
+    ("lint", "Python: isort", "checks/walk.py", "import Callable", "import Set, Callable"),
+    ("lint", "Python: flake8", "checks/walk.py", "", "UNUSED = f'no place'\n"),
     ("lint", "Python: mypy", "checks/walk.py", "", "\n\ndef one():\n    return 1\n"),
     ("lint", "the man page: mandoc", "debian/bim_server.1", "", ".Nonsense\n"),
     ("lint", "static answers are JSON", "etc/extensions-2.1.json", "", "}"),
     ("lint", "lanes are twice maxconn", "debian/yulfrets.default", "LANES=18", "LANES=17"),
-    ("lint", "remembered passwords stay", HTTP, "proxy_cache_path /run/", "proxy_cache_path /var/cache/"),
+    (
+        "lint",
+        "remembered passwords stay",
+        HTTP,
+        "proxy_cache_path /run/",
+        "proxy_cache_path /var/cache/",
+    ),
     ("units", "yulfrets.service: verify", UNIT, "[Service]", "[Service]\nNonsense=yes"),
     ("units", "yulfrets.service: exposure", UNIT, "SystemCallFilter=", "#"),
     ("units", "yulfrets-queue.service: verify", QUEUE_UNIT, "[Service]", "[Service]\nNonsense=yes"),
     ("units", "yulfrets-queue.service: exposure", QUEUE_UNIT, "SystemCallFilter=", "#"),
-    ("units", "yulfrets-passwords.service: verify", PASSWORD_UNIT, "[Service]", "[Service]\nNonsense=yes"),
+    (
+        "units",
+        "yulfrets-passwords.service: verify",
+        PASSWORD_UNIT,
+        "[Service]",
+        "[Service]\nNonsense=yes",
+    ),
     ("units", "yulfrets-passwords.service: exposure", PASSWORD_UNIT, "SystemCallFilter=", "#"),
     ("package", "the package is built", RULES, "dh $@", "dh $@ && false"),
-    ("package", "lintian is quiet", "debian/yulfrets.dirs", "", "usr/local/share/yulfrets\n"),
+    ("package", "lintian is quiet", "debian/control", "Section: science", "Section: nonsense"),
     (
         "package",
         "the package has its files",

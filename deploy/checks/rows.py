@@ -72,7 +72,13 @@ GROUPS: dict[str, Group] = {
     ),
     "certificates": Group({"certificates alone": users.certificates_alone}, mode="certificates"),
     "subrequest": Group({"single sign-on by a subrequest": users.by_provider}, mode="subrequest"),
-    "echo": Group({"what of a request reaches the server": browsers.what_reaches_the_server}, server=False),
+    "echo": Group(
+        {
+            "what of a request reaches the server": browsers.what_reaches_the_server,
+            "slow readers hold no lane": browsers.slow_readers,
+        },
+        server=False,
+    ),
     "rate of a user": Group(
         {"a user's requests are bounded": limits.rate_of_a_user},
         edits={QUEUE: [("gt 2000", "gt 30")]},
@@ -91,7 +97,10 @@ GROUPS: dict[str, Group] = {
     "hang": Group(
         {"a server that hangs: 504 and 503": limits.server_hangs},
         edits={
-            QUEUE: [("timeout queue 10s", "timeout queue 1s"), ("timeout server 120s", "timeout server 2s")]
+            QUEUE: [
+                ("timeout queue 10s", "timeout queue 1s"),
+                ("timeout server 120s", "timeout server 2s"),
+            ]
         },
     ),
 }

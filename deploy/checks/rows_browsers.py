@@ -6,6 +6,7 @@ import gzip
 import http.client
 import socket
 import ssl
+import time
 from http.server import BaseHTTPRequestHandler, ThreadingHTTPServer
 from threading import Thread
 
@@ -21,9 +22,14 @@ def own_origin(front: Front) -> str:
     return f"https://{HOST}:{front.ports['tls']}"
 
 
+KINDS = {".html": "text/html", ".js": "javascript", ".css": "text/css", ".svg": "image/svg+xml"}
+
+
 def page(front: Front) -> None:
-    kinds = {"/": "text/html", "/app.js": "javascript", "/app.css": "text/css"}
-    for target, kind in kinds.items():
+    """Every file of the viewer, with its type and the policy; nothing else, and no POST."""
+    folder = front.folder / "viewer"
+    kinds = {f"/{path.name}": KINDS.get(path.suffix, "") for path in folder.iterdir()}
+    for target, kind in {"/": "text/html", **kinds}.items():
         answer = ask(front, "GET", target, Host=f"{HOST}:{front.ports['tls']}")
         is_answer(answer, 200)
         must(kind in answer.field("Content-Type"), f"{target}: {answer.field('Content-Type')}")
@@ -129,7 +135,9 @@ def errors_of_the_server(front: Front) -> None:
     """The server's own errors come through as they are."""
     is_answer(ask(front, "GET", f"{BCF}/none"), 404, "H7")
     is_answer(ask(front, "POST", f"{BCF}/topics", {}), 422, "B3")
-    is_answer(ask(front, "POST", f"{BCF}/topics", {"title": "a"}, Content_Encoding="gzip"), 415, "H12")
+    is_answer(
+        ask(front, "POST", f"{BCF}/topics", {"title": "a"}, Content_Encoding="gzip"), 415, "H12"
+    )
     is_answer(ask(front, "PATCH", f"{BCF}/topics"), 405, "H8")
 
 
@@ -152,6 +160,46 @@ class Echo(BaseHTTPRequestHandler):
 
     def log_message(self, *_: object) -> None:  # pylint: disable=arguments-differ
         return
+
+
+class Large(Echo):
+    """In the server's place: answers with 24 MB, and counts the answers that were taken."""
+
+    taken: list[str] = []
+
+    def answer(self) -> None:
+        """The lane is free once the last byte was taken."""
+        self.send_response(200)
+        self.send_header("Content-Length", str(24 << 20))
+        self.end_headers()
+        try:
+            self.wfile.write(bytes(24 << 20))
+            self.taken.append(self.path)
+        except OSError:
+            self.close_connection = True
+
+    do_GET = answer
+
+
+def slow_readers(front: Front) -> None:
+    """Four clients that read nothing of a long reply: nginx takes it, and the lanes are free."""
+    Large.taken.clear()
+    large = ThreadingHTTPServer(("127.0.0.1", front.ports["server"]), Large)
+    Thread(target=large.serve_forever, daemon=True).start()
+    held = [Tls(front) for _ in range(4)]
+    try:
+        for connection in held:
+            connection.request("GET", BCF, headers=basic("eva"))
+        end = time.monotonic() + 20
+        while len(Large.taken) < len(held) and time.monotonic() < end:
+            time.sleep(0.1)
+        taken = len(Large.taken)
+    finally:
+        for connection in held:
+            connection.close()
+        large.shutdown()
+        large.server_close()
+    must(taken == len(held), f"of four long replies that nobody reads {taken} left the server")
 
 
 def what_reaches_the_server(front: Front) -> None:

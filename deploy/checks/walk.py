@@ -39,7 +39,9 @@ class Call:
 
 def has(*names: str) -> Shape:
     """An object with these members, none of them null."""
-    return lambda value: isinstance(value, dict) and all(value.get(each) is not None for each in names)
+    return lambda value: isinstance(value, dict) and all(
+        value.get(each) is not None for each in names
+    )
 
 
 def each_has(*names: str) -> Shape:
@@ -100,7 +102,9 @@ def beginning(version: str) -> list[Call]:
         Call("GET", "P/extensions", "HAProxy", 200, is_extensions(version)),
         Call("PUT", "P", "absent", 405, is_absent, {"name": "x"}),
     ]
-    projects = Call("GET", f"/bcf/{version}/projects", "server", 200, each_has("project_id", "name"))
+    projects = Call(
+        "GET", f"/bcf/{version}/projects", "server", 200, each_has("project_id", "name")
+    )
     return [*calls, projects]
 
 
@@ -236,5 +240,7 @@ def table(front: Front) -> str:
         for call, answer, fits in walk(front, version):
             said = answer.body.decode(errors="replace")[:90]
             mark = "ok" if fits else "WRONG"
-            lines.append(f"  {mark:5} {call.method:6} {call.path:36} {call.by:8} {answer.status} {said}")
+            lines.append(
+                f"  {mark:5} {call.method:6} {call.path:36} {call.by:8} {answer.status} {said}"
+            )
     return "\n".join(lines)
