@@ -12,7 +12,7 @@ import pytest
 import requests
 import second_reader
 from conftest import CLIENT, PROJECTS, Runner, Server
-from house import CLOSE, PIPES, RULES, THROUGH, WALL, WALLS
+from house import CLOSE, PIPES, PIPES_AFTER, RULES, THROUGH, WALL, WALLS
 from lxml import etree
 from PIL import Image
 
@@ -49,6 +49,12 @@ def post(server: Server, path: str, body: dict[str, Any], user: str = "eva") -> 
     assert answer.status_code == 201, answer.text
     made: dict[str, Any] = answer.json()
     return made
+
+
+def made_by_server(server: Server, version: int, place: int) -> None:
+    """A topic of a clash by the server's own request."""
+    path = f"/coord/1/projects/{PROJECTS[0]}/versions/{version}/clashes/{place}/topic"
+    assert requests.post(server.url + path, timeout=10).status_code == 201
 
 
 HARD = 'Böser <Text> & "Zeichen" \u0001\ufffe ]]> \U0001f3e0\n2. Zeile'
@@ -93,7 +99,8 @@ def test_an_export_by_the_schemas_and_a_second_reader(
     read = second_reader.read(path)
     assert (read["version"], read["project"]) == (version, "Project 1")
     clash, rich, bare = read["topics"]
-    assert clash["Title"] == f"Clash of {12:022d} and {1:022d}"
+    assert clash["Title"] == "PIPESEGMENT Rohr 12 / WALL Außenwand (Erdgeschoß)"
+    assert f"Clash of {12:022d} and {1:022d}" in clash["Description"]
     assert (clash["type"], clash["status"], clash["Priority"]) == ("Clash", "Open", "hoch")
     assert (clash["AssignedTo"], clash["CreationAuthor"]) == ("TGA", "jörg")
     assert "IFCWALL Außenwand (model walls, Erdgeschoß)" in clash["Description"]
@@ -236,16 +243,18 @@ def test_topics_are_made_once(run: Runner, server: Server) -> None:
     assert run("topics", "make").status == 2
     assert run("topics", "make", "2").status == 2
     done = run("topics", "make", "--every", "--most", "0", "--json")
-    assert done.status == 2 and "1 topics would be made" in done.fault["message"]
+    assert done.status == 2 and "1 topic would be made" in done.fault["message"]
     made = run.ok("topics", "make", "--every", "--json").json
     assert (len(made["made"]), made["there"]) == (1, 1)
-    assert made["made"][0]["title"] == f"Clash of {11:022d} and {1:022d}"
+    assert f"Clash of {11:022d} and {1:022d}" in made["made"][0]["description"]
+    # one that the server made itself is seen as well
+    run.ok("push", run.file("pipes.ifc", PIPES_AFTER))
+    made_by_server(server, 4, 1)
+    done = run.ok("topics", "make", "--new", "--json").json
+    assert (done["made"], done["there"]) == ([], 1)
     assert run.ok("topics", "make", "--every", "--json").json["made"] == []
-    assert run.ok("topics", "make", "--new", "--json").json == {
-        "version": 3,
-        "made": [],
-        "there": 2,
-    }
+    done = run.ok("topics", "make", "--version", "3", "--new", "--json").json
+    assert (done["version"], done["made"], done["there"]) == (3, [], 2)
 
 
 def test_a_file_that_cannot_be_written(run: Runner, server: Server) -> None:

@@ -198,7 +198,7 @@ def test_a_file_of_another_program(run: Runner, server: Server) -> None:
     run.ok("export", "bcf", "back.bcf")
     back = second_reader.read(run.folder / "back.bcf")["topics"][0]
     assert (back["guid"], back["labels"]) == (TOPIC.lower(), ["Architektur", "TGA"])
-    assert "not kept: 1 cameras" in run("import", "bcf", path).err
+    assert "not kept: cameras: 1" in run("import", "bcf", path).err
 
 
 def test_who_is_the_author(run: Runner) -> None:

@@ -10,6 +10,7 @@ from pathlib import Path
 from typing import Any
 
 from ..compare import Difference, difference, elements_of
+from ..console import counted
 from ..context import Context
 from ..convert import MENDED, Converted, convert, converter, left_out
 from ..errors import ExitStatus, Failure, FileFault, Refused
@@ -129,8 +130,9 @@ def note_older_parts(context: Context, version: Version, pushed: list[Pushed]) -
 def said_of(pushed: Pushed) -> str:
     """A line about a file that was uploaded."""
     changed = pushed.changed
-    line = f"version {changed['version']}: {pushed.source.name}, {changed['elements']} elements"
-    line += f", {changed['triangles']} triangles"
+    line = f"version {changed['version']}: {pushed.source.name}, "
+    line += counted(changed["elements"], "element")
+    line += ", " + counted(changed["triangles"], "triangle")
     if pushed.converted:
         line += ", converted" + (
             "" if pushed.converted.whole else " (some is left out or in doubt)"
