@@ -4,6 +4,8 @@ from __future__ import annotations
 
 import io
 import math
+import sys
+import time
 import zipfile
 from pathlib import Path
 from typing import Any
@@ -207,22 +209,36 @@ def test_an_export_is_the_same_each_time(run: Runner, server: Server) -> None:
 
 
 def test_identifiers_differ_after_a_new_start(bare: Runner, program: str) -> None:
+    """Topic 1 of a server that was started anew is another topic than the one before it."""
     found = []
-    for name, date in (("a.bcf", "2024"), ("b.bcf", "2025")):
+    for name in ("a.bcf", "b.bcf"):
         server = Server(program)
         try:
-            post(server, "/topics", {"title": date})
-            words = ("export", "bcf", name, "--url", server.url, "--instance", "office")
-            bare.ok(*words)
-            found.append(second_reader.read(bare.folder / name)["topics"][0])
-            while found[0]["CreationDate"] == bare.ok("topics", "--url", server.url).out:
-                pass
+            made = post(server, "/topics", {"title": "one"})
+            assert made["server_assigned_id"] == "1"
+            bare.ok("export", "bcf", name, "--url", server.url, "--instance", "office")
         finally:
             server.stop()
-    if found[0]["CreationDate"] != found[1]["CreationDate"]:
-        assert found[0]["guid"] != found[1]["guid"]
-    else:
-        assert found[0]["guid"] == found[1]["guid"]
+        found.append(second_reader.read(bare.folder / name)["topics"][0])
+        # dates are of whole seconds
+        time.sleep(1.1)
+    assert found[0]["guid"] != found[1]["guid"]
+
+
+def test_without_the_packages_that_may_be_absent(
+    run: Runner, server: Server, monkeypatch: pytest.MonkeyPatch
+) -> None:
+    fill(run, server)
+    for module in ("yulfrets.snapshots", "yulfrets.commands.export"):
+        monkeypatch.setattr(f"{module}.has_pil", lambda: False)
+    done = run.ok("export", "bcf", "a.bcf")
+    assert "python3-pil" in done.err and "0 snapshots" in done.out
+    assert len(second_reader.read(run.folder / "a.bcf")["topics"]) == 3
+    run.ok("report", "r.html")
+    assert "<img" not in (run.folder / "r.html").read_text("utf-8")
+    monkeypatch.setitem(sys.modules, "openpyxl", None)
+    done = run("topics", "--xlsx", "t.xlsx")
+    assert done.status == 2 and "python3-openpyxl" in done.err
 
 
 def test_topics_are_listed_and_filtered(run: Runner, server: Server) -> None:
