@@ -140,6 +140,18 @@ def test_a_file_of_another_schema_is_converted(run: Runner) -> None:
     assert (done.status, done.fault["code"]) == (3, "U4")
 
 
+def test_a_broken_file_is_not_converted(run: Runner) -> None:
+    run.file("good.ifc", WALLS)
+    program = stand_in(run, f'touch {run.folder}/ran; cp {run.folder}/good.ifc "$2"\n')
+    done = run("push", run.file("bad.ifc", "nothing"), "--converter", program, "--json")
+    assert (done.status, done.fault["code"]) == (3, "U1")
+    assert not (run.folder / "ran").exists()
+    # where it is asked for each file is converted
+    words = ("push", "good.ifc", "--converter", program, "--convert", "always", "--json")
+    assert run.ok(*words).json["pushed"][0]["converted"] is True
+    assert (run.folder / "ran").exists()
+
+
 def test_a_model_that_is_converted_into_several(run: Runner) -> None:
     run.file("one.ifc", WALLS)
     run.file("two.ifc", PIPES)
