@@ -20,10 +20,8 @@ SHAPE = "a rule has a, b and distance, and kind, storey, level and models where 
 MEMBERS = {"a", "b", "kind", "distance", "storey", "level", "models"}
 
 
-def fault_of_rule(rule: Any) -> tuple[str, str] | None:
+def fault_of_rule(rule: dict[str, Any]) -> tuple[str, str] | None:
     """The code and the words of a rule's fault, None where it has none."""
-    if not isinstance(rule, dict):
-        return "C1", "it is no object"
     given = {name: value for name, value in rule.items() if value is not None}
     for member in ("a", "b"):
         value = given.get(member)
@@ -62,12 +60,14 @@ def checked_rules(rules: Any, source: str) -> list[dict[str, Any]]:
     if len(rules) > MOST_RULES:
         raise Refused(f"{source}: there are {len(rules)} rules, at most {MOST_RULES}", "", "C2")
     for place, rule in enumerate(rules):
+        if not isinstance(rule, dict):
+            # this comes before the faults of single rules, and the server says 0 for its place
+            raise Refused(f"{source}: rule {place} is no object", SHAPE, "C1", index=0)
+    for place, rule in enumerate(rules):
         fault = fault_of_rule(rule)
         if fault:
             code, words = fault
-            # the server names no place where the list has something else than objects
-            index = place if isinstance(rule, dict) else 0
-            raise Refused(f"{source}: rule {place}: {words}", SHAPE, code, index=index)
+            raise Refused(f"{source}: rule {place}: {words}", SHAPE, code, index=place)
     return rules
 
 
