@@ -168,9 +168,35 @@ def test_cameras_frame_what_is_selected(run: Runner, server: Server, version: st
         # and not from far away: they fill more than half of its width or height
         sizes = [max(one) - min(one) for one in zip(*seen)]
         assert max(sizes) > 1.2, seen
+        # it stands north of the wall, where the pipe is, and above
+        assert camera["eye"][1] > 0.2 and camera["direction"][2] < 0
     # a viewpoint that selects nothing shows the whole version
     whole = seen_corners(topics[1]["viewpoints"][1]["camera"], [WALL, THROUGH, CLOSE])
     assert all(abs(x) <= 1 and abs(y) <= 1 for x, y in whole)
+
+
+@pytest.mark.parametrize(
+    ("small", "signs"),
+    [
+        ((2000, 260, 1000, 2100, 900, 1100), (None, 1, 1)),
+        ((2000, -900, 1000, 2100, -60, 1100), (None, -1, 1)),
+        ((4100, 0, 1000, 4200, 100, 1100), (1, None, 1)),
+        ((-300, 0, 1000, -200, 100, 1100), (-1, None, 1)),
+        ((2000, 50, -300, 2100, 150, -200), (None, None, -1)),
+        ((2000, 50, 2600, 2100, 150, 2700), (None, None, 1)),
+    ],
+)
+def test_a_camera_stands_on_the_side_of_the_smaller_element(
+    small: tuple[float, ...], signs: tuple[int | None, ...]
+) -> None:
+    """Beside the wall of x 0..4000, y 0..200, z 0..2500; from below only under it."""
+    from yulfrets.cameras import camera_for
+
+    wall = (0, 0, 0, 4000, 200, 2500)
+    for boxes in ((wall, small), (small, wall)):
+        direction = camera_for(boxes).direction  # type: ignore[arg-type]
+        for sign, part in zip(signs, direction):
+            assert sign is None or part * sign < 0, (small, direction)
 
 
 def test_snapshots_show_the_elements(run: Runner, server: Server) -> None:
@@ -276,4 +302,6 @@ def test_topics_are_made_once(run: Runner, server: Server) -> None:
 def test_a_file_that_cannot_be_written(run: Runner, server: Server) -> None:
     done = run("export", "bcf", run.folder / "none" / "a.bcf")
     assert done.status == 6 and "none" in done.err
+    (run.folder / "folder.bcf").mkdir()
+    assert run("export", "bcf", "folder.bcf").status == 6
     assert list(run.folder.glob("*.part")) == []
