@@ -4,6 +4,8 @@ from __future__ import annotations
 
 import io
 import math
+import sys
+import time
 import zipfile
 from pathlib import Path
 from typing import Any
@@ -12,7 +14,7 @@ import pytest
 import requests
 import second_reader
 from conftest import CLIENT, PROJECTS, Runner, Server
-from house import CLOSE, PIPES, RULES, THROUGH, WALL, WALLS
+from house import CLOSE, PIPES, PIPES_AFTER, RULES, THROUGH, WALL, WALLS
 from lxml import etree
 from PIL import Image
 
@@ -49,6 +51,12 @@ def post(server: Server, path: str, body: dict[str, Any], user: str = "eva") -> 
     assert answer.status_code == 201, answer.text
     made: dict[str, Any] = answer.json()
     return made
+
+
+def made_by_server(server: Server, version: int, place: int) -> None:
+    """A topic of a clash by the server's own request."""
+    path = f"/coord/1/projects/{PROJECTS[0]}/versions/{version}/clashes/{place}/topic"
+    assert requests.post(server.url + path, timeout=10).status_code == 201
 
 
 HARD = 'Böser <Text> & "Zeichen" \u0001\ufffe ]]> \U0001f3e0\n2. Zeile'
@@ -93,7 +101,8 @@ def test_an_export_by_the_schemas_and_a_second_reader(
     read = second_reader.read(path)
     assert (read["version"], read["project"]) == (version, "Project 1")
     clash, rich, bare = read["topics"]
-    assert clash["Title"] == f"Clash of {12:022d} and {1:022d}"
+    assert clash["Title"] == "PIPESEGMENT Rohr 12 / WALL Außenwand (Erdgeschoß)"
+    assert f"Clash of {12:022d} and {1:022d}" in clash["Description"]
     assert (clash["type"], clash["status"], clash["Priority"]) == ("Clash", "Open", "hoch")
     assert (clash["AssignedTo"], clash["CreationAuthor"]) == ("TGA", "jörg")
     assert "IFCWALL Außenwand (model walls, Erdgeschoß)" in clash["Description"]
@@ -159,9 +168,35 @@ def test_cameras_frame_what_is_selected(run: Runner, server: Server, version: st
         # and not from far away: they fill more than half of its width or height
         sizes = [max(one) - min(one) for one in zip(*seen)]
         assert max(sizes) > 1.2, seen
+        # it stands north of the wall, where the pipe is, and above
+        assert camera["eye"][1] > 0.2 and camera["direction"][2] < 0
     # a viewpoint that selects nothing shows the whole version
     whole = seen_corners(topics[1]["viewpoints"][1]["camera"], [WALL, THROUGH, CLOSE])
     assert all(abs(x) <= 1 and abs(y) <= 1 for x, y in whole)
+
+
+@pytest.mark.parametrize(
+    ("small", "signs"),
+    [
+        ((2000, 260, 1000, 2100, 900, 1100), (None, 1, 1)),
+        ((2000, -900, 1000, 2100, -60, 1100), (None, -1, 1)),
+        ((4100, 0, 1000, 4200, 100, 1100), (1, None, 1)),
+        ((-300, 0, 1000, -200, 100, 1100), (-1, None, 1)),
+        ((2000, 50, -300, 2100, 150, -200), (None, None, -1)),
+        ((2000, 50, 2600, 2100, 150, 2700), (None, None, 1)),
+    ],
+)
+def test_a_camera_stands_on_the_side_of_the_smaller_element(
+    small: tuple[float, ...], signs: tuple[int | None, ...]
+) -> None:
+    """Beside the wall of x 0..4000, y 0..200, z 0..2500; from below only under it."""
+    from yulfrets.cameras import camera_for
+
+    wall = (0, 0, 0, 4000, 200, 2500)
+    for boxes in ((wall, small), (small, wall)):
+        direction = camera_for(boxes).direction  # type: ignore[arg-type]
+        for sign, part in zip(signs, direction):
+            assert sign is None or part * sign < 0, (small, direction)
 
 
 def test_snapshots_show_the_elements(run: Runner, server: Server) -> None:
@@ -200,22 +235,36 @@ def test_an_export_is_the_same_each_time(run: Runner, server: Server) -> None:
 
 
 def test_identifiers_differ_after_a_new_start(bare: Runner, program: str) -> None:
+    """Topic 1 of a server that was started anew is another topic than the one before it."""
     found = []
-    for name, date in (("a.bcf", "2024"), ("b.bcf", "2025")):
+    for name in ("a.bcf", "b.bcf"):
         server = Server(program)
         try:
-            post(server, "/topics", {"title": date})
-            words = ("export", "bcf", name, "--url", server.url, "--instance", "office")
-            bare.ok(*words)
-            found.append(second_reader.read(bare.folder / name)["topics"][0])
-            while found[0]["CreationDate"] == bare.ok("topics", "--url", server.url).out:
-                pass
+            made = post(server, "/topics", {"title": "one"})
+            assert made["server_assigned_id"] == "1"
+            bare.ok("export", "bcf", name, "--url", server.url, "--instance", "office")
         finally:
             server.stop()
-    if found[0]["CreationDate"] != found[1]["CreationDate"]:
-        assert found[0]["guid"] != found[1]["guid"]
-    else:
-        assert found[0]["guid"] == found[1]["guid"]
+        found.append(second_reader.read(bare.folder / name)["topics"][0])
+        # dates are of whole seconds
+        time.sleep(1.1)
+    assert found[0]["guid"] != found[1]["guid"]
+
+
+def test_without_the_packages_that_may_be_absent(
+    run: Runner, server: Server, monkeypatch: pytest.MonkeyPatch
+) -> None:
+    fill(run, server)
+    for module in ("yulfrets.snapshots", "yulfrets.commands.export"):
+        monkeypatch.setattr(f"{module}.has_pil", lambda: False)
+    done = run.ok("export", "bcf", "a.bcf")
+    assert "python3-pil" in done.err and "0 snapshots" in done.out
+    assert len(second_reader.read(run.folder / "a.bcf")["topics"]) == 3
+    run.ok("report", "r.html")
+    assert "<img" not in (run.folder / "r.html").read_text("utf-8")
+    monkeypatch.setitem(sys.modules, "openpyxl", None)
+    done = run("topics", "--xlsx", "t.xlsx")
+    assert done.status == 2 and "python3-openpyxl" in done.err
 
 
 def test_topics_are_listed_and_filtered(run: Runner, server: Server) -> None:
@@ -236,19 +285,23 @@ def test_topics_are_made_once(run: Runner, server: Server) -> None:
     assert run("topics", "make").status == 2
     assert run("topics", "make", "2").status == 2
     done = run("topics", "make", "--every", "--most", "0", "--json")
-    assert done.status == 2 and "1 topics would be made" in done.fault["message"]
+    assert done.status == 2 and "1 topic would be made" in done.fault["message"]
     made = run.ok("topics", "make", "--every", "--json").json
     assert (len(made["made"]), made["there"]) == (1, 1)
-    assert made["made"][0]["title"] == f"Clash of {11:022d} and {1:022d}"
+    assert f"Clash of {11:022d} and {1:022d}" in made["made"][0]["description"]
+    # one that the server made itself is seen as well
+    run.ok("push", run.file("pipes.ifc", PIPES_AFTER))
+    made_by_server(server, 4, 1)
+    done = run.ok("topics", "make", "--new", "--json").json
+    assert (done["made"], done["there"]) == ([], 1)
     assert run.ok("topics", "make", "--every", "--json").json["made"] == []
-    assert run.ok("topics", "make", "--new", "--json").json == {
-        "version": 3,
-        "made": [],
-        "there": 2,
-    }
+    done = run.ok("topics", "make", "--version", "3", "--new", "--json").json
+    assert (done["version"], done["made"], done["there"]) == (3, [], 2)
 
 
 def test_a_file_that_cannot_be_written(run: Runner, server: Server) -> None:
     done = run("export", "bcf", run.folder / "none" / "a.bcf")
     assert done.status == 6 and "none" in done.err
+    (run.folder / "folder.bcf").mkdir()
+    assert run("export", "bcf", "folder.bcf").status == 6
     assert list(run.folder.glob("*.part")) == []

@@ -198,7 +198,17 @@ def test_a_file_of_another_program(run: Runner, server: Server) -> None:
     run.ok("export", "bcf", "back.bcf")
     back = second_reader.read(run.folder / "back.bcf")["topics"][0]
     assert (back["guid"], back["labels"]) == (TOPIC.lower(), ["Architektur", "TGA"])
-    assert "not kept: 1 cameras" in run("import", "bcf", path).err
+    assert "not kept: cameras: 1" in run("import", "bcf", path).err
+
+
+def test_a_file_in_utf_16_without_an_identifier(run: Runner) -> None:
+    markup = MARKUP.lstrip("\ufeff").replace('"utf-8"', '"utf-16"')
+    markup = markup.replace(f'<Topic Guid="{TOPIC}"', '<Topic Guid="number 7"')
+    parts: dict[str, Any] = {f"{TOPIC}\\markup.bcf": markup.encode("utf-16")}
+    done = run.ok("import", "bcf", foreign(run.folder / "a.bcf", **parts), "--json").json
+    assert (done["made"], done["comments"], done["not_kept"]["identifiers"]) == (1, 1, 1)
+    topic = run.ok("topics", "--json").json[0]
+    assert (topic["title"], topic["labels"]) == ("Tür schlägt an", ["Architektur", "TGA"])
 
 
 def test_who_is_the_author(run: Runner) -> None:
@@ -216,6 +226,10 @@ def test_who_is_the_author(run: Runner) -> None:
         ({f"{TOPIC}\\markup.bcf": MARKUP[:-20]}, "is no XML"),
         (
             {f"{TOPIC}\\markup.bcf": '<!DOCTYPE a [<!ENTITY x "y">]><Markup>&x;</Markup>'},
+            "declares a document type",
+        ),
+        (
+            {f"{TOPIC}\\markup.bcf": '<!DOCTYPE a [<!ENTITY x "y">]><Markup/>'.encode("utf-16")},
             "declares a document type",
         ),
         ({f"{TOPIC}\\viewpoint.bcfv": b" " * (33 * 2**20)}, "at most 33,554,432"),

@@ -3,6 +3,7 @@
 from __future__ import annotations
 
 import ast
+import re
 from pathlib import Path
 
 import pytest
@@ -71,6 +72,25 @@ def test_places_in_a_file() -> None:
     place = place_of(raw, at, None)
     assert place and raw.splitlines()[place.line - 1].decode().startswith(place.text[:20])
     assert place_of(raw, None, 77) is None and place_of(raw, None, None) is None
+
+
+def test_the_page_names_every_option_and_status() -> None:
+    """docs/CLIENT.md has each option and each status of the command, and no other."""
+    from yulfrets.arguments import parser
+    from yulfrets.completion import paths
+    from yulfrets.errors import ExitStatus
+
+    page = (CLIENT.parent / "docs" / "CLIENT.md").read_text("utf-8")
+    # options of other programs that the page's lines run
+    others = {"--no-build-isolation", "--no-index", "--no-deps", "--lanes"}
+    named = set(re.findall(r"(?<![\w-])--[a-z][a-z-]*", page)) - others
+    words = {word for _, found in paths(parser()) for word in found if word.startswith("--")}
+    assert words - {"--help"} - named == set() and named - words == set()
+    statuses = {int(number) for number in re.findall(r"^\| (\d+) \|", page, re.MULTILINE)}
+    # Python's own status of a program that breaks
+    assert statuses == {int(one) for one in ExitStatus} | {1}
+    commands = {path for path, _ in paths(parser()) if path and " " not in path}
+    assert all(f"`{name}" in page or f"`{name} " in page for name in commands)
 
 
 def test_functions_are_small() -> None:

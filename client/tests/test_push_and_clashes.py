@@ -8,6 +8,7 @@ import stat
 from pathlib import Path
 
 import openpyxl
+import pytest
 from conftest import PROJECTS, Runner
 from house import PIPES, PIPES_AFTER, RULES, WALLS, pairs
 from models import Block, model
@@ -61,10 +62,10 @@ def test_a_push_in_words(run: Runner) -> None:
 def test_status_of_new_clashes(run: Runner) -> None:
     run.ok("rules", "put", run.file("rules.json", RULES))
     assert run("push", run.file("walls.ifc", WALLS), "--fail-if-new").status == 0
-    assert run("push", run.file("pipes.ifc", PIPES), "--fail-if-new").status == 1
+    assert run("push", run.file("pipes.ifc", PIPES), "--fail-if-new").status == 9
     assert run("push", "pipes.ifc", "--fail-if-new").status == 0
     assert run("clashes", "--new", "--fail-if-new").status == 0
-    assert run("clashes", "--since", "2", "--fail-if-new").status == 1
+    assert run("clashes", "--since", "2", "--fail-if-new").status == 9
 
 
 def test_a_refused_file_names_line_and_element(run: Runner) -> None:
@@ -139,6 +140,18 @@ def test_a_file_of_another_schema_is_converted(run: Runner) -> None:
     assert (done.status, done.fault["code"]) == (3, "U4")
 
 
+def test_a_broken_file_is_not_converted(run: Runner) -> None:
+    run.file("good.ifc", WALLS)
+    program = stand_in(run, f'touch {run.folder}/ran; cp {run.folder}/good.ifc "$2"\n')
+    done = run("push", run.file("bad.ifc", "nothing"), "--converter", program, "--json")
+    assert (done.status, done.fault["code"]) == (3, "U1")
+    assert not (run.folder / "ran").exists()
+    # where it is asked for each file is converted
+    words = ("push", "good.ifc", "--converter", program, "--convert", "always", "--json")
+    assert run.ok(*words).json["pushed"][0]["converted"] is True
+    assert (run.folder / "ran").exists()
+
+
 def test_a_model_that_is_converted_into_several(run: Runner) -> None:
     run.file("one.ifc", WALLS)
     run.file("two.ifc", PIPES)
@@ -189,6 +202,26 @@ def test_clashes_as_rows(run: Runner) -> None:
     found = list(sheet.iter_rows(values_only=True))
     assert [str(cell) for cell in found[1]] == row and len(found) == 3
     assert [type(cell) for cell in found[1][:3]] == [int, int, int]
+
+
+def test_clashes_come_in_pages(run: Runner, monkeypatch: pytest.MonkeyPatch) -> None:
+    import yulfrets.api
+
+    put_house(run)
+    monkeypatch.setattr(yulfrets.api, "PAGE", 1)
+    found = run.ok("clashes", "--json").json
+    assert pairs(found["clashes"]) == [("pipes 11", "walls 1"), ("pipes 12", "walls 1")]
+
+
+def test_the_rule_does_not_count(run: Runner) -> None:
+    """The same two elements are the same clash when another rule finds them."""
+    put_house(run)
+    rules = '[{"a": "IFCDOOR", "b": "*", "distance": 9}, {"a": "*", "b": "*", "distance": 50}]'
+    run.ok("rules", "put", run.file("rules.json", rules))
+    found = run.ok("clashes", "--new", "--json").json
+    assert (found["version"], found["total"]) == (4, 2)
+    assert (found["clashes"], found["gone"]) == ([], [])
+    assert [one["rule"] for one in run.ok("clashes", "--json").json["clashes"]] == [1, 1]
 
 
 def test_clashes_in_groups(run: Runner) -> None:

@@ -12,7 +12,9 @@ import threading
 import time
 from html.parser import HTMLParser
 from pathlib import Path
+from types import SimpleNamespace
 
+import pytest
 import requests
 from conftest import COMMAND, PROJECTS, Runner, Server
 from house import PIPES, PIPES_AFTER, RULES, WALLS
@@ -128,13 +130,22 @@ def test_a_watch(run: Runner, server: Server) -> None:
     assert (found["total"], found["new"], found["gone"]) == (2, 2, 0)
 
 
-def test_a_watch_in_words_ends_in_time(run: Runner, server: Server) -> None:
+def test_a_watch_in_words_ends_in_time(
+    run: Runner, server: Server, monkeypatch: pytest.MonkeyPatch
+) -> None:
+    """By a clock of its own, that goes on where the watch sleeps."""
     fill(run, server)
+    slept: list[float] = []
+    clock = SimpleNamespace(
+        monotonic=lambda: sum(slept), sleep=slept.append, strftime=lambda form: "12:00:00"
+    )
+    monkeypatch.setattr("yulfrets.commands.watch.time", clock)
     words = ("watch", "--from-start", "--every", "0.1", "--for", "0.25")
     lines = run.ok(*words).out.splitlines()
     assert [line.split(" ", 1)[1] for line in lines[:3]] == ["version 1", "version 2", "version 3"]
     assert "clashes of version 3: 2, 2 new and 0 gone since version 0" in lines[3]
     assert "topic 1 made by jörg" in lines[4] and len(lines) == 7
+    assert slept == [0.1, 0.1]
 
 
 def test_a_watch_holds_no_lane(run: Runner, program: str) -> None:

@@ -39,6 +39,8 @@ RULES: list[tuple[Any, str | None]] = [
     ([GOOD | {"level": "ä" * 129}], "C1"),
     ([GOOD | {"level": 3}], "C1"),
     ([GOOD, 7], "C1"),
+    ([GOOD | {"distance": 1001}, 7], "C1"),
+    ([GOOD, GOOD | {"distance": 1001}, GOOD | {"a": None}], "C3"),
     ({"a": 1}, "C1"),
 ]
 

@@ -124,12 +124,18 @@ def test_a_server_that_is_not_there(bare: Runner) -> None:
 
 def test_a_server_that_never_answers(bare: Runner) -> None:
     def late(request: bytes, number: int) -> bytes:
-        time.sleep(1.0)
-        return b""
+        if not request.startswith(b"GET /bcf/3.0/projects "):
+            time.sleep(1.5)
+            return b""
+        return reply(200, PROJECTS)
 
     with Fake(late) as fake:
-        done = bare("rules", "put", bare.file("r.json", RULES), "--url", fake.url)
-        assert done.status == 4 and not any(one.startswith("PUT") for one in fake.lines())
+        words = ("rules", "put", bare.file("r.json", RULES), "--url", fake.url)
+        start = time.monotonic()
+        done = bare(*words, "--timeout", "0.4")
+        assert done.status == 5 and "isn't known whether" in done.err
+        assert time.monotonic() - start < 1.4
+        assert sum(one.startswith("PUT") for one in fake.lines()) == 1
 
 
 def test_a_server_that_stops_between_two_uploads(run: Runner, server: Server) -> None:

@@ -15,8 +15,8 @@ from .tables import GROUPS
 Run = Callable[[Context], int]
 EPILOG = """environment: YULFRETS_URL, YULFRETS_PROJECT, YULFRETS_USER, YULFRETS_PASSWORD,
 YULFRETS_CA, YULFRETS_CONVERTER and YULFRETS_INSTANCE stand for options that are absent
-exit statuses: 0 done, 1 new clashes (--fail-if-new), 2 words, 3 refused, 4 no server,
-5 not known whether it was done, 6 files, 7 not finished in time, 8 elements left out"""
+exit statuses: 0 done, 2 words, 3 refused, 4 no server, 5 not known whether it was done,
+6 files, 7 not finished in time, 8 elements left out, 9 new clashes (--fail-if-new)"""
 
 
 def natural(text: str) -> int:
@@ -75,7 +75,7 @@ def add_tables(parser: argparse.ArgumentParser) -> None:
     parser.add_argument("--csv", metavar="FILE", help="write CSV, - for standard output")
     parser.add_argument("--separator", default=",", help="between the columns of CSV (,)")
     parser.add_argument("--xlsx", metavar="FILE", help="write a sheet for Excel")
-    parser.add_argument("--all", action="store_true", help="print more than 50 rows")
+    parser.add_argument("--all", action="store_true", help="print more than 50 rows on a terminal")
 
 
 def add_version(parser: argparse.ArgumentParser) -> None:
@@ -97,12 +97,22 @@ def add_push(build: Builder) -> None:
     made = build.add("push", "upload models, print new and gone clashes", push.run)
     made.add_argument("files", nargs="+", metavar="FILE", help="FILE or NAME=FILE")
     made.add_argument("--name", help="name of the model (the file's)")
-    made.add_argument("--grid", choices=("exact", "snap"), default="exact", help="round lengths")
-    made.add_argument("--convert", choices=("auto", "always", "never"), default="auto")
+    made.add_argument(
+        "--grid",
+        choices=("exact", "snap"),
+        default="exact",
+        help="refuse lengths between millimetres, or round them (exact)",
+    )
+    made.add_argument(
+        "--convert",
+        choices=("auto", "always", "never"),
+        default="auto",
+        help="convert files that the server refuses, all files, or none (auto)",
+    )
     made.add_argument("--converter", metavar="PROGRAM", help="the converter (ifc2grid)")
     made.add_argument("--origin-file", metavar="FILE", help="common origin, for the converter")
     made.add_argument("--no-wait", action="store_true", help="don't wait for the clashes")
-    made.add_argument("--fail-if-new", action="store_true", help="status 1 if clashes are new")
+    made.add_argument("--fail-if-new", action="store_true", help="status 9 if clashes are new")
 
 
 def add_clashes(build: Builder) -> None:
@@ -110,7 +120,7 @@ def add_clashes(build: Builder) -> None:
     made = build.add("clashes", "print the clashes of a version", clashes.run)
     add_version(made)
     made.add_argument("--by", choices=GROUPS, help="count them")
-    made.add_argument("--fail-if-new", action="store_true", help="status 1 if some are new")
+    made.add_argument("--fail-if-new", action="store_true", help="status 9 if some are new")
     add_tables(made)
 
 

@@ -12,7 +12,7 @@ from .bcf_export import whole_topic
 from .bcf_topics import Comment, Component, Topic, Viewpoint
 from .bcf_write import DEFAULT_STATUS, DEFAULT_TYPE, clean
 from .errors import Failure
-from .identifiers import LABEL, own_labels, topic_identifier
+from .identifiers import LABEL, kept_identifier, own_labels, topic_identifier
 from .records import TopicRecord
 
 MOST_TITLE, MOST_TEXT, MOST_COMMENT = 1024, 4096, 8192
@@ -80,7 +80,7 @@ class Bodies:
         found = [self.fit(one, MOST_LABEL) for one in own_labels(topic.labels)]
         if len(found) > MOST_LABELS:
             self.not_kept["labels"] += len(found) - MOST_LABELS
-        if len(found) >= MOST_LABELS:
+        if len(found) >= MOST_LABELS or not kept_identifier([LABEL + topic.guid]):
             self.not_kept["identifiers"] += 1
             return found[:MOST_LABELS]
         return [*found, LABEL + topic.guid]

@@ -2,7 +2,9 @@
 
 from __future__ import annotations
 
+import codecs
 import re
+import uuid
 import zipfile
 import zlib
 from collections import Counter
@@ -15,6 +17,8 @@ from .errors import FileFault, Refused
 
 Node = ElementTree.Element
 MOST_PARTS, MOST_XML, MOST_PICTURE = 200_000, 32 * 2**20, 32 * 2**20
+BROKEN = (zipfile.BadZipFile, zlib.error, EOFError, NotImplementedError, RuntimeError)
+"""What the library raises for a zip that is none, is cut or is encrypted."""
 GUID = re.compile(r"[0-9A-Za-z_$]{22}")
 COLOR = re.compile(r"#?([0-9A-Fa-f]{6}|[0-9A-Fa-f]{8})")
 NOT_KEPT = {
@@ -72,6 +76,22 @@ def number(node: Node, tag: str) -> int | None:
     return int(value) if re.fullmatch(r"[+-]?[0-9]{1,10}", value) else None
 
 
+def identifier(text: str) -> str:
+    """An identifier as the server spells one, where it is one."""
+    try:
+        return str(uuid.UUID(text.strip()))
+    except ValueError:
+        return text.strip().lower()
+
+
+def in_utf_8(data: bytes) -> bytes:
+    """XML of UTF-16 in UTF-8, so that what it declares can be seen; other XML as it is."""
+    if not data.startswith((codecs.BOM_UTF16_LE, codecs.BOM_UTF16_BE)):
+        return data
+    words = data.decode("utf-16", "replace")
+    return re.sub(r"encoding=[\"'][^\"']*[\"']", 'encoding="utf-8"', words, count=1).encode()
+
+
 class Reader:
     """The parts of one BCF file."""
 
@@ -99,7 +119,8 @@ class Reader:
         data = self.data(name, MOST_XML)
         if data is None:
             return None
-        if b"<!DOCTYPE" in data or b"<!ENTITY" in data:
+        data = in_utf_8(data)
+        if b"<!DOCTYPE" in data or b"<!ENTITY" in data or b"\0" in data:
             raise Refused(f"{self.path}: {name} declares a document type", "remove it")
         try:
             return ElementTree.fromstring(data)
@@ -164,7 +185,7 @@ class Reader:
         visibility = child(parts, "Visibility")
         shown = "true" if visibility is None else visibility.get("DefaultVisibility", "false")
         return Viewpoint(
-            (entry.get("Guid") or root.get("Guid") or "").lower(),
+            identifier(entry.get("Guid") or root.get("Guid") or ""),
             number(entry, "Index"),
             self.components(child(parts, "Selection")),
             self.coloring(child(parts, "Coloring")),
@@ -182,7 +203,7 @@ class Reader:
             text(node, "Date") or "",
             text(node, "ModifiedAuthor"),
             text(node, "ModifiedDate"),
-            view.get("Guid", "").lower() if view is not None else None,
+            identifier(view.get("Guid", "")) if view is not None else None,
         )
 
     def topic(self, folder: str) -> Topic | None:
@@ -200,7 +221,7 @@ class Reader:
         labels = [(one.text or "").strip() for one in children(node, "Labels")]
         labels += [(one.text or "") for one in children(child(node, "Labels"), "Label")]
         return Topic(
-            guid=(node.get("Guid") or folder).lower(),
+            guid=identifier(node.get("Guid") or folder),
             title=text(node, "Title") or "",
             creation_author=text(node, "CreationAuthor") or "",
             creation_date=text(node, "CreationDate") or "",
@@ -236,7 +257,7 @@ def read_bcf(path: Path) -> BcfFile:
             return BcfFile(version, [one for one in found if one], reader.not_kept)
     except OSError as fault:
         raise FileFault(f"{path}: {fault.strerror or fault}") from fault
-    except (zipfile.BadZipFile, zlib.error, NotImplementedError, RuntimeError) as fault:
+    except BROKEN as fault:
         raise Refused(
             f"{path}: it is no BCF file: {fault}", "check it, or export it anew"
         ) from fault

@@ -32,6 +32,12 @@ def plain(value: Cell) -> str:
     return "".join(c if c.isprintable() else " " for c in text)
 
 
+def counted(number: int, noun: str) -> str:
+    """A number of things in words."""
+    many = noun + ("es" if noun.endswith("sh") else "s")
+    return f"{number} {noun if number == 1 else many}"
+
+
 class Console:
     """Standard output and standard error of one command."""
 
@@ -72,22 +78,22 @@ class Console:
     ) -> None:
         """Rows as a table as wide as the terminal, or as lines with tabs in a pipe.
 
-        A table that isn't asked for whole ends after some rows. On a terminal one of many columns
-        shows those of `narrow` alone.
+        On a terminal a table that isn't asked for whole ends after some rows, and one of many
+        columns shows those of `narrow` alone.
         """
         if self.quiet or self.as_json:
             return
-        shown = rows if whole or len(rows) <= SHOWN_ROWS else rows[:SHOWN_ROWS]
-        if sys.stdout.isatty() and has_rich():
-            wanted = [at for at, name in enumerate(head) if name in narrow]
-            wanted = wanted if len(head) > MOST_COLUMNS else list(range(len(head)))
-            cells = [[row[at] for at in wanted] for row in shown]
-            self._rich_table([head[at] for at in wanted], cells)
-            if len(wanted) < len(head):
-                self.note(f"{len(head) - len(wanted)} more columns: --csv FILE, or in a pipe")
-        else:
-            for row in [list(head), *shown]:
+        if not (sys.stdout.isatty() and has_rich()):
+            for row in [head, *rows]:
                 print("\t".join(plain(cell) for cell in row))
+            return
+        shown = rows if whole else rows[:SHOWN_ROWS]
+        wanted = [at for at, name in enumerate(head) if name in narrow]
+        wanted = wanted if len(head) > MOST_COLUMNS else list(range(len(head)))
+        cells = [[row[at] for at in wanted] for row in shown]
+        self._rich_table([head[at] for at in wanted], cells)
+        if len(wanted) < len(head):
+            self.note(f"{len(head) - len(wanted)} more columns: --csv FILE, or in a pipe")
         if len(shown) < len(rows):
             self.note(f"{len(rows) - len(shown)} more rows: --all, or --csv FILE")
 

@@ -7,10 +7,12 @@ from typing import Any
 
 
 class ExitStatus(IntEnum):
-    """The exit statuses of the command; docs/CLIENT.md explains each."""
+    """The exit statuses of the command; docs/CLIENT.md explains each.
+
+    Python itself ends a program that breaks with 1, so no answer has that status.
+    """
 
     DONE = 0
-    NEW_CLASHES = 1
     USAGE = 2
     REFUSED = 3
     UNREACHABLE = 4
@@ -18,6 +20,7 @@ class ExitStatus(IntEnum):
     FILES = 6
     UNFINISHED = 7
     LEFT_OUT = 8
+    NEW_CLASHES = 9
     INTERRUPTED = 130
 
 

@@ -16,13 +16,12 @@ WORDS = {
     "storey": ("any", "same", "different"),
     "models": ("any", "same", "other"),
 }
+SHAPE = "a rule has a, b and distance, and kind, storey, level and models where they are wanted"
 MEMBERS = {"a", "b", "kind", "distance", "storey", "level", "models"}
 
 
-def fault_of_rule(rule: Any) -> tuple[str, str] | None:
+def fault_of_rule(rule: dict[str, Any]) -> tuple[str, str] | None:
     """The code and the words of a rule's fault, None where it has none."""
-    if not isinstance(rule, dict):
-        return "C1", "it is no object"
     given = {name: value for name, value in rule.items() if value is not None}
     for member in ("a", "b"):
         value = given.get(member)
@@ -61,12 +60,14 @@ def checked_rules(rules: Any, source: str) -> list[dict[str, Any]]:
     if len(rules) > MOST_RULES:
         raise Refused(f"{source}: there are {len(rules)} rules, at most {MOST_RULES}", "", "C2")
     for place, rule in enumerate(rules):
+        if not isinstance(rule, dict):
+            # this comes before the faults of single rules, and the server says 0 for its place
+            raise Refused(f"{source}: rule {place} is no object", SHAPE, "C1", index=0)
+    for place, rule in enumerate(rules):
         fault = fault_of_rule(rule)
         if fault:
             code, words = fault
-            # the server names no place where the list has something else than objects
-            index = place if isinstance(rule, dict) else 0
-            raise Refused(f"{source}: rule {place}: {words}", "", code, index=index)
+            raise Refused(f"{source}: rule {place}: {words}", SHAPE, code, index=place)
     return rules
 
 
@@ -90,14 +91,15 @@ def remarks(rules: list[dict[str, Any]], version: Version) -> list[str]:
     """What is allowed and hardly meant: unknown members, and what no element of a version has."""
     elements = [one for model in version["models"] for one in model["elements"]]
     classes, storeys = {one["class"] for one in elements}, {one["storey"] for one in elements}
+    met = bool(elements)
     found: list[str] = []
     for place, rule in enumerate(rules):
         for member in sorted(set(rule) - MEMBERS):
             found.append(f"rule {place}: {member} is passed over")
         for member in ("a", "b"):
-            if not fits_any(rule[member], classes):
+            if met and not fits_any(rule[member], classes):
                 found.append(f"rule {place}: no element is of the class {rule[member]}")
-        if rule.get("level") is not None and rule["level"] not in storeys:
+        if met and rule.get("level") is not None and rule["level"] not in storeys:
             found.append(f"rule {place}: no storey has the name {rule['level']!r}")
         if any(hides(earlier, rule) for earlier in rules[:place]):
             found.append(f"rule {place}: an earlier rule fits all that it fits")

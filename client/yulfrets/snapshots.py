@@ -10,7 +10,7 @@ from dataclasses import dataclass
 from .bcf_topics import Box
 from .cameras import Camera, corners, joined, size
 
-WIDTH, HEIGHT, FINE = 640, 480, 2
+WIDTH, HEIGHT, FINE, MOST_COLORS = 640, 480, 2, 128
 Color = tuple[int, int, int]
 BACKGROUND: Color = (250, 250, 250)
 SURROUNDINGS: Color = (222, 226, 230)
@@ -129,7 +129,9 @@ def snapshot(solids: Sequence[Solid], around: Sequence[Box], camera: Camera) -> 
             draw.polygon(face.points, fill=(*face.color, 255 if place == 0 else SHINING))
             draw.line([*face.points, face.points[0]], fill=EDGE, width=FINE)
     stored = io.BytesIO()
-    image.resize((WIDTH, HEIGHT), Image.LANCZOS).save(stored, "PNG")
+    # with a palette a picture has a third of the bytes
+    smaller = image.resize((WIDTH, HEIGHT), Image.LANCZOS).quantize(MOST_COLORS)
+    smaller.save(stored, "PNG", optimize=True)
     return stored.getvalue()
 
 

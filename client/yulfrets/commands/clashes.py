@@ -5,7 +5,7 @@ from __future__ import annotations
 from dataclasses import dataclass
 
 from ..compare import Difference, difference, elements_of, pair_key
-from ..console import Cell
+from ..console import Cell, counted
 from ..context import Context
 from ..errors import ExitStatus
 from ..records import Clash
@@ -68,7 +68,7 @@ def write_files(context: Context, head: list[str], rows: list[list[Cell]], title
         context.console.table(head, rows, whole=words.all, narrow=NARROW)
     for path in (words.csv, words.xlsx):
         if path and path != "-":
-            context.console.say(f"{path}: {len(rows)} rows")
+            context.console.say(f"{path}: {counted(len(rows), 'row')}")
 
 
 def with_base(context: Context, found: Found, elements: Elements) -> Elements:
@@ -102,7 +102,7 @@ def run(context: Context) -> int:
     else:
         print_clashes(context, found, elements_of(context.project.version(found.version)))
     if context.words.csv != "-":
-        line = f"version {found.version}: {found.total} clashes"
+        line = f"version {found.version}: {counted(found.total, 'clash')}"
         if found.changes:
             line += f", {len(found.changes.new)} new and {len(found.changes.gone)} gone"
             line += f" since version {found.base}"

@@ -8,6 +8,7 @@ from ..bcf_export import Scene, camera_of, picture_of, rename, whole_topics
 from ..bcf_topics import Topic
 from ..bcf_write import write_bcf
 from ..cameras import Camera
+from ..console import counted
 from ..context import Context
 from ..errors import ExitStatus
 from ..snapshots import has_pil
@@ -54,8 +55,10 @@ def run(context: Context) -> int:
         "snapshots": sum(view.snapshot is not None for view in views),
     }
     context.console.say(
-        f"{target}: BCF {summary['bcf_version']}, {summary['topics']} topics, {summary['comments']}"
-        f" comments, {summary['viewpoints']} viewpoints, {summary['snapshots']} snapshots"
+        f"{target}: BCF {summary['bcf_version']}, {counted(len(topics), 'topic')},"
+        f" {counted(sum(len(topic.comments) for topic in topics), 'comment')},"
+        f" {counted(len(views), 'viewpoint')},"
+        f" {counted(sum(view.snapshot is not None for view in views), 'snapshot')}"
     )
     context.console.give(summary)
     return ExitStatus.DONE

@@ -7,13 +7,14 @@ from pathlib import Path
 
 from ..bcf_import import Importer
 from ..bcf_read import BcfFile, read_bcf
+from ..console import counted
 from ..context import Context
 from ..errors import ExitStatus
 
 
 def note_not_kept(context: Context, not_kept: Counter[str]) -> None:
     """A line about what the server has no place for."""
-    parts = [f"{count} {kind}" for kind, count in sorted(not_kept.items()) if count]
+    parts = [f"{kind}: {count}" for kind, count in sorted(not_kept.items()) if count]
     if parts:
         context.console.note("not kept: " + ", ".join(parts))
 
@@ -23,8 +24,8 @@ def dry_run(context: Context, file: BcfFile) -> int:
     comments = sum(len(one.comments) for one in file.topics)
     views = sum(len(one.viewpoints) for one in file.topics)
     context.console.say(
-        f"{context.words.file}: BCF {file.version}, {len(file.topics)} topics, {comments} comments,"
-        f" {views} viewpoints; nothing was sent"
+        f"{context.words.file}: BCF {file.version}, {counted(len(file.topics), 'topic')},"
+        f" {counted(comments, 'comment')}, {counted(views, 'viewpoint')}; nothing was sent"
     )
     record = {"bcf_version": file.version, "topics": len(file.topics), "comments": comments}
     not_kept = {kind: count for kind, count in sorted(file.not_kept.items()) if count}
@@ -45,8 +46,9 @@ def run(context: Context) -> int:
     with context.console.progress(Path(words.file).name) as progress:
         done = importer.all(file.topics, progress)
     context.console.say(
-        f"{words.file}: {done.made} topics made, {done.updated} updated, {done.there} were there;"
-        f" {done.comments} comments and {done.viewpoints} viewpoints added"
+        f"{words.file}: {counted(done.made, 'topic')} made, {done.updated} updated,"
+        f" {done.there} there before; {counted(done.comments, 'comment')} and"
+        f" {counted(done.viewpoints, 'viewpoint')} added"
     )
     if done.there and not words.update:
         context.console.note("add --update to bring topics that were there up to date")

@@ -10,6 +10,7 @@ from pathlib import Path
 from typing import Any
 
 from ..compare import Difference, difference, elements_of
+from ..console import counted
 from ..context import Context
 from ..convert import MENDED, Converted, convert, converter, left_out
 from ..errors import ExitStatus, Failure, FileFault, Refused
@@ -118,19 +119,21 @@ def push_one(context: Context, source: Source, pushed: list[Pushed]) -> None:
 
 
 def note_older_parts(context: Context, version: Version, pushed: list[Pushed]) -> None:
-    """Names the models that an earlier push of the same files left under other names."""
+    """Names the models that an earlier conversion of the same files left under other names."""
     now = {one.source.name for one in pushed}
+    converted = {one.source.name for one in pushed if one.converted}
+    bases = {re.sub(r"\.\d+$", "", name) for name in converted}
     for name in sorted(one["name"] for one in version["models"]):
-        for base in {re.sub(r"\.\d+$", "", one) for one in now if name not in now}:
-            if re.fullmatch(re.escape(base) + r"(\.\d+)?", name):
-                context.console.note(f"the project still has {name}: yulfrets remove {name}")
+        if name not in now and re.sub(r"\.\d+$", "", name) in bases:
+            context.console.note(f"the project still has {name}: yulfrets remove {name}")
 
 
 def said_of(pushed: Pushed) -> str:
     """A line about a file that was uploaded."""
     changed = pushed.changed
-    line = f"version {changed['version']}: {pushed.source.name}, {changed['elements']} elements"
-    line += f", {changed['triangles']} triangles"
+    line = f"version {changed['version']}: {pushed.source.name}, "
+    line += counted(changed["elements"], "element")
+    line += ", " + counted(changed["triangles"], "triangle")
     if pushed.converted:
         line += ", converted" + (
             "" if pushed.converted.whole else " (some is left out or in doubt)"
@@ -146,14 +149,16 @@ def end_words(clash: Clash, end: str, elements: Elements) -> str:
     return f"{record['model']} {kind} {name}{storey} {record['guid']}"
 
 
-def print_list(context: Context, title: str, clashes: list[Clash], elements: Elements) -> None:
-    """Some clashes, a line each."""
+def print_list(
+    context: Context, title: str, clashes: list[Clash], elements: Elements, rest: str
+) -> None:
+    """Some clashes, a line each, and where the rest is to be had."""
     context.console.say(f"{title}: {len(clashes)}")
     for clash in clashes[:SHOWN]:
         first, second = (end_words(clash, end, elements) for end in ("a", "b"))
         context.console.say(f"  {first} - {second}")
     if len(clashes) > SHOWN:
-        context.console.say(f"  and {len(clashes) - SHOWN} more: yulfrets clashes --new --all")
+        context.console.say(f"  and {len(clashes) - SHOWN} more: {rest}")
 
 
 def report_difference(
@@ -165,14 +170,16 @@ def report_difference(
     version = context.project.version(number)
     note_older_parts(context, version, pushed)
     elements, old = elements_of(version), elements_of(before)
+    base = before["version"]
     context.console.say(
-        f"clashes of version {number}: {len(clashes)}, compared with version {before['version']}:"
+        f"clashes of version {number}: {len(clashes)}, compared with version {base}:"
     )
-    print_list(context, "new", changes.new, elements)
-    print_list(context, "gone", changes.gone, {**elements, **old})
+    rest = f"yulfrets clashes --version {number} --since {base} --all"
+    print_list(context, "new", changes.new, elements, rest)
+    print_list(context, "gone", changes.gone, {**elements, **old}, f"{rest} --json")
     context.console.give(
         {
-            "base": before["version"],
+            "base": base,
             "version": number,
             "pushed": [one.as_json() for one in pushed],
             "total": len(clashes),

@@ -8,6 +8,7 @@ from pathlib import Path
 from ..bcf_export import Scene, camera_of, picture_of, whole_topics
 from ..bcf_topics import Component, Topic, Viewpoint
 from ..compare import Difference, elements_of
+from ..console import counted
 from ..context import Context
 from ..errors import ExitStatus, FileFault
 from ..records import Clash, Version
@@ -101,9 +102,8 @@ def run(context: Context) -> int:
     except OSError as fault:
         raise FileFault(f"{target}: {fault.strerror}") from fault
     size = target.stat().st_size
-    context.console.say(
-        f"{target}: {len(cards)} clashes, {len(report.topics)} topics, {size // 1024} KiB"
-    )
+    parts = counted(len(cards), "clash"), counted(len(report.topics), "topic")
+    context.console.say(f"{target}: {', '.join(parts)}, {size // 1024} KiB")
     context.console.give(
         {"file": str(target), "clashes": len(cards), "topics": len(report.topics), "bytes": size}
     )

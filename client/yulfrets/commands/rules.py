@@ -5,6 +5,7 @@ from __future__ import annotations
 import json
 from pathlib import Path
 
+from ..console import counted
 from ..context import Context
 from ..errors import ExitStatus, FileFault
 from ..rules_file import read_rules, remarks, written
@@ -31,7 +32,7 @@ def run_put(context: Context) -> int:
     """Sets the rules that a file has, once they are checked."""
     rules = read_rules(Path(context.words.file))
     changed = context.project.put_rules(rules)
-    context.console.say(f"version {changed['version']}: {len(rules)} rules set")
+    context.console.say(f"version {changed['version']}: {counted(len(rules), 'rule')} set")
     context.console.give({"rules": len(rules), **changed})
     return ExitStatus.DONE
 
@@ -42,6 +43,8 @@ def run_check(context: Context) -> int:
     found = [] if context.words.offline else remarks(rules, context.project.version())
     for line in found:
         context.console.say(line)
-    context.console.say(f"{context.words.file}: {len(rules)} rules, {len(found)} remarks")
+    context.console.say(
+        f"{context.words.file}: {counted(len(rules), 'rule')}, {counted(len(found), 'remark')}"
+    )
     context.console.give({"rules": len(rules), "remarks": found})
     return ExitStatus.DONE

@@ -6,7 +6,7 @@ from typing import Any
 
 from ..api import projects
 from ..compare import Step, step
-from ..console import Cell
+from ..console import Cell, counted
 from ..context import Context
 from ..errors import ExitStatus
 from ..records import Version
@@ -74,6 +74,8 @@ def run_remove(context: Context) -> int:
     """Takes a model out of the project."""
     changed = context.project.delete_model(context.words.model)
     number, name = changed["version"], context.words.model
-    context.console.say(f"version {number}: without {name}, {changed['elements']} elements")
+    context.console.say(
+        f"version {number}: without {name}, {counted(changed['elements'], 'element')}"
+    )
     context.console.give(changed)
     return ExitStatus.DONE
