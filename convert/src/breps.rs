@@ -61,13 +61,20 @@ impl<'a> Shaper<'a> {
         Ok(())
     }
 
-    fn curved_face(&mut self, surface: u64, rings: Vec<Polygon>, same: bool, out: &mut Shape) -> Result<()> {
+    fn curved_face(
+        &mut self,
+        surface: u64,
+        rings: Vec<Polygon>,
+        same: bool,
+        out: &mut Shape,
+    ) -> Result<()> {
         let form = self.curved_surface(surface)?;
         let corners: usize = rings.iter().map(Vec::len).sum();
         self.work.spend(corners * 1000)?;
         let face = CurvedFace::new(&form, &rings, same);
         let before = out.surface.len();
-        face.cut(&mut out.surface).map_err(|fault| fault.at(surface))?;
+        face.cut(&mut out.surface)
+            .map_err(|fault| fault.at(surface))?;
         self.work.spend((out.surface.len() - before) * 20)
     }
 
@@ -165,7 +172,13 @@ impl<'a> Shaper<'a> {
         }
     }
 
-    fn conic_edge(&mut self, id: u64, start: Point3, end: Point3, forward: bool) -> Result<Vec<Point3>> {
+    fn conic_edge(
+        &mut self,
+        id: u64,
+        start: Point3,
+        end: Point3,
+        forward: bool,
+    ) -> Result<Vec<Point3>> {
         let (frame, a, b) = self.conic_frame(id)?;
         let angle = |point: Point3| {
             let own = frame.local(point);
@@ -191,7 +204,7 @@ fn outer_place(bounds: &[Bound]) -> Option<usize> {
             best = place;
         }
     }
-    (!bounds.is_empty()).then(|| best)
+    (!bounds.is_empty()).then_some(best)
 }
 
 /// The piece of a curve between two points on it; through its start where it is closed.
@@ -209,7 +222,8 @@ fn piece_between(path: Path, start: Point3, end: Point3, forward: bool) -> Vec<P
     }
     let (from, to) = (place_on(&points, start), place_on(&points, end));
     let inside = |low: f64, high: f64| {
-        let within = move |place: &usize| (*place as f64) > low + 1e-6 && (*place as f64) < high - 1e-6;
+        let within =
+            move |place: &usize| (*place as f64) > low + 1e-6 && (*place as f64) < high - 1e-6;
         (0..points.len()).filter(within).map(|place| points[place])
     };
     let mut piece = vec![start];

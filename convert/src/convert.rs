@@ -54,7 +54,11 @@ fn read(path: &Path) -> Result<File, Failure> {
     let bytes = fs::read(path).map_err(|error| wrong(format!("can't be read: {error}")))?;
     let file = File::read(bytes).map_err(|fault| wrong(fault.reason))?;
     if !is_read(&file.schema) {
-        let schema = if file.schema.is_empty() { "none" } else { &file.schema };
+        let schema = if file.schema.is_empty() {
+            "none"
+        } else {
+            &file.schema
+        };
         return Err(wrong(format!(
             "its schema is {schema}: export it as IFC2X3, IFC4 or IFC4X3"
         )));
@@ -106,7 +110,9 @@ impl<'a> Conversions<'a> {
                 self.units = units;
                 self.report.doubts.extend(doubt);
             }
-            Err(fault) => self.doubt(format!("the project's units can't be read, metres are taken: {fault}")),
+            Err(fault) => self.doubt(format!(
+                "the project's units can't be read, metres are taken: {fault}"
+            )),
         }
         for fault in &self.tree.faults {
             let doubt = format!("a relation can't be read: {fault}");
@@ -114,33 +120,48 @@ impl<'a> Conversions<'a> {
         }
         if self.file.doubled > 0 {
             let doubled = self.file.doubled;
-            self.doubt(format!("{doubled} instances have the number of another one: the first counts"));
+            self.doubt(format!(
+                "{doubled} instances have the number of another one: the first counts"
+            ));
         }
         for &id in &self.tree.conversions {
             match Conversion::of(self.file, id, &self.units) {
                 Ok(conversion) if self.map.is_none() => self.map = Some(conversion),
                 Ok(_) => self.doubt("the file has several map conversions: the first is taken"),
-                Err(fault) => self.doubt(format!("the map conversion #{id} can't be read: {fault}")),
+                Err(fault) => {
+                    self.doubt(format!("the map conversion #{id} can't be read: {fault}"))
+                }
             }
         }
         let scale = self.map.map_or(1.0, |map| map.scale);
         if (scale - 1.0).abs() > 1e-9 {
-            self.doubt(format!("the map's scale {scale} isn't applied: lengths stay those of the building"));
+            self.doubt(format!(
+                "the map's scale {scale} isn't applied: lengths stay those of the building"
+            ));
         }
         for (keyword, count) in &self.tree.skipped {
-            self.report.no_elements.insert(keyword.clone(), *count as u64);
+            self.report
+                .no_elements
+                .insert(keyword.clone(), *count as u64);
         }
     }
 
     fn shaper(&self) -> Shaper<'_> {
-        Shaper::new(self.file, self.tree, self.units, self.options.chord, &self.mapped)
+        Shaper::new(
+            self.file,
+            self.tree,
+            self.units,
+            self.options.chord,
+            &self.mapped,
+        )
     }
 
     /// The origin of the origin file; without one the file's own coordinates, moved where they are far from zero.
     fn choose_origin(&mut self) -> Result<(), Failure> {
         if let Some(path) = &self.options.origin_file {
             if path.exists() {
-                let wrong = |reason: String| Failure::NotRead(format!("{}: {reason}", path.display()));
+                let wrong =
+                    |reason: String| Failure::NotRead(format!("{}: {reason}", path.display()));
                 let text = fs::read_to_string(path).map_err(|error| wrong(error.to_string()))?;
                 self.origin = Origin::read(&text).map_err(|fault| wrong(fault.reason))?;
                 self.frame = self.origin.from_file(self.map.as_ref());
@@ -198,12 +219,17 @@ impl<'a> Conversions<'a> {
         let mut progress = Progress::new(tree.elements.len());
         let mut seen = HashSet::new();
         let mut failed = None;
-        let started = in_order(tree.elements.len(), options.jobs, worker, |place, outcome| {
-            if failed.is_none() {
-                failed = self.take(outcome, &mut seen).err();
-            }
-            progress.step(place + 1);
-        });
+        let started = in_order(
+            tree.elements.len(),
+            options.jobs,
+            worker,
+            |place, outcome| {
+                if failed.is_none() {
+                    failed = self.take(outcome, &mut seen).err();
+                }
+                progress.step(place + 1);
+            },
+        );
         progress.end();
         let failed = started.err().or(failed);
         match failed {
@@ -244,7 +270,12 @@ impl<'a> Conversions<'a> {
         });
     }
 
-    fn take_body(&mut self, id: u64, body: &Body, seen: &mut HashSet<Vec<u8>>) -> std::io::Result<()> {
+    fn take_body(
+        &mut self,
+        id: u64,
+        body: &Body,
+        seen: &mut HashSet<Vec<u8>>,
+    ) -> std::io::Result<()> {
         let values = self.file.arguments(id);
         let (guid, name) = match &values {
             Ok(values) => (values.get(0).text(), values.get(2).text()),
@@ -253,7 +284,8 @@ impl<'a> Conversions<'a> {
         let guid = match guid {
             Some(guid) if is_guid(guid) => guid.to_vec(),
             other => {
-                let reason = "its identifier isn't of 22 letters, digits, _ or $: another one is made";
+                let reason =
+                    "its identifier isn't of 22 letters, digits, _ or $: another one is made";
                 self.note(NoteKind::Doubt, id, reason);
                 made_guid(&[b"element ", id.to_string().as_bytes(), other.unwrap_or(b"")].concat())
             }
@@ -262,9 +294,15 @@ impl<'a> Conversions<'a> {
             self.leave_out(id, "its identifier is that of an element before");
             return Ok(());
         }
-        let fits = self.pack.as_ref().map_or(false, |pack| pack.fits_alone(body));
+        let fits = self
+            .pack
+            .as_ref()
+            .map_or(false, |pack| pack.fits_alone(body));
         if !fits {
-            self.leave_out(id, "it alone is beyond the limits of a file: simplify it in the office's program");
+            self.leave_out(
+                id,
+                "it alone is beyond the limits of a file: simplify it in the office's program",
+            );
             return Ok(());
         }
         let class = self.class_of(id);
@@ -328,7 +366,11 @@ impl<'a> Conversions<'a> {
                 high.z,
                 body.triangle_count,
                 body.volume / 1e9,
-                if body.counts.closed == 1 { "closed" } else { "open" }
+                if body.counts.closed == 1 {
+                    "closed"
+                } else {
+                    "open"
+                }
             ));
         }
     }
@@ -341,11 +383,15 @@ impl<'a> Conversions<'a> {
         };
         if self.report.elements > MOST_ELEMENTS {
             let count = self.report.elements;
-            self.doubt(format!("{count} elements: the server takes {MOST_ELEMENTS} in a version"));
+            self.doubt(format!(
+                "{count} elements: the server takes {MOST_ELEMENTS} in a version"
+            ));
         }
         if self.report.memberships > MOST_MEMBERSHIPS {
             let count = self.report.memberships;
-            self.doubt(format!("{count} memberships: the server takes {MOST_MEMBERSHIPS} in a version"));
+            self.doubt(format!(
+                "{count} memberships: the server takes {MOST_MEMBERSHIPS} in a version"
+            ));
         }
         let source = Source {
             file: self.file,
@@ -386,7 +432,10 @@ impl<'a> Conversions<'a> {
                 Some(note) => format!("no element could be converted: {}", note.reason),
                 None => "the file has no building or distribution element".to_string(),
             };
-            return Err(Failure::NotRead(format!("{}: {reason}", options.input.display())));
+            return Err(Failure::NotRead(format!(
+                "{}: {reason}",
+                options.input.display()
+            )));
         }
         Ok(self.report)
     }

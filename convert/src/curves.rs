@@ -5,7 +5,7 @@ use crate::part21::{Arguments, Value};
 use crate::shaper::Shaper;
 use crate::splines::Spline;
 use crate::trigonometry::{angle_of, sine_cosine, TURN};
-use crate::vector::{Frame, Point2, Point3};
+use crate::vector::{is_positive, Frame, Point2, Point3};
 
 /// Points nearer than this are one, in millimetres.
 pub(crate) const SAME: f64 = 1e-6;
@@ -64,7 +64,7 @@ impl Path {
     pub fn between(&self, first: f64, last: f64) -> Result<Path> {
         let (low, high) = self.span();
         let (from, to) = (first.min(last).max(low), first.max(last).min(high));
-        if self.points.len() < 2 || !(from < to) {
+        if self.points.len() < 2 || !is_positive(to - from) {
             return fail("a piece of a curve that has no length");
         }
         let mut piece = Path::default();
@@ -75,7 +75,11 @@ impl Path {
             }
         }
         piece.push(self.at_parameter(to)?.0, to);
-        Ok(if first <= last { piece } else { piece.reversed() })
+        Ok(if first <= last {
+            piece
+        } else {
+            piece.reversed()
+        })
     }
 
     fn push(&mut self, point: Point3, parameter: f64) {
@@ -91,7 +95,11 @@ impl Path {
         let behind = self.parameters.partition_point(|&own| own <= parameter);
         let k = behind.clamp(1, self.points.len() - 1);
         let (a, b) = (self.parameters[k - 1], self.parameters[k]);
-        let part = if b > a { (parameter - a) / (b - a) } else { 0.0 };
+        let part = if b > a {
+            (parameter - a) / (b - a)
+        } else {
+            0.0
+        };
         Ok(self.on_chord(k, part))
     }
 
@@ -104,7 +112,11 @@ impl Path {
         for k in 1..self.points.len() {
             let own = self.points[k].distance(self.points[k - 1]);
             if passed + own >= length || k + 1 == self.points.len() {
-                let part = if own > 0.0 { (length - passed) / own } else { 0.0 };
+                let part = if own > 0.0 {
+                    (length - passed) / own
+                } else {
+                    0.0
+                };
                 return Ok(self.on_chord(k, part));
             }
             passed += own;
@@ -121,7 +133,10 @@ impl Path {
 /// Adds points but those that repeat the last one.
 pub(crate) fn join(points: &mut Vec<Point3>, more: &[Point3]) {
     for &point in more {
-        if points.last().map_or(true, |last| last.distance(point) > SAME) {
+        if points
+            .last()
+            .map_or(true, |last| last.distance(point) > SAME)
+        {
             points.push(point);
         }
     }
@@ -154,15 +169,20 @@ impl<'a> Shaper<'a> {
                 Ok(Path::counted(points.collect::<Result<_>>()?))
             }
             "IFCINDEXEDPOLYCURVE" => self.indexed_curve(&values),
-            "IFCCOMPOSITECURVE" | "IFC2DCOMPOSITECURVE" | "IFCCOMPOSITECURVEONSURFACE"
-            | "IFCBOUNDARYCURVE" | "IFCOUTERBOUNDARYCURVE" => self.composite(&values),
+            "IFCCOMPOSITECURVE"
+            | "IFC2DCOMPOSITECURVE"
+            | "IFCCOMPOSITECURVEONSURFACE"
+            | "IFCBOUNDARYCURVE"
+            | "IFCOUTERBOUNDARYCURVE" => self.composite(&values),
             "IFCGRADIENTCURVE" => self.gradient(&values),
             "IFCCIRCLE" | "IFCELLIPSE" => self.conic(id, 0.0, TURN),
             "IFCTRIMMEDCURVE" => self.trimmed(&values),
             "IFCSURFACECURVE" | "IFCINTERSECTIONCURVE" | "IFCSEAMCURVE" => {
                 self.path(values.reference(0))
             }
-            "IFCBSPLINECURVEWITHKNOTS" | "IFCRATIONALBSPLINECURVEWITHKNOTS" | "IFCBEZIERCURVE"
+            "IFCBSPLINECURVEWITHKNOTS"
+            | "IFCRATIONALBSPLINECURVEWITHKNOTS"
+            | "IFCBEZIERCURVE"
             | "IFCRATIONALBEZIERCURVE" => {
                 let spline = self.spline(id)?;
                 let chord = self.chord;
@@ -207,8 +227,8 @@ impl<'a> Shaper<'a> {
         if square < 1e-12 {
             return vec![a, b, c];
         }
-        let centre = a
-            + (across.cross(u) * v.dot(v) + v.cross(across) * u.dot(u)) * (1.0 / (2.0 * square));
+        let centre =
+            a + (across.cross(u) * v.dot(v) + v.cross(across) * u.dot(u)) * (1.0 / (2.0 * square));
         let x = (a - centre).unit();
         let z = across.unit();
         let frame = Frame {
@@ -253,7 +273,7 @@ impl<'a> Shaper<'a> {
         } else {
             a
         };
-        if !(a > 0.0 && b > 0.0) {
+        if !(is_positive(a) && is_positive(b)) {
             return fail("a circle or an ellipse without a radius");
         }
         Ok((frame, a, b))
@@ -348,7 +368,13 @@ impl<'a> Shaper<'a> {
         }
     }
 
-    fn trimmed_line(&mut self, id: u64, from: &Trim, to: &Trim, by_parameter: bool) -> Result<Path> {
+    fn trimmed_line(
+        &mut self,
+        id: u64,
+        from: &Trim,
+        to: &Trim,
+        by_parameter: bool,
+    ) -> Result<Path> {
         let (start, way) = self.line(id)?;
         let step = way.length();
         let end = |trim: &Trim| match (trim.point, trim.parameter) {
@@ -579,7 +605,11 @@ pub(crate) fn numbers(values: &[Value<'_>]) -> Result<Vec<f64>> {
 }
 
 /// Knots, each as often as its multiplicity says.
-pub(crate) fn repeated_knots(values: &Arguments<'_>, counts: usize, knots: usize) -> Result<Vec<f64>> {
+pub(crate) fn repeated_knots(
+    values: &Arguments<'_>,
+    counts: usize,
+    knots: usize,
+) -> Result<Vec<f64>> {
     let knots = numbers(values.list(knots))?;
     let mut repeated = Vec::new();
     for (knot, count) in knots.iter().zip(values.list(counts)) {

@@ -82,14 +82,12 @@ impl<'a> Shaper<'a> {
             ..Outcome::default()
         };
         match self.cut_shape(id, setting, &mut outcome) {
-            Ok(Some(surface)) => match to_grid(
-                &surface,
-                &setting.frame,
-                f64::from(setting.per_millimetre),
-            ) {
-                Ok(gridded) => outcome.body = Some(Body::of(&gridded, setting, &surface)),
-                Err(fault) => outcome.note(NoteKind::LeftOut, fault),
-            },
+            Ok(Some(surface)) => {
+                match to_grid(&surface, &setting.frame, f64::from(setting.per_millimetre)) {
+                    Ok(gridded) => outcome.body = Some(Body::of(&gridded, setting, &surface)),
+                    Err(fault) => outcome.note(NoteKind::LeftOut, fault),
+                }
+            }
             Ok(None) => {}
             Err(fault) => outcome.note(NoteKind::LeftOut, fault),
         }
@@ -102,7 +100,7 @@ impl<'a> Shaper<'a> {
         let mut outcome = Outcome::default();
         let shape = self.own_shape(id, &mut outcome).ok()??;
         let bounds = Bounds::of_surface(&shape.surface);
-        bounds.diagonal().is_finite().then(|| bounds)
+        bounds.diagonal().is_finite().then_some(bounds)
     }
 
     /// The surface of an element with its openings cut; none where there is nothing to write.
@@ -124,7 +122,10 @@ impl<'a> Shaper<'a> {
             self.add(addition, &mut shape, outcome);
         }
         if shape.crossed > 0 {
-            let reason = format!("{} faces or profiles cross themselves: cut all the same", shape.crossed);
+            let reason = format!(
+                "{} faces or profiles cross themselves: cut all the same",
+                shape.crossed
+            );
             outcome.note(NoteKind::Doubt, Fault::new(reason).at(id));
         }
         if shape.surface.is_empty() {
@@ -226,7 +227,9 @@ impl<'a> Shaper<'a> {
             }
             if rank > 0 && rank == best {
                 let context = parts.reference(0);
-                found.items.extend(parts.references(3).map(|item| (item, context)));
+                found
+                    .items
+                    .extend(parts.references(3).map(|item| (item, context)));
             }
         }
         found.other = best < 3;
@@ -315,7 +318,11 @@ impl Outcome {
 
     /// The reason of the last note as a fault, or other words where there is none.
     fn last_reason(&mut self, other: &str) -> Fault {
-        match self.notes.iter().rposition(|note| note.kind == NoteKind::Partly) {
+        match self
+            .notes
+            .iter()
+            .rposition(|note| note.kind == NoteKind::Partly)
+        {
             Some(place) => {
                 let note = self.notes.remove(place);
                 Fault::new(note.reason).at(note.at)

@@ -21,7 +21,9 @@ impl Hasher for Mix {
     }
 
     fn write(&mut self, bytes: &[u8]) {
-        bytes.iter().for_each(|&byte| self.write_u64(u64::from(byte)));
+        bytes
+            .iter()
+            .for_each(|&byte| self.write_u64(u64::from(byte)));
     }
 
     fn write_i32(&mut self, number: i32) {
@@ -213,7 +215,9 @@ fn check(p: Point3) -> Result<()> {
         return fail("its shape has coordinates that are no numbers");
     }
     if p.x.abs().max(p.y.abs()).max(p.z.abs()) > FARTHEST - 1.0 {
-        return fail("it lies more than 800 m from the origin: give the project's origin by --origin-file");
+        return fail(
+            "it lies more than 800 m from the origin: give the project's origin by --origin-file",
+        );
     }
     Ok(())
 }
@@ -273,7 +277,10 @@ impl Gridded {
         let (low, high) = self.bounds();
         let (side, margin) = (4000 * per_millimetre, 1000 * per_millimetre);
         let cells = |low: i32, high: i32| {
-            let (first, last) = ((low - margin).div_euclid(side), (high + margin).div_euclid(side));
+            let (first, last) = (
+                (low - margin).div_euclid(side),
+                (high + margin).div_euclid(side),
+            );
             (last - first + 1) as u64
         };
         cells(low.0, high.0) * cells(low.1, high.1) * cells(low.2, high.2)
@@ -302,7 +309,13 @@ mod tests {
 
     #[test]
     fn halves_go_up_whatever_the_noise() {
-        let p = |x: f64| vec![Point3::new(x, 0.0, 0.0), Point3::new(x, 9.0, 0.0), Point3::new(x, 0.0, 9.0)];
+        let p = |x: f64| {
+            vec![
+                Point3::new(x, 0.0, 0.0),
+                Point3::new(x, 9.0, 0.0),
+                Point3::new(x, 0.0, 9.0),
+            ]
+        };
         for x in [12.5, 12.499_999_999_9, 12.500_000_000_1] {
             assert_eq!(grid_of(&[p(x)]).points[0].0, 13);
         }
@@ -312,7 +325,11 @@ mod tests {
 
     #[test]
     fn what_shrinks_or_repeats_is_left_out() {
-        let (a, b, c) = (Point3::ZERO, Point3::new(10.0, 0.0, 0.0), Point3::new(0.0, 10.0, 0.0));
+        let (a, b, c) = (
+            Point3::ZERO,
+            Point3::new(10.0, 0.0, 0.0),
+            Point3::new(0.0, 10.0, 0.0),
+        );
         let near = Point3::new(0.1, 0.1, 0.0);
         let gridded = grid_of(&[vec![a, b, c], vec![b, c, a], vec![a, near, b]]);
         assert_eq!(gridded.triangles.len(), 1);

@@ -42,7 +42,9 @@ where
                     }
                 }
             };
-            thread::Builder::new().stack_size(STACK).spawn_scoped(scope, work)?;
+            thread::Builder::new()
+                .stack_size(STACK)
+                .spawn_scoped(scope, work)?;
         }
         drop(results);
         let mut waiting = BTreeMap::new();
@@ -67,7 +69,10 @@ mod tests {
         for jobs in [1, 4] {
             let mut taken = Vec::new();
             let square = || |place: usize| place * place;
-            in_order(1000, jobs, square, |place, result| taken.push((place, result))).unwrap();
+            in_order(1000, jobs, square, |place, result| {
+                taken.push((place, result))
+            })
+            .unwrap();
             let wanted: Vec<(usize, usize)> = (0..1000).map(|k| (k, k * k)).collect();
             assert_eq!(taken, wanted);
         }

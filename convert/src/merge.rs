@@ -32,7 +32,10 @@ pub fn merge(surface: Surface, work: &mut Work) -> Surface {
 }
 
 fn triangles_of(pieces: &[Polygon]) -> usize {
-    pieces.iter().map(|piece| piece.len().saturating_sub(2)).sum()
+    pieces
+        .iter()
+        .map(|piece| piece.len().saturating_sub(2))
+        .sum()
 }
 
 /// The plane of a polygon by whole numbers, so that pieces of one plane have the same.
@@ -115,7 +118,10 @@ impl Plate {
         self.corners.push(corner);
         self.flat.push(flat);
         let place = self.corners.len() - 1;
-        cells.entry((cell(flat.x), cell(flat.y))).or_default().push(place);
+        cells
+            .entry((cell(flat.x), cell(flat.y)))
+            .or_default()
+            .push(place);
         place
     }
 
@@ -262,7 +268,10 @@ fn joined(pieces: &[Polygon], work: &mut Work) -> Option<Surface> {
     }
     let surface = cut_rings(&plate, rings)?;
     let normal = area_vector(&pieces[0]).unit();
-    let cut: f64 = surface.iter().map(|face| area_vector(face).dot(normal) / 2.0).sum();
+    let cut: f64 = surface
+        .iter()
+        .map(|face| area_vector(face).dot(normal) / 2.0)
+        .sum();
     if (cut - before).abs() > slack {
         return None;
     }
@@ -329,18 +338,48 @@ mod tests {
     fn pieced() -> Surface {
         let p = |x: f64, y: f64, z: f64| Point3::new(x, y, z);
         let quad = |x0: f64, y0: f64, x1: f64, y1: f64| {
-            vec![p(x0, y0, 10.0), p(x1, y0, 10.0), p(x1, y1, 10.0), p(x0, y1, 10.0)]
+            vec![
+                p(x0, y0, 10.0),
+                p(x1, y0, 10.0),
+                p(x1, y1, 10.0),
+                p(x0, y1, 10.0),
+            ]
         };
         vec![
             quad(0.0, 0.0, 4.0, 5.0),
             quad(4.0, 0.0, 10.0, 5.0),
             quad(0.0, 5.0, 6.0, 10.0),
             quad(6.0, 5.0, 10.0, 10.0),
-            vec![p(0., 0., 0.), p(0., 10., 0.), p(10., 10., 0.), p(10., 0., 0.)],
-            vec![p(0., 0., 0.), p(10., 0., 0.), p(10., 0., 10.), p(0., 0., 10.)],
-            vec![p(10., 0., 0.), p(10., 10., 0.), p(10., 10., 10.), p(10., 0., 10.)],
-            vec![p(10., 10., 0.), p(0., 10., 0.), p(0., 10., 10.), p(10., 10., 10.)],
-            vec![p(0., 10., 0.), p(0., 0., 0.), p(0., 0., 10.), p(0., 10., 10.)],
+            vec![
+                p(0., 0., 0.),
+                p(0., 10., 0.),
+                p(10., 10., 0.),
+                p(10., 0., 0.),
+            ],
+            vec![
+                p(0., 0., 0.),
+                p(10., 0., 0.),
+                p(10., 0., 10.),
+                p(0., 0., 10.),
+            ],
+            vec![
+                p(10., 0., 0.),
+                p(10., 10., 0.),
+                p(10., 10., 10.),
+                p(10., 0., 10.),
+            ],
+            vec![
+                p(10., 10., 0.),
+                p(0., 10., 0.),
+                p(0., 10., 10.),
+                p(10., 10., 10.),
+            ],
+            vec![
+                p(0., 10., 0.),
+                p(0., 0., 0.),
+                p(0., 0., 10.),
+                p(0., 10., 10.),
+            ],
         ]
     }
 

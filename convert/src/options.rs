@@ -74,7 +74,11 @@ pub fn parse(words: &[String]) -> Result<Options, String> {
             options.input = input;
             options.output = output;
         }
-        Err(_) => return Err(format!("two files are wanted, IN.ifc and OUT.ifc, not {count}")),
+        Err(_) => {
+            return Err(format!(
+                "two files are wanted, IN.ifc and OUT.ifc, not {count}"
+            ))
+        }
     }
     if options.input == options.output {
         return Err("IN.ifc and OUT.ifc are the same file".to_string());
@@ -127,7 +131,10 @@ impl Options {
 
 /// A whole number from 1 to a greatest one.
 fn whole(value: &str, most: u64) -> Option<u64> {
-    value.parse().ok().filter(|number| (1..=most).contains(number))
+    value
+        .parse()
+        .ok()
+        .filter(|number| (1..=most).contains(number))
 }
 
 #[cfg(test)]
@@ -140,7 +147,10 @@ mod tests {
 
     #[test]
     fn words_that_are_understood() {
-        let options = parse(&words("a.ifc b.ifc --grid 0.1 --jobs 4 --split class --report r")).unwrap();
+        let options = parse(&words(
+            "a.ifc b.ifc --grid 0.1 --jobs 4 --split class --report r",
+        ))
+        .unwrap();
         assert_eq!(options.per_millimetre, 10);
         assert_eq!(options.jobs, 4);
         assert_eq!(options.split, Split::Class);

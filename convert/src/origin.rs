@@ -4,7 +4,7 @@ use crate::fault::{fail, Result};
 use crate::part21::File;
 use crate::shaper::Shaper;
 use crate::units::{factor, Units};
-use crate::vector::{Bounds, Frame, Point3};
+use crate::vector::{is_positive, Bounds, Frame, Point3};
 
 /// Beyond this the coordinates of a model are moved, in millimetres; the server takes 800 metres.
 const FAR: f64 = 700_000.0;
@@ -29,7 +29,7 @@ impl Conversion {
         }
         let (x, y) = (values.number_or(5, 1.0)?, values.number_or(6, 0.0)?);
         let length = (x * x + y * y).sqrt();
-        if !(length > 0.0) {
+        if !is_positive(length) {
             return fail("a map conversion without a direction");
         }
         let origin = Point3::new(values.number(2)?, values.number(3)?, values.number(4)?);
@@ -58,10 +58,15 @@ pub struct Origin {
 impl Origin {
     /// Reads what `words` gives. Lines that begin with # are passed over.
     pub fn read(text: &str) -> Result<Origin> {
-        let lines = text.lines().filter(|line| !line.trim_start().starts_with('#'));
+        let lines = text
+            .lines()
+            .filter(|line| !line.trim_start().starts_with('#'));
         let words: Vec<&str> = lines.flat_map(str::split_whitespace).collect();
         let numbers: Vec<f64> = words.iter().filter_map(|word| word.parse().ok()).collect();
-        if words.len() != 5 || numbers.len() != 5 || numbers.iter().any(|number| !number.is_finite()) {
+        if words.len() != 5
+            || numbers.len() != 5
+            || numbers.iter().any(|number| !number.is_finite())
+        {
             return fail("the origin file hasn't five numbers: easting, northing, height, x and y of the direction");
         }
         let length = (numbers[3] * numbers[3] + numbers[4] * numbers[4]).sqrt();
@@ -111,7 +116,11 @@ impl Origin {
             let far = middle.x.abs().max(middle.y.abs()).max(middle.z.abs()) > FAR;
             if far {
                 let metre = |value: f64| (value / 1000.0).floor() * 1000.0;
-                let height = if middle.z.abs() > FAR { metre(middle.z) } else { 0.0 };
+                let height = if middle.z.abs() > FAR {
+                    metre(middle.z)
+                } else {
+                    0.0
+                };
                 origin = Point3::new(metre(middle.x), metre(middle.y), height);
             }
         }
@@ -127,7 +136,9 @@ impl<'a> Shaper<'a> {
         let mut at = context;
         for _ in 0..16 {
             match self.file.keyword(at) {
-                "IFCGEOMETRICREPRESENTATIONSUBCONTEXT" => at = self.file.arguments(at)?.reference(6),
+                "IFCGEOMETRICREPRESENTATIONSUBCONTEXT" => {
+                    at = self.file.arguments(at)?.reference(6)
+                }
                 "IFCGEOMETRICREPRESENTATIONCONTEXT" => {
                     let system = self.file.arguments(at)?.reference(4);
                     return self.axes(system);
@@ -146,7 +157,11 @@ mod tests {
     #[test]
     fn an_origin_is_read_as_it_was_written() {
         let origin = Origin {
-            frame: level_frame(Point3::new(458_123_456.0, 5_427_123_456.25, 112_000.0), 0.8, 0.6),
+            frame: level_frame(
+                Point3::new(458_123_456.0, 5_427_123_456.25, 112_000.0),
+                0.8,
+                0.6,
+            ),
         };
         let again = Origin::read(&origin.words()).unwrap();
         assert_eq!(again.frame, origin.frame);

@@ -149,7 +149,12 @@ impl Pack {
     }
 
     /// Writes the file, or its parts where it would be beyond the limits, and takes the spool away.
-    pub fn write(mut self, output: &Path, split: Split, source: &Source<'_>) -> io::Result<Vec<Written>> {
+    pub fn write(
+        mut self,
+        output: &Path,
+        split: Split,
+        source: &Source<'_>,
+    ) -> io::Result<Vec<Written>> {
         let result = self.write_files(output, split, source);
         let removed = fs::remove_file(&self.spool_path);
         let written = result?;
@@ -162,13 +167,22 @@ impl Pack {
         fs::remove_file(&self.spool_path)
     }
 
-    fn write_files(&mut self, output: &Path, split: Split, source: &Source<'_>) -> io::Result<Vec<Written>> {
+    fn write_files(
+        &mut self,
+        output: &Path,
+        split: Split,
+        source: &Source<'_>,
+    ) -> io::Result<Vec<Written>> {
         self.spool.flush()?;
         let groups = self.groups(split, source);
         let mut written = Vec::new();
         let several = groups.len() > 1;
         for (number, group) in groups.iter().enumerate() {
-            let path = if several { part_path(output, number + 1) } else { output.to_path_buf() };
+            let path = if several {
+                part_path(output, number + 1)
+            } else {
+                output.to_path_buf()
+            };
             written.push(self.write_file(path, group, source)?);
         }
         Ok(written)
@@ -184,7 +198,10 @@ impl Pack {
         let mut by_key: BTreeMap<(i64, String), Vec<usize>> = BTreeMap::new();
         for (place, piece) in self.pieces.iter().enumerate() {
             let key = match split {
-                Split::Storey => (source.elevation(piece.storey), format!("{:020}", piece.storey)),
+                Split::Storey => (
+                    source.elevation(piece.storey),
+                    format!("{:020}", piece.storey),
+                ),
                 Split::Class => (0, piece.class.to_string()),
             };
             by_key.entry(key).or_default().push(place);
@@ -213,7 +230,12 @@ impl Pack {
         groups
     }
 
-    fn write_file(&mut self, path: PathBuf, group: &[usize], source: &Source<'_>) -> io::Result<Written> {
+    fn write_file(
+        &mut self,
+        path: PathBuf,
+        group: &[usize],
+        source: &Source<'_>,
+    ) -> io::Result<Written> {
         let mut unfinished = path.as_os_str().to_os_string();
         unfinished.push(".part");
         let unfinished = PathBuf::from(unfinished);
@@ -231,7 +253,10 @@ impl Pack {
             }
             let copied = io::copy(&mut spool.take(piece.length), &mut out)?;
             if copied != piece.length {
-                return Err(io::Error::new(io::ErrorKind::UnexpectedEof, "the spool file was cut"));
+                return Err(io::Error::new(
+                    io::ErrorKind::UnexpectedEof,
+                    "the spool file was cut",
+                ));
             }
             at = piece.start + piece.length;
             bytes += piece.length;
@@ -247,7 +272,10 @@ impl Pack {
             path,
             bytes: bytes + end.len() as u64,
             elements: group.len(),
-            triangles: group.iter().map(|&place| self.pieces[place].triangles).sum(),
+            triangles: group
+                .iter()
+                .map(|&place| self.pieces[place].triangles)
+                .sum(),
         })
     }
 }
@@ -258,7 +286,9 @@ fn values_of(body: &Body) -> u64 {
 
 /// `model.ifc` becomes `model.1.ifc`.
 fn part_path(output: &Path, number: usize) -> PathBuf {
-    let name = output.file_name().map_or_else(String::new, |name| name.to_string_lossy().into_owned());
+    let name = output
+        .file_name()
+        .map_or_else(String::new, |name| name.to_string_lossy().into_owned());
     let stem = name.strip_suffix(".ifc").unwrap_or(&name);
     output.with_file_name(format!("{stem}.{number}.ifc"))
 }

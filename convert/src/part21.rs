@@ -49,7 +49,7 @@ impl<'a> Value<'a> {
     /// A whole number that isn't negative; one that is too great counts nothing in any list.
     pub fn index(&self) -> Result<usize> {
         let number = self.number()?;
-        if number < 0.0 || number > 4e9 {
+        if !(0.0..=4e9).contains(&number) {
             return fail("an index that counts nothing");
         }
         Ok(number as usize)
@@ -309,9 +309,7 @@ impl File {
         let mut scan = self.scan_at(id)?;
         scan.at += 1;
         scan.skip_blanks();
-        scan.row()
-            .map(|row| row.0)
-            .map_err(|fault| fault.at(id))
+        scan.row().map(|row| row.0).map_err(|fault| fault.at(id))
     }
 
     /// The rows of an instance whose first value is a list of rows of numbers: a list of points.
@@ -653,7 +651,9 @@ mod tests {
 
     #[test]
     fn values_of_every_kind() {
-        let file = file("#7=ifcwall('a''b;',$,*,.T.,#12,(1.,-2.E1),IFCLABEL('x'),\"0A\",/* ; */3);\n").unwrap();
+        let file =
+            file("#7=ifcwall('a''b;',$,*,.T.,#12,(1.,-2.E1),IFCLABEL('x'),\"0A\",/* ; */3);\n")
+                .unwrap();
         assert_eq!(file.schema, "IFC4");
         assert_eq!(file.keyword(7), "IFCWALL");
         let values = file.arguments(7).unwrap();
@@ -683,7 +683,8 @@ mod tests {
 
     #[test]
     fn rows_of_numbers() {
-        let file = file("#1=P((1.,2.));\n#2=L(((1.,2.,3.),(4.,5.,6.)));\n#3=T(#2,$,((7,8,9)));\n").unwrap();
+        let file = file("#1=P((1.,2.));\n#2=L(((1.,2.,3.),(4.,5.,6.)));\n#3=T(#2,$,((7,8,9)));\n")
+            .unwrap();
         assert_eq!(file.coordinates(1), Ok([1.0, 2.0, 0.0]));
         assert_eq!(file.rows(2).unwrap()[1], [4.0, 5.0, 6.0]);
         assert_eq!(file.rows_of(3, 2).unwrap(), vec![[7.0, 8.0, 9.0]]);
@@ -692,7 +693,13 @@ mod tests {
 
     #[test]
     fn files_that_are_none() {
-        for text in ["", "x", "ISO-10303-21;", "ISO-10303-21;DATA;#1=A('", "ISO-10303-21;#1 A();"] {
+        for text in [
+            "",
+            "x",
+            "ISO-10303-21;",
+            "ISO-10303-21;DATA;#1=A('",
+            "ISO-10303-21;#1 A();",
+        ] {
             assert!(File::read(text.as_bytes().to_vec()).is_err(), "{text}");
         }
         let nested = format!("#1=A({}1{});\n", "(".repeat(99), ")".repeat(99));

@@ -72,7 +72,11 @@ impl<'a> Shaper<'a> {
             id => Some(self.direction(id)?),
         };
         if keyword.contains("2D") {
-            let y_scale = if uneven { values.number_or(4, scale)? } else { scale };
+            let y_scale = if uneven {
+                values.number_or(4, scale)?
+            } else {
+                scale
+            };
             let mut x = x.unwrap_or(Point3::X);
             x.z = 0.0;
             let frame = Frame::of_axes(origin, Point3::Z, Some(x));
@@ -248,7 +252,11 @@ impl<'a> Shaper<'a> {
         }?;
         let level = Point3::new(along.x, along.y, 0.0);
         let x = along.unit();
-        let y = Point3::Z.cross(if level.length() > 1e-9 { level } else { Point3::X });
+        let y = Point3::Z.cross(if level.length() > 1e-9 {
+            level
+        } else {
+            Point3::X
+        });
         let y = y.unit();
         let z = x.cross(y);
         let left = self.length_or(&values, 1, 0.0)?;
@@ -261,7 +269,8 @@ impl<'a> Shaper<'a> {
     /// The frame turned about an axis by an angle in radians.
     pub(crate) fn turned(origin: Point3, axis: Point3, angle: f64) -> Frame {
         let (sine, cosine) = sine_cosine(angle);
-        let turn = |p: Point3| p * cosine + axis.cross(p) * sine + axis * (axis.dot(p) * (1.0 - cosine));
+        let turn =
+            |p: Point3| p * cosine + axis.cross(p) * sine + axis * (axis.dot(p) * (1.0 - cosine));
         let mut frame = Frame {
             x: turn(Point3::X),
             y: turn(Point3::Y),

@@ -131,8 +131,11 @@ fn corner_in_sight(
     hit: Point2,
 ) -> usize {
     let end = points[outline[edge_end]];
+    if hit.distance(end) < 1e-9 {
+        return facing(points, outline, from, edge_end);
+    }
     let mut pick = edge_end;
-    let mut least = f64::INFINITY;
+    let mut least = (f64::INFINITY, 0.0);
     for (k, &place) in outline.iter().enumerate() {
         let corner = points[place];
         if k == edge_end || corner == end || corner.x < from.x {
@@ -145,13 +148,36 @@ fn corner_in_sight(
         ];
         if sides.iter().all(|&side| side >= 0.0) || sides.iter().all(|&side| side <= 0.0) {
             let slope = (corner.y - from.y).abs() / (corner.x - from.x).max(1e-12);
-            if slope < least {
-                least = slope;
+            let near = corner.distance(from);
+            if slope < least.0 || (slope == least.0 && near < least.1) {
+                least = (slope, near);
                 pick = k;
             }
         }
     }
-    pick
+    facing(points, outline, from, pick)
+}
+
+/// Of the places of an outline at one corner (bridges meet there) the one whose inside faces a point.
+fn facing(points: &[Point2], outline: &[usize], from: Point2, pick: usize) -> usize {
+    let corner = points[outline[pick]];
+    let count = outline.len();
+    let faces = |k: &usize| {
+        let before = points[outline[(*k + count - 1) % count]];
+        let behind = points[outline[(*k + 1) % count]];
+        let in_front = [
+            turn(before, corner, from) > 0.0,
+            turn(corner, behind, from) > 0.0,
+        ];
+        if turn(before, corner, behind) > 0.0 {
+            in_front[0] && in_front[1]
+        } else {
+            in_front[0] || in_front[1]
+        }
+    };
+    let alike = (0..count).filter(|&k| points[outline[k]] == corner);
+    let mut alike = alike.filter(faces);
+    alike.next().unwrap_or(pick)
 }
 
 /// Cuts ears off an outline.
@@ -174,7 +200,9 @@ impl<'p> Cutter<'p> {
         let count = corners.len();
         let start = corners[0];
         let reach = corners.iter().fold(0.0_f64, |reach, corner| {
-            reach.max((corner.x - start.x).abs()).max((corner.y - start.y).abs())
+            reach
+                .max((corner.x - start.x).abs())
+                .max((corner.y - start.y).abs())
         });
         Cutter {
             corners,
@@ -192,11 +220,12 @@ impl<'p> Cutter<'p> {
         let mut at = 0;
         let mut tried = 0;
         while self.left > 3 {
-            if self.is_free(at) {
+            // Where no corner is free, one that others touch, or a flat one, is taken.
+            let strict = tried < self.left;
+            if self.is_free(at, strict) {
                 at = self.remove(at);
                 tried = 0;
-            } else if tried > self.left {
-                self.fine = false;
+            } else if tried > 2 * self.left {
                 let widest = self.widest(at);
                 at = self.remove(widest);
                 tried = 0;
@@ -208,13 +237,12 @@ impl<'p> Cutter<'p> {
         self.push(at);
     }
 
+    /// Where all triangles turn left they cover the polygon once, and nothing else.
     fn push(&mut self, at: usize) {
+        self.fine &= self.turn_at(at) >= -self.flat;
         let (before, behind) = (self.before[at], self.behind[at]);
-        self.triangles.push([
-            self.places[before],
-            self.places[at],
-            self.places[behind],
-        ]);
+        self.triangles
+            .push([self.places[before], self.places[at], self.places[behind]]);
     }
 
     /// Cuts a corner off; gives the corner two further on.
@@ -235,14 +263,12 @@ impl<'p> Cutter<'p> {
         )
     }
 
-    /// Whether no other corner lies in the triangle at this one, or the triangle has no area.
-    fn is_free(&self, at: usize) -> bool {
+    /// Whether no other corner lies in the triangle at this one: strictly, none on its edges either; else also where
+    /// the triangle has no area.
+    fn is_free(&self, at: usize, strict: bool) -> bool {
         let area = self.turn_at(at);
-        if area.abs() <= self.flat {
-            return true;
-        }
-        if area < 0.0 {
-            return false;
+        if area <= self.flat {
+            return !strict && area >= -self.flat;
         }
         let (a, b, c) = (
             self.corners[self.before[at]],
@@ -262,7 +288,7 @@ impl<'p> Cutter<'p> {
                 continue;
             }
             let least = turn(a, b, p).min(turn(b, c, p)).min(turn(c, a, p));
-            if least >= -self.flat {
+            if (strict && least >= -self.flat) || least > self.flat {
                 return false;
             }
         }

@@ -6,7 +6,7 @@ use crate::part21::Arguments;
 use crate::polygons::ring_area;
 use crate::shaper::Shaper;
 use crate::trigonometry::TURN;
-use crate::vector::{Frame, Point2, Point3};
+use crate::vector::{is_positive, Frame, Point2, Point3};
 
 /// An outline and its holes.
 #[derive(Clone, Debug, Default)]
@@ -155,7 +155,7 @@ impl<'a> Shaper<'a> {
     }
 
     pub(crate) fn oval(&self, a: f64, b: f64) -> Result<Vec<Point2>> {
-        if !(a > 0.0 && b > 0.0) {
+        if !(is_positive(a) && is_positive(b)) {
             return fail("a circle or an ellipse without a radius");
         }
         let points = self.arc(&Frame::IDENTITY, a, b, 0.0, TURN).points;
@@ -169,7 +169,12 @@ impl<'a> Shaper<'a> {
     }
 
     /// A chain of points whose corners are rounded by arcs, as far as there is room for them.
-    pub(crate) fn rounded_chain(&self, points: &[Point3], radii: &[f64], closed: bool) -> Vec<Point3> {
+    pub(crate) fn rounded_chain(
+        &self,
+        points: &[Point3],
+        radii: &[f64],
+        closed: bool,
+    ) -> Vec<Point3> {
         let count = points.len();
         let mut out = Vec::new();
         for (k, (&corner, &radius)) in points.iter().zip(radii).enumerate() {
@@ -235,22 +240,22 @@ fn thickened(points: &[Point3], half: f64) -> Result<Vec<Point2>> {
     let mut chain = Vec::new();
     let level: Vec<Point3> = points.iter().map(|p| Point3::new(p.x, p.y, 0.0)).collect();
     join(&mut chain, &level);
-    if chain.len() < 2 || !(half > 0.0) {
+    if chain.len() < 2 || !is_positive(half) {
         return fail("a centre line without length or thickness");
     }
     let count = chain.len();
     let way = |k: usize| (chain[k + 1] - chain[k]).unit();
     let mut left = Vec::new();
     let mut right = Vec::new();
-    for k in 0..count {
+    for (k, &corner) in chain.iter().enumerate() {
         let before = way(k.saturating_sub(1).min(count - 2));
         let behind = way(k.min(count - 2));
         let middle = (before + behind).unit();
         let across = Point3::Z.cross(middle);
         let stretch = 1.0 / middle.dot(behind).max(0.2);
         let offset = across * (half * stretch);
-        left.push(chain[k] + offset);
-        right.push(chain[k] - offset);
+        left.push(corner + offset);
+        right.push(corner - offset);
     }
     right.reverse();
     left.append(&mut right);
@@ -263,7 +268,13 @@ fn rectangle(x: f64, y: f64, radius: f64) -> Vec<Corner> {
 }
 
 /// Of each pair the first is of the lower flange.
-fn i_shape(widths: [f64; 2], depth: f64, web: f64, flanges: [f64; 2], fillets: [f64; 2]) -> Vec<Corner> {
+fn i_shape(
+    widths: [f64; 2],
+    depth: f64,
+    web: f64,
+    flanges: [f64; 2],
+    fillets: [f64; 2],
+) -> Vec<Corner> {
     let ([b, c], [g, h], [r, s]) = (widths.map(|w| w / 2.0), flanges, fillets);
     let (d, t) = (depth / 2.0, web / 2.0);
     vec![

@@ -19,7 +19,11 @@ pub struct Progress {
 /// Whether what is printed as an error goes to a terminal.
 fn is_terminal() -> bool {
     match fs::read_link("/proc/self/fd/2") {
-        Ok(path) => path.starts_with("/dev/pts") || path.starts_with("/dev/tty") || path.starts_with("/dev/console"),
+        Ok(path) => {
+            path.starts_with("/dev/pts")
+                || path.starts_with("/dev/tty")
+                || path.starts_with("/dev/console")
+        }
         Err(_) => false,
     }
 }
@@ -46,7 +50,10 @@ impl Progress {
         let passed = self.start.elapsed().as_secs_f64();
         let left = passed / done.max(1) as f64 * (self.count - done) as f64;
         let percent = done * 100 / self.count.max(1);
-        eprint!("\r{percent:3} %  {done} of {} elements, {left:.0} s left   ", self.count);
+        eprint!(
+            "\r{percent:3} %  {done} of {} elements, {left:.0} s left   ",
+            self.count
+        );
         let _ = std::io::stderr().flush();
     }
 

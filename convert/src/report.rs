@@ -53,7 +53,10 @@ impl Report {
 
     /// How many elements are written without a part of them.
     pub fn partly(&self) -> usize {
-        let mut elements: Vec<u64> = self.of_kind(NoteKind::Partly).map(|note| note.element).collect();
+        let mut elements: Vec<u64> = self
+            .of_kind(NoteKind::Partly)
+            .map(|note| note.element)
+            .collect();
         elements.sort_unstable();
         elements.dedup();
         elements.len()
@@ -120,14 +123,20 @@ impl Report {
             ("items", &self.items),
         ] {
             out.object(name);
-            table.iter().for_each(|(word, count)| out.whole(word, *count));
+            table
+                .iter()
+                .for_each(|(word, count)| out.whole(word, *count));
             out.close();
         }
     }
 
     fn write_rounding(&self, facts: &Facts<'_>, out: &mut Json) {
         let counts = &self.counts;
-        let mean = if counts.corners > 0 { counts.way / counts.corners as f64 } else { 0.0 };
+        let mean = if counts.corners > 0 {
+            counts.way / counts.corners as f64
+        } else {
+            0.0
+        };
         out.object("rounding");
         out.number("grid_mm", 1.0 / f64::from(facts.per_millimetre));
         out.number("greatest_mm", millionths(counts.farthest));

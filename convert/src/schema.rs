@@ -133,7 +133,10 @@ mod tests {
     fn classes_by_keyword_and_type() {
         let classes = Classes::default();
         assert_eq!(classes.of("IFCWALL"), Some("WALL"));
-        assert_eq!(classes.of("IFCREINFORCINGBAR"), Some("BUILDINGELEMENTPROXY"));
+        assert_eq!(
+            classes.of("IFCREINFORCINGBAR"),
+            Some("BUILDINGELEMENTPROXY")
+        );
         assert_eq!(classes.of("IFCSPACE"), None);
         assert_eq!(
             classes.of_type("FLOWSEGMENT", "IFCPIPESEGMENTTYPE"),

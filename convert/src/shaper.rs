@@ -31,20 +31,27 @@ pub struct Shape {
 /// Mapped shapes that were made, for all threads.
 #[derive(Default)]
 pub struct Mapped {
-    shapes: Mutex<(HashMap<u64, Arc<Result<Shape>>>, usize)>,
+    kept: Mutex<Kept>,
+}
+
+#[derive(Default)]
+struct Kept {
+    shapes: HashMap<u64, Arc<Result<Shape>>>,
+    polygons: usize,
 }
 
 impl Mapped {
     pub fn get(&self, map: u64) -> Option<Arc<Result<Shape>>> {
-        let kept = self.shapes.lock().ok()?;
-        kept.0.get(&map).cloned()
+        let kept = self.kept.lock().ok()?;
+        kept.shapes.get(&map).cloned()
     }
 
     pub fn keep(&self, map: u64, shape: &Arc<Result<Shape>>) {
         let size = shape.as_ref().as_ref().map_or(0, |made| made.surface.len());
-        if let Ok(mut kept) = self.shapes.lock() {
-            if kept.1 + size <= KEPT_POLYGONS && kept.0.insert(map, shape.clone()).is_none() {
-                kept.1 += size;
+        if let Ok(mut kept) = self.kept.lock() {
+            let room = kept.polygons + size <= KEPT_POLYGONS;
+            if room && kept.shapes.insert(map, shape.clone()).is_none() {
+                kept.polygons += size;
             }
         }
     }
@@ -130,7 +137,12 @@ impl<'a> Shaper<'a> {
     }
 
     /// A length in millimetres, or nothing where there is none.
-    pub(crate) fn length_or(&self, values: &Arguments<'_>, place: usize, other: f64) -> Result<f64> {
+    pub(crate) fn length_or(
+        &self,
+        values: &Arguments<'_>,
+        place: usize,
+        other: f64,
+    ) -> Result<f64> {
         if values.has(place) {
             self.length(values.get(place))
         } else {

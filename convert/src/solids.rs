@@ -6,7 +6,7 @@ use crate::part21::Arguments;
 use crate::profiles::Profile;
 use crate::shaper::{Shape, Shaper};
 use crate::trigonometry::{sine_cosine, PI, TURN};
-use crate::vector::{Bounds, Frame, Point2, Point3, Surface};
+use crate::vector::{is_positive, Bounds, Frame, Point2, Point3, Surface};
 
 impl<'a> Shaper<'a> {
     /// Adds the shape of a representation item.
@@ -24,11 +24,13 @@ impl<'a> Shaper<'a> {
             }
             "IFCFACETEDBREPWITHVOIDS" | "IFCADVANCEDBREPWITHVOIDS" => {
                 self.shell(values.reference(0), out)?;
-                values.references(1).try_for_each(|void| self.shell(void, out))
+                values
+                    .references(1)
+                    .try_for_each(|void| self.shell(void, out))
             }
-            "IFCSHELLBASEDSURFACEMODEL" | "IFCFACEBASEDSURFACEMODEL" => {
-                values.references(0).try_for_each(|shell| self.shell(shell, out))
-            }
+            "IFCSHELLBASEDSURFACEMODEL" | "IFCFACEBASEDSURFACEMODEL" => values
+                .references(0)
+                .try_for_each(|shell| self.shell(shell, out)),
             "IFCCLOSEDSHELL" | "IFCOPENSHELL" | "IFCCONNECTEDFACESET" => self.shell(id, out),
             "IFCTRIANGULATEDFACESET" | "IFCTRIANGULATEDIRREGULARNETWORK" => {
                 self.triangulated(id, &values, out)
@@ -36,9 +38,7 @@ impl<'a> Shaper<'a> {
             "IFCPOLYGONALFACESET" => self.polygonal(&values, out),
             "IFCEXTRUDEDAREASOLID" | "IFCEXTRUDEDAREASOLIDTAPERED" => self.extruded(&values, out),
             "IFCREVOLVEDAREASOLID" | "IFCREVOLVEDAREASOLIDTAPERED" => self.revolved(&values, out),
-            "IFCSWEPTDISKSOLID" | "IFCSWEPTDISKSOLIDPOLYGONAL" => {
-                self.swept_disk(id, &values, out)
-            }
+            "IFCSWEPTDISKSOLID" | "IFCSWEPTDISKSOLIDPOLYGONAL" => self.swept_disk(id, &values, out),
             "IFCFIXEDREFERENCESWEPTAREASOLID" | "IFCSURFACECURVESWEPTAREASOLID" => {
                 self.swept_along(id, &values, out)
             }
@@ -135,8 +135,11 @@ impl<'a> Shaper<'a> {
     fn primitive(&mut self, id: u64, values: &Arguments<'a>, out: &mut Shape) -> Result<()> {
         let keyword = self.keyword(id);
         match keyword {
-            "IFCBLOCK" | "IFCRECTANGULARPYRAMID" | "IFCRIGHTCIRCULARCYLINDER"
-            | "IFCRIGHTCIRCULARCONE" | "IFCSPHERE" => {}
+            "IFCBLOCK"
+            | "IFCRECTANGULARPYRAMID"
+            | "IFCRIGHTCIRCULARCYLINDER"
+            | "IFCRIGHTCIRCULARCONE"
+            | "IFCSPHERE" => {}
             _ => return self.unknown(id),
         }
         let frame = self.axes(values.reference(0))?;
@@ -173,7 +176,7 @@ impl<'a> Shaper<'a> {
     }
 
     fn ball(&self, frame: &Frame, radius: f64) -> Result<Surface> {
-        if !(radius > 0.0) {
+        if !is_positive(radius) {
             return fail("a sphere without a radius");
         }
         let around = self.chords(radius, TURN);
@@ -187,7 +190,12 @@ impl<'a> Shaper<'a> {
         let mut surface = Surface::new();
         for row in 0..rows {
             for k in 0..around {
-                let quad = [at(row, k), at(row, k + 1), at(row + 1, k + 1), at(row + 1, k)];
+                let quad = [
+                    at(row, k),
+                    at(row, k + 1),
+                    at(row + 1, k + 1),
+                    at(row + 1, k),
+                ];
                 crate::sweeps::add_quad(quad, &mut surface);
             }
         }

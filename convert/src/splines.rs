@@ -2,7 +2,7 @@
 
 use crate::curves::Path;
 use crate::fault::{fail, Result};
-use crate::vector::Point3;
+use crate::vector::{is_positive, Point3};
 
 const MOST_DEGREE: usize = 24;
 const MOST_POINTS: usize = 100_000;
@@ -49,7 +49,7 @@ fn check_knots(degree: usize, count: usize, knots: &[f64]) -> Result<()> {
         return fail("a B-spline whose knots don't fit its points");
     }
     let rise = knots.windows(2).all(|pair| pair[0] <= pair[1]);
-    if !rise || !(knots[degree] < knots[count]) {
+    if !rise || !is_positive(knots[count] - knots[degree]) {
         return fail("a B-spline whose knots don't rise");
     }
     Ok(())
@@ -62,12 +62,22 @@ fn span_of(degree: usize, count: usize, knots: &[f64], parameter: f64) -> usize 
 }
 
 /// De Boor's rule over the points that act in a span.
-fn de_boor(degree: usize, knots: &[f64], span: usize, parameter: f64, acting: &mut [Weighted]) -> Weighted {
+fn de_boor(
+    degree: usize,
+    knots: &[f64],
+    span: usize,
+    parameter: f64,
+    acting: &mut [Weighted],
+) -> Weighted {
     for level in 1..=degree {
         for k in (level..=degree).rev() {
             let low = knots[span + k - degree];
             let high = knots[span + k + 1 - level];
-            let part = if high > low { (parameter - low) / (high - low) } else { 0.0 };
+            let part = if high > low {
+                (parameter - low) / (high - low)
+            } else {
+                0.0
+            };
             acting[k] = acting[k - 1].towards(acting[k], part);
         }
     }
@@ -82,9 +92,14 @@ fn distinct(knots: &[f64]) -> Vec<f64> {
 }
 
 impl Spline {
-    pub fn new(degree: usize, points: Vec<Point3>, weights: Vec<f64>, knots: Vec<f64>) -> Result<Spline> {
+    pub fn new(
+        degree: usize,
+        points: Vec<Point3>,
+        weights: Vec<f64>,
+        knots: Vec<f64>,
+    ) -> Result<Spline> {
         check_knots(degree, points.len(), &knots)?;
-        if weights.len() != points.len() || weights.iter().any(|&weight| !(weight > 0.0)) {
+        if weights.len() != points.len() || !weights.iter().all(|&weight| is_positive(weight)) {
             return fail("a B-spline whose weights don't fit its points");
         }
         let points = points.into_iter().zip(weights);
@@ -200,7 +215,10 @@ impl SplineSurface {
         }
         let mut points = Vec::with_capacity(counts[0] * counts[1]);
         for (row, own) in rows.iter().zip(&weights) {
-            if row.len() != counts[1] || own.len() != counts[1] || own.iter().any(|&weight| !(weight > 0.0)) {
+            if row.len() != counts[1]
+                || own.len() != counts[1]
+                || !own.iter().all(|&weight| is_positive(weight))
+            {
                 return fail("a B-spline surface whose rows don't fit");
             }
             points.extend(row.iter().zip(own).map(|(&point, &weight)| Weighted {

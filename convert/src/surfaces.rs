@@ -4,13 +4,13 @@
 //! between two lines each bound runs from the one to the other; what lies between two bounds becomes a strip, which is
 //! cut along q where the surface is curved that way too. Seams run along lines of p and so don't matter.
 
+use crate::curves::{numbers, repeated_knots};
 use crate::fault::{fail, Result};
 use crate::part21::Arguments;
-use crate::curves::{numbers, repeated_knots};
 use crate::shaper::Shaper;
 use crate::splines::{chords_between, SplineSurface};
 use crate::trigonometry::{angle_of, sine_cosine, PI, TURN};
-use crate::vector::{Frame, Point2, Point3, Polygon, Surface};
+use crate::vector::{is_positive, Frame, Point2, Point3, Polygon, Surface};
 
 /// Corners whose lines of p lie nearer than this (in millimetres on the surface) lie on one line.
 const SAME_LINE: f64 = 0.01;
@@ -20,10 +20,22 @@ enum Form {
     /// By a radius and a height above the frame's plane: p is the angle about the frame's z.
     Revolved { frame: Frame, side: Side },
     /// p is the minor angle and q the major one, about the frame's z.
-    Torus { frame: Frame, major: f64, minor: f64 },
+    Torus {
+        frame: Frame,
+        major: f64,
+        minor: f64,
+    },
     /// A chain of points moved along a direction: p is the length along the chain, q that along the direction.
-    Extruded { chain: Vec<Point3>, lengths: Vec<f64>, way: Point3 },
-    Spline { surface: SplineSurface, swapped: bool, samples: Vec<(f64, f64, Point3)> },
+    Extruded {
+        chain: Vec<Point3>,
+        lengths: Vec<f64>,
+        way: Point3,
+    },
+    Spline {
+        surface: SplineSurface,
+        swapped: bool,
+        samples: Vec<(f64, f64, Point3)>,
+    },
 }
 
 /// What is turned about an axis.
@@ -33,7 +45,10 @@ enum Side {
     /// A circle about the axis' origin: q is the latitude.
     Sphere { radius: f64 },
     /// A chain of radii and heights: q is the length along it.
-    Chain { points: Vec<Point2>, lengths: Vec<f64> },
+    Chain {
+        points: Vec<Point2>,
+        lengths: Vec<f64>,
+    },
 }
 
 /// A surface with what is needed to cut faces on it.
@@ -90,11 +105,15 @@ impl<'a> Shaper<'a> {
     }
 
     fn turned_line(&self, frame: Frame, radius: f64, growth: f64) -> Result<CurvedSurface> {
-        if !(radius >= 0.0) || (radius == 0.0 && growth == 0.0) {
+        if radius < 0.0 || !radius.is_finite() || (radius == 0.0 && growth == 0.0) {
             return fail("a cylinder or cone without a radius");
         }
         let pole = (growth != 0.0).then(|| -radius / growth);
-        let poles = if growth > 0.0 { [pole, None] } else { [None, pole] };
+        let poles = if growth > 0.0 {
+            [pole, None]
+        } else {
+            [None, pole]
+        };
         let size = radius.max(1.0);
         Ok(CurvedSurface {
             form: Form::Revolved {
@@ -112,7 +131,7 @@ impl<'a> Shaper<'a> {
     fn sphere(&mut self, values: &Arguments<'a>) -> Result<CurvedSurface> {
         let frame = self.axes(values.reference(0))?;
         let radius = self.length_at(values, 1)?;
-        if !(radius > 0.0) {
+        if !is_positive(radius) {
             return fail("a sphere without a radius");
         }
         Ok(CurvedSurface {
@@ -132,7 +151,7 @@ impl<'a> Shaper<'a> {
         let frame = self.axes(values.reference(0))?;
         let major = self.length_at(values, 1)?;
         let minor = self.length_at(values, 2)?;
-        if !(major > 0.0 && minor > 0.0) {
+        if !(is_positive(major) && is_positive(minor)) {
             return fail("a torus without a radius");
         }
         Ok(CurvedSurface {
@@ -193,7 +212,9 @@ impl<'a> Shaper<'a> {
         }
         let lengths = lengths_of(points.windows(2).map(|pair| pair[0].distance(pair[1])));
         let last = points.len() - 1;
-        let radius = points.iter().fold(1.0_f64, |most, p| most.max(p.x.min(1e6)));
+        let radius = points
+            .iter()
+            .fold(1.0_f64, |most, p| most.max(p.x.min(1e6)));
         let pole = |place: usize| (points[place].x < 1e-6).then(|| lengths[place]);
         Ok(CurvedSurface {
             period: [Some(TURN), None],
@@ -220,7 +241,7 @@ impl<'a> Shaper<'a> {
         let closed = chain[0].distance(chain[chain.len() - 1]) < 1e-3;
         let whole = lengths[lengths.len() - 1];
         Ok(CurvedSurface {
-            period: [closed.then(|| whole), None],
+            period: [closed.then_some(whole), None],
             poles: [None, None],
             left: true,
             size: 1.0,
@@ -240,7 +261,10 @@ impl<'a> Shaper<'a> {
             let points = row.list().iter().map(|point| self.point(point.reference()));
             rows.push(points.collect::<Result<Vec<Point3>>>()?);
         }
-        let knots = [repeated_knots(values, 7, 9)?, repeated_knots(values, 8, 10)?];
+        let knots = [
+            repeated_knots(values, 7, 9)?,
+            repeated_knots(values, 8, 10)?,
+        ];
         let weights = if self.keyword(id).starts_with("IFCRATIONAL") {
             let rows = values.list(12).iter();
             rows.map(|row| numbers(row.list())).collect::<Result<_>>()?
@@ -278,19 +302,32 @@ impl CurvedSurface {
             let (start, end) = ranges[1 - side];
             [0.0, 0.3, 0.7].iter().all(|part| {
                 let other = start + (end - start) * part;
-                let at = |own: f64| if side == 0 { surface.at(own, other) } else { surface.at(other, own) };
+                let at = |own: f64| {
+                    if side == 0 {
+                        surface.at(own, other)
+                    } else {
+                        surface.at(other, own)
+                    }
+                };
                 at(low).distance(at(high)) < 1e-3
             })
         };
         let swapped = closed(1) && !closed(0);
         let (p, q) = if swapped { (1, 0) } else { (0, 1) };
-        let lines = [spline_lines(&surface, p, chord), spline_lines(&surface, q, chord)];
+        let lines = [
+            spline_lines(&surface, p, chord),
+            spline_lines(&surface, q, chord),
+        ];
         let period = |side: usize| closed(side).then(|| ranges[side].1 - ranges[side].0);
         let periods = [period(p), period(q)];
         let mut samples = Vec::new();
         for &p in &sample_places(&lines[0]) {
             for &q in &sample_places(&lines[1]) {
-                let at = if swapped { surface.at(q, p) } else { surface.at(p, q) };
+                let at = if swapped {
+                    surface.at(q, p)
+                } else {
+                    surface.at(p, q)
+                };
                 samples.push((p, q, at));
             }
         }
@@ -302,7 +339,9 @@ impl CurvedSurface {
             }
         }
         let width = ranges[p].1 - ranges[p].0;
-        let reach = samples.iter().fold(0.0_f64, |far, sample| far.max(sample.2.distance(samples[0].2)));
+        let reach = samples.iter().fold(0.0_f64, |far, sample| {
+            far.max(sample.2.distance(samples[0].2))
+        });
         CurvedSurface {
             period: periods,
             poles: [None, None],
@@ -358,7 +397,12 @@ impl CurvedSurface {
     fn wrapped(&self, p: f64) -> f64 {
         match (&self.form, self.period[0]) {
             (Form::Extruded { .. }, Some(period)) if p > period => p - period,
-            (Form::Spline { surface, swapped, .. }, Some(period)) => {
+            (
+                Form::Spline {
+                    surface, swapped, ..
+                },
+                Some(period),
+            ) => {
                 let high = surface.range(usize::from(*swapped)).1;
                 if p > high {
                     p - period
@@ -382,7 +426,10 @@ impl CurvedSurface {
             Form::Torus { frame, major, .. } => {
                 let own = frame.local(point);
                 let radius = (own.x * own.x + own.y * own.y).sqrt();
-                (Some(angle_of(own.z, radius - major)), angle_of(own.y, own.x))
+                (
+                    Some(angle_of(own.z, radius - major)),
+                    angle_of(own.y, own.x),
+                )
             }
             Form::Extruded {
                 chain,
@@ -410,15 +457,23 @@ impl CurvedSurface {
         let (small_p, small_q) = ((high_p - low_p) * 1e-5, (high_q - low_q) * 1e-5);
         for _ in 0..20 {
             // Slopes by differences that stay inside of the ranges.
-            let next_p = if p + small_p > high_p { p - small_p } else { p + small_p };
-            let next_q = if q + small_q > high_q { q - small_q } else { q + small_q };
+            let next_p = if p + small_p > high_p {
+                p - small_p
+            } else {
+                p + small_p
+            };
+            let next_q = if q + small_q > high_q {
+                q - small_q
+            } else {
+                q + small_q
+            };
             let here = self.at(p, q);
             let by_p = (self.at(next_p, q) - here) * (1.0 / (next_p - p));
             let by_q = (self.at(p, next_q) - here) * (1.0 / (next_q - q));
             let off = point - here;
             let (a, b, c) = (by_p.dot(by_p), by_p.dot(by_q), by_q.dot(by_q));
             let determinant = a * c - b * b;
-            if !(determinant > 1e-12 * a * c) {
+            if determinant.is_nan() || determinant <= 1e-12 * a * c {
                 break;
             }
             let (e, f) = (off.dot(by_p), off.dot(by_q));
@@ -439,7 +494,9 @@ impl CurvedSurface {
 
     fn spline_ranges(&self) -> ((f64, f64), (f64, f64)) {
         match &self.form {
-            Form::Spline { surface, swapped, .. } => {
+            Form::Spline {
+                surface, swapped, ..
+            } => {
                 let side = usize::from(*swapped);
                 (surface.range(side), surface.range(1 - side))
             }
@@ -456,8 +513,20 @@ fn spline_lines(surface: &SplineSurface, side: usize, chord: f64) -> Lines {
         let mut count = 1;
         for part in [0.0, 0.25, 0.5, 0.75, 1.0] {
             let other = start + (end - start) * part;
-            let at = |own: f64| if side == 0 { surface.at(own, other) } else { surface.at(other, own) };
-            count = count.max(chords_between(pair[0], pair[1], chord, surface.degree(side), at));
+            let at = |own: f64| {
+                if side == 0 {
+                    surface.at(own, other)
+                } else {
+                    surface.at(other, own)
+                }
+            };
+            count = count.max(chords_between(
+                pair[0],
+                pair[1],
+                chord,
+                surface.degree(side),
+                at,
+            ));
         }
         let count = count.min(32);
         lines.extend((1..=count).map(|k| pair[0] + (pair[1] - pair[0]) * k as f64 / count as f64));
@@ -473,19 +542,32 @@ fn sample_places(lines: &Lines) -> Vec<f64> {
     };
     let step = (at.len() / 48).max(1);
     let mut places: Vec<f64> = at.iter().copied().step_by(step).collect();
-    places.extend(at.windows(2).step_by(step).map(|pair| (pair[0] + pair[1]) / 2.0));
+    places.extend(
+        at.windows(2)
+            .step_by(step)
+            .map(|pair| (pair[0] + pair[1]) / 2.0),
+    );
     places.sort_by(f64::total_cmp);
     places
 }
 
-fn locate_on_chain(chain: &[Point3], lengths: &[f64], way: Point3, point: Point3) -> (Option<f64>, f64) {
+fn locate_on_chain(
+    chain: &[Point3],
+    lengths: &[f64],
+    way: Point3,
+    point: Point3,
+) -> (Option<f64>, f64) {
     let mut best = (f64::INFINITY, 0.0, 0.0);
     for k in 1..chain.len() {
         let (a, b) = (chain[k - 1], chain[k]);
         let flat = |v: Point3| v - way * v.dot(way);
         let (along, off) = (flat(b - a), flat(point - a));
         let square = along.dot(along);
-        let part = if square > 0.0 { (off.dot(along) / square).clamp(0.0, 1.0) } else { 0.0 };
+        let part = if square > 0.0 {
+            (off.dot(along) / square).clamp(0.0, 1.0)
+        } else {
+            0.0
+        };
         let distance = (off - along * part).length();
         if distance < best.0 {
             let foot = a.towards(b, part);
@@ -520,7 +602,9 @@ impl Side {
             Side::Chain { points, lengths } => {
                 let flat: Vec<Point3> = points.iter().map(|p| Point3::new(p.x, p.y, 0.0)).collect();
                 let place = Point3::new(radius, height, 0.0);
-                locate_on_chain(&flat, lengths, Point3::Z, place).0.unwrap_or(0.0)
+                locate_on_chain(&flat, lengths, Point3::Z, place)
+                    .0
+                    .unwrap_or(0.0)
             }
         }
     }
@@ -585,7 +669,8 @@ impl<'s> CurvedFace<'s> {
             turned: surface.left != same,
         };
         for ring in rings {
-            let located: Vec<(Option<f64>, f64)> = ring.iter().map(|&p| surface.locate(p)).collect();
+            let located: Vec<(Option<f64>, f64)> =
+                ring.iter().map(|&p| surface.locate(p)).collect();
             for k in 0..ring.len() {
                 let next = (k + 1) % ring.len();
                 face.add(located[k], located[next], ring[k], ring[next]);
@@ -594,7 +679,13 @@ impl<'s> CurvedFace<'s> {
         face
     }
 
-    fn add(&mut self, from: (Option<f64>, f64), to: (Option<f64>, f64), start: Point3, end: Point3) {
+    fn add(
+        &mut self,
+        from: (Option<f64>, f64),
+        to: (Option<f64>, f64),
+        start: Point3,
+        end: Point3,
+    ) {
         let (p, next) = match (from.0, to.0) {
             (Some(p), Some(next)) => (p, next),
             _ => return, // from or to a pole: along a line of p
@@ -659,7 +750,11 @@ impl<'s> CurvedFace<'s> {
 
     /// The lines of p that the face is cut along.
     fn cuts(&self) -> Vec<f64> {
-        let mut cuts: Vec<f64> = self.pieces.iter().flat_map(|piece| [piece.from, piece.to]).collect();
+        let mut cuts: Vec<f64> = self
+            .pieces
+            .iter()
+            .flat_map(|piece| [piece.from, piece.to])
+            .collect();
         let slack = SAME_LINE / self.surface.size;
         if self.pieces.is_empty() {
             if let Some(period) = self.surface.period[0] {
@@ -699,7 +794,8 @@ impl<'s> CurvedFace<'s> {
             .collect();
         let fits = |turn: bool| {
             let lines = cuts.windows(2).zip(&strips);
-            let fit = lines.filter(|(pair, strip)| self.pairs([pair[0], pair[1]], strip, turn).is_some());
+            let fit =
+                lines.filter(|(pair, strip)| self.pairs([pair[0], pair[1]], strip, turn).is_some());
             fit.count()
         };
         let turn = fits(true) > fits(false);
@@ -743,12 +839,21 @@ impl<'s> CurvedFace<'s> {
     }
 
     /// The crossings in pairs between which the face lies; none where they don't fit so.
-    fn pairs(&self, lines: [f64; 2], strip: &[Crossing], turn: bool) -> Option<Vec<(Crossing, Crossing)>> {
+    fn pairs(
+        &self,
+        lines: [f64; 2],
+        strip: &[Crossing],
+        turn: bool,
+    ) -> Option<Vec<(Crossing, Crossing)>> {
         let opens = |crossing: &Crossing| crossing.opens != turn;
         let mut bounds = strip.to_vec();
         if strip.is_empty() {
             let whole = self.pieces.is_empty();
-            return if whole { self.whole_strip(lines) } else { Some(Vec::new()) };
+            return if whole {
+                self.whole_strip(lines)
+            } else {
+                Some(Vec::new())
+            };
         }
         if let Some(period) = self.surface.period[1] {
             if !opens(&bounds[0]) {
@@ -767,7 +872,10 @@ impl<'s> CurvedFace<'s> {
             return None;
         }
         let inner = &bounds[1..bounds.len() - 1];
-        let fit = inner.iter().enumerate().all(|(k, own)| opens(own) == (k % 2 == 1));
+        let fit = inner
+            .iter()
+            .enumerate()
+            .all(|(k, own)| opens(own) == (k % 2 == 1));
         if !fit {
             return None;
         }
@@ -814,7 +922,8 @@ impl<'s> CurvedFace<'s> {
         while k + 1 < left.len() || n + 1 < right.len() {
             let on_right = n + 1 < right.len()
                 && (k + 1 >= left.len() || right[n + 1].q <= left[k + 1].q + 1e-12);
-            let on_left = k + 1 < left.len() && (!on_right || left[k + 1].q <= right[n + 1].q + 1e-12);
+            let on_left =
+                k + 1 < left.len() && (!on_right || left[k + 1].q <= right[n + 1].q + 1e-12);
             let mut polygon = vec![left[k].at, right[n].at];
             if on_right {
                 n += 1;

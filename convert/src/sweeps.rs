@@ -78,7 +78,12 @@ impl<'a> Shaper<'a> {
         Ok(())
     }
 
-    pub(crate) fn swept_disk(&mut self, id: u64, values: &Arguments<'a>, out: &mut Shape) -> Result<()> {
+    pub(crate) fn swept_disk(
+        &mut self,
+        id: u64,
+        values: &Arguments<'a>,
+        out: &mut Shape,
+    ) -> Result<()> {
         let mut path = self.piece_of_path(values, 0, 3)?;
         if self.keyword(id) == "IFCSWEPTDISKSOLIDPOLYGONAL" && values.has(5) {
             let radius = self.length_at(values, 5)?;
@@ -94,11 +99,22 @@ impl<'a> Shaper<'a> {
         if inner > 0.0 && inner < radius {
             profile.holes.push(self.oval(inner, inner)?);
         }
-        self.sweep_along(&[profile], &path.points, &Guide::Free, &Frame::IDENTITY, out)
+        self.sweep_along(
+            &[profile],
+            &path.points,
+            &Guide::Free,
+            &Frame::IDENTITY,
+            out,
+        )
     }
 
     /// A solid swept along a curve by a fixed direction, or by the normals of a surface.
-    pub(crate) fn swept_along(&mut self, id: u64, values: &Arguments<'a>, out: &mut Shape) -> Result<()> {
+    pub(crate) fn swept_along(
+        &mut self,
+        id: u64,
+        values: &Arguments<'a>,
+        out: &mut Shape,
+    ) -> Result<()> {
         let frame = self.axes(values.reference(1))?;
         let path = self.piece_of_path(values, 2, 3)?;
         let guide = match self.keyword(id) {
@@ -113,7 +129,12 @@ impl<'a> Shaper<'a> {
     }
 
     /// The curve at a place, between the parameters at two further places if they are given.
-    fn piece_of_path(&mut self, values: &Arguments<'a>, curve: usize, first: usize) -> Result<Path> {
+    fn piece_of_path(
+        &mut self,
+        values: &Arguments<'a>,
+        curve: usize,
+        first: usize,
+    ) -> Result<Path> {
         let path = self.path(values.reference(curve))?;
         let (low, high) = match (path.parameters.first(), path.parameters.last()) {
             (Some(&low), Some(&high)) => (low, high),
@@ -159,7 +180,11 @@ impl<'a> Shaper<'a> {
     }
 
     /// A solid between profiles that are placed along a spine.
-    pub(crate) fn sectioned_spine(&mut self, values: &Arguments<'a>, out: &mut Shape) -> Result<()> {
+    pub(crate) fn sectioned_spine(
+        &mut self,
+        values: &Arguments<'a>,
+        out: &mut Shape,
+    ) -> Result<()> {
         let mut profiles = Vec::new();
         for id in values.references(1).collect::<Vec<u64>>() {
             match self.profiles(id)?.pop() {
@@ -226,7 +251,11 @@ impl<'a> Shaper<'a> {
         let own = |k: usize| &profiles[k.min(profiles.len() - 1)];
         for k in 0..(if joined { count } else { count - 1 }) {
             let next = (k + 1) % count;
-            add_sides((own(k), &frames[k]), (own(next), &frames[next]), &mut surface);
+            add_sides(
+                (own(k), &frames[k]),
+                (own(next), &frames[next]),
+                &mut surface,
+            );
         }
         if !joined {
             self.add_cap(own(0), &frames[0], true, &mut surface, out)?;
@@ -338,7 +367,11 @@ fn stations(chain: &[Point3], closed: bool, guide: &Guide) -> Vec<Frame> {
             0 => way(0),
             _ => way(k - 1),
         };
-        let behind = if k + 1 < count || closed { way(k) } else { before };
+        let behind = if k + 1 < count || closed {
+            way(k)
+        } else {
+            before
+        };
         if k == 0 && closed {
             x = before.across();
         }
@@ -348,7 +381,11 @@ fn stations(chain: &[Point3], closed: bool, guide: &Guide) -> Vec<Frame> {
             Guide::Each(directions) => x = directions[k.min(directions.len() - 1)],
         }
         let flat = x - before * x.dot(before);
-        x = if flat.length() > 1e-9 { flat.unit() } else { before.across() };
+        x = if flat.length() > 1e-9 {
+            flat.unit()
+        } else {
+            before.across()
+        };
         frames.push(mitred(chain[k], x, before, behind));
         x = carried(x, before, behind);
     }

@@ -27,7 +27,10 @@ impl Corners {
     }
 
     fn ring(&self, values: &[Value<'_>]) -> Result<Polygon> {
-        values.iter().map(|value| self.get(value.index()?)).collect()
+        values
+            .iter()
+            .map(|value| self.get(value.index()?))
+            .collect()
     }
 }
 
@@ -41,7 +44,12 @@ fn places(values: &[Value<'_>]) -> Result<Vec<usize>> {
 }
 
 impl<'a> Shaper<'a> {
-    pub(crate) fn triangulated(&mut self, id: u64, values: &Arguments<'a>, out: &mut Shape) -> Result<()> {
+    pub(crate) fn triangulated(
+        &mut self,
+        id: u64,
+        values: &Arguments<'a>,
+        out: &mut Shape,
+    ) -> Result<()> {
         let corners = Corners {
             points: self.points(values.reference(0))?,
             places: places(values.list(4))?,

@@ -7,7 +7,9 @@ pub fn is_guid(spelled: &[u8]) -> bool {
     spelled.len() == 24
         && spelled.first() == Some(&b'\'')
         && spelled.last() == Some(&b'\'')
-        && spelled[1..23].iter().all(|letter| ALPHABET.contains(letter))
+        && spelled[1..23]
+            .iter()
+            .all(|letter| ALPHABET.contains(letter))
 }
 
 /// An identifier that hangs on some words alone, as a text.

@@ -90,7 +90,11 @@ pub fn of_project(file: &File, project: u64) -> Result<(Units, Option<String>)> 
     if let Some(&first) = angles.first() {
         units.radians = first;
     }
-    let differ = |sizes: &[f64]| sizes.iter().any(|&size| (size / sizes[0] - 1.0).abs() > 1e-9);
+    let differ = |sizes: &[f64]| {
+        sizes
+            .iter()
+            .any(|&size| (size / sizes[0] - 1.0).abs() > 1e-9)
+    };
     let doubt = if differ(&lengths) || differ(&angles) {
         Some(format!(
             "the project has several units of length or angle: the first is taken, {} mm",

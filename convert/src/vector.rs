@@ -272,6 +272,11 @@ impl Bounds {
     }
 }
 
+/// Whether a length is one: above zero and finite.
+pub fn is_positive(length: f64) -> bool {
+    length > 0.0 && length.is_finite()
+}
+
 /// Twice the area of a polygon as a vector across it.
 pub fn area_vector(polygon: &[Point3]) -> Point3 {
     let mut sum = Point3::ZERO;
