@@ -8,7 +8,7 @@ from typing import Callable, Optional, Sequence
 
 from model import METRE, Model, conversion, listed, number, numbers
 
-Box = Optional[list[float]]
+Box = Optional[Sequence[float]]
 
 WALL = [0, 0, 0, 4000, 200, 3000]
 WALL_VOLUME = 2.4
@@ -279,8 +279,16 @@ def profile_voids() -> Case:
     return of_items("profile_voids", model, [solid], 1 - 0.09, CUBE)
 
 
-def measured(name: str, kind: str, sizes: Sequence[float], area: float, half: tuple[float, float], missing: int = 0,
-             off: float = EXACT, schema: str = "IFC4") -> None:
+def measured(
+    name: str,
+    kind: str,
+    sizes: Sequence[float],
+    area: float,
+    half: tuple[float, float],
+    missing: int = 0,
+    off: float = EXACT,
+    schema: str = "IFC4",
+) -> None:
     """A profile by its measures, raised by a metre; area in square metres, half its box in millimetres."""
 
     def make() -> Case:
@@ -308,8 +316,9 @@ measured("c_shape", "IFCCSHAPEPROFILEDEF", [200, 100, 10, 30], 0.01 * (0.2 + 2 *
 measured("z_shape", "IFCZSHAPEPROFILEDEF", [200, 100, 10, 20], 2 * 0.1 * 0.02 + 0.16 * 0.01, (95, 100), 2)
 measured("trapezium", "IFCTRAPEZIUMPROFILEDEF", [400, 200, 100, 100], 0.03, (200, 50))
 measured("rectangle_hollow", "IFCRECTANGLEHOLLOWPROFILEDEF", [200, 100, 10], 0.02 - 0.18 * 0.08, (100, 50), 2)
-measured("rounded_rectangle", "IFCROUNDEDRECTANGLEPROFILEDEF", [200, 100, 50],
-         0.01 + math.pi * 0.0025, (100, 50), off=ROUND)
+measured(
+    "rounded_rectangle", "IFCROUNDEDRECTANGLEPROFILEDEF", [200, 100, 50], 0.01 + math.pi * 0.0025, (100, 50), off=ROUND
+)
 
 
 @case
@@ -343,7 +352,7 @@ def tapered() -> Case:
     return of_items("tapered", model, [model.add(text)], (0.01 + 0.16 + 0.04) / 3, box)
 
 
-def revolved(name: str, angle: float, box: list[float]) -> None:
+def revolved(name: str, angle: float, box: Sequence[float]) -> None:
     def make() -> Case:
         model = Model()
         axis = model.add(f"IFCAXIS1PLACEMENT({model.origin},{model.direction(0, 1, 0)})")
@@ -358,8 +367,15 @@ revolved("revolved_full", 2 * math.pi, [-550, -50, -550, 550, 50, 550])
 revolved("revolved_quarter", math.pi / 2, [0, -50, -550, 550, 50, 0])
 
 
-def disk(name: str, points: Sequence[Sequence[float]], rest: str, length: float, box: list[float],
-         kind: str = "IFCSWEPTDISKSOLID", area: float = math.pi * 0.0025) -> None:
+def disk(
+    name: str,
+    points: Sequence[Sequence[float]],
+    rest: str,
+    length: float,
+    box: Sequence[float],
+    kind: str = "IFCSWEPTDISKSOLID",
+    area: float = math.pi * 0.0025,
+) -> None:
     def make() -> Case:
         model = Model()
         solid = model.add(f"{kind}({model.polyline(points)},50.,{rest})")
@@ -374,8 +390,14 @@ disk("swept_disk_level", [(0, 0, 0), (1000, 0, 0)], "$,$,$", 1, [0, -50, -50, 10
 disk("swept_disk_part", BENT, "$,0.5,1.5", 1, [-50, -50, 500, 500, 50, 1050])
 disk("swept_disk_hollow", BENT, "30.,$,$", 2, [-50, -50, 0, 1000, 50, 1050], area=math.pi * (0.0025 - 0.0009))
 # The corner is rounded by 200 mm: the way is shorter by 400 mm less a quarter of a circle.
-disk("swept_disk_polygonal", BENT, "$,$,$,200.", 2 - 0.4 + math.pi / 2 * 0.2, [-50, -50, 0, 1000, 50, 1050],
-     "IFCSWEPTDISKSOLIDPOLYGONAL")
+disk(
+    "swept_disk_polygonal",
+    BENT,
+    "$,$,$,200.",
+    2 - 0.4 + math.pi / 2 * 0.2,
+    [-50, -50, 0, 1000, 50, 1050],
+    "IFCSWEPTDISKSOLIDPOLYGONAL",
+)
 
 
 @case
@@ -414,14 +436,39 @@ def sectioned_spine() -> Case:
 
 # Breps and tessellations
 
-CORNERS = [(0, 0, 0), (1000, 0, 0), (1000, 1000, 0), (0, 1000, 0), (0, 0, 1000), (1000, 0, 1000),
-           (1000, 1000, 1000), (0, 1000, 1000)]
+CORNERS = [
+    (0, 0, 0),
+    (1000, 0, 0),
+    (1000, 1000, 0),
+    (0, 1000, 0),
+    (0, 0, 1000),
+    (1000, 0, 1000),
+    (1000, 1000, 1000),
+    (0, 1000, 1000),
+]
 FACES = [[[0, 3, 2, 1]], [[4, 5, 6, 7]], [[0, 1, 5, 4]], [[1, 2, 6, 5]], [[2, 3, 7, 6]], [[3, 0, 4, 7]]]
-TUNNEL = CORNERS + [(300, 300, 0), (700, 300, 0), (700, 700, 0), (300, 700, 0), (300, 300, 1000), (700, 300, 1000),
-                    (700, 700, 1000), (300, 700, 1000)]
-TUNNEL_FACES = [[[0, 3, 2, 1], [8, 9, 10, 11]], [[4, 5, 6, 7], [15, 14, 13, 12]], [[0, 1, 5, 4]], [[1, 2, 6, 5]],
-                [[2, 3, 7, 6]], [[3, 0, 4, 7]], [[8, 12, 13, 9]], [[9, 13, 14, 10]], [[10, 14, 15, 11]],
-                [[11, 15, 12, 8]]]
+TUNNEL = CORNERS + [
+    (300, 300, 0),
+    (700, 300, 0),
+    (700, 700, 0),
+    (300, 700, 0),
+    (300, 300, 1000),
+    (700, 300, 1000),
+    (700, 700, 1000),
+    (300, 700, 1000),
+]
+TUNNEL_FACES = [
+    [[0, 3, 2, 1], [8, 9, 10, 11]],
+    [[4, 5, 6, 7], [15, 14, 13, 12]],
+    [[0, 1, 5, 4]],
+    [[1, 2, 6, 5]],
+    [[2, 3, 7, 6]],
+    [[3, 0, 4, 7]],
+    [[8, 12, 13, 9]],
+    [[9, 13, 14, 10]],
+    [[10, 14, 15, 11]],
+    [[11, 15, 12, 8]],
+]
 
 
 def brep(name: str, kind: str, shell: str, schema: str = "IFC4", tunnel: bool = False) -> None:
@@ -498,8 +545,15 @@ def clipping_polygonal() -> Case:
     return of_items("clipping_polygonal", model, [item], 0.2 * (12 - (1 - 0.25)), WALL)
 
 
-def boolean(name: str, operator: str, first: Sequence[float], second: Sequence[float], at: Sequence[float],
-            volume: float, box: list[float]) -> None:
+def boolean(
+    name: str,
+    operator: str,
+    first: Sequence[float],
+    second: Sequence[float],
+    at: Sequence[float],
+    volume: float,
+    box: Sequence[float],
+) -> None:
     def make() -> Case:
         model = Model()
         a, b = model.block(first), model.block(second, at=at)
@@ -586,10 +640,12 @@ def mapped(name: str, operator: Callable[[Model], str], volume: float, box: Box,
 OPERATOR = "IFCCARTESIANTRANSFORMATIONOPERATOR3D"
 mapped("mapped", lambda m: f"{OPERATOR}($,$,{m.point(1000, 0, 0)},$,$)", 2.4, [1000, 0, 0, 5000, 200, 3000])
 mapped("mapped_scale", lambda m: f"{OPERATOR}($,$,{m.origin},0.5,$)", 0.3, [0, 0, 0, 2000, 100, 1500])
-mapped("mapped_nonuniform", lambda m: f"{OPERATOR}NONUNIFORM($,$,{m.origin},1.,$,2.,0.5)", 2.4,
-       [0, 0, 0, 4000, 400, 1500])
-mapped("mapped_mirror", lambda m: f"{OPERATOR}($,{m.direction(0, -1, 0)},{m.origin},$,$)", 2.4,
-       [0, -200, 0, 4000, 0, 3000])
+mapped(
+    "mapped_nonuniform", lambda m: f"{OPERATOR}NONUNIFORM($,$,{m.origin},1.,$,2.,0.5)", 2.4, [0, 0, 0, 4000, 400, 1500]
+)
+mapped(
+    "mapped_mirror", lambda m: f"{OPERATOR}($,{m.direction(0, -1, 0)},{m.origin},$,$)", 2.4, [0, -200, 0, 4000, 0, 3000]
+)
 mapped("mapped_origin", lambda m: f"{OPERATOR}($,$,{m.origin},$,$)", 2.4, [1000, 0, 0, 5000, 200, 3000], (1000, 0, 0))
 
 
@@ -625,7 +681,7 @@ def map_conversion() -> Case:
 # Primitives
 
 
-def primitive(name: str, text: str, volume: float, box: list[float], off: float = EXACT) -> None:
+def primitive(name: str, text: str, volume: float, box: Sequence[float], off: float = EXACT) -> None:
     def make() -> Case:
         model = Model()
         solid = model.add(text.format(axes=model.identity))

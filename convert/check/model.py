@@ -181,9 +181,9 @@ class Model:
             self.storey("EG", self.elements)
         units = self.add(f"IFCUNITASSIGNMENT({listed(self.units)})")
         self.add(f"IFCPROJECT({self.guid()},$,'P',$,$,$,$,({self.context}),{units})")
-        self.lines[self.context_line] = (
-            f"{self.context}=IFCGEOMETRICREPRESENTATIONCONTEXT($,'Model',3,1.E-05,{self.world},$);\n"
-        )
+        self.lines[
+            self.context_line
+        ] = f"{self.context}=IFCGEOMETRICREPRESENTATIONCONTEXT($,'Model',3,1.E-05,{self.world},$);\n"
         return HEADER.format(schema=self.schema) + "".join(self.lines) + "ENDSEC;\nEND-ISO-10303-21;\n"
 
 

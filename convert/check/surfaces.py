@@ -1,4 +1,4 @@
-"""Advanced breps: faces on planes, cylinders, cones, spheres, tori, swept surfaces and B-splines, with and without seams."""
+"""Advanced breps: faces on planes, cylinders, cones, spheres, tori and B-splines, with and without seams."""
 
 from __future__ import annotations
 
