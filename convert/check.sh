@@ -88,9 +88,8 @@ counted "trades" python3 check/trades.py "$converter" "$work/trades"
 counted "words" python3 check/words.py "$converter" "$house" "$work/words"
 counted "broken files" python3 check/broken.py "$converter" "$work/cases" "$count" 1
 counted "served" python3 check/served.py "$server" "$work"
-if [ -f mesh/mesh2grid.cpp ]; then
-    step "build mesh2grid" make -C mesh -s
-    counted "meshes" python3 check/meshes.py mesh/mesh2grid "$server" "$work/meshes"
-fi
+counted "trip" python3 check/trip.py "$converter" "$server" "$house" "$work/trip"
+step "build mesh2grid" make -C mesh -s
+counted "meshes" python3 check/meshes.py "$here/mesh/mesh2grid" "$server" "$work/meshes"
 echo "convert: $passed passed, $failed failed"
 [ "$failed" -eq 0 ]

@@ -24,7 +24,7 @@ pub fn merge(surface: Surface, work: &mut Work) -> Surface {
     }
     for pieces in groups.into_values() {
         match joined(&pieces, work) {
-            Some(mut faces) if faces.len() < triangles_of(&pieces) => out.append(&mut faces),
+            Some(mut faces) if faces.len() <= triangles_of(&pieces) => out.append(&mut faces),
             _ => out.extend(pieces),
         }
     }
