@@ -35,7 +35,8 @@ impl<'a> Shaper<'a> {
         self.work.left = before;
         self.open_maps.pop();
         let made = Arc::new(made);
-        if self.open_maps.is_empty() {
+        // A fault may hang on the shapes around this one, a shape doesn't.
+        if self.open_maps.is_empty() || made.is_ok() {
             self.mapped().keep(map, &made);
         }
         Ok(made)

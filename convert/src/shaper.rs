@@ -13,11 +13,11 @@ use std::sync::{Arc, Mutex};
 /// How deep shapes may lie within one another.
 const MOST_DEPTH: usize = 120;
 /// The most polygons of one element.
-const MOST_POLYGONS: usize = 2_000_000;
+pub(crate) const MOST_POLYGONS: usize = 1_000_000;
 /// The work that one element, or one mapped shape, may take.
-pub const MOST_WORK: u64 = 400_000_000;
+pub const MOST_WORK: u64 = 200_000_000;
 /// How many polygons of mapped shapes are kept for their next use.
-const KEPT_POLYGONS: usize = 4_000_000;
+const KEPT_POLYGONS: usize = 2_000_000;
 
 /// A shape: its surface, and how many of its faces or profiles cross themselves.
 #[derive(Clone, Default)]
@@ -108,7 +108,7 @@ impl<'a> Shaper<'a> {
         if self.depth >= MOST_DEPTH {
             return fail("shapes that never end");
         }
-        self.work.spend(100)?;
+        self.work.spend(300)?;
         self.depth += 1;
         let result = step(self);
         self.depth -= 1;
@@ -116,7 +116,7 @@ impl<'a> Shaper<'a> {
     }
 
     pub(crate) fn arguments(&mut self, id: u64) -> Result<Arguments<'a>> {
-        self.work.spend(20)?;
+        self.work.spend(60)?;
         self.file.arguments(id)
     }
 

@@ -50,6 +50,7 @@ impl<'a> Shaper<'a> {
     }
 
     fn boolean(&mut self, values: &Arguments<'a>, out: &mut Shape) -> Result<()> {
+        self.work.spend(5000)?;
         let mut first = Shape::default();
         self.item(values.reference(1), &mut first)?;
         let reach = Bounds::of_surface(&first.surface);

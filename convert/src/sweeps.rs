@@ -5,7 +5,7 @@ use crate::fault::{fail, Result};
 use crate::part21::Arguments;
 use crate::polygons::triangulate;
 use crate::profiles::Profile;
-use crate::shaper::{Shape, Shaper};
+use crate::shaper::{Shape, Shaper, MOST_POLYGONS};
 use crate::trigonometry::TURN;
 use crate::vector::{turn_over, volume, Frame, Point2, Point3, Polygon, Surface};
 
@@ -245,6 +245,9 @@ impl<'a> Shaper<'a> {
             return fail("a solid whose profiles have unlike corners");
         }
         let corners: usize = first.rings().map(Vec::len).sum();
+        if corners.saturating_mul(frames.len()) > MOST_POLYGONS {
+            return fail("more polygons than an element may have");
+        }
         self.work.spend(corners * frames.len() * 10)?;
         let mut surface = Surface::with_capacity(corners * frames.len());
         let count = frames.len();
