@@ -87,6 +87,7 @@ counted "house" python3 check/house.py "$converter" "$house" "$work/house"
 counted "trades" python3 check/trades.py "$converter" "$work/trades"
 counted "words" python3 check/words.py "$converter" "$house" "$work/words"
 counted "broken files" python3 check/broken.py "$converter" "$work/cases" "$count" 1
+counted "hostile" python3 check/hostile.py "$converter" "$work/hostile"
 counted "served" python3 check/served.py "$server" "$work"
 counted "trip" python3 check/trip.py "$converter" "$server" "$house" "$work/trip"
 step "build mesh2grid" make -C mesh -s
