@@ -16,7 +16,7 @@ from .wire import Client, Reply, Request
 MOST_ENTRIES = 4_000_000
 SIDE = 100
 TRIAL_SIDE = 30
-MOST_SECONDS = 45
+MOST_SECONDS = 120
 FEW_ENTRIES = 100
 LAST_ENTRIES = 200
 COORD = f"/coord/1/projects/{project(2)}"

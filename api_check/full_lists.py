@@ -15,7 +15,7 @@ from .server import HOST, Server
 from .wire import Client, Request
 
 MOST_TOPICS, MOST_COMMENTS, MOST_VIEWPOINTS, MOST_ELEMENTS = 10_000, 100_000, 20_000, 100_000
-MOST_SECONDS = 40
+MOST_SECONDS = 120
 TRIED = 300
 ANOTHER_TOPIC = 10  # the first three numbers are a topic, its comment and its viewpoint
 RUN = 200

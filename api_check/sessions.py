@@ -18,7 +18,8 @@ from .scene import Scene, guid, project, target
 from .wire import Client, Reply, Request
 
 REPLAY_SECONDS = 60
-MOST_RUNS = 4_000
+MOST_RUNS, LAST_RUNS, MOST_TOPICS = 4_000, 40, 40
+DELETIONS = ("deleteViewpoint", "deleteComment", "deleteTopic", "deleteModel")
 NOWHERE = 1 << 40
 ORDER = (
     "putRules putModel listClashes createTopicOfClash createTopic createComment createViewpoint "
@@ -121,20 +122,35 @@ class MemoryResult:
     reason: str = ""
 
 
-def check_memory(judge: Judge, program: str) -> MemoryResult:
-    """503: each allocation of a session of all operations fails alone, or as many as are allowed."""
-    session = session_of(judge, ORDER)
+def _fail_in_turn(judge: Judge, program: str, session: Session, last: int) -> MemoryResult:
+    """Each of the last allocations of a session fails alone."""
     with tempfile.TemporaryDirectory() as folder:
         failing = Failing(program, folder, session)
         whole = list(failing.runs(NOWHERE, NOWHERE))
         if not whole or whole[0][0] == 0:
             reason = "the program's allocations can't be made to fail (one with memory checks)"
             return MemoryResult(0, [], reason)
-        count, faults = 0, []
-        step = max(1, -(-whole[0][0] // MOST_RUNS))
-        ranges = [(1, whole[0][0])] if step == 1 else [(n, n) for n in range(1, whole[0][0], step)]
-        for first, last in ranges:
-            for _, output in failing.runs(first, last):
-                count += 1
-                faults += _judged(judge, session, output)
-        return MemoryResult(count, faults)
+        result = MemoryResult(0, [])
+        for _, output in failing.runs(max(1, whole[0][0] - last), whole[0][0]):
+            result.runs += 1
+            result.faults += _judged(judge, session, output)
+        return result
+
+
+def check_memory(judge: Judge, program: str) -> MemoryResult:
+    """503: each allocation of a session of all operations fails alone.
+
+    A deletion takes memory for the book only when the journal grows, so deletions are tried again behind more and
+    more topics, until the journal grows just then.
+    """
+    result = _fail_in_turn(judge, program, session_of(judge, list(ORDER)), MOST_RUNS)
+    if result.reason:
+        return result
+    for count in range(MOST_TOPICS):
+        if all(judge.seen[it, 503] for it in ORDER):
+            break
+        names = [*ORDER[:7], *["createTopic"] * count, *DELETIONS]
+        more = _fail_in_turn(judge, program, session_of(judge, names), LAST_RUNS)
+        result.runs += more.runs
+        result.faults += more.faults
+    return result
