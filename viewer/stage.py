@@ -18,6 +18,7 @@ import time
 from pathlib import Path
 
 HERE = Path(__file__).resolve().parent
+PAGE = HERE / "www"
 PROJECT = "00000001-0000-8000-8000-000000000000"
 RULES = [
     {"a": "IFCPIPESEGMENT", "b": "IFCSLAB", "kind": "ignore"},
@@ -48,10 +49,11 @@ def is_open(port: int) -> bool:
 class Stage:
     """A server, and nginx with the page before it. Each ends with `stop`."""
 
-    def __init__(self, program: str, port: int = 0, projects: int = 1) -> None:
+    def __init__(self, program: str, port: int = 0, projects: int = 1, page: Path = PAGE) -> None:
         if not os.access(program, os.X_OK):
             raise Failure(f"no program at {program}: run `make build` first")
         self.program = program
+        self.page = page
         self.port = port or free_port()
         self.server_port = free_port()
         self.run = Path(tempfile.mkdtemp(prefix="viewer-"))
@@ -68,7 +70,7 @@ class Stage:
         text = (HERE / "nginx.conf").read_text()
         values = {
             "RUN": self.run,
-            "PAGE": HERE / "www",
+            "PAGE": self.page,
             "PORT": self.port,
             "SERVER": self.server_port,
         }

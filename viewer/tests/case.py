@@ -6,7 +6,7 @@ from typing import Any, Callable
 
 from PIL import Image
 
-from stage import PROJECT, RULES, Stage, sample
+from stage import PAGE, PROJECT, RULES, Stage, sample
 
 from .browser import Browser
 from .facts import Element, elements
@@ -27,10 +27,10 @@ def same(got: Any, wanted: Any) -> None:
 class Case:
     """One run of the checks."""
 
-    def __init__(self, program: str, store: bool) -> None:
+    def __init__(self, program: str, store: bool, page: str = "") -> None:
         self.store = store
-        self.page = Path(__file__).resolve().parent.parent / "www"
-        self.stage = Stage(program, projects=2)
+        self.page = Path(page).resolve() if page else PAGE
+        self.stage = Stage(program, projects=2, page=self.page)
         self.browser = Browser()
         arch, mep = sample("arch").decode(), sample("mep-next").decode()
         self.facts: list[Element] = elements("arch", arch) + elements("mep", mep)
