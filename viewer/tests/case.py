@@ -13,8 +13,6 @@ from .facts import Element, elements
 from .pictures import SMALLER, alike, blank, difference, shifted
 
 PICTURES = Path(__file__).resolve().parent / "pictures"
-SECOND = PROJECT.replace("00000001-", "00000002-", 1)
-
 Rows = list[tuple[str, Callable[["Case"], None]]]
 
 
@@ -67,7 +65,9 @@ class Case:
 
     def ready(self) -> None:
         """Waits until a version and its clashes are shown."""
-        self.browser.until("window.page && page.state.elements.length && page.state.loadingClashes === ''")
+        self.browser.until(
+            "window.page && page.state && page.state.elements.length && page.state.loadingClashes === ''"
+        )
 
     def reset(self) -> None:
         """Back to the whole building, nothing hidden, from the first side."""

@@ -1,9 +1,9 @@
 """Rows: projects, versions, models, elements, sections, picking, measuring."""
 from collections import Counter
 
-from stage import PROJECT
+from stage import PROJECT, SECOND
 
-from .case import SECOND, Case, Rows, same
+from .case import Case, Rows, same
 from .pictures import alike
 
 

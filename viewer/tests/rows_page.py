@@ -56,6 +56,10 @@ def keyboard(case: Case) -> None:
     )
     same(alike(before, b.picture()), False)
     b.find("#canvas").send_keys("\ue011")  # Home
+    b.find("#canvas").send_keys("\ue007")  # Enter
+    same(len(b.all("#card dd")) > 3, True)
+    b.find("#canvas").send_keys("\ue00c")  # Escape
+    same(b.find("#card").is_displayed(), False)
     b.find("#tab-clashes").send_keys("\ue014")  # right
     same(
         b.js("return [document.activeElement.id, document.getElementById('pane-topics').hidden]"), ["tab-topics", False]
@@ -69,35 +73,40 @@ def keyboard(case: Case) -> None:
     case.reset()
 
 
+USED = {
+    "button",
+    "combobox",
+    "textbox",
+    "searchbox",
+    "checkbox",
+    "slider",
+    "spinbutton",
+    "tab",
+    "tabpanel",
+    "link",
+    "application",
+    "progressbar",
+}
+
+
 def names(case: Case) -> None:
-    """Whatever can be used has a name for a screen reader, in each tab."""
+    """Whatever can be used has a name in the browser's own accessibility tree, in each tab and in a topic."""
     b = case.browser
-    bare = []
+    roles = set()
     for tab in ("topics", "rules", "versions", "clashes"):
         b.click(f"#tab-{tab}")
-        bare += b.js(
-            """const name = e => (e.getAttribute('aria-label') || (e.labels && [...e.labels].map(l => l.textContent.trim()).join('')) ||
-                (e.tagName === 'BUTTON' || e.tagName === 'A' ? e.textContent.trim() : '') || e.title || '').trim();
-            return [...document.querySelectorAll('button, input, select, textarea, a, canvas')]
-                .filter(e => e.offsetParent && !name(e))
-                .map(e => e.outerHTML.slice(0, 120))"""
-        )
-    same(bare, [])
-    tree = b.driver.execute_cdp_cmd("Accessibility.getFullAXTree", {})["nodes"]
-    roles = {(n.get("role", {}).get("value"), n.get("name", {}).get("value")) for n in tree}
-    same(
-        [
-            r
-            for r in (
-                ("tab", "Rules"),
-                ("button", "Measure"),
-                ("combobox", "Version"),
-                ("toolbar", "Tools of the view"),
-            )
-            if r not in roles
-        ],
-        [],
-    )
+        for node in b.driver.execute_cdp_cmd("Accessibility.getFullAXTree", {})["nodes"]:
+            if not node.get("ignored"):
+                roles.add((node.get("role", {}).get("value"), node.get("name", {}).get("value", "").strip()))
+    same(sorted(role for role, name in roles if role in USED and not name), [])
+    wanted = {("tab", "Rules"), ("button", "Measure"), ("combobox", "Version"), ("toolbar", "Tools of the view")}
+    wanted |= {
+        ("button", "Hide: Wall"),
+        ("slider", "Section across X"),
+        ("application", "View"),
+        ("spinbutton", "Rule 1: mm"),
+    }
+    same(wanted - roles, set())
 
 
 def dark(case: Case) -> None:
