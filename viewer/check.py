@@ -26,7 +26,7 @@ def run(case: Case, only: str) -> list[bool]:
             try:
                 row(case)
                 fault = ""
-            except Exception as failure:  # each row is told, whatever it failed by
+            except Exception as failure:  # any failure is a row that failed
                 kind = type(failure).__name__
                 where = traceback.extract_tb(failure.__traceback__)
                 line = [f"{f.filename.rsplit('/', 1)[-1]}:{f.lineno}" for f in where if "/tests/" in f.filename]

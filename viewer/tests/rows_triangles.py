@@ -62,6 +62,7 @@ def boxes_stay(case: Case) -> None:
             case.browser.js("return 0")
             case.browser.until("page.view.scene.total() === 360")
             same([fake.asked, case.browser.js("return page.view.scene.triangles")], [1, None])
+            same(case.browser.text("#state"), "")
             lines = case.browser.console()
             same([line for line in lines if "triangles" not in line], [])
             same(len(lines), 1 if status == 404 else 0)
