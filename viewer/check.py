@@ -1,5 +1,5 @@
 #!/usr/bin/python3
-"""The page in a real browser, before the given program: check.py PROGRAM [--store] [--only WORD].
+"""The page in a real browser, before the given program: check.py PROGRAM [--store] [--only WORD] [--page FOLDER].
 
 Each row says ok or FAIL; --store writes the pictures anew (look at them before they are kept).
 """
@@ -26,7 +26,7 @@ def run(case: Case, only: str) -> list[bool]:
             try:
                 row(case)
                 fault = ""
-            except Exception as failure:  # each row is told, whatever it failed by
+            except Exception as failure:  # any failure is a row that failed
                 kind = type(failure).__name__
                 where = traceback.extract_tb(failure.__traceback__)
                 line = [f"{f.filename.rsplit('/', 1)[-1]}:{f.lineno}" for f in where if "/tests/" in f.filename]
@@ -42,11 +42,12 @@ def main() -> int:
     parser = argparse.ArgumentParser(description="checks of the viewer")
     parser.add_argument("program")
     parser.add_argument("--store", action="store_true")
-    parser.add_argument("--only", default="")
+    parser.add_argument("--only", default="", help="the rows of one file, as topics")
+    parser.add_argument("--page", default="", help="another folder of the page, as one with a fault")
     words = parser.parse_args()
     case = None
     try:
-        case = Case(words.program, words.store)
+        case = Case(words.program, words.store, words.page)
         case.load()
         case.browser.open(case.address)
         case.ready()

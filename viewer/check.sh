@@ -61,7 +61,7 @@ case $last in
         failed=$((failed + $(echo "$last" | cut -d' ' -f4)))
         ;;
     *)
-        echo "FAIL the rows in the browser didn't come to their end"
+        echo "FAIL the rows in the browser did not finish"
         failed=$((failed + 1))
         ;;
 esac

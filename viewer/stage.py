@@ -18,7 +18,10 @@ import time
 from pathlib import Path
 
 HERE = Path(__file__).resolve().parent
+PAGE = HERE / "www"
 PROJECT = "00000001-0000-8000-8000-000000000000"
+SECOND = "00000002-0000-8000-8000-000000000000"
+HOUSE_RULES = [{"a": "*", "b": "*", "distance": 2}]
 RULES = [
     {"a": "IFCPIPESEGMENT", "b": "IFCSLAB", "kind": "ignore"},
     {"a": "IFCDUCTSEGMENT", "b": "IFCBEAM", "distance": 50},
@@ -48,10 +51,11 @@ def is_open(port: int) -> bool:
 class Stage:
     """A server, and nginx with the page before it. Each ends with `stop`."""
 
-    def __init__(self, program: str, port: int = 0, projects: int = 1) -> None:
+    def __init__(self, program: str, port: int = 0, projects: int = 1, page: Path = PAGE) -> None:
         if not os.access(program, os.X_OK):
             raise Failure(f"no program at {program}: run `make build` first")
         self.program = program
+        self.page = page
         self.port = port or free_port()
         self.server_port = free_port()
         self.run = Path(tempfile.mkdtemp(prefix="viewer-"))
@@ -68,7 +72,7 @@ class Stage:
         text = (HERE / "nginx.conf").read_text()
         values = {
             "RUN": self.run,
-            "PAGE": HERE / "www",
+            "PAGE": self.page,
             "PORT": self.port,
             "SERVER": self.server_port,
         }
@@ -107,14 +111,14 @@ class Stage:
         answer: dict = json.loads(text)
         return answer
 
-    def put_rules(self, rules: list[dict]) -> dict:
-        """Sets the rules of the first project."""
+    def put_rules(self, rules: list[dict], project: str = PROJECT) -> dict:
+        """Sets the rules of a project, of the first if none is named."""
         body = json.dumps({"rules": rules}).encode()
-        return self.call("PUT", f"/coord/1/projects/{PROJECT}/rules", body)
+        return self.call("PUT", f"/coord/1/projects/{project}/rules", body)
 
-    def put_model(self, name: str, file: bytes) -> dict:
-        """Puts a model into the first project."""
-        path = f"/coord/1/projects/{PROJECT}/models/{name}?grid=snap"
+    def put_model(self, name: str, file: bytes, project: str = PROJECT) -> dict:
+        """Puts a model into a project, into the first if none is named."""
+        path = f"/coord/1/projects/{project}/models/{name}?grid=snap"
         return self.call("PUT", path, file)
 
     def generate(self, count: int, number: int) -> bytes:
@@ -153,17 +157,16 @@ def sample(what: str) -> bytes:
     return subprocess.run(words, check=True, capture_output=True, timeout=60).stdout
 
 
-def load(stage: Stage, house: str) -> None:
-    """Two trades in three versions, so that the newest has new clashes."""
-    building = convert(house)
-    if building:
-        stage.put_rules([{"a": "*", "b": "*", "distance": 2}])
-        stage.put_model("house", building)
-        print("the house is loaded, by the converter", flush=True)
-    else:
-        stage.put_rules(RULES)
-        for name, what in (("arch", "arch"), ("mep", "mep"), ("mep", "mep-next")):
-            stage.put_model(name, sample(what))
+def load(stage: Stage, house: bytes | None) -> None:
+    """Two trades in three versions, so that the newest has new clashes; the house, if there is one, in project 2."""
+    stage.put_rules(RULES)
+    for name, what in (("arch", "arch"), ("mep", "mep"), ("mep", "mep-next")):
+        stage.put_model(name, sample(what))
+    print("project 1: a made building of two trades, whose newest version has new clashes", flush=True)
+    if house:
+        stage.put_rules(HOUSE_RULES, SECOND)
+        stage.put_model("house", house, SECOND)
+        print("project 2: a real house, by the converter", flush=True)
 
 
 def main() -> int:
@@ -173,11 +176,12 @@ def main() -> int:
     parser.add_argument("--port", type=int, default=0)
     parser.add_argument("--house", default="")
     words = parser.parse_args()
-    signal.signal(signal.SIGTERM, signal.default_int_handler)
+    for name in (signal.SIGINT, signal.SIGTERM, signal.SIGHUP):
+        signal.signal(name, signal.default_int_handler)
     stage = None
     try:
-        stage = Stage(words.program, words.port)
-        load(stage, words.house)
+        stage = Stage(words.program, words.port, projects=2)
+        load(stage, convert(words.house))
         print(f"http://127.0.0.1:{stage.port}/   (Ctrl-C ends it)", flush=True)
         while all(process.poll() is None for process in stage.started):
             time.sleep(0.5)

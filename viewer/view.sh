@@ -1,7 +1,7 @@
 #!/bin/sh
 # view.sh PROGRAM [--port N]: the page with a building, its clashes and its topics, on the loopback, until Ctrl-C.
-# It needs Debian's nginx-light; as root it installs it. The house (Debian's assimp-testmodels) is loaded where it is
-# there and the converter is built; else a made building is.
+# It needs Debian's nginx-light; as root it installs it. Project 1 is a made building; project 2 is a real house, where
+# Debian's assimp-testmodels and the built converter are there.
 set -eu
 here=$(cd "$(dirname "$0")" && pwd)
 if [ $# -lt 1 ]; then

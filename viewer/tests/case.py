@@ -6,15 +6,13 @@ from typing import Any, Callable
 
 from PIL import Image
 
-from stage import PROJECT, RULES, Stage, sample
+from stage import PAGE, PROJECT, RULES, Stage, sample
 
 from .browser import Browser
 from .facts import Element, elements
 from .pictures import SMALLER, alike, blank, difference, shifted
 
 PICTURES = Path(__file__).resolve().parent / "pictures"
-SECOND = PROJECT.replace("00000001-", "00000002-", 1)
-
 Rows = list[tuple[str, Callable[["Case"], None]]]
 
 
@@ -27,10 +25,10 @@ def same(got: Any, wanted: Any) -> None:
 class Case:
     """One run of the checks."""
 
-    def __init__(self, program: str, store: bool) -> None:
+    def __init__(self, program: str, store: bool, page: str = "") -> None:
         self.store = store
-        self.page = Path(__file__).resolve().parent.parent / "www"
-        self.stage = Stage(program, projects=2)
+        self.page = Path(page).resolve() if page else PAGE
+        self.stage = Stage(program, projects=2, page=self.page)
         self.browser = Browser()
         arch, mep = sample("arch").decode(), sample("mep-next").decode()
         self.facts: list[Element] = elements("arch", arch) + elements("mep", mep)
@@ -67,7 +65,9 @@ class Case:
 
     def ready(self) -> None:
         """Waits until a version and its clashes are shown."""
-        self.browser.until("window.page && page.state.elements.length && page.state.loadingClashes === ''")
+        self.browser.until(
+            "window.page && page.state && page.state.elements.length && page.state.loadingClashes === ''"
+        )
 
     def reset(self) -> None:
         """Back to the whole building, nothing hidden, from the first side."""

@@ -1,6 +1,6 @@
 """A small server with triangles, as a later server gives them: the page, one project, one model, nothing else.
 
-Each element is a hilly piece of ground of 10 by 10 fields, so 200 triangles. What it answers is worked out here alone.
+Each element is a hilly piece of ground of 9 by 9 fields, so 162 triangles: replies end within an element. What it answers is worked out here alone.
 """
 import array
 import json
@@ -11,7 +11,7 @@ from pathlib import Path
 from urllib.parse import parse_qs, urlsplit
 
 PROJECT = "00000001-0000-8000-8000-000000000000"
-FIELDS = 10
+FIELDS = 9
 EACH = 2 * FIELDS * FIELDS
 STEP = 100
 APART = 1200
@@ -49,7 +49,7 @@ class Model:
             x, y = n % wide * APART, n // wide * APART
             move = (x, y, 0)
             corners.extend([v + move[k % 3] for k, v in enumerate(base)])
-            box = [x, y, 0, x + 1000, y + 1000, max(base[2::3])]
+            box = [x, y, 0, x + FIELDS * STEP, y + FIELDS * STEP, max(base[2::3])]
             listed.append(
                 {
                     "box": box,

@@ -1,9 +1,9 @@
 """Rows: projects, versions, models, elements, sections, picking, measuring."""
 from collections import Counter
 
-from stage import PROJECT
+from stage import PROJECT, SECOND
 
-from .case import SECOND, Case, Rows, same
+from .case import Case, Rows, same
 from .pictures import alike
 
 
@@ -13,7 +13,7 @@ def projects(case: Case) -> None:
     same(b.all("#project option"), ["Project 1", "Project 2"])
     b.choose("#project", SECOND)
     b.until("page.state.elements.length === 0 && page.state.version === 0")
-    same(b.text("#models"), "No model yet: put one below.")
+    same(b.text("#models"), "No model yet: upload one below.")
     b.choose("#project", PROJECT)
     case.ready()
     same(b.js("return page.state.elements.length"), len(case.facts))

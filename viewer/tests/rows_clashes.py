@@ -38,6 +38,14 @@ def filters(case: Case) -> None:
         b.choose(field, value)
         shown(case, sum(wanted))
         b.choose(field, "")
+    one_side = """const { fits } = await import('/clashes.js'), clash = page.state.all[0], wish = {};
+        for (const name of ['change', 'rule', 'modelA', 'modelB', 'classA', 'classB', 'element']) wish[name] = '';
+        const element = page.state.elements[page.state.byKey.get(clash.b.model + ' ' + clash.b.guid)], storey = element.storey;
+        element.storey = 'Elsewhere';
+        const found = ['Elsewhere', storey, 'Nowhere'].map(name => fits(clash, Object.assign({ storey: name }, wish)));
+        element.storey = storey;
+        return found"""
+    same(b.later(one_side), [True, True, False])
     both = [{"IFCBEAM", "IFCDUCTSEGMENT"} == {e.kind for e in s} for s in sides]
     b.choose("#filter-fields > :nth-child(8)", "IFCDUCTSEGMENT")
     b.choose("#filter-fields > :nth-child(10)", "IFCBEAM")
@@ -70,6 +78,10 @@ def compared(case: Case) -> None:
     got = b.js("return page.state.all.map(c => [c.change, c.a.model, c.a.guid, c.b.model, c.b.guid])")
     for change, wanted in sets.items():
         same({frozenset([(r[1], r[2]), (r[3], r[4])]) for r in got if r[0] == change}, wanted)
+    pairs = """const { compareClashes } = await import('/compare.js');
+        const clash = (one, two) => ({ a: { model: one, guid: 'x' }, b: { model: two, guid: 'x' } });
+        return compareClashes([clash('m', 'n')], [clash('m', 'o'), clash('n', 'm')]).map(c => [c.b.model, c.change])"""
+    same(b.later(pairs), [["n", "kept"], ["o", "gone"]])
     colours = set()
     for change in ("new", "kept", "gone"):
         b.click(f"#changes .word-{change}")

@@ -1,4 +1,4 @@
-"""Rows: rules as a table, models put and taken out, faults with their line."""
+"""Rows: rules as a table, models uploaded and removed, faults with their line."""
 import tempfile
 from pathlib import Path
 
@@ -80,7 +80,7 @@ def bad_rule(case: Case) -> None:
     same(
         b.js("return [...document.querySelectorAll('#rule-table tbody tr')].findIndex(tr => tr.className === 'bad')"), 1
     )
-    same(b.text("#error").startswith("C3: A distance is 0 to 1,000 mm"), True)
+    same(b.text("#error").startswith("C3: A distance must be 0 to 1,000 mm"), True)
     same([line for line in b.console() if "422" not in line], [])
     b.press("#pane-rules", "Undo changes")
     b.click("#tab-clashes")
@@ -112,8 +112,8 @@ def dropped(case: Case) -> None:
     same(
         b.all("#uploads li .good"),
         [
-            "Put as more: 30 elements, 360 triangles, version 8.",
-            "Put as Ebene-u-1: 20 elements, 240 triangles, version 7.",
+            "Uploaded as more: 30 elements, 360 triangles, version 8.",
+            "Uploaded as Ebene-u-1: 20 elements, 240 triangles, version 7.",
         ],
     )
     same(len(b.js("return seen")) >= 2, True)
@@ -130,8 +130,8 @@ def chosen(case: Case) -> None:
     same({m["name"]: len(m["elements"]) for m in case.newest()["models"]}["more"], 10)
 
 
-def taken_out(case: Case) -> None:
-    """A model is taken out, after a question."""
+def removed(case: Case) -> None:
+    """A model is removed, after a question."""
     b = case.browser
     for name, number in (("more", 10), ("Ebene-u-1", 11)):
         b.js(
@@ -186,7 +186,7 @@ ROWS: Rows = [
     ("a rule that is refused", bad_rule),
     ("models by drag and drop", dropped),
     ("a model by the button", chosen),
-    ("a model is taken out", taken_out),
+    ("a model is removed", removed),
     ("faults with their line", fault_lines),
     ("files that aren't of the profile", not_of_profile),
 ]

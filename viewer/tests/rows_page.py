@@ -1,6 +1,8 @@
 """Rows: languages, keyboard, screen reader, light and dark, the content policy, the console."""
+import http.client
+
 from .case import Case, Rows, same
-from .pictures import alike
+from .fake import Fake
 
 
 def languages(case: Case) -> None:
@@ -49,13 +51,30 @@ def keyboard(case: Case) -> None:
     """The picture, the tabs and the lists go by keys alone."""
     b = case.browser
     case.reset()
-    before = b.picture()
-    b.later(
-        """const canvas = document.getElementById('canvas'); canvas.focus();
-        for (const key of ['ArrowLeft', 'ArrowUp', '+']) canvas.dispatchEvent(new KeyboardEvent('keydown', { key, bubbles: true, cancelable: true }))"""
-    )
-    same(alike(before, b.picture()), False)
+    camera = "const c = page.view.camera; return [c.azimuth, c.elevation, c.distance, ...c.target]"
+    press = """document.getElementById('canvas').focus();
+        document.activeElement.dispatchEvent(new KeyboardEvent('keydown', { ...arguments[0], bubbles: true, cancelable: true }))"""
+    for key, moved in (
+        ("ArrowLeft", {0}),
+        ("ArrowRight", {0}),
+        ("ArrowUp", {1}),
+        ("ArrowDown", {1}),
+        ("+", {2}),
+        ("-", {2}),
+    ):
+        before = b.js(camera)
+        b.js(press, {"key": key})
+        same({n for n, (one, two) in enumerate(zip(before, b.js(camera))) if one != two}, moved)
+    for key in ("ArrowLeft", "ArrowRight", "ArrowUp", "ArrowDown"):
+        before = b.js(camera)
+        b.js(press, {"key": key, "shiftKey": True})
+        now = b.js(camera)
+        same([before[:3] == now[:3], before[3:] == now[3:]], [True, False])
     b.find("#canvas").send_keys("\ue011")  # Home
+    b.find("#canvas").send_keys("\ue007")  # Enter
+    same(len(b.all("#card dd")) > 3, True)
+    b.find("#canvas").send_keys("\ue00c")  # Escape
+    same(b.find("#card").is_displayed(), False)
     b.find("#tab-clashes").send_keys("\ue014")  # right
     same(
         b.js("return [document.activeElement.id, document.getElementById('pane-topics').hidden]"), ["tab-topics", False]
@@ -69,35 +88,40 @@ def keyboard(case: Case) -> None:
     case.reset()
 
 
+USED = {
+    "button",
+    "combobox",
+    "textbox",
+    "searchbox",
+    "checkbox",
+    "slider",
+    "spinbutton",
+    "tab",
+    "tabpanel",
+    "link",
+    "application",
+    "progressbar",
+}
+
+
 def names(case: Case) -> None:
-    """Whatever can be used has a name for a screen reader, in each tab."""
+    """Whatever can be used has a name in the browser's own accessibility tree, in each tab and in a topic."""
     b = case.browser
-    bare = []
+    roles = set()
     for tab in ("topics", "rules", "versions", "clashes"):
         b.click(f"#tab-{tab}")
-        bare += b.js(
-            """const name = e => (e.getAttribute('aria-label') || (e.labels && [...e.labels].map(l => l.textContent.trim()).join('')) ||
-                (e.tagName === 'BUTTON' || e.tagName === 'A' ? e.textContent.trim() : '') || e.title || '').trim();
-            return [...document.querySelectorAll('button, input, select, textarea, a, canvas')]
-                .filter(e => e.offsetParent && !name(e))
-                .map(e => e.outerHTML.slice(0, 120))"""
-        )
-    same(bare, [])
-    tree = b.driver.execute_cdp_cmd("Accessibility.getFullAXTree", {})["nodes"]
-    roles = {(n.get("role", {}).get("value"), n.get("name", {}).get("value")) for n in tree}
-    same(
-        [
-            r
-            for r in (
-                ("tab", "Rules"),
-                ("button", "Measure"),
-                ("combobox", "Version"),
-                ("toolbar", "Tools of the view"),
-            )
-            if r not in roles
-        ],
-        [],
-    )
+        for node in b.driver.execute_cdp_cmd("Accessibility.getFullAXTree", {})["nodes"]:
+            if not node.get("ignored"):
+                roles.add((node.get("role", {}).get("value"), node.get("name", {}).get("value", "").strip()))
+    same(sorted(role for role, name in roles if role in USED and not name), [])
+    wanted = {("tab", "Rules"), ("button", "Measure"), ("combobox", "Version"), ("toolbar", "Tools of the view")}
+    wanted |= {
+        ("button", "Hide: Wall"),
+        ("slider", "Section across X"),
+        ("application", "View"),
+        ("spinbutton", "Rule 1: mm"),
+    }
+    same(wanted - roles, set())
 
 
 def dark(case: Case) -> None:
@@ -124,20 +148,42 @@ def dark(case: Case) -> None:
     same([r for r in ratios if r < 4.5], [])
 
 
+INLINE = """
+    const s = document.createElement('script'); s.textContent = 'window.broken = 1'; document.body.append(s);
+    const d = document.createElement('div'); d.innerHTML = '<b style="color:red" onclick="window.broken=1">x</b>'; document.body.append(d);
+    d.firstChild.click(); const red = getComputedStyle(d.firstChild).color === 'rgb(255, 0, 0)'; d.remove(); s.remove();
+    return [window.broken === undefined, red]"""
+
+
 def policy(case: Case) -> None:
     """Only this host is asked, and no script or style that stands in the page runs."""
     b = case.browser
     hosts = b.js("return [...new Set(performance.getEntriesByType('resource').map(e => new URL(e.name).host))]")
     same(hosts, [case.address.split("/")[2]])
     same(b.console(), [])
-    b.js(
-        """const s = document.createElement('script'); s.textContent = 'window.broken = 1'; document.body.append(s);
-        const d = document.createElement('div'); d.innerHTML = '<b style="color:red" onclick="window.broken=1">x</b>'; document.body.append(d);
-        d.firstChild.click(); window.red = getComputedStyle(d.firstChild).color; d.remove(); s.remove()"""
-    )
-    same(b.js("return [window.broken === undefined, window.red === 'rgb(255, 0, 0)']"), [True, False])
+    same(b.js(INLINE), [True, False])
     lines = b.console()
     same([len(lines) > 0, [line for line in lines if "Content Security Policy" not in line]], [True, []])
+    link = http.client.HTTPConnection("127.0.0.1", case.stage.port)
+    link.request("GET", "/")
+    header = link.getresponse().getheader("Content-Security-Policy", "")
+    link.close()
+    same([part in header for part in ("default-src 'none'", "script-src 'self'", "frame-ancestors 'none'")], [True] * 3)
+
+
+def own_policy(case: Case) -> None:
+    """The page keeps its policy also where the front sends none."""
+    fake = Fake(case.page, 1, 204)
+    try:
+        case.browser.open(fake.address)
+        case.ready()
+        same(case.browser.console(), [])
+        same(case.browser.js(INLINE), [True, False])
+        case.browser.console()
+    finally:
+        fake.stop()
+    case.browser.open(case.address)
+    case.ready()
 
 
 def newer(case: Case) -> None:
@@ -161,6 +207,7 @@ ROWS: Rows = [
     ("names for a screen reader", names),
     ("light and dark", dark),
     ("a strict content policy", policy),
+    ("the page's own policy", own_policy),
     ("a newer version is offered", newer),
     ("no line on the console", console),
 ]

@@ -62,6 +62,7 @@ def boxes_stay(case: Case) -> None:
             case.browser.js("return 0")
             case.browser.until("page.view.scene.total() === 360")
             same([fake.asked, case.browser.js("return page.view.scene.triangles")], [1, None])
+            same(case.browser.text("#state"), "")
             lines = case.browser.console()
             same([line for line in lines if "triangles" not in line], [])
             same(len(lines), 1 if status == 404 else 0)
@@ -72,7 +73,7 @@ def boxes_stay(case: Case) -> None:
 def drawn(case: Case) -> None:
     """Triangles in place of boxes, each with its element: a click names it, a measure meets its corners."""
     b = case.browser
-    fake = Fake(case.page, 150)
+    fake = Fake(case.page, 186)
     try:
         opened(case, fake)
         b.until("page.view.scene.triangles")
@@ -80,8 +81,8 @@ def drawn(case: Case) -> None:
         same(fake.asked, -(-fake.model.total // 20000))
         b.click("#top")
         case.looks_like("triangles")
-        wide = round(150**0.5)
-        for n in (0, 77, 149):
+        wide = round(186**0.5)
+        for n in (0, 123, 185):
             x, y = n % wide * 1200 + 640, n // wide * 1200 + 620
             b.click_at(*b.place_of([x, y, 100]))
             same(b.all("#card dd")[0], f"Ground {n}")
@@ -104,7 +105,7 @@ def million(case: Case) -> None:
     b.until("page.view.scene.triangles")
     before = memory_after(case)
     fake.stop()
-    fake = Fake(case.page, 5000)
+    fake = Fake(case.page, 6173)
     try:
         opened(case, fake)
         b.until("page.view.scene.triangles", 60)
@@ -113,7 +114,7 @@ def million(case: Case) -> None:
             page.view.scene.gl.readPixels(0, 0, 1, 1, page.view.scene.gl.RGBA, page.view.scene.gl.UNSIGNED_BYTE, new Uint8Array(4));
             return [page.view.loaded / 1000, page.view.scene.bytes + page.view.scene.triangles.at.byteLength, page.view.scene.total()]"""
         )
-        same(seconds[2], 5000 * EACH)
+        same(seconds[2], 6173 * EACH)
         same(seconds[1] / seconds[2] < 150, True)
         load = os.getloadavg()[0]
         grown = (memory_after(case) - before) / seconds[2]

@@ -163,7 +163,10 @@ export async function load() {
   const clashes = await api.clashes(state.project, state.version, MOST, progress, stopped);
   if (stopped()) return;
   const other = Number($('against').value);
-  const against = $('against').value === '' ? null : await loadAgainst(other, stopped);
+  const against = $('against').value === '' ? null : await loadAgainst(other, stopped).catch(fault => {
+    complain(explain(fault));
+    return null;
+  });
   if (stopped()) return;
   state.clashes = clashes;
   state.loadingClashes = '';

@@ -7,6 +7,8 @@ import { programs } from './shaders.js';
 
 const FRAME = 30;
 const REST = 220;
+/** Every so many pictures while turning are waited for and timed: waiting for each would cost as much as drawing. */
+const MEASURED = 3;
 const WIDE = 1024;
 const CORNERS = [0, 1, 2, 3, 4, 5, 6, 7];
 const SIDES = [0, 2, 1, 1, 2, 3, 4, 5, 6, 5, 7, 6, 0, 1, 4, 1, 5, 4, 2, 6, 3, 3, 6, 7, 0, 4, 2, 2, 4, 6, 1, 3, 5, 3, 7, 5];
@@ -24,8 +26,9 @@ export class Scene {
     this.look = gl.createTexture();
     this.lines = { array: gl.createVertexArray(), buffer: gl.createBuffer(), edges: 0, faces: 0, points: 0 };
     this.pixel = new Uint8Array(4);
-    this.budget = 20000;
+    this.budget = 8000;
     this.moved = -1e9;
+    this.turns = 0;
     this.ghosts = false;
     this.dirty = true;
     this.setLines([], [], []);
@@ -187,10 +190,11 @@ export class Scene {
     this.dirty = false;
     const total = this.total();
     this.short = turning && this.budget < total;
-    const started = turning ? this.settled() : 0;
+    const measured = turning && total && ++this.turns % MEASURED === 0;
+    const started = measured ? this.settled() : 0;
     this.render(this.short ? this.budget : total);
     ++this.frames;
-    if (turning && total) this.learn(this.settled() - started, total);
+    if (measured) this.learn(this.settled() - started, total);
   }
 
   total() {
@@ -216,31 +220,31 @@ export class Scene {
     gl.clearColor(this.background[0], this.background[1], this.background[2], 1);
     gl.clear(gl.COLOR_BUFFER_BIT | gl.DEPTH_BUFFER_BIT);
     const matrix = new Float32Array(this.camera.matrix(this.aspect()));
-    const { made, at } = this.programs.surface;
-    gl.useProgram(made);
     gl.bindTexture(gl.TEXTURE_2D, this.look);
-    gl.uniformMatrix4fv(at.view, false, matrix);
-    gl.uniform3fv(at.cut_low, this.low);
-    gl.uniform3fv(at.cut_high, this.high);
     gl.enable(gl.DEPTH_TEST);
     gl.blendFunc(gl.SRC_ALPHA, gl.ONE_MINUS_SRC_ALPHA);
     const share = Math.min(1, count / Math.max(1, this.total()));
     for (const ghosts of this.ghosts ? [0, 1] : [0]) {
-      gl.uniform1i(at.ghosts, ghosts);
       if (ghosts) gl.enable(gl.BLEND);
       gl.depthMask(!ghosts);
-      for (const mesh of [this.triangleMesh, this.boxMesh]) if (mesh) this.part(mesh, at, share);
+      for (const mesh of [this.triangleMesh, this.boxMesh]) if (mesh) this.part(mesh, matrix, ghosts, share);
     }
     gl.depthMask(true);
     this.overlay(matrix);
     gl.disable(gl.BLEND);
   }
 
-  part(mesh, at, share) {
+  /** Draws the first part of a mesh: what is solid, or what is seen through. */
+  part(mesh, matrix, ghosts, share) {
     const gl = this.gl;
+    const { made, at } = mesh.indexed ? this.programs.boxes : this.programs.triangles;
+    gl.useProgram(made);
+    gl.uniformMatrix4fv(at.view, false, matrix);
+    gl.uniform3fv(at.cut_low, this.low);
+    gl.uniform3fv(at.cut_high, this.high);
+    gl.uniform1i(at.ghosts, ghosts);
     const triangles = Math.ceil(mesh.triangles * share);
     gl.bindVertexArray(mesh.array);
-    gl.uniform1i(at.boxes, mesh.indexed ? 1 : 0);
     if (mesh.indexed) gl.drawElements(gl.TRIANGLES, 36 * Math.ceil(triangles / 12), gl.UNSIGNED_INT, 0);
     else gl.drawArrays(gl.TRIANGLES, 0, 3 * triangles);
   }

@@ -1,6 +1,8 @@
 /** The programs of the graphics: one for surfaces (boxes and triangles), one for lines and for the place where a clash is. */
 
-const SURFACE_VERTEX = `#version 300 es
+/** Boxes are drawn with their edges, so their corners are known in the fragments; triangles do without. */
+const surfaceVertex = boxes => `#version 300 es
+#define BOXES ${boxes}
 precision highp float;
 precision highp int;
 uniform mat4 u_view;
@@ -10,36 +12,42 @@ in vec3 a_at;
 in uint a_element;
 flat out vec4 v_look;
 out vec3 v_at;
+#if BOXES
 out vec3 v_corner;
+#endif
 void main() {
   int element = int(a_element);
   v_look = texelFetch(u_look, ivec2(element & 1023, element >> 10), 0);
   v_at = a_at;
+#if BOXES
   int corner = gl_VertexID & 7;
   v_corner = vec3(corner & 1, (corner >> 1) & 1, corner >> 2);
+#endif
   bool ghost = v_look.a < 0.98;
   bool drawn = v_look.a > 0.01 && ghost == u_ghosts;
   gl_Position = drawn ? u_view * vec4(a_at, 1.0) : vec4(2.0, 2.0, 2.0, 1.0);
 }`;
 
-const SURFACE_FRAGMENT = `#version 300 es
+const surfaceFragment = boxes => `#version 300 es
+#define BOXES ${boxes}
 precision highp float;
-uniform bool u_boxes;
 uniform vec3 u_cut_low;
 uniform vec3 u_cut_high;
 flat in vec4 v_look;
 in vec3 v_at;
+#if BOXES
 in vec3 v_corner;
+#endif
 out vec4 colour;
 void main() {
   if (any(lessThan(v_at, u_cut_low)) || any(greaterThan(v_at, u_cut_high))) discard;
   vec3 normal = normalize(cross(dFdx(v_at), dFdy(v_at)));
   float light = 0.6 + 0.4 * abs(dot(normal, normalize(vec3(0.4, 0.25, 0.85))));
-  if (u_boxes) {
-    vec3 near = min(v_corner, 1.0 - v_corner) / max(fwidth(v_corner), vec3(1e-6));
-    float second = max(min(near.x, near.y), min(max(near.x, near.y), near.z));
-    light *= mix(0.55, 1.0, smoothstep(0.3, 1.3, second));
-  }
+#if BOXES
+  vec3 near = min(v_corner, 1.0 - v_corner) / max(fwidth(v_corner), vec3(1e-6));
+  float second = max(min(near.x, near.y), min(max(near.x, near.y), near.z));
+  light *= mix(0.55, 1.0, smoothstep(0.3, 1.3, second));
+#endif
   colour = vec4(v_look.rgb * light, v_look.a);
 }`;
 
@@ -80,8 +88,10 @@ function program(gl, vertex, fragment, uniforms) {
 }
 
 export function programs(gl) {
+  const surface = boxes => program(gl, surfaceVertex(boxes), surfaceFragment(boxes), ['view', 'look', 'ghosts', 'cut_low', 'cut_high']);
   return {
-    surface: program(gl, SURFACE_VERTEX, SURFACE_FRAGMENT, ['view', 'look', 'ghosts', 'boxes', 'cut_low', 'cut_high']),
+    boxes: surface(1),
+    triangles: surface(0),
     line: program(gl, LINE_VERTEX, LINE_FRAGMENT, ['view']),
   };
 }

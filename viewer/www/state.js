@@ -3,7 +3,7 @@
 export const state = {
   projects: [], project: null,
   newest: 0, version: 0, rules: [], models: [],
-  elements: [], boxes: [], byKey: new Map(), whole: null,
+  elements: [], boxes: [], byKey: new Map(), byGuid: new Map(), whole: null,
   hidden: new Set(), ghost: new Set(), marked: new Map(), picked: -1,
   by: 'class',
   against: null, clashes: [], all: [], clash: null,

@@ -12,6 +12,7 @@ const TITLE = /^Clash of ([0-9A-Za-z_$]{22}) and ([0-9A-Za-z_$]{22})$/;
 const LOOKED_AT = 200;
 const MOST_COMPONENTS = 1000;
 const NEAR = 20;
+const MOST_LISTED = 500;
 const FIELDS = ['title', 'topic_status', 'priority', 'assigned_to', 'topic_type', 'due_date', 'labels', 'description'];
 const KEPT = ['title', 'topic_type', 'topic_status', 'priority', 'assigned_to', 'stage', 'description', 'index', 'labels', 'due_date'];
 const OFFERED = { topic_status: ['Open', 'In progress', 'Resolved', 'Closed'], priority: ['Low', 'Normal', 'High', 'Critical'], topic_type: ['Clash', 'Request', 'Remark', 'Fault'] };
@@ -60,7 +61,10 @@ export async function load() {
 function titleOf(topic) {
   const said = TITLE.exec(topic.title);
   if (!said) return topic.title;
-  const name = guid => (state.elements.find(e => e.guid === guid) || {}).name || guid;
+  const name = guid => {
+    const [place] = state.byGuid.get(guid) || [];
+    return place === undefined ? guid : state.elements[place].name || guid;
+  };
   return text('clashOf', name(said[1]), name(said[2]));
 }
 
@@ -70,7 +74,7 @@ function row(topic) {
 }
 
 function showList() {
-  const list = make('ul', state.topics.slice().reverse().map(row), { className: 'list', id: 'topic-list' });
+  const list = make('ul', state.topics.slice(-MOST_LISTED).reverse().map(row), { className: 'list', id: 'topic-list' });
   arrows(list);
   const title = make('input', null, { placeholder: text('newTopic'), maxLength: 1000, required: true, 'aria-label': text('newTopic') });
   const form = make('form', [title, make('button', text('make'))], { className: 'bar', onsubmit: event => {
@@ -81,7 +85,8 @@ function showList() {
       await openTopic(made);
     });
   } });
-  $('pane-topics').replaceChildren(form, state.topics.length ? list : make('p', text('noTopics'), { className: 'soft' }));
+  const more = state.topics.length > MOST_LISTED ? make('p', text('newestTopics', MOST_LISTED), { className: 'soft' }) : '';
+  $('pane-topics').replaceChildren(form, more, state.topics.length ? list : make('p', text('noTopics'), { className: 'soft' }));
 }
 
 async function guard(run) {
@@ -161,7 +166,7 @@ function commentForm(topic) {
 /** The colour of each element that a viewpoint colours or selects. */
 function viewColours(selection, coloring) {
   const colours = new Map();
-  const places = guid => state.elements.map((e, n) => (e.guid === guid ? n : -1)).filter(n => n >= 0);
+  const places = guid => state.byGuid.get(guid) || [];
   selection.forEach((c, k) => places(c.ifc_guid).forEach(n => colours.set(n, selection.length === 2 ? [RED, BLUE][k] : YELLOW)));
   for (const { color, components } of coloring) {
     const [r, g, b] = color.replace('#', '').slice(-6).match(/../g).map(v => parseInt(v, 16));

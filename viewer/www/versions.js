@@ -10,12 +10,21 @@ import * as api from './api.js';
 const KEPT = 16;
 const POLL = 5000;
 
-let following = true;
 let ticket = 0;
 let framed = null;
 
 /** The numbers of the versions that the server still has, the newest first. */
 const numbers = () => Array.from({ length: Math.min(KEPT, state.newest + 1) }, (_, n) => state.newest - n);
+
+/** Several models may have elements of one identifier. */
+function placesByGuid(elements) {
+  const out = new Map();
+  elements.forEach((e, n) => {
+    if (out.has(e.guid)) out.get(e.guid).push(n);
+    else out.set(e.guid, [n]);
+  });
+  return out;
+}
 
 /** Takes a version's reply into the state: elements by size, the greatest first, so that a part of them shows the most. */
 function take(reply) {
@@ -33,7 +42,7 @@ function take(reply) {
   Object.assign(state, {
     reply, elements, models, version: reply.version, newest: reply.newest, rules: reply.rules,
     boxes: elements.map(e => e.box), byKey: new Map(elements.map((e, n) => [e.model + ' ' + e.guid, n])),
-    whole: hull(elements.map(e => e.box)), hidden: new Set(), ghost: new Set(), marked: new Map(), picked: -1,
+    byGuid: placesByGuid(elements), whole: hull(elements.map(e => e.box)), hidden: new Set(), ghost: new Set(), marked: new Map(), picked: -1,
   });
 }
 
@@ -57,7 +66,6 @@ export async function open(wanted) {
   try {
     const reply = await api.version(state.project, wanted);
     if (mine !== ticket) return;
-    following = wanted === 'newest' || reply.version === reply.newest;
     take(reply);
     showSelects();
     changed('version', 'look');
@@ -70,7 +78,7 @@ export async function open(wanted) {
   }
 }
 
-/** Asks for the newest number, follows it where the newest version was shown, and else offers it. */
+/** Asks for the newest number, and offers that version where it isn't known yet. */
 async function poll() {
   if (document.hidden || !state.project) return;
   try {
@@ -115,5 +123,5 @@ export function start() {
   on('version', show);
   on('clashes', show);
   on('language', () => { const against = $('against').value; showSelects(); $('against').value = against; show(); });
-  setInterval(() => { if (following) poll(); }, POLL);
+  setInterval(poll, POLL);
 }

@@ -1,7 +1,7 @@
 /** The middle: the picture, what is picked, measuring, and the frame of a clash. */
 import { state, on, changed } from './state.js';
 import { text, number } from './texts.js';
-import { $, make, button, swatch, say } from './dom.js';
+import { $, make, button, swatch, say, complain } from './dom.js';
 import { Camera, control } from './camera.js';
 import { Scene } from './scene.js';
 import { hull, centre, diagonal, length, minus } from './matrix.js';
@@ -56,18 +56,25 @@ export function near() {
 
 export const markPair = (places, box) => mark(new Map(places.map((n, k) => [n, k ? BLUE : RED])), box);
 
-function pickAt(event) {
-  const rect = $('canvas').getBoundingClientRect();
-  const x = (event.clientX - rect.left) / rect.width * 2 - 1;
-  const y = 1 - (event.clientY - rect.top) / rect.height * 2;
+/** What is at a place of the picture, from -1 to 1 both ways: what is marked before what is faint. */
+function pickAt(x, y) {
   const shown = n => isShown(n) && (!state.marked.size || state.marked.has(n));
   const ray = camera.ray(x, y, scene.aspect());
   return pick(ray, scene, state.boxes, shown) || pick(ray, scene, state.boxes, isShown);
 }
 
 function click(event) {
-  const hit = pickAt(event);
-  if (measuring) return hit && measureTo(snap(hit, camera.height() * 0.02));
+  const rect = $('canvas').getBoundingClientRect();
+  choose((event.clientX - rect.left) / rect.width * 2 - 1, 1 - (event.clientY - rect.top) / rect.height * 2);
+}
+
+/** Picks or measures there. */
+function choose(x, y) {
+  const hit = pickAt(x, y);
+  if (measuring) {
+    if (hit) measureTo(snap(hit, camera.height() * 0.02));
+    return;
+  }
   state.picked = hit ? hit.place : -1;
   changed('look');
   showCard();
@@ -163,8 +170,14 @@ export function start() {
   control($('canvas'), camera, () => scene.move(), click);
   $('canvas').addEventListener('keydown', event => {
     if (event.key === 'Home') whole();
-    if (event.key === 'Escape') { state.picked = -1; changed('look'); showCard(); }
+    if (event.key === 'Enter') choose(0, 0);
+    if (event.key === 'Escape') {
+      if (measuring) $('measure').click();
+      state.picked = -1;
+      changed('look');
+    }
   });
+  $('canvas').addEventListener('webglcontextlost', () => complain(text('drawingLost')));
   tools();
   background();
   matchMedia('(prefers-color-scheme: dark)').addEventListener('change', background);
