@@ -24,7 +24,7 @@
 SERVER := crates/bim_server/out/bim_server
 PROGRAM ?= $(SERVER)
 # What of convert, deploy, api, client and viewer the gate runs, each by its target check-NAME.
-BESIDE :=
+BESIDE := convert client api deploy viewer
 
 .PHONY: try build replay serve check lint tests hostile cases crate program
 .PHONY: check-convert check-deploy check-api check-client check-viewer convert view deb

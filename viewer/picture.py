@@ -26,7 +26,8 @@ def take(case: Case) -> bytes:
     b.later("for (let n = 0; n < 4; ++n) await new Promise(done => requestAnimationFrame(done))")
     picture = Image.open(io.BytesIO(b.driver.get_screenshot_as_png())).convert("RGB")
     out = io.BytesIO()
-    picture.save(out, "PNG", optimize=True)
+    # 256 colours are enough for a page, and a third of the bytes
+    picture.quantize(256, dither=Image.Dither.NONE).save(out, "PNG", optimize=True)
     return out.getvalue()
 
 
