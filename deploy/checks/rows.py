@@ -65,7 +65,8 @@ GROUPS: dict[str, Group] = {
             "HAProxy stopped and started again": limits.queue_stopped,
             "the password server stopped": limits.password_server_stopped,
         },
-        # On a fast machine these rows ask more than the bounds on rates, which have groups of their own.
+        # On a fast machine these rows ask more than the bounds on rates allow: those have groups
+        # of their own.
         edits={
             QUEUE: [("gt 2000", "gt 1000000")],
             "nginx/http.conf": [("rate=400r/s", "rate=100000r/s")],
