@@ -55,6 +55,7 @@ FRONT: dict[str, list[tuple[str, str, str]]] = {
     "errors of the server": [(PROXY, "proxy_next_upstream off;", "proxy_intercept_errors on;")],
     "a body of 32 MiB": [(SERVER, "client_max_body_size 32m", "client_max_body_size 31m")],
     "a body of one byte more": [(SERVER, "client_max_body_size 32m", "client_max_body_size 33m")],
+    "the body of rules": [(SERVER, "^/coord/1/projects/[^/]+/rules$", "^/coord/1/nothing$")],
     "bodies in chunks": [(SERVER, "client_max_body_size 32m", "client_max_body_size 40m")],
     "a topic's body": [(SERVER, "client_max_body_size 4m", "client_max_body_size 5m")],
     "heads: 8 KiB a line": [

@@ -53,6 +53,7 @@ GROUPS: dict[str, Group] = {
             "a body of one byte more: 413": limits.body_of_32_mib_and_one,
             "bodies in chunks have the same limit": limits.body_in_chunks,
             "a topic's body: 4 MiB": limits.body_of_a_topic,
+            "the body of rules: 4 MiB": limits.body_of_rules,
             "heads: 8 KiB a line, 16 KiB in all": limits.head_too_long,
             "twenty slow senders hold nobody up": limits.slow_senders,
             "200 idle clients beside one that is served": limits.idle_clients,

@@ -57,6 +57,14 @@ def body_of_a_topic(front: Front) -> None:
     refused_by_nginx(front, 1)
 
 
+def body_of_rules(front: Front) -> None:
+    """The front takes 4 MiB, where the server would take 32."""
+    is_answer(ask(front, "PUT", f"{COORD}/rules", b" " * OTHER), 400, "H9")
+    answer = ask(front, "PUT", f"{COORD}/rules", b" " * (OTHER + 1), Expect="100-continue")
+    is_answer(answer, 413, "H4")
+    refused_by_nginx(front, 1)
+
+
 def head_too_long(front: Front) -> None:
     answer = ask(front, "GET", BCF, Long="a" * 20000)
     must(answer.status in (400, 431), f"a field of 20,000 bytes: {answer.said()}")
