@@ -15,7 +15,7 @@
 # make crate NAME=..     proves one crate, over what earlier checks kept of those below it, and runs its tests
 # make check-NAME        what is beside the server alone: convert, deploy, api, client or viewer
 #
-# make convert           builds the converter, convert/target/release/ifc2grid, in a minute
+# make convert           builds the converter, convert/target/release/ifc2grid, in a minute, and mesh2grid beside it
 # make view              starts a server with a building, a front and the page on the loopback, and prints the address
 # make deb VERSION=..    builds the Debian package of the program and of what is beside it, in out/deb
 #
@@ -108,6 +108,8 @@ check-viewer: program
 convert:
 	@command -v cargo >/dev/null || { echo "make: there is no cargo: apt-get install cargo"; exit 2; }
 	cd convert && cargo build --release --offline
+	@$(MAKE) --no-print-directory -C convert/mesh && cp convert/mesh/mesh2grid convert/target/release/ \
+		|| echo "make: without mesh2grid, the tool for meshes: apt-get install g++ libassimp-dev"
 
 view: program
 	@viewer/view.sh $(PROGRAM)
