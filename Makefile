@@ -23,11 +23,12 @@
 
 SERVER := crates/bim_server/out/bim_server
 PROGRAM ?= $(SERVER)
-# What of convert, deploy, api, client and viewer the gate runs, each by its target check-NAME.
+# What stands beside the server, in the order of the gate, which runs each by its target check-NAME.
 BESIDE := convert client api deploy viewer
+DIRECTORY_OF_api := api_check
 
 .PHONY: try build replay serve check lint tests hostile cases crate program
-.PHONY: check-convert check-deploy check-api check-client check-viewer convert view deb
+.PHONY: $(BESIDE:%=check-%) convert view deb
 
 try:
 	@python3 -m tools.try_program
@@ -84,26 +85,10 @@ crate:
 	@test -d "crates/$(NAME)/src" || { echo "make crate NAME=.. wants one of: $$(ls crates | xargs)"; exit 2; }
 	cd crates/$(NAME) && rt check && rt test
 
-# What is beside the server has a check script of its own.
-check-convert: program
-	@test -x convert/check.sh || { echo "make: convert/check.sh isn't there"; exit 2; }
-	convert/check.sh $(PROGRAM)
-
-check-deploy: program
-	@test -x deploy/check.sh || { echo "make: deploy/check.sh isn't there"; exit 2; }
-	deploy/check.sh $(PROGRAM)
-
-check-api: program
-	@test -x api_check/check.sh || { echo "make: api_check/check.sh isn't there"; exit 2; }
-	api_check/check.sh $(PROGRAM)
-
-check-client: program
-	@test -x client/check.sh || { echo "make: client/check.sh isn't there"; exit 2; }
-	client/check.sh $(PROGRAM)
-
-check-viewer: program
-	@test -x viewer/check.sh || { echo "make: viewer/check.sh isn't there"; exit 2; }
-	viewer/check.sh $(PROGRAM)
+# What is beside the server has a check script of its own, in the directory of its name.
+$(BESIDE:%=check-%): check-%: program
+	@test -x $(or $(DIRECTORY_OF_$*),$*)/check.sh || { echo "make: there is no check of $*"; exit 2; }
+	$(or $(DIRECTORY_OF_$*),$*)/check.sh $(PROGRAM)
 
 convert:
 	@command -v cargo >/dev/null || { echo "make: there is no cargo: apt-get install cargo"; exit 2; }

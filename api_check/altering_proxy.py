@@ -6,7 +6,6 @@ import http.client
 import socket
 import threading
 from collections.abc import Callable
-from types import TracebackType
 
 from .server import HOST
 from .wire import Reply
@@ -36,12 +35,7 @@ class AlteringProxy:
         self._thread.start()
         return self
 
-    def __exit__(
-        self,
-        kind: type[BaseException] | None,
-        error: BaseException | None,
-        trace: TracebackType | None,
-    ) -> None:
+    def __exit__(self, *_: object) -> None:
         self._door.shutdown(socket.SHUT_RDWR)
         self._door.close()
         self._thread.join(timeout=10)

@@ -5,7 +5,6 @@ from __future__ import annotations
 import socket
 import subprocess
 import time
-from types import TracebackType
 
 HOST = "127.0.0.1"
 START_SECONDS = 30
@@ -44,12 +43,7 @@ class Server:
         ended = f"ended with {status}" if status is not None else "is silent"
         raise OSError(f"bim_server serve {ended} at port {self.port}: build it, or give its path")
 
-    def __exit__(
-        self,
-        kind: type[BaseException] | None,
-        error: BaseException | None,
-        trace: TracebackType | None,
-    ) -> None:
+    def __exit__(self, *_: object) -> None:
         self.stop()
 
     def runs(self) -> bool:

@@ -6,7 +6,6 @@ import socket
 import ssl
 import threading
 from collections.abc import Callable
-from types import TracebackType
 
 PROJECTS = b'[{"name":"Project 1","project_id":"00000001-0000-8000-8000-000000000000"}]'
 
@@ -87,12 +86,7 @@ class Fake:
         self.thread.start()
         return self
 
-    def __exit__(
-        self,
-        kind: type[BaseException] | None,
-        value: BaseException | None,
-        trace: TracebackType | None,
-    ) -> None:
+    def __exit__(self, *_: object) -> None:
         self.open = False
         self.thread.join(10)
         self.listener.close()
