@@ -25,6 +25,11 @@ abbrev pub items_in : Value21-F Value21 → Option (List Value21)
 items_in (layer.List vs) = Some vs
 items_in _ = None
 
+-- the value that a typed value holds
+abbrev pub typed_in : Value21-F Value21 → Option Value21
+typed_in (layer.Typed word v) = Some v
+typed_in _ = None
+
 -- the letters of an enumeration
 abbrev pub letters_in : Value21-F Value21 → Option (List ℕ)
 letters_in (layer.Enumeration bs) = Some bs
@@ -56,6 +61,10 @@ reference_of v = reference_in (out-Value21 v)
 -- the items of a list
 abbrev pub items_of : Value21 → Option (List Value21)
 items_of v = items_in (out-Value21 v)
+
+-- the value that a typed value holds, behind its keyword
+abbrev pub typed_of : Value21 → Option Value21
+typed_of v = typed_in (out-Value21 v)
 
 -- the letters of an enumeration, without its points
 abbrev pub enumeration_of : Value21 → Option (List ℕ)
