@@ -10,16 +10,9 @@ use Rattle.p21_values.specs.declared.value.Instance.{Instance}
 use Rattle.ifc_instances.specs.declared.entity.Entity.TheVariants as entity
 use Rattle.p21_values.specs.Attributes.{listed, target_at}
 use Rattle.p21_values.specs.Looking.{look}
-use Rattle.ifc_instances.specs.Looking.{is_a, some_passes}
+use Rattle.ifc_instances.specs.Looking.{is_a, says}
 use Rattle.p21_values.specs.Values.{reference_of, enumeration_of, is_absent}
 use Rattle.ifc_units.specs.declared.scale.Scale.{Scale}
-
--- What values say.
-
--- an attribute is the enumeration of those letters
-abbrev pub says : List ℕ → Instance → ℕ → Bool
-says word i at = some_passes (λ letters. bytes_eq letters word)
-    (option_and_then enumeration_of (slice_get i.values at))
 
 -- Of a unit.
 

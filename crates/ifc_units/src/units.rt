@@ -6,25 +6,12 @@ ghost use Rattle.p21_values.specs.declared.value.Instance.{Instance};
 ghost use Rattle.ifc_instances.specs.declared.entity.Entity.TheVariants.{Project};
 ghost use Rattle.ifc_instances.specs.Looking.{is_a};
 ghost use Rattle.ifc_units.specs.declared.scale.Scale.{Scale};
-ghost use Rattle.ifc_units.specs.Units.{says, is_length_unit, prefix_power, power_with, unit_power, projects, assignment_of, RefersToUnit, IsUnitAmong, IsOnly, RefersToOther, AssignsPower, IsLengthUnit, IsLeastNumber, LengthUnitFault};
+ghost use Rattle.ifc_units.specs.Units.{is_length_unit, prefix_power, power_with, unit_power, projects, assignment_of, RefersToUnit, IsUnitAmong, IsOnly, RefersToOther, AssignsPower, IsLengthUnit, IsLeastNumber, LengthUnitFault};
 
 use crate::scale::Scale;
 use bim_model::UploadFault;
-use ifc_instances::Entity;
+use ifc_instances::{Entity, says};
 use p21_table::{Exchange, InstanceRef, Instances, ValueRef, Values};
-
-// Whether the attribute is the enumeration of those letters.
-fn says(word: &str, instance: &InstanceRef<'_>, at: usize) -> bool
-    ensures { result ≡ says word.now instance.now at }
-{
-    let Some(value) = instance.attribute(at) else {
-        return false;
-    };
-    match value.enumeration() {
-        Some(letters) => letters == word.as_bytes(),
-        None => false,
-    }
-}
 
 #[tactic(auto, unfolding(crate::specs::Units::is_length_unit))]
 fn is_length_unit(instance: &InstanceRef<'_>) -> bool

@@ -62,7 +62,7 @@ impl<'a> ValueRef<'a> {
     ghost use Rattle.p21_values.specs.declared.value.Value21.{Value21};
     ghost use Rattle.p21_values.specs.Standing.{Stands};
     ghost use Rattle.p21_table.specs.Stood.{Stood};
-    ghost use Rattle.p21_values.specs.Values.{number_of, words_of, enumeration_of, reference_of, items_of, typed_of, is_enumeration, is_absent};
+    ghost use Rattle.p21_values.specs.Values.{number_of, words_of, enumeration_of, reference_of, items_of, typed_of, measure_of, is_enumeration, is_absent};
     ghost use Rattle.p21_values.specs.Attributes.{items_in};
 
     /// The value that stands there.
@@ -160,6 +160,16 @@ impl<'a> ValueRef<'a> {
         match typed_there(self.bytes, first) {
             Some(at) => Some(ValueRef::of(self.bytes, at)),
             None => None,
+        }
+    }
+
+    /// The bytes of the number that it is, or that it holds behind a keyword (IFC4 ADD2 TC1, IfcValue).
+    pub fn measure(&self) -> Option<&'a [u8]>
+        ensures { option_copied result ≡ measure_of self.now }
+    {
+        match self.typed() {
+            Some(held) => held.number(),
+            None => self.number(),
         }
     }
 

@@ -66,6 +66,14 @@ items_of v = items_in (out-Value21 v)
 abbrev pub typed_of : Value21 → Option Value21
 typed_of v = typed_in (out-Value21 v)
 
+-- the number that a value is, or that a typed value holds
+abbrev pub measure_in : Option Value21 → Value21 → Option (List ℕ)
+measure_in None v = number_of v
+measure_in (Some held) v = number_of held
+
+abbrev pub measure_of : Value21 → Option (List ℕ)
+measure_of v = measure_in (typed_of v) v
+
 -- the letters of an enumeration, without its points
 abbrev pub enumeration_of : Value21 → Option (List ℕ)
 enumeration_of v = letters_in (out-Value21 v)

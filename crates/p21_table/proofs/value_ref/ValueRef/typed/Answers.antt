@@ -9,7 +9,7 @@ of-requires-clause-says c =
 
 pub returns-in-Some : goal.returns-in-Some
 returns-in-Some c =
-    held_told c.self.inside.bytes.now c.self.inside.at c.in-Some.at c.self.inside.says c.of.result (λ v s. c.in-Some.ensures.held v (c.in_ok-first.ensures.begins v s)) c.of.ensures.says ∙ ap typed_of c.self.view_is
+    held_told c.self.inside.bytes.now c.self.inside.at c.in-Some.at c.self.inside.says c.of.result (λ v s. c.in-Some.ensures.held v (c.in_ok-first.ensures.begins v s)) c.of.ensures ∙ ap typed_of c.self.view_is
 
 pub returns-in-None : goal.returns-in-None
 returns-in-None c =
