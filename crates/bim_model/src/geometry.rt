@@ -3,14 +3,13 @@ ghost use Rattle.std.specs.Prelude.{◌<◌, ◌++◌, ◌∷◌, [], List, leng
 ghost use Rattle.bim_model.specs.declared.geometry.Point.{Point};
 ghost use Rattle.bim_model.specs.Boxes.{Bounds, IsExtentOf};
 
-/// Grid numbers in a millimetre. Lengths are whole grid numbers.
-pub const PER_MM: i32 = 1;
+/// Grid numbers in a millimetre: the grid is of tenths. Lengths are whole grid numbers.
+pub const PER_MM: i32 = 10;
 
 /// How far from zero a model's coordinates may lie on each axis, in grid numbers: 800 metres.
 pub const FARTHEST: i32 = 800_000 * PER_MM;
 
-/// How far from zero the coordinates may lie that the exact tests take, in grid numbers. It holds 800 metres also at ten grid numbers a
-/// millimetre.
+/// How far from zero the coordinates may lie that the exact tests take, in grid numbers: 800 metres.
 pub const GRID_LIMIT: i32 = 8_000_000;
 
 /// A point: three coordinates in grid numbers.

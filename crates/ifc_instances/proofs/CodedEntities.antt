@@ -6,8 +6,9 @@ use Rattle.std.specs.Str.{bytes_eq}
 use Rattle.ifc_keywords.specs.Codes.{known, code_among, code_of, code_at}
 use Rattle.ifc_keywords.proofs.Numbered.{is_same, CodedAs, a_number}
 use Rattle.p21_values.specs.declared.value.Instance.{Instance}
+use Rattle.ifc_keywords.specs.declared.known_words.TheConstants.{KEYWORDS}
 use Rattle.ifc_instances.specs.declared.entity.Entity.{Entity}
-use Rattle.ifc_instances.specs.declared.entity.Entity.TheVariants.{Project, UnitAssignment, SiUnit, Storey, Aggregates, Containment, ProductShape, Representation, Placement, AxisPlacement, Point, Direction, PointList, TriangulatedFaceSet, PolygonalFaceSet, Face, FaceWithVoids, MappedItem, RepresentationMap, Operator, Subject}
+use Rattle.ifc_instances.specs.declared.entity.Entity.TheVariants.{Project, UnitAssignment, SiUnit, Storey, Aggregates, Containment, ProductShape, Representation, Placement, AxisPlacement, Point, Direction, PointList, TriangulatedFaceSet, PolygonalFaceSet, Face, FaceWithVoids, MappedItem, RepresentationMap, Operator, ConvertedUnit, Measure, Subject}
 use Rattle.ifc_instances.specs.Entities.{keywords_of, subjects, is_of, entities, entity_of}
 use Rattle.ifc_instances.specs.Looking.{entity_at, is_keyword_of, is_a}
 use Rattle.ifc_instances.specs.Coded.{has_code, coded, by_code}
@@ -62,9 +63,11 @@ all_agree FaceWithVoids = refl
 all_agree MappedItem = refl
 all_agree RepresentationMap = refl
 all_agree Operator = refl
+all_agree ConvertedUnit = refl
+all_agree Measure = refl
 all_agree Subject = refl
 
-known_many : length known ≡ 75
+known_many : length known ≡ KEYWORDS
 unfolding known
 known_many = refl
 
@@ -105,6 +108,8 @@ entities_known FaceWithVoids = refl
 entities_known MappedItem = refl
 entities_known RepresentationMap = refl
 entities_known Operator = refl
+entities_known ConvertedUnit = refl
+entities_known Measure = refl
 entities_known Subject = refl
 
 no_entity : (e : Entity) → has_code e 255 ≡ false
@@ -129,11 +134,13 @@ no_entity FaceWithVoids = refl
 no_entity MappedItem = refl
 no_entity RepresentationMap = refl
 no_entity Operator = refl
+no_entity ConvertedUnit = refl
+no_entity Measure = refl
 no_entity Subject = refl
 
 -- Whether a keyword is one of an entity's.
 
-agreed : (e : Entity) (k : ℕ) → k < 75 → is_of e (get_or known k []) ≡ has_code e k
+agreed : (e : Entity) (k : ℕ) → k < KEYWORDS → is_of e (get_or known k []) ≡ has_code e k
 agreed e k lt = let z : 0 + k ≡ k = omega arith in agrees_at e 0 known k (all_agree e) (omega (arith, lt, known_many)) ∙ ap (λ (m : ℕ). has_code e m) z
 
 is_of_coded : (e : Entity) (k : List ℕ) → has_code e (code_of k) ≡ is_of e k
@@ -163,16 +170,16 @@ found_at n (suc m) zero h lt = let z : n ≡ n + 0 = omega arith in subst (λ (x
 found_at n (suc m) (suc k) h lt =
     let z : (n + 1) + k ≡ n + suc k = omega arith in subst (λ (x : ℕ). by_code x ≡ find (λ e. has_code e x) entities) z (found_at (n + 1) m k h.1 (omega (arith, lt)))
 
-all_found : Found 0 75
+all_found : Found 0 KEYWORDS
 unfolding has_code by_code
-all_found = (refl, (refl, (refl, (refl, (refl, (refl, (refl, (refl, (refl, (refl, (refl, (refl, (refl, (refl, (refl, (refl, (refl, (refl, (refl, (refl, (refl, (refl, (refl, (refl, (refl, (refl, (refl, (refl, (refl, (refl, (refl, (refl, (refl, (refl, (refl, (refl, (refl, (refl, (refl, (refl, (refl, (refl, (refl, (refl, (refl, (refl, (refl, (refl, (refl, (refl, (refl, (refl, (refl, (refl, (refl, (refl, (refl, (refl, (refl, (refl, (refl, (refl, (refl, (refl, (refl, (refl, (refl, (refl, (refl, (refl, (refl, (refl, (refl, (refl, (refl, tt)))))))))))))))))))))))))))))))))))))))))))))))))))))))))))))))))))))))))))
+all_found = (refl, (refl, (refl, (refl, (refl, (refl, (refl, (refl, (refl, (refl, (refl, (refl, (refl, (refl, (refl, (refl, (refl, (refl, (refl, (refl, (refl, (refl, (refl, (refl, (refl, (refl, (refl, (refl, (refl, (refl, (refl, (refl, (refl, (refl, (refl, (refl, (refl, (refl, (refl, (refl, (refl, (refl, (refl, (refl, (refl, (refl, (refl, (refl, (refl, (refl, (refl, (refl, (refl, (refl, (refl, (refl, (refl, (refl, (refl, (refl, (refl, (refl, (refl, (refl, (refl, (refl, (refl, (refl, (refl, (refl, (refl, (refl, (refl, (refl, (refl, (refl, (refl, tt)))))))))))))))))))))))))))))))))))))))))))))))))))))))))))))))))))))))))))))
 
 none_found : by_code 255 ≡ find (λ e. has_code e 255) entities
 unfolding has_code by_code
 none_found = refl
 
-found : (k : ℕ) → k < 75 → by_code k ≡ find (λ e. has_code e k) entities
-found k lt = let z : 0 + k ≡ k = omega arith in subst (λ (x : ℕ). by_code x ≡ find (λ e. has_code e x) entities) z (found_at 0 75 k all_found lt)
+found : (k : ℕ) → k < KEYWORDS → by_code k ≡ find (λ e. has_code e k) entities
+found k lt = let z : 0 + k ≡ k = omega arith in subst (λ (x : ℕ). by_code x ≡ find (λ e. has_code e x) entities) z (found_at 0 KEYWORDS k all_found lt)
 
 by_code_is : (k : List ℕ) → by_code (code_of k) ≡ find (λ e. has_code e (code_of k)) entities
 by_code_is k = elim (a_number k) [

@@ -1,8 +1,9 @@
 -- The entities by the numbers of their keywords.
 use Rattle.std.specs.Prelude.{ℕ, ◌==◌, ◌&&◌, nat_lt, nat_le, Bool, if◌then◌else◌, List, [], ◌∷◌, Option, Some, None}
 use Rattle.std.specs.List.{slice_get}
+use Rattle.ifc_keywords.specs.declared.known_words.TheConstants.{FIRST_ELEMENT, KEYWORDS}
 use Rattle.ifc_instances.specs.declared.entity.Entity.{Entity}
-use Rattle.ifc_instances.specs.declared.entity.Entity.TheVariants.{Project, UnitAssignment, SiUnit, Storey, Aggregates, Containment, ProductShape, Representation, Placement, AxisPlacement, Point, Direction, PointList, TriangulatedFaceSet, PolygonalFaceSet, Face, FaceWithVoids, MappedItem, RepresentationMap, Operator, Subject}
+use Rattle.ifc_instances.specs.declared.entity.Entity.TheVariants.{Project, UnitAssignment, SiUnit, Storey, Aggregates, Containment, ProductShape, Representation, Placement, AxisPlacement, Point, Direction, PointList, TriangulatedFaceSet, PolygonalFaceSet, Face, FaceWithVoids, MappedItem, RepresentationMap, Operator, ConvertedUnit, Measure, Subject}
 
 -- a number is that of one of the entity's keywords
 unfoldable pub has_code : Entity → ℕ → Bool
@@ -26,7 +27,9 @@ has_code FaceWithVoids code = code == 16
 has_code MappedItem code = code == 17
 has_code RepresentationMap code = code == 18
 has_code Operator code = code == 19
-has_code Subject code = nat_le 20 code && nat_lt code 75
+has_code ConvertedUnit code = code == 20
+has_code Measure code = code == 21
+has_code Subject code = nat_le FIRST_ELEMENT code && nat_lt code KEYWORDS
 
 -- those of one keyword, in the order of their numbers
 abbrev pub coded : List Entity
@@ -34,9 +37,10 @@ coded =
     Project ∷ UnitAssignment ∷ SiUnit ∷ Storey ∷ Aggregates ∷ Containment ∷ ProductShape
     ∷ Representation ∷ Placement ∷ AxisPlacement ∷ Point ∷ Direction ∷ PointList
     ∷ TriangulatedFaceSet ∷ PolygonalFaceSet ∷ Face ∷ FaceWithVoids ∷ MappedItem ∷ RepresentationMap
-    ∷ Operator ∷ []
+    ∷ Operator ∷ ConvertedUnit ∷ Measure ∷ []
 
 -- the entity that has a number
 unfoldable pub by_code : ℕ → Option Entity
 by_code code =
-    if nat_lt code 20 then slice_get coded code else (if nat_lt code 75 then Some Subject else None)
+    if nat_lt code FIRST_ELEMENT then slice_get coded code
+    else (if nat_lt code KEYWORDS then Some Subject else None)

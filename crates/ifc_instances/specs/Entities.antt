@@ -3,7 +3,7 @@ use Rattle.std.specs.Prelude.{ℕ, Bool, List, [], ◌∷◌, Option, codes}
 use Rattle.std.specs.List.{list_any, find}
 use Rattle.std.specs.Str.{bytes_eq}
 use Rattle.ifc_instances.specs.declared.entity.Entity.{Entity}
-use Rattle.ifc_instances.specs.declared.entity.Entity.TheVariants.{Project, UnitAssignment, SiUnit, Storey, Aggregates, Containment, ProductShape, Representation, Placement, AxisPlacement, Point, Direction, PointList, TriangulatedFaceSet, PolygonalFaceSet, Face, FaceWithVoids, MappedItem, RepresentationMap, Operator, Subject}
+use Rattle.ifc_instances.specs.declared.entity.Entity.TheVariants.{Project, UnitAssignment, SiUnit, Storey, Aggregates, Containment, ProductShape, Representation, Placement, AxisPlacement, Point, Direction, PointList, TriangulatedFaceSet, PolygonalFaceSet, Face, FaceWithVoids, MappedItem, RepresentationMap, Operator, ConvertedUnit, Measure, Subject}
 
 -- building elements and distribution elements
 unfoldable pub subjects : List (List ℕ)
@@ -86,6 +86,8 @@ keywords_of FaceWithVoids = codes "IFCINDEXEDPOLYGONALFACEWITHVOIDS" ∷ []
 keywords_of MappedItem = codes "IFCMAPPEDITEM" ∷ []
 keywords_of RepresentationMap = codes "IFCREPRESENTATIONMAP" ∷ []
 keywords_of Operator = codes "IFCCARTESIANTRANSFORMATIONOPERATOR3D" ∷ []
+keywords_of ConvertedUnit = codes "IFCCONVERSIONBASEDUNIT" ∷ []
+keywords_of Measure = codes "IFCMEASUREWITHUNIT" ∷ []
 keywords_of Subject = subjects
 
 -- a keyword is one of the entity's
@@ -97,7 +99,8 @@ abbrev pub entities : List Entity
 entities =
     Face ∷ FaceWithVoids ∷ Point ∷ Direction ∷ PointList ∷ TriangulatedFaceSet ∷ PolygonalFaceSet
     ∷ AxisPlacement ∷ Placement ∷ Representation ∷ ProductShape ∷ MappedItem ∷ RepresentationMap ∷ Operator
-    ∷ Containment ∷ Aggregates ∷ Storey ∷ Project ∷ UnitAssignment ∷ SiUnit ∷ Subject ∷ []
+    ∷ Containment ∷ Aggregates ∷ Storey ∷ Project ∷ UnitAssignment ∷ SiUnit
+    ∷ ConvertedUnit ∷ Measure ∷ Subject ∷ []
 
 -- the entity of a keyword
 unfoldable pub entity_of : List ℕ → Option Entity

@@ -4,6 +4,7 @@ ghost use Rattle.std.specs.List.{list_any};
 ghost use Rattle.std.specs.Str.{bytes_eq};
 ghost use Rattle.ifc_instances.specs.Entities.{is_of, subjects};
 
+use ifc_keywords::{FIRST_ELEMENT, KEYWORDS};
 use p21_table::{InstanceRef, Keyword};
 
 /// The entities whose attributes are followed (IFC4 ADD2 TC1).
@@ -49,6 +50,10 @@ pub enum Entity {
     RepresentationMap,
     /// `IFCCARTESIANTRANSFORMATIONOPERATOR3D`.
     Operator,
+    /// `IFCCONVERSIONBASEDUNIT`.
+    ConvertedUnit,
+    /// `IFCMEASUREWITHUNIT`.
+    Measure,
     /// A building element or a distribution element, by any of their keywords.
     Subject,
 }
@@ -125,7 +130,7 @@ fn is_subject(keyword: &Keyword<'_>) -> bool
 }
 
 /// Those of one keyword, in the order of the numbers of their keywords.
-const CODED: [Entity; 20] = [
+const CODED: [Entity; FIRST_ELEMENT as usize] = [
     Entity::Project,
     Entity::UnitAssignment,
     Entity::SiUnit,
@@ -146,6 +151,8 @@ const CODED: [Entity; 20] = [
     Entity::MappedItem,
     Entity::RepresentationMap,
     Entity::Operator,
+    Entity::ConvertedUnit,
+    Entity::Measure,
 ];
 
 impl Entity {
@@ -179,6 +186,8 @@ impl Entity {
             Entity::MappedItem => keyword.is("IFCMAPPEDITEM"),
             Entity::RepresentationMap => keyword.is("IFCREPRESENTATIONMAP"),
             Entity::Operator => keyword.is("IFCCARTESIANTRANSFORMATIONOPERATOR3D"),
+            Entity::ConvertedUnit => keyword.is("IFCCONVERSIONBASEDUNIT"),
+            Entity::Measure => keyword.is("IFCMEASUREWITHUNIT"),
             Entity::Subject => is_subject(keyword),
         }
     }
@@ -209,7 +218,9 @@ impl Entity {
             Entity::MappedItem => code == 17,
             Entity::RepresentationMap => code == 18,
             Entity::Operator => code == 19,
-            Entity::Subject => code >= 20 && code < 75,
+            Entity::ConvertedUnit => code == 20,
+            Entity::Measure => code == 21,
+            Entity::Subject => code >= FIRST_ELEMENT && code < KEYWORDS,
         }
     }
 
@@ -218,9 +229,9 @@ impl Entity {
     fn by_code(code: u8) -> Option<Entity>
         ensures { result ≡ by_code code }
     {
-        if code < 20 {
+        if code < FIRST_ELEMENT {
             Some(CODED[code as usize])
-        } else if code < 75 {
+        } else if code < KEYWORDS {
             Some(Entity::Subject)
         } else {
             None

@@ -2,5 +2,7 @@
 #![tactic(auto)]
 
 mod entity;
+mod saying;
 
 pub use entity::Entity;
+pub use saying::says;

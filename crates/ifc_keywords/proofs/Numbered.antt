@@ -5,6 +5,7 @@ use Rattle.std.proofs.lemmas.Bool.Decides.{nat_tests}
 use Rattle.std.proofs.lemmas.Slice.Eq.{bytes_eq-Decides}
 use Rattle.std.specs.Char.{to_ascii_uppercase}
 use Rattle.std.specs.Str.{bytes_eq}
+use Rattle.ifc_keywords.specs.declared.known_words.TheConstants.{KEYWORDS}
 use Rattle.ifc_keywords.specs.Codes.{known, code_among, code_of, code_at, hash_of}
 
 -- bytes that are alike
@@ -26,11 +27,11 @@ entered_at table n [] k h lt = absurd (omega (arith, lt))
 entered_at table n (w ∷ ws) zero h lt = let p = and_parts (get_or table (hash_of w) 0 == n) (entered table (n + 1) ws) h in eqb-true (get_or table (hash_of w) 0) n p.0 ∙ omega arith
 entered_at table n (w ∷ ws) (suc k) h lt = let p = and_parts (get_or table (hash_of w) 0 == n) (entered table (n + 1) ws) h in entered_at table (n + 1) ws k p.1 (omega (arith, lt)) ∙ omega arith
 
-known_many : length known ≡ 75
+known_many : length known ≡ KEYWORDS
 unfolding known
 known_many = refl
 
-pub entry_is : (table : List ℕ) (hash k : ℕ) → entered table 0 known ≡ true → k < 75 → hash_of (get_or known k []) ≡ hash → get_or table hash 0 ≡ k
+pub entry_is : (table : List ℕ) (hash k : ℕ) → entered table 0 known ≡ true → k < KEYWORDS → hash_of (get_or known k []) ≡ hash → get_or table hash 0 ≡ k
 entry_is table hash k t lt e = ap (λ (n : ℕ). get_or table n 0) (sym e) ∙ entered_at table 0 known k t (omega (arith, lt, known_many)) ∙ omega arith
 
 -- Each keyword is in upper case.
@@ -48,7 +49,7 @@ all_upper : uppers known ≡ true
 unfolding known
 all_upper = refl
 
-pub in_upper : (n : ℕ) → n < 75 → map to_ascii_uppercase (get_or known n []) ≡ get_or known n []
+pub in_upper : (n : ℕ) → n < KEYWORDS → map to_ascii_uppercase (get_or known n []) ≡ get_or known n []
 in_upper n lt = upper_at known n all_upper (omega (arith, lt, known_many))
 
 -- Each keyword has its number.
@@ -67,7 +68,7 @@ unfolding known code_of
 all_numbered = refl
 
 -- a word that is the keyword of a number has it
-pub has_number : (k : List ℕ) (n : ℕ) → n < 75 → k ≡ get_or known n [] → n ≡ code_of k
+pub has_number : (k : List ℕ) (n : ℕ) → n < KEYWORDS → k ≡ get_or known n [] → n ≡ code_of k
 has_number k n lt e = sym (ap code_of e ∙ numbered_at 0 known n all_numbered (omega (arith, lt, known_many)) ∙ omega arith)
 
 -- A word that is none of them has none.
@@ -79,7 +80,7 @@ among_none n (w ∷ ws) k h = elim (cases_Bool (bytes_eq k w)) [
   | inr f ↦ rw f (among_none (n + 1) ws k (λ j lt. h (suc j) (omega (arith, lt))))
 ]
 
-pub no_number : (k : List ℕ) → ((j : ℕ) → j < 75 → k ≡ get_or known j [] → ⊥) → 255 ≡ code_of k
+pub no_number : (k : List ℕ) → ((j : ℕ) → j < KEYWORDS → k ≡ get_or known j [] → ⊥) → 255 ≡ code_of k
 unfolding code_of
 no_number k h = sym (among_none 0 known k (λ j lt. h j (omega (arith, lt, known_many))))
 
@@ -105,7 +106,7 @@ short_none k lt = no_number k (λ j l e. let n = ap (λ (xs : List ℕ). length 
 -- a word is the keyword of its number
 pub record CodedAs (k : List ℕ) : Type 0 where
   pub at : ℕ
-  pub within : at < 75
+  pub within : at < KEYWORDS
   pub word : k ≡ get_or known at []
   pub number : code_of k ≡ at
 
@@ -129,12 +130,12 @@ among (w ∷ ws) k = elim (cases_Bool (bytes_eq k w)) [
 
 pub a_number : (k : List ℕ) → CodedAs k ⊎ (code_of k ≡ 255)
 a_number k = elim (among known k) [
-  | inl p ↦ (let lt : p.0 < 75 = omega (arith, p.1, known_many) in inl (record { at = p.0; within = lt; word = p.2; number = sym (has_number k p.0 lt p.2) }))
+  | inl p ↦ (let lt : p.0 < KEYWORDS = omega (arith, p.1, known_many) in inl (record { at = p.0; within = lt; word = p.2; number = sym (has_number k p.0 lt p.2) }))
   | inr n ↦ inr (sym (no_number k (λ j lt e. n j (omega (arith, lt, known_many)) e)))
 ]
 
--- the keyword of a number below 75 is the one that stands there
-pub keyword_of : (keyword : Option (List ℕ)) (n : ℕ) → n < 75 → code_at keyword ≡ n → keyword ≡ Some (get_or known n [])
+-- the keyword of a number below their count is the one that stands there
+pub keyword_of : (keyword : Option (List ℕ)) (n : ℕ) → n < KEYWORDS → code_at keyword ≡ n → keyword ≡ Some (get_or known n [])
 keyword_of None n lt e = absurd (omega (arith, lt, e))
 keyword_of (Some k) n lt e = elim (a_number k) [
   | inl r ↦ (let same : r.at ≡ n = sym r.number ∙ e in ap (λ (w : List ℕ). Some w) (r.word ∙ ap (λ (i : ℕ). get_or known i []) same))

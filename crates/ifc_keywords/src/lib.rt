@@ -3,4 +3,4 @@
 
 mod known_words;
 
-pub use known_words::{code_of, is_word, known_word};
+pub use known_words::{FIRST_ELEMENT, KEYWORDS, code_of, is_word, known_word};

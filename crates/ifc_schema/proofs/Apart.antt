@@ -15,7 +15,7 @@ use Rattle.ifc_schema.specs.declared.form.Count.{Count}
 use Rattle.ifc_schema.specs.declared.form.Shape.{Shape}
 use Rattle.ifc_schema.specs.declared.form.Shape.TheVariants as shape
 use Rattle.ifc_schema.specs.Forms.{fits}
-use Rattle.p21_values.specs.Values.{number_of, items_of}
+use Rattle.p21_values.specs.Values.{number_of, items_of, measure_of}
 use Rattle.ifc_schema.specs.Table.{row_at}
 use Rattle.ifc_schema.specs.Bodies.{applies}
 use Rattle.ifc_schema.specs.Used.{IsMapped}
@@ -54,6 +54,7 @@ whole_apart bs (Dangling to) h k = k
 pub leaf_apart : (world : List Instance) (l : Leaf) (v : Value21) → Apart (LeafFlaw world l v)
 leaf_apart world leaf.Number v = by_option (number_of v) (λ f. f ≡ Some BadShape) NumberFlaw (told (Some BadShape)) number_apart
 leaf_apart world leaf.Whole v = by_option (number_of v) (λ f. f ≡ Some BadShape) WholeFlaw (told (Some BadShape)) whole_apart
+leaf_apart world leaf.Measure v = by_option (measure_of v) (λ f. f ≡ Some BadShape) NumberFlaw (told (Some BadShape)) number_apart
 leaf_apart world leaf.Text v = λ flaw h k. cc
 leaf_apart world leaf.Enumeration v = λ flaw h k. cc
 leaf_apart world (leaf.Reference t) v = λ flaw h k. cc

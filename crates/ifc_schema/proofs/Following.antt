@@ -17,7 +17,7 @@ use Rattle.ifc_schema.specs.declared.form.Leaf.TheVariants as leaf
 use Rattle.ifc_schema.specs.declared.form.Shape.TheVariants as shape
 use Rattle.ifc_schema.specs.declared.form.Need.TheVariants.{Must}
 use Rattle.ifc_schema.specs.declared.form.When.{When}
-use Rattle.ifc_schema.specs.declared.form.When.TheVariants.{Always, WithBody, WithItems}
+use Rattle.ifc_schema.specs.declared.form.When.TheVariants.{Always, WithBody, WithItems, OfLength}
 use Rattle.ifc_schema.specs.declared.worklist.Mark.{Mark}
 use Rattle.ifc_schema.specs.declared.worklist.Mark.TheVariants.{Unseen, Used as Met, Mapped}
 use Rattle.ifc_schema.specs.declared.worklist.Work.{Work}
@@ -94,6 +94,7 @@ applies_more world m i Always h = refl
 applies_more world m i WithBody h = h
 applies_more world false i WithItems h = h
 applies_more world true i WithItems h = refl
+applies_more world m i OfLength h = h
 
 pub names_more : (world : List Instance) (m : Bool) (i : Instance) (to : ℕ) → Names world false i to → Names world m i to
 names_more world m i to n = record {

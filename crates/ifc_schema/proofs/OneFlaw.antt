@@ -7,7 +7,7 @@ use Rattle.bim_model.specs.declared.upload.UploadFault.{UploadFault}
 use Rattle.p21_values.specs.declared.value.Value21.{Value21}
 use Rattle.p21_values.specs.declared.value.Instance.{Instance}
 use Rattle.p21_values.proofs.PlaceLemmas.{trichotomy}
-use Rattle.p21_values.specs.Values.{number_of, words_of, reference_of, items_of, is_enumeration}
+use Rattle.p21_values.specs.Values.{number_of, words_of, reference_of, items_of, is_enumeration, measure_of}
 use Rattle.ifc_instances.specs.Looking.{some_passes}
 use Rattle.ifc_schema.specs.declared.flaw.Flaw.{Flaw}
 use Rattle.ifc_schema.specs.declared.flaw.Flaw.TheVariants.{Dangling, BadShape}
@@ -57,6 +57,7 @@ whole_one bs (Dangling to) g h k = absurd h
 leaf_one : (world : List Instance) (l : Leaf) (v : Value21) → One (LeafFlaw world l v)
 leaf_one world leaf.Number v = by_option (number_of v) (λ f. f ≡ Some BadShape) NumberFlaw (told (Some BadShape)) number_one
 leaf_one world leaf.Whole v = by_option (number_of v) (λ f. f ≡ Some BadShape) WholeFlaw (told (Some BadShape)) whole_one
+leaf_one world leaf.Measure v = by_option (measure_of v) (λ f. f ≡ Some BadShape) NumberFlaw (told (Some BadShape)) number_one
 leaf_one world leaf.Text v = told (bad_unless (is_some (words_of v)))
 leaf_one world leaf.Enumeration v = told (bad_unless (is_enumeration v))
 leaf_one world (leaf.Reference t) v = told (reference_flaw (wanted_flaw t world) (reference_of v))

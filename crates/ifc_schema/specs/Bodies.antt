@@ -1,16 +1,16 @@
 -- Which elements have a body: one of the shape representations of their shape has the identifier `Body`. Only values are looked at, also of
 -- instances that lack their own form (IFC4 ADD2 TC1, IfcProduct, IfcProductDefinitionShape, IfcShapeRepresentation).
-use Rattle.std.specs.Prelude.{◌&&◌, ◌||◌, Bool, true, List, map, option_and_then}
+use Rattle.std.specs.Prelude.{◌&&◌, ◌||◌, Bool, true, List, map, option_and_then, codes}
 use Rattle.std.specs.List.{list_any, slice_get}
 use Rattle.p21_values.specs.declared.value.Value21.{Value21}
 use Rattle.p21_values.specs.declared.value.Instance.{Instance}
 use Rattle.ifc_instances.specs.declared.entity.Entity.TheVariants.{ProductShape, Representation}
 use Rattle.ifc_schema.specs.declared.form.When.{When}
-use Rattle.ifc_schema.specs.declared.form.When.TheVariants.{Always, WithBody, WithItems}
+use Rattle.ifc_schema.specs.declared.form.When.TheVariants.{Always, WithBody, WithItems, OfLength}
 use Rattle.ifc_schema.specs.Words.{says_body}
 use Rattle.p21_values.specs.Values.{words_of, reference_of, items_of}
 use Rattle.p21_values.specs.Looking.{look}
-use Rattle.ifc_instances.specs.Looking.{is_a, some_passes}
+use Rattle.ifc_instances.specs.Looking.{is_a, some_passes, says}
 
 -- the identifier of a representation is `Body`
 unfoldable pub is_body : Instance → Bool
@@ -45,8 +45,13 @@ has_body world i = some_passes (target_passes world (is_body_shape world)) (slic
 abbrev pub bodied_of : List Instance → List Bool
 bodied_of world = map (has_body world) world
 
+-- a unit of length, by what it says of its kind (IFC4 ADD2 TC1, IfcNamedUnit)
+unfoldable pub is_of_length : Instance → Bool
+is_of_length i = says (codes "LENGTHUNIT") i 1
+
 -- An attribute is followed in this instance. Whether the instance is mapped is given.
 abbrev pub applies : List Instance → Bool → Instance → When → Bool
 applies world mapped i Always = true
 applies world mapped i WithBody = has_body world i
 applies world mapped i WithItems = mapped || is_body i
+applies world mapped i OfLength = is_of_length i

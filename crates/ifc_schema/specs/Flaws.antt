@@ -9,14 +9,14 @@ use Rattle.ifc_schema.specs.declared.flaw.Flaw.TheVariants.{Dangling, BadShape}
 use Rattle.ifc_schema.specs.declared.form.Attribute.{Attribute}
 use Rattle.ifc_schema.specs.declared.form.Targets.{Targets}
 use Rattle.ifc_schema.specs.declared.form.Leaf.{Leaf}
-use Rattle.ifc_schema.specs.declared.form.Leaf.TheVariants.{Number, Whole, Text, Enumeration, Reference, AnyReference, Anything}
+use Rattle.ifc_schema.specs.declared.form.Leaf.TheVariants.{Number, Whole, Measure, Text, Enumeration, Reference, AnyReference, Anything}
 use Rattle.ifc_schema.specs.declared.form.Count.{Count}
 use Rattle.ifc_schema.specs.declared.form.Shape.{Shape}
 use Rattle.ifc_schema.specs.declared.form.Shape.TheVariants as shape
 use Rattle.ifc_schema.specs.declared.form.Need.{Need}
 use Rattle.ifc_schema.specs.Words.{IsNumber, IsNoNumber, IsWhole, IsNotWhole, says_guid}
 use Rattle.ifc_schema.specs.Forms.{fits, holds, allows_absent, allows_missing}
-use Rattle.p21_values.specs.Values.{number_of, words_of, reference_of, items_of, is_enumeration, is_absent}
+use Rattle.p21_values.specs.Values.{number_of, words_of, reference_of, items_of, measure_of, is_enumeration, is_absent}
 use Rattle.p21_values.specs.Looking.{look}
 use Rattle.ifc_instances.specs.Looking.{some_passes}
 use Rattle.ifc_schema.specs.Table.{row_at}
@@ -62,6 +62,7 @@ reference_flaw flaw (Some to) = flaw to
 abbrev pub LeafFlaw : List Instance → Leaf → Value21 → Option Flaw → Type 0
 LeafFlaw world Number v f = MatchOption (number_of v) (f ≡ Some BadShape) (λ bs. NumberFlaw bs f)
 LeafFlaw world Whole v f = MatchOption (number_of v) (f ≡ Some BadShape) (λ bs. WholeFlaw bs f)
+LeafFlaw world Measure v f = MatchOption (measure_of v) (f ≡ Some BadShape) (λ bs. NumberFlaw bs f)
 LeafFlaw world Text v f = f ≡ bad_unless (is_some (words_of v))
 LeafFlaw world Enumeration v f = f ≡ bad_unless (is_enumeration v)
 LeafFlaw world (Reference wanted) v f = f ≡ reference_flaw (wanted_flaw wanted world) (reference_of v)

@@ -24,6 +24,7 @@ members targets.Nothing = []
 members (targets.One e) = e ∷ []
 members targets.Faces = entity.Face ∷ entity.FaceWithVoids ∷ []
 members targets.Items = entity.TriangulatedFaceSet ∷ entity.PolygonalFaceSet ∷ entity.MappedItem ∷ []
+members targets.Units = entity.SiUnit ∷ entity.ConvertedUnit ∷ []
 
 -- no target at all
 abbrev pub is_nothing : Targets → Bool

@@ -15,7 +15,7 @@ use Rattle.ifc_schema.specs.declared.form.Shape.TheVariants as shape
 use Rattle.ifc_schema.specs.declared.form.Need.{Need}
 use Rattle.ifc_schema.specs.declared.form.Need.TheVariants.{Must, OrAbsent, OrMissing}
 use Rattle.ifc_schema.specs.declared.form.When.{When}
-use Rattle.ifc_schema.specs.declared.form.When.TheVariants.{Always, WithBody, WithItems}
+use Rattle.ifc_schema.specs.declared.form.When.TheVariants.{Always, WithBody, WithItems, OfLength}
 
 -- an attribute: its place, when it counts, whether it may be left out, its shape and what stands in it
 abbrev pub attribute : ℕ → When → Need → Shape → Leaf → Attribute
@@ -26,11 +26,17 @@ unfoldable pub row_of : Entity → List Attribute
 row_of entity.Project =
     attribute 8 Always OrAbsent shape.One (leaf.Reference (targets.One entity.UnitAssignment)) ∷ []
 row_of entity.UnitAssignment =
-    attribute 0 Always Must (shape.List (AtLeast 0)) (leaf.AnyReference (targets.One entity.SiUnit)) ∷ []
+    attribute 0 Always Must (shape.List (AtLeast 0)) (leaf.AnyReference targets.Units) ∷ []
 row_of entity.SiUnit =
     attribute 1 Always Must shape.One leaf.Enumeration ∷
     attribute 2 Always OrAbsent shape.One leaf.Enumeration ∷
     attribute 3 Always Must shape.One leaf.Enumeration ∷ []
+row_of entity.ConvertedUnit =
+    attribute 1 Always Must shape.One leaf.Enumeration ∷
+    attribute 3 OfLength Must shape.One (leaf.Reference (targets.One entity.Measure)) ∷ []
+row_of entity.Measure =
+    attribute 0 Always Must shape.One leaf.Measure ∷
+    attribute 1 Always Must shape.One (leaf.Reference (targets.One entity.SiUnit)) ∷ []
 row_of entity.Storey =
     attribute 2 Always OrAbsent shape.One leaf.Text ∷ []
 row_of entity.Aggregates =

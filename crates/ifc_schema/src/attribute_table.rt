@@ -19,7 +19,7 @@ const UNIT_ASSIGNMENT: [Attribute; 1] = [Attribute {
     when: When::Always,
     need: Need::Must,
     shape: Shape::List(Count::AtLeast(0)),
-    leaf: Leaf::AnyReference(Targets::One(Entity::SiUnit)),
+    leaf: Leaf::AnyReference(Targets::Units),
 }];
 
 const SI_UNIT: [Attribute; 3] = [
@@ -43,6 +43,40 @@ const SI_UNIT: [Attribute; 3] = [
         need: Need::Must,
         shape: Shape::One,
         leaf: Leaf::Enumeration,
+    },
+];
+
+const CONVERTED_UNIT: [Attribute; 2] = [
+    Attribute {
+        at: 1,
+        when: When::Always,
+        need: Need::Must,
+        shape: Shape::One,
+        leaf: Leaf::Enumeration,
+    },
+    Attribute {
+        at: 3,
+        when: When::OfLength,
+        need: Need::Must,
+        shape: Shape::One,
+        leaf: Leaf::Reference(Targets::One(Entity::Measure)),
+    },
+];
+
+const MEASURE: [Attribute; 2] = [
+    Attribute {
+        at: 0,
+        when: When::Always,
+        need: Need::Must,
+        shape: Shape::One,
+        leaf: Leaf::Measure,
+    },
+    Attribute {
+        at: 1,
+        when: When::Always,
+        need: Need::Must,
+        shape: Shape::One,
+        leaf: Leaf::Reference(Targets::One(Entity::SiUnit)),
     },
 ];
 
@@ -379,6 +413,8 @@ pub fn row_of(entity: Entity) -> &'static [Attribute]
         Entity::Project => &PROJECT,
         Entity::UnitAssignment => &UNIT_ASSIGNMENT,
         Entity::SiUnit => &SI_UNIT,
+        Entity::ConvertedUnit => &CONVERTED_UNIT,
+        Entity::Measure => &MEASURE,
         Entity::Storey => &STOREY,
         Entity::Aggregates => &AGGREGATES,
         Entity::Containment => &CONTAINMENT,

@@ -1,11 +1,11 @@
 //! Which elements have a body.
 ghost use Rattle.std.specs.Prelude.{◌≡◌, Bool, List, IfOk, length, map};
 ghost use Rattle.p21_values.specs.declared.value.Instance.{Instance};
-ghost use Rattle.ifc_schema.specs.Bodies.{is_body, is_body_representation, target_passes, lists_body, is_body_shape, body_shapes, has_body, bodied_of, applies};
+ghost use Rattle.ifc_schema.specs.Bodies.{is_body, is_body_representation, target_passes, lists_body, is_body_shape, body_shapes, has_body, bodied_of, is_of_length, applies};
 
 use crate::form::When;
 use crate::words::says_body;
-use ifc_instances::Entity;
+use ifc_instances::{Entity, says};
 use p21_table::{Exchange, InstanceRef, ValueRef, Values};
 use std::alloc::{AllocError, Global};
 
@@ -121,6 +121,14 @@ pub fn bodied_of(alloc: Global, exchange: &Exchange) -> Result<Vec<bool>, AllocE
     Ok(bits)
 }
 
+/// Whether it is a unit of length.
+#[tactic(auto, unfolding(crate::specs::Bodies::is_of_length))]
+fn is_of_length(instance: &InstanceRef<'_>) -> bool
+    ensures { result ≡ is_of_length instance.now }
+{
+    says("LENGTHUNIT", instance, 1)
+}
+
 /// Whether an attribute is followed in this instance; whether it has a body and is mapped is given.
 pub fn applies(bodied: bool, mapped: bool, instance: &InstanceRef<'_>, when: When) -> bool
     ensures { (world : List Instance) → bodied ≡ has_body world instance.now
@@ -130,5 +138,6 @@ pub fn applies(bodied: bool, mapped: bool, instance: &InstanceRef<'_>, when: Whe
         When::Always => true,
         When::WithBody => bodied,
         When::WithItems => mapped || is_body(instance),
+        When::OfLength => is_of_length(instance),
     }
 }

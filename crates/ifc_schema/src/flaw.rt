@@ -67,6 +67,15 @@ fn whole_flaw(exchange: &Exchange, value: &ValueRef<'_>) -> Option<Flaw>
     }
 }
 
+fn measure_flaw(exchange: &Exchange, value: &ValueRef<'_>) -> Option<Flaw>
+    ensures { LeafFlaw exchange.now Leaf.Measure value.now result }
+{
+    match value.measure() {
+        Some(bytes) => bad_unless(is_number(bytes)),
+        None => Some(Flaw::BadShape),
+    }
+}
+
 fn identifier_flaw(value: &ValueRef<'_>) -> Option<Flaw>
     ensures { result ≡ bad_unless (some_passes says_guid (words_of value.now)) }
 {
@@ -111,6 +120,7 @@ fn leaf_flaw(exchange: &Exchange, leaf: Leaf, value: &ValueRef<'_>) -> Option<Fl
     match leaf {
         Leaf::Number => number_flaw(exchange, value),
         Leaf::Whole => whole_flaw(exchange, value),
+        Leaf::Measure => measure_flaw(exchange, value),
         Leaf::Text => bad_unless(value.is_text()),
         Leaf::Enumeration => bad_unless(value.is_enumeration()),
         Leaf::Reference(wanted) => wanted_flaw(exchange, wanted, value),

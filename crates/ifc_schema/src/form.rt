@@ -15,6 +15,8 @@ pub enum Targets {
     Faces,
     /// Face sets and mapped items.
     Items,
+    /// Units of the international system, and units that are converted to one.
+    Units,
 }
 
 /// What one value is, where it isn't a list.
@@ -23,6 +25,8 @@ pub enum Leaf {
     Number,
     /// A number whose value is whole.
     Whole,
+    /// A number, or a typed value that holds one.
+    Measure,
     Text,
     Enumeration,
     /// A reference to an instance of one of these entities, which are followed.
@@ -70,6 +74,8 @@ pub enum When {
     WithBody,
     /// In a representation that is a body or is mapped.
     WithItems,
+    /// In a unit of length.
+    OfLength,
 }
 
 /// An attribute of an entity, and the form that it has.
@@ -104,6 +110,9 @@ impl Targets {
                 Entity::TriangulatedFaceSet.includes(instance)
                     || Entity::PolygonalFaceSet.includes(instance)
                     || Entity::MappedItem.includes(instance)
+            }
+            Targets::Units => {
+                Entity::SiUnit.includes(instance) || Entity::ConvertedUnit.includes(instance)
             }
         }
     }

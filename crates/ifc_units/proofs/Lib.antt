@@ -7,3 +7,4 @@ pub mod ShortLengths
 pub mod PointFacts
 pub mod InstanceFacts
 pub mod UnitFacts
+pub mod Abouts

@@ -1,11 +1,11 @@
 -- Sizes on the grid.
-use Rattle.std.proofs.Common.{◌≡◌, ℕ, ◌+◌, ◌-◌, ◌*◌, ◌/◌, ◌%◌, ◌^◌, ◌<◌, ◌≤◌, ◌⊎◌, inl, inr, arith}
-use Rattle.std.proofs.lemmas.Nat.{div-add-mod'}
+use Rattle.std.proofs.Common.{◌≡◌, ℕ, ◌+◌, ◌-◌, ◌*◌, ◌/◌, ◌%◌, ◌^◌, ◌<◌, ◌≤◌, ◌⊎◌, inl, inr, refl, ap, ◌∙◌, arith}
+use Rattle.std.proofs.lemmas.Nat.{div-add-mod', pow-add}
 use Rattle.std.proofs.Math.Nat.{mul-le-mul_left, pow-le-pow_right}
 use Rattle.bim_model.specs.declared.upload.Mode.{Mode}
 use Rattle.bim_model.specs.declared.upload.Mode.TheVariants.{Exact, Snap}
 use Rattle.bim_text.proofs.Quotients.{times, power_some}
-use Rattle.ifc_units.specs.declared.sizes.TheConstants.{UNITS, MOST}
+use Rattle.ifc_units.specs.declared.sizes.TheConstants.{UNITS, MOST, MOST_COUNT}
 use Rattle.ifc_units.specs.Sizes.{distance, IsSize}
 
 -- at the size below and at the one above
@@ -49,22 +49,36 @@ pub ruleset roundings = (snap_whole, snap_next, exact_whole, exact_next, exact_n
 
 -- powers of ten
 
-pub power_most : (z : ℕ) → z ≤ 37 → 10 ^ z ≤ 10 ^ 37
-power_most z h = pow-le-pow_right {n = 10} (omega arith) {i = z} {j = 37} h
+pub power_most : (z : ℕ) → z ≤ 38 → 10 ^ z ≤ 10 ^ 38
+power_most z h = pow-le-pow_right {n = 10} (omega arith) {i = z} {j = 38} h
 
 pub power_few : (z : ℕ) → z ≤ 15 → 10 ^ z ≤ 10 ^ 15
 power_few z h = pow-le-pow_right {n = 10} (omega arith) {i = z} {j = 15} h
 
+-- behind 39 and 40 places so little is left that it is nothing, or lies between nothing and one
+pub tiny_power : (z : ℕ) → 38 < z → 10 ^ 39 ≤ 10 ^ z
+tiny_power z h = pow-le-pow_right {n = 10} (omega arith) {i = 39} {j = z} h
+
 -- behind so many places nothing is left
-pub far_size : (mode : Mode) (n z : ℕ) → n < 10 ^ 34 → 37 < z → IsSize mode UNITS (UNITS * n) (10 ^ z) 0
-far_size Exact n z small far =
-    let up : 10 ^ 38 ≤ 10 ^ z = pow-le-pow_right {n = 10} (omega arith) {i = 38} {j = z} far in
-    omega (arith, up)
-far_size Snap n z small far =
-    let up : 10 ^ 38 ≤ 10 ^ z = pow-le-pow_right {n = 10} (omega arith) {i = 38} {j = z} far in
+pub far_power : (z : ℕ) → 40 < z → 10 ^ 41 ≤ 10 ^ z
+far_power z h = pow-le-pow_right {n = 10} (omega arith) {i = 41} {j = z} h
+
+pub tiny_snap : (n z : ℕ) → n ≤ MOST_COUNT → 38 < z → IsSize Snap UNITS (UNITS * n) (10 ^ z) 0
+tiny_snap n z small far =
+    let up = tiny_power z far in
     record { near = omega (arith, up); away = λ k. absurd (omega (arith, up, k)) }
 
-pub ruleset part_sizes = (power_some, power_most, power_few, far_size)
+-- three places less
+pub three_less : (z : ℕ) → 38 < z → 10 ^ z ≡ 1000 * 10 ^ (z - 3)
+three_less z h = ap (λ (k : ℕ). 10 ^ k) (same z h) ∙ pow-add 10 3 (z - 3)
+  where
+    same : (z : ℕ) → 38 < z → z ≡ 3 + (z - 3)
+    same z h = omega (arith, h)
+
+pub less_power : (z : ℕ) → z ≤ 40 → 10 ^ (z - 3) ≤ 10 ^ 37
+less_power z h = pow-le-pow_right {n = 10} (omega arith) {i = z - 3} {j = 37} (omega (arith, h))
+
+pub ruleset part_sizes = (power_some, power_most, power_few, tiny_power, far_power, tiny_snap, three_less, less_power)
 
 -- whole sizes
 

@@ -1,5 +1,5 @@
 -- A short number's length: the decimal that it is has its size in millimetres, also where zeros stand behind its digits.
-use Rattle.std.proofs.Common.{◌≡◌, ◌⊎◌, inl, inr, ℕ, zero, suc, ◌+◌, ◌-◌, ◌*◌, ◌/◌, ◌%◌, ◌^◌, ◌<◌, ◌≤◌, List, Bool, false, true, ℤ, pos, ◌+ℤ◌, ◌-ℤ◌, refl, sym, ap, subst, ◌∙◌, arith}
+use Rattle.std.proofs.Common.{◌≡◌, ◌⊎◌, inl, inr, ℕ, zero, suc, ◌+◌, ◌-◌, ◌*◌, ◌/◌, ◌%◌, ◌^◌, ◌<◌, ◌≤◌, List, Bool, false, true, ℤ, pos, ◌+ℤ◌, ◌-ℤ◌, ◌*ℤ◌, refl, sym, ap, subst, ◌∙◌, arith}
 use Rattle.std.specs.Prelude.{unsigned_abs}
 use Rattle.std.proofs.lemmas.Int.{ints}
 use Rattle.std.proofs.lemmas.Nat.{pow-add}
@@ -22,7 +22,7 @@ use Rattle.ifc_units.specs.declared.length_error.GridFault.TheVariants.{OffGrid,
 use Rattle.ifc_units.specs.Grid.{IsGridNumber}
 use Rattle.ifc_units.specs.Sizes.{distance, IsSize, IsSizeOf}
 use Rattle.ifc_units.specs.Lengths.{IsLength, LengthRefused}
-use Rattle.ifc_units.proofs.Signs.{grid_ok, grid_off, grid_far}
+use Rattle.ifc_units.proofs.Signs.{times_left, grid_ok, grid_off, grid_far}
 use Rattle.ifc_units.proofs.LengthFacts.{length_here, length_refused}
 
 -- One fraction in two forms, n / d and k / e, has the same sizes.
@@ -196,27 +196,44 @@ decimal_for s shift small = elim (zero_or s.digits) [
 reads_for : (text : List ℕ) (s : Short) (shift : ℤ) (d : Decimal) → SpellsShort text s → IsFor s.negative s.digits s.places shift d → Reads text d
 reads_for text s shift d h is = record { spelling = h.spelling; read = h.read; value = subst (λ (x : Scaled). SameValue (value_of d) x) (sym h.value) is.value }
 
+-- so many times the digits
+same_times : (f m n : ℕ) (p q : ℤ) → IsSame m p n q → IsSame (f * m) p (f * n) q
+same_times f m n p q h = grouped f m (10 ^ above p) (10 ^ below q) ∙ ap (λ (x : ℕ). f * x) h ∙ sym (grouped f n (10 ^ above q) (10 ^ below p))
+  where
+    grouped : (f m a b : ℕ) → f * m * a * b ≡ f * (m * a * b)
+    grouped f m a b = omega arith
+
+-- a number so many times, with the sign of that decimal
+signed_for : (f : ℕ) (b : Bool) (d : Decimal) → signed b d.digits ≡ signed d.negative d.digits → signed b (f * d.digits) ≡ pos f *ℤ signed d.negative d.digits
+signed_for f b d e = sym (times_left f b d.digits) ∙ ap (λ (x : ℤ). pos f *ℤ x) e
+
 -- What its size on the grid says of a value.
 
-pub short_here : (scale : Scale) (mode : Mode) (s : Short) (v : Value21) (size : ℕ) (p g : ℤ) → SaysShort s v → p ≡ scale.power -ℤ pos s.places → IsSizeOf mode p s.digits size → size ≤ MOST → g ≡ signed s.negative size
+pub short_here : (scale : Scale) (mode : Mode) (s : Short) (v : Value21) (size : ℕ) (p g : ℤ) → SaysShort s v → p ≡ scale.power -ℤ pos s.places → IsSizeOf mode p (scale.factor * s.digits) size → size ≤ MOST → g ≡ signed s.negative size
     → IsLength scale mode v g
 short_here scale mode s v size p g says at is within e =
     let f = decimal_for s scale.power says.digits in
     let d = f.0 in
-    let sized = sizes_too mode s.digits d.digits size p (d.exp +ℤ scale.power) (subst (λ (x : ℤ). IsSame s.digits x d.digits (d.exp +ℤ scale.power)) (sym at) f.1.scaled) is in
+    let k = scale.factor in
+    let q = d.exp +ℤ scale.power in
+    let same : IsSame s.digits p d.digits q = subst (λ (x : ℤ). IsSame s.digits x d.digits q) (sym at) f.1.scaled in
+    let sized = sizes_too mode (k * s.digits) (k * d.digits) size p q (same_times k s.digits d.digits p q same) is in
     length_here scale mode v says.spelled d g g says.number (reads_for says.spelled s scale.power d says.spells f.1)
-    (subst (λ (x : ℤ). IsGridNumber mode UNITS (record { number = x; power = d.exp +ℤ scale.power }) g) f.1.sign (grid_ok mode s.negative d.digits size (d.exp +ℤ scale.power) g sized e))
+    (subst (λ (x : ℤ). IsGridNumber mode UNITS (record { number = x; power = q }) g) (signed_for k s.negative d f.1.sign) (grid_ok mode s.negative (k * d.digits) size q g sized e))
     (omega (arith, ap unsigned_abs e, signed_size s.negative size, within)) refl
 
 pub short_refused : (scale : Scale) (mode : Mode) (s : Short) (v : Value21) (fault : GridFault) (q : ℤ) → SaysShort s v → q ≡ scale.power -ℤ pos s.places → (fault ≡ OffGrid → mode ≡ Exact)
-    → (fault ≡ OffGrid → (n : ℕ) → IsSizeOf mode q s.digits n → ⊥) → (fault ≡ TooFar → (n : ℕ) × IsSizeOf mode q s.digits n × (MOST < n)) → LengthRefused scale mode v fault
+    → (fault ≡ OffGrid → (n : ℕ) → IsSizeOf mode q (scale.factor * s.digits) n → ⊥) → (fault ≡ TooFar → (n : ℕ) × IsSizeOf mode q (scale.factor * s.digits) n × (MOST < n)) → LengthRefused scale mode v fault
 short_refused scale mode s v fault q says at exact off far =
     let f = decimal_for s scale.power says.digits in
     let d = f.0 in
+    let k = scale.factor in
     let p = d.exp +ℤ scale.power in
-    let scaled : IsSame s.digits q d.digits p = subst (λ (x : ℤ). IsSame s.digits x d.digits p) (sym at) f.1.scaled in
+    let same : IsSame s.digits q d.digits p = subst (λ (x : ℤ). IsSame s.digits x d.digits p) (sym at) f.1.scaled in
+    let scaled : IsSame (k * s.digits) q (k * d.digits) p = same_times k s.digits d.digits q p same in
+    let sign = signed_for k s.negative d f.1.sign in
     length_refused scale mode v says.spelled d fault says.number (reads_for says.spelled s scale.power d says.spells f.1)
-    (λ e. subst (λ (x : ℤ). (g : ℤ) → IsGridNumber mode UNITS (record { number = x; power = p }) g → ⊥) f.1.sign
-    (grid_off mode s.negative d.digits p (exact e) (λ n h. off e n (sizes_too mode d.digits s.digits n p q (sym scaled) h))))
-    (λ e. let is = far e in subst (λ (x : ℤ). (g : ℤ) × IsGridNumber mode UNITS (record { number = x; power = p }) g × (MOST < unsigned_abs g)) f.1.sign
-    (grid_far mode s.negative d.digits p (is.0, sizes_too mode s.digits d.digits is.0 q p scaled is.1, is.2)))
+    (λ e. subst (λ (x : ℤ). (g : ℤ) → IsGridNumber mode UNITS (record { number = x; power = p }) g → ⊥) sign
+    (grid_off mode s.negative (k * d.digits) p (exact e) (λ n h. off e n (sizes_too mode (k * d.digits) (k * s.digits) n p q (sym scaled) h))))
+    (λ e. let is = far e in subst (λ (x : ℤ). (g : ℤ) × IsGridNumber mode UNITS (record { number = x; power = p }) g × (MOST < unsigned_abs g)) sign
+    (grid_far mode s.negative (k * d.digits) p (is.0, sizes_too mode (k * s.digits) (k * d.digits) is.0 q p scaled is.1, is.2)))

@@ -22,7 +22,7 @@ other_sign false m n = omega (arith, ints)
 other_sign true m n = omega (arith, ints)
 
 -- the gap between a length of the size n / d and a grid number, of the same sign
-times_left : (u : ℕ) (b : Bool) (n : ℕ) → pos u *ℤ signed b n ≡ signed b (u * n)
+pub times_left : (u : ℕ) (b : Bool) (n : ℕ) → pos u *ℤ signed b n ≡ signed b (u * n)
 times_left u b n = *ℤ_comm (pos u) (signed b n) ∙ signed_times b n u ∙ ap (signed b) (swap n u)
   where
     swap : (a c : ℕ) → a * c ≡ c * a

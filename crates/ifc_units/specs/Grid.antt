@@ -8,9 +8,13 @@ use Rattle.bim_text.specs.Values.{Scaled, numerator, denominator, raised}
 use Rattle.bim_text.specs.Decimals.{value_of}
 use Rattle.ifc_units.specs.declared.scale.Scale.{Scale}
 
+-- a value so many times
+abbrev pub times : ℕ → Scaled → Scaled
+times factor x = record { number = pos factor *ℤ x.number; power = x.power }
+
 -- the length in millimetres that a decimal is in a unit of that scale
 abbrev pub length_of : Decimal → Scale → Scaled
-length_of number scale = raised (value_of number) scale.power
+length_of number scale = times scale.factor (raised (value_of number) scale.power)
 
 -- how far u times the length lies from g, in parts of the denominator
 abbrev pub gap : ℕ → Scaled → ℤ → ℕ

@@ -1,5 +1,7 @@
-pub mod Grid
-pub mod Sizes
 pub mod Faults
-pub mod Lengths
+pub mod Grid
+pub mod Metres
+pub mod Conversions
 pub mod Units
+pub mod Lengths
+pub mod Sizes

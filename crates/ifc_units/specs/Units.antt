@@ -1,8 +1,8 @@
 -- The length unit of a file (IFC4 ADD2 TC1, IfcProject, IfcUnitAssignment, IfcSIUnit). A world is the list of its instances. Only values are
 -- looked at, also of instances that lack their own form.
-use Rattle.std.specs.Prelude.{◌≡◌, ◌≢◌, ℕ, ◌≤◌, ◌&&◌, Bool, true, if◌then◌else◌, ℤ, pos, negsuc, codes, List, [], ◌∷◌, Option, Some, None, option_and_then, option_map, All, Any}
-use Rattle.std.specs.List.{slice_get, filter, find}
-use Rattle.std.specs.Str.{bytes_eq}
+use Rattle.std.specs.Prelude.{◌≡◌, ◌≢◌, ℕ, ◌≤◌, ◌&&◌, ◌||◌, Bool, true, ℤ, negsuc, codes, List, [], ◌∷◌, Option, Some, None, All, Any}
+use Rattle.std.specs.Bool.{MatchBool}
+use Rattle.std.specs.List.{filter}
 use Rattle.bim_model.specs.declared.upload.UploadFault.{UploadFault}
 use Rattle.bim_model.specs.declared.upload.UploadFault.TheVariants.{LengthUnit}
 use Rattle.p21_values.specs.declared.value.Value21.{Value21}
@@ -10,46 +10,37 @@ use Rattle.p21_values.specs.declared.value.Instance.{Instance}
 use Rattle.ifc_instances.specs.declared.entity.Entity.TheVariants as entity
 use Rattle.p21_values.specs.Attributes.{listed, target_at}
 use Rattle.p21_values.specs.Looking.{look}
-use Rattle.ifc_instances.specs.Looking.{is_a, some_passes}
-use Rattle.p21_values.specs.Values.{reference_of, enumeration_of, is_absent}
+use Rattle.ifc_instances.specs.Looking.{is_a, says}
+use Rattle.p21_values.specs.Values.{reference_of}
+use Rattle.bim_text.specs.Values.{Scaled}
 use Rattle.ifc_units.specs.declared.scale.Scale.{Scale}
-
--- What values say.
-
--- an attribute is the enumeration of those letters
-abbrev pub says : List ℕ → Instance → ℕ → Bool
-says word i at = some_passes (λ letters. bytes_eq letters word)
-    (option_and_then enumeration_of (slice_get i.values at))
+use Rattle.ifc_units.specs.Metres.{metric_power}
+use Rattle.ifc_units.specs.Conversions.{tenths_of, IsMeasure}
 
 -- Of a unit.
 
--- a unit of length of the international system
+-- a unit of length: of the international system, or converted to one
 unfoldable pub is_length_unit : Instance → Bool
-is_length_unit i = is_a entity.SiUnit i && says (codes "LENGTHUNIT") i 1
+is_length_unit i = (is_a entity.SiUnit i || is_a entity.ConvertedUnit i) && says (codes "LENGTHUNIT") i 1
 
--- the prefixes, each with the power of ten of a millimetre that a metre is with it
-abbrev pub prefixes : List (List ℕ × ℤ)
-prefixes =
-    (codes "KILO", pos 6) ∷
-    (codes "HECTO", pos 5) ∷
-    (codes "DECA", pos 4) ∷
-    (codes "DECI", pos 2) ∷
-    (codes "CENTI", pos 1) ∷
-    (codes "MILLI", pos 0) ∷
-    (codes "MICRO", negsuc 2) ∷ []
+-- a metre with a prefix makes the scale
+pub record IsMetric (unit : Instance) (scale : Scale) : Type 0 where
+  pub factor : scale.factor ≡ 1
+  pub power : metric_power unit ≡ Some scale.power
 
--- the power of ten that a prefix says
-unfoldable pub prefix_power : List ℕ → Option ℤ
-prefix_power word = option_map (λ p. p.1) (find (λ p. bytes_eq word p.0) prefixes)
+-- an inch or a foot makes it, in tenths of a millimetre
+pub record IsConverted (world : List Instance) (unit : Instance) (scale : Scale) : Type 0 where
+  pub measure : Instance
+  pub measured : target_at world unit 3 ≡ Some measure
+  pub length : Scaled
+  pub is : IsMeasure world measure length
+  pub factor : tenths_of length ≡ Some scale.factor
+  pub power : scale.power ≡ negsuc 0
 
--- without a prefix a metre is a thousand millimetres
-abbrev pub power_with : Option Value21 → Option ℤ
-power_with None = None
-power_with (Some v) = if is_absent v then Some (pos 3) else option_and_then prefix_power (enumeration_of v)
-
--- the power of ten of a millimetre that the unit is, where its name is that of the metre
-unfoldable pub unit_power : Instance → Option ℤ
-unit_power i = if says (codes "METRE") i 3 then power_with (slice_get i.values 2) else None
+-- the unit makes the scale
+abbrev pub MakesScale : List Instance → Instance → Scale → Type 0
+MakesScale world unit scale =
+    MatchBool (is_a entity.ConvertedUnit unit) (IsConverted world unit scale) (IsMetric unit scale)
 
 -- Of a file.
 
@@ -88,14 +79,13 @@ pub record RefersToOther (world : List Instance) (id : ℕ) (v : Value21) : Type
   pub names : RefersToUnit world other v
   pub differs : other ≢ id
 
--- An assignment holds exactly one unit of length, whatever its name and its prefix, and this is a metre with a prefix that makes that power of
--- ten of a millimetre.
-pub record AssignsPower (world : List Instance) (assignment : Instance) (power : ℤ) : Type 0 where
+-- An assignment holds exactly one unit of length, whatever its name and its prefix, and this makes the scale.
+pub record AssignsScale (world : List Instance) (assignment : Instance) (scale : Scale) : Type 0 where
   pub id : ℕ
   pub one_unit : IsOnly (IsUnitAmong world (listed assignment 0)) id
   pub unit : Instance
   pub found : look world id ≡ Some unit
-  pub reads : unit_power unit ≡ Some power
+  pub makes : MakesScale world unit scale
 
 -- the file has exactly one project, and the units that it is assigned make the scale
 pub record IsLengthUnit (world : List Instance) (scale : Scale) : Type 0 where
@@ -103,7 +93,7 @@ pub record IsLengthUnit (world : List Instance) (scale : Scale) : Type 0 where
   pub one_project : projects world ≡ project ∷ []
   pub assignment : Instance
   pub assigned : assignment_of world project ≡ Some assignment
-  pub makes : AssignsPower world assignment scale.power
+  pub makes : AssignsScale world assignment scale
 
 -- the least number of the instances, or 0 where there are none
 abbrev pub IsLeastNumber : List Instance → ℕ → Type 0

@@ -7,7 +7,7 @@ ghost use Rattle.ifc_units.specs.Sizes.{IsSizeOf};
 
 use crate::length_error::GridFault;
 use crate::scale::Scale;
-use crate::sizes::{MOST, part_size, whole_size};
+use crate::sizes::{MOST, MOST_COUNT, part_size, whole_size};
 use bim_model::Mode;
 use bim_text::Decimal;
 
@@ -21,8 +21,9 @@ pub fn to_grid(number: Decimal, scale: Scale, mode: Mode) -> Result<i32, GridFau
     ensures too_far { result ≡ Err GridFault.TooFar
         → (g : ℤ) × IsGridNumber mode units (length_of number scale) g × (reach < unsigned_abs g) }
 {
+    let count = scale.factor as u128 * number.digits;
     let power = number.exp as i64 + scale.power as i64;
-    match size_of(number.digits, power, mode) {
+    match size_of(count, power, mode) {
         Ok(size) => Ok(with_sign(number.negative, size)),
         Err(fault) => Err(fault),
     }
@@ -42,7 +43,7 @@ pub(crate) fn with_sign(negative: bool, size: u128) -> i32
 
 /// The size of the grid number of digits times a power of ten.
 pub(crate) fn size_of(digits: u128, power: i64, mode: Mode) -> Result<u128, GridFault>
-    requires { digits < 10 ^ 34 }
+    requires { digits ≤ MOST_COUNT }
     ensures ok { IfOk result (λ g. IsSizeOf mode power digits g) }
     ensures within { IfOk result (λ g. g ≤ MOST) }
     ensures exact { result ≡ Err GridFault.OffGrid → mode ≡ Mode.Exact }

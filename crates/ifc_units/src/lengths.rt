@@ -70,8 +70,9 @@ fn short_length(number: Short, scale: Scale, mode: Mode) -> Result<i32, LengthEr
     ensures { (value : Value21) → SaysShort number value → MatchResult result (IsLength scale mode value)
         (Fails (IsLength scale mode value) (LengthRefused scale mode value)) }
 {
+    let count = scale.factor as u128 * number.digits as u128;
     let power = scale.power as i64 - number.places as i64;
-    match size_of(number.digits as u128, power, mode) {
+    match size_of(count, power, mode) {
         Ok(size) => Ok(with_sign(number.negative, size)),
         Err(fault) => Err(LengthError::Refused(fault)),
     }

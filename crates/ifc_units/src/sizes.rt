@@ -4,8 +4,8 @@ ghost use Rattle.ifc_units.specs.Sizes.{IsSize};
 
 use bim_model::{FARTHEST, Mode, PER_MM};
 
-/// The least number of more than 15 digits.
-const FEW: u128 = 1_000_000_000_000_000;
+/// The least number of more than 18 digits.
+const FEW: u128 = 1_000_000_000_000_000_000;
 
 /// Grid numbers in a millimetre.
 pub const UNITS: u128 = PER_MM as u128;
@@ -16,12 +16,14 @@ const FEW_UNITS: u64 = PER_MM as u64;
 /// The greatest size of a grid number.
 pub const MOST: u128 = FARTHEST as u128;
 
+/// The most that 34 digits come to in the largest unit: 3,048 times 10^34.
+pub const MOST_COUNT: u128 = 30_480_000_000_000_000_000_000_000_000_000_000_000;
+
 /// The size for a fraction of a grid number, by its numerator and its denominator. None where it lies between two.
 #[tactic(auto, using(crate::proofs::Rounding::roundings))]
 pub fn round(count: u128, parts: u128, mode: Mode) -> Option<u128>
     requires some { 0 < parts }
-    requires parts { parts ≤ 10 ^ 37 }
-    requires count { count ≤ 10 ^ 37 }
+    requires parts { parts ≤ 10 ^ 38 }
     ensures size { IfSome result (λ g. IsSize mode UNITS count parts g) }
     ensures none { IfNone result ((g : ℕ) → IsSize mode UNITS count parts g → ⊥) }
     ensures exact { IfNone result (mode ≡ Mode.Exact) }
@@ -32,7 +34,7 @@ pub fn round(count: u128, parts: u128, mode: Mode) -> Option<u128>
     match mode {
         Mode::Snap => Some(if below < above { whole } else { whole + 1 }),
         Mode::Exact => {
-            let tolerance = (UNITS * parts + 999) / 1000;
+            let tolerance = parts.div_ceil(1000 / UNITS);
             if below < tolerance {
                 Some(whole)
             } else if above < tolerance {
@@ -49,7 +51,7 @@ pub fn round(count: u128, parts: u128, mode: Mode) -> Option<u128>
 fn round_few(count: u64, parts: u64, mode: Mode) -> Option<u64>
     requires some { 0 < parts }
     requires parts { parts ≤ 10 ^ 15 }
-    requires count { count ≤ 10 ^ 17 }
+    requires count { count ≤ 10 ^ 19 }
     ensures size { IfSome result (λ g. IsSize mode UNITS count parts g) }
     ensures none { IfNone result ((g : ℕ) → IsSize mode UNITS count parts g → ⊥) }
     ensures exact { IfNone result (mode ≡ Mode.Exact) }
@@ -75,7 +77,6 @@ fn round_few(count: u64, parts: u64, mode: Mode) -> Option<u64>
 /// The size for so many digits with zeros behind them. None where it is beyond the greatest.
 #[tactic(auto, using(crate::proofs::Rounding::whole_sizes))]
 pub fn whole_size(digits: u128, zeros: u64) -> Option<u128>
-    requires { digits < 10 ^ 34 }
     ensures size { IfSome result (λ g. g ≡ UNITS * (digits * 10 ^ zeros)) }
     ensures within { IfSome result (λ g. g ≤ MOST) }
     ensures none { IfNone result (MOST < UNITS * (digits * 10 ^ zeros)) }
@@ -93,10 +94,10 @@ pub fn whole_size(digits: u128, zeros: u64) -> Option<u128>
     if size <= MOST { Some(size) } else { None }
 }
 
-/// The same of at most 15 digits and places, in 64 bits.
+/// The same of at most 18 digits and 15 places, in 64 bits.
 #[tactic(auto, using(crate::proofs::Rounding::part_sizes))]
 fn part_size_few(digits: u64, places: u64, mode: Mode) -> Option<u128>
-    requires digits { digits < 10 ^ 15 }
+    requires digits { digits < 10 ^ 18 }
     requires places { places ≤ 15 }
     ensures size { IfSome result (λ g. IsSize mode UNITS (UNITS * digits) (10 ^ places) g) }
     ensures none { IfNone result ((g : ℕ) → IsSize mode UNITS (UNITS * digits) (10 ^ places) g → ⊥) }
@@ -108,10 +109,25 @@ fn part_size_few(digits: u64, places: u64, mode: Mode) -> Option<u128>
     }
 }
 
+/// The same of more places than 38, of which a fraction of a third of a grid number is left at most.
+#[tactic(auto, using(crate::proofs::Rounding::part_sizes))]
+fn tiny_size(digits: u128, places: u64, mode: Mode) -> Option<u128>
+    requires digits { digits ≤ MOST_COUNT }
+    requires places { 38 < places }
+    ensures size { IfSome result (λ g. IsSize mode UNITS (UNITS * digits) (10 ^ places) g) }
+    ensures none { IfNone result ((g : ℕ) → IsSize mode UNITS (UNITS * digits) (10 ^ places) g → ⊥) }
+    ensures exact { IfNone result (mode ≡ Mode.Exact) }
+{
+    if mode == Mode::Snap || places > 40 || digits < 10u128.pow((places - 3) as u32) {
+        return Some(0);
+    }
+    None
+}
+
 /// The size for so many digits of which the last `places` stand behind the point. None where it lies between two grid numbers.
 #[tactic(auto, using(crate::proofs::Rounding::part_sizes))]
 pub fn part_size(digits: u128, places: u64, mode: Mode) -> Option<u128>
-    requires { digits < 10 ^ 34 }
+    requires { digits ≤ MOST_COUNT }
     ensures size { IfSome result (λ g. IsSize mode UNITS (UNITS * digits) (10 ^ places) g) }
     ensures none { IfNone result ((g : ℕ) → IsSize mode UNITS (UNITS * digits) (10 ^ places) g → ⊥) }
     ensures exact { IfNone result (mode ≡ Mode.Exact) }
@@ -119,8 +135,8 @@ pub fn part_size(digits: u128, places: u64, mode: Mode) -> Option<u128>
     if places <= 15 && digits < FEW {
         return part_size_few(digits as u64, places, mode);
     }
-    if places > 37 {
-        return Some(0);
+    if places > 38 {
+        return tiny_size(digits, places, mode);
     }
     round(UNITS * digits, 10u128.pow(places as u32), mode)
 }

@@ -6,86 +6,21 @@ ghost use Rattle.p21_values.specs.declared.value.Instance.{Instance};
 ghost use Rattle.ifc_instances.specs.declared.entity.Entity.TheVariants.{Project};
 ghost use Rattle.ifc_instances.specs.Looking.{is_a};
 ghost use Rattle.ifc_units.specs.declared.scale.Scale.{Scale};
-ghost use Rattle.ifc_units.specs.Units.{says, is_length_unit, prefix_power, power_with, unit_power, projects, assignment_of, RefersToUnit, IsUnitAmong, IsOnly, RefersToOther, AssignsPower, IsLengthUnit, IsLeastNumber, LengthUnitFault};
+ghost use Rattle.ifc_units.specs.Units.{is_length_unit, projects, assignment_of, RefersToUnit, IsUnitAmong, IsOnly, RefersToOther, MakesScale, AssignsScale, IsLengthUnit, IsLeastNumber, LengthUnitFault};
 
+use crate::conversion::converted_scale;
+use crate::metres::metric_power;
 use crate::scale::Scale;
 use bim_model::UploadFault;
-use ifc_instances::Entity;
+use ifc_instances::{Entity, says};
 use p21_table::{Exchange, InstanceRef, Instances, ValueRef, Values};
-
-// Whether the attribute is the enumeration of those letters.
-fn says(word: &str, instance: &InstanceRef<'_>, at: usize) -> bool
-    ensures { result ≡ says word.now instance.now at }
-{
-    let Some(value) = instance.attribute(at) else {
-        return false;
-    };
-    match value.enumeration() {
-        Some(letters) => letters == word.as_bytes(),
-        None => false,
-    }
-}
 
 #[tactic(auto, unfolding(crate::specs::Units::is_length_unit))]
 fn is_length_unit(instance: &InstanceRef<'_>) -> bool
     ensures { result ≡ is_length_unit instance.now }
 {
-    Entity::SiUnit.includes(instance) && says("LENGTHUNIT", instance, 1)
-}
-
-#[tactic(auto, unfolding(crate::specs::Units::prefix_power))]
-fn prefix_power(prefix: &[u8]) -> Option<i32>
-    ensures { result ≡ prefix_power prefix.now }
-{
-    if prefix == "KILO".as_bytes() {
-        return Some(6);
-    }
-    if prefix == "HECTO".as_bytes() {
-        return Some(5);
-    }
-    if prefix == "DECA".as_bytes() {
-        return Some(4);
-    }
-    if prefix == "DECI".as_bytes() {
-        return Some(2);
-    }
-    if prefix == "CENTI".as_bytes() {
-        return Some(1);
-    }
-    if prefix == "MILLI".as_bytes() {
-        return Some(0);
-    }
-    if prefix == "MICRO".as_bytes() {
-        return Some(-3);
-    }
-    None
-}
-
-// The power of ten of a millimetre that a metre is with a prefix.
-fn power_with(prefix: &ValueRef<'_>) -> Option<i32>
-    ensures { result ≡ power_with (Some prefix.now) }
-{
-    if prefix.is_absent() {
-        return Some(3);
-    }
-    match prefix.enumeration() {
-        Some(letters) => prefix_power(letters),
-        None => None,
-    }
-}
-
-// The power of ten of a millimetre that a unit is.
-#[tactic(auto, unfolding(crate::specs::Units::unit_power))]
-fn unit_power(unit: &InstanceRef<'_>) -> Option<i32>
-    ensures { result ≡ unit_power unit.now }
-{
-    if !says("METRE", unit, 3) {
-        return None;
-    }
-    match unit.attribute(2) {
-        Some(prefix) => power_with(&prefix),
-        None => None,
-    }
+    (Entity::SiUnit.includes(instance) || Entity::ConvertedUnit.includes(instance))
+        && says("LENGTHUNIT", instance, 1)
 }
 
 // How many projects there are.
@@ -215,10 +150,24 @@ fn only_unit(exchange: &Exchange, items: &Values<'_>) -> Option<u64>
     Some(id)
 }
 
-// The power of ten of a millimetre that the unit of length of an assignment is.
-fn assigned_power(exchange: &Exchange, assignment: &InstanceRef<'_>) -> Option<i32>
-    ensures some { IfSome result (AssignsPower exchange.now assignment.now) }
-    ensures none { IfNone result ((power : ℤ) → AssignsPower exchange.now assignment.now power → ⊥) }
+// The scale that a unit of length makes.
+fn unit_scale(exchange: &Exchange, unit: &InstanceRef<'_>) -> Option<Scale>
+    ensures some { IfSome result (MakesScale exchange.now unit.now) }
+    ensures none { IfNone result ((scale : Scale) → MakesScale exchange.now unit.now scale → ⊥) }
+{
+    if Entity::ConvertedUnit.includes(unit) {
+        return converted_scale(exchange, unit);
+    }
+    match metric_power(unit) {
+        Some(power) => Some(Scale { factor: 1, power }),
+        None => None,
+    }
+}
+
+// The scale that the unit of length of an assignment makes.
+fn assigned_scale(exchange: &Exchange, assignment: &InstanceRef<'_>) -> Option<Scale>
+    ensures some { IfSome result (AssignsScale exchange.now assignment.now) }
+    ensures none { IfNone result ((scale : Scale) → AssignsScale exchange.now assignment.now scale → ⊥) }
 {
     let Some(id) = only_unit(exchange, &assignment.listed(0)) else {
         return None;
@@ -226,7 +175,7 @@ fn assigned_power(exchange: &Exchange, assignment: &InstanceRef<'_>) -> Option<i
     let Some(unit) = exchange.look(id) else {
         return None;
     };
-    unit_power(&unit)
+    unit_scale(exchange, &unit)
 }
 
 // The scale of the file's length unit.
@@ -240,16 +189,14 @@ fn scale_of(exchange: &Exchange) -> Option<Scale>
     let Some(assignment) = assignment_of(exchange, &project) else {
         return None;
     };
-    match assigned_power(exchange, &assignment) {
-        Some(power) => Some(Scale { power }),
-        None => None,
-    }
+    assigned_scale(exchange, &assignment)
 }
 
-/// The scale of a file's length unit: the metre with a prefix, the one unit of length in the units that the one project is assigned (IFC4
-/// ADD2 TC1, IfcUnitAssignment, IfcSIUnit). A unit that stands twice in them is one, and units of other entities are passed over. `LengthUnit`
-/// with the number of the least project, else 0, where there isn't exactly one project, its units aren't assigned, there isn't exactly one
-/// unit of length, or that one isn't a metre with a prefix from micro to kilo. Takes no memory.
+/// The scale of a file's length unit: the metre with a prefix, the inch or the foot, the one unit of length in the units that the one
+/// project is assigned (IFC4 ADD2 TC1, IfcUnitAssignment, IfcSIUnit, IfcConversionBasedUnit). A unit that stands twice in them is one, and
+/// units of other entities are passed over. `LengthUnit` with the number of the least project, else 0, if there isn't exactly one project,
+/// its units aren't assigned, there isn't exactly one unit of length, or that one is neither a metre with a prefix from micro to kilo nor
+/// converted to one as the inch of 25.4 mm or the foot of 304.8 mm. Takes no memory.
 pub fn length_unit(exchange: &Exchange) -> Result<Scale, UploadFault>
     ensures unit { IfOk result (IsLengthUnit exchange.now) }
     ensures clear { IfOk result (λ scale. (fault : UploadFault) → LengthUnitFault exchange.now fault → ⊥) }

@@ -12,7 +12,7 @@ use Rattle.p21_values.specs.declared.value.Value21.TheOpen.{Value21-F}
 use Rattle.p21_values.specs.declared.value.Value21.TheOpen as layer
 use Rattle.p21_values.specs.declared.value.Value21.TheViews.{out-Value21}
 use Rattle.p21_values.specs.declared.value.Value21.TheFolds.{fold_out-Value21, map-Value21}
-use Rattle.p21_values.specs.Values.{number_in, words_in, letters_in, enumeration_in, reference_in, absent_in, items_in, number_of, words_of, enumeration_of, is_enumeration, reference_of, is_absent, items_of}
+use Rattle.p21_values.specs.Values.{number_in, words_in, letters_in, enumeration_in, reference_in, absent_in, items_in, typed_in, typed_of, number_of, words_of, enumeration_of, is_enumeration, reference_of, is_absent, items_of}
 use Rattle.p21_values.specs.Lexemes.{Lexeme, Absence, Derivation, Opening, Closing, Separator, Ending, Assigning, NumberOf, WordsOf, EnumerationOf, BitsOf, KeywordOf, ReferenceTo, lexeme_of, class_of, says, single_says, inner, Cuts}
 use Rattle.p21_values.specs.Printing.{print, print_step, print_all, joined, behind}
 use Rattle.p21_values.specs.Pieces.{NoToken, kind_of}
@@ -473,6 +473,49 @@ typed_end bytes t v b k =
     let r = typed_rest (out-Value21 v) (ap (λ (l : Lexeme). kind_of (class_of l)) (first_said bytes t v b) ∙ k) in
     let c : Cuts bytes t.end (Opening ∷ (print r.0 ++ Closing ∷ [])) b.end = subst (λ (ls : List Lexeme). Cuts bytes t.end ls b.end) (sym (rest_said bytes t v b) ∙ r.1) b.cuts in
     (c.0, c.1, print r.0 ++ Closing ∷ [], one_closes r.0, c.3)
+
+-- The value that a typed value holds.
+
+typed_held : (x : Value21-F Value21) → kind_of (class_of (first_of x)) ≡ kinds.Word → (v : Value21) × (typed_in x ≡ Some v) × (rest_of x ≡ Opening ∷ (print v ++ Closing ∷ []))
+typed_held (layer.Typed word v) k = (v, refl, refl)
+typed_held layer.Absent k = cc
+typed_held layer.Derived k = cc
+typed_held (layer.Number bs) k = cc
+typed_held (layer.Words bs) k = cc
+typed_held (layer.Enumeration bs) k = cc
+typed_held (layer.Bits bs) k = cc
+typed_held (layer.Reference n) k = cc
+typed_held (layer.List vs) k = cc
+
+none_held : (x : Value21-F Value21) → (kind_of (class_of (first_of x)) ≡ kinds.Word → ⊥) → typed_in x ≡ None
+none_held (layer.Typed word v) n = absurd (n refl)
+none_held layer.Absent n = refl
+none_held layer.Derived n = refl
+none_held (layer.Number bs) n = refl
+none_held (layer.Words bs) n = refl
+none_held (layer.Enumeration bs) n = refl
+none_held (layer.Bits bs) n = refl
+none_held (layer.Reference i) n = refl
+none_held (layer.List vs) n = refl
+
+-- it stands behind the opening parenthesis that the keyword has behind it
+pub typed_by : (bytes : List ℕ) (t o : Token) (v : Value21) → Begins bytes t v → kind_of (class_of (lexeme_of bytes t)) ≡ kinds.Word → CutsFrom bytes t.end (Ok (Some o))
+    → (w : Value21) × (typed_of v ≡ Some w) × Stands bytes o.end w
+typed_by bytes t o v b k cut =
+    let r = typed_held (out-Value21 v) (ap (λ (l : Lexeme). kind_of (class_of l)) (first_said bytes t v b) ∙ k) in
+    let c : Cuts bytes t.end (Opening ∷ (print r.0 ++ Closing ∷ [])) b.end = subst (λ (ls : List Lexeme). Cuts bytes t.end ls b.end) (sym (rest_said bytes t v b) ∙ r.2) b.cuts in
+    let e : c.0 ≡ o = one_token bytes t.end c.0 o c.1 cut in
+    let p = parted bytes o.end b.end (print r.0) (Closing ∷ []) (subst (λ (x : Token). Cuts bytes x.end (print r.0 ++ Closing ∷ []) b.end) e c.3) in
+    (r.0, r.1, record { end = p.0; cuts = p.1 })
+
+pub never_typed : {A : Type 0} (bytes : List ℕ) (t : Token) (f : ReadFault) (v : Value21) → Begins bytes t v → kind_of (class_of (lexeme_of bytes t)) ≡ kinds.Word → NoToken bytes t.end f → A
+never_typed bytes t f v b k missing =
+    let r = typed_held (out-Value21 v) (ap (λ (l : Lexeme). kind_of (class_of l)) (first_said bytes t v b) ∙ k) in
+    let c : Cuts bytes t.end (Opening ∷ (print r.0 ++ Closing ∷ [])) b.end = subst (λ (ls : List Lexeme). Cuts bytes t.end ls b.end) (sym (rest_said bytes t v b) ∙ r.2) b.cuts in
+    absurd (no_token bytes t.end f missing c.0 c.1)
+
+pub not_typed : (bytes : List ℕ) (t : Token) (v : Value21) → Begins bytes t v → (kind_of (class_of (lexeme_of bytes t)) ≡ kinds.Word → ⊥) → typed_of v ≡ None
+not_typed bytes t v b n = none_held (out-Value21 v) (λ e. n (ap (λ (l : Lexeme). kind_of (class_of l)) (sym (first_said bytes t v b)) ∙ e))
 
 plain_rest : (x : Value21-F Value21) → (kind_of (class_of (first_of x)) ≡ kinds.Open → ⊥) → (kind_of (class_of (first_of x)) ≡ kinds.Word → ⊥) → rest_of x ≡ []
 plain_rest (layer.List vs) n m = absurd (n refl)

@@ -10,11 +10,11 @@ use Rattle.p21_values.specs.contracts.value.Value21 as row
 use Rattle.p21_values.specs.declared.piece.Kind.TheVariants as kinds
 use Rattle.p21_values.specs.declared.value.Value21.{Value21}
 use Rattle.p21_values.specs.Standing.{Stands, Begins, StandInside}
-use Rattle.p21_values.specs.Values.{items_of}
+use Rattle.p21_values.specs.Values.{items_of, typed_of}
 use Rattle.p21_values.proofs.SignsThere.{sign_cut}
 use Rattle.p21_values.proofs.Stood.{stands_once, one_inside}
 use Rattle.p21_table.specs.FirstBytes.{LeavesBehind}
-use Rattle.p21_table.specs.Stood.{Stood}
+use Rattle.p21_table.specs.Stood.{Stood, one_stood}
 use Rattle.p21_table.proofs.FirstTokens.{first_inside}
 
 values_set : IsSet (List Value21)
@@ -85,6 +85,25 @@ items_told bytes at inside says made h k =
 
 pub no_items_told : (bytes : List ℕ) (at : ℕ) (says : Stood bytes at) → ((v : Value21) → Stands bytes at v → items_of v ≡ None) → None ≡ items_of says.0
 no_items_told bytes at says h = ∥∥₁_elim says.1 (items_set None (items_of says.0)) (λ s. sym (h says.0 s))
+
+-- The value that a typed value holds.
+
+abbrev HeldAt : List ℕ → ℕ → Value21 → Type 0
+HeldAt bytes at v = (w : Value21) × (typed_of v ≡ Some w) × Stands bytes at w
+
+pub held_stands : (bytes : List ℕ) (at inside : ℕ) (says : Stood bytes at) → ((v : Value21) → Stands bytes at v → HeldAt bytes inside v) → Stood bytes inside
+held_stands bytes at inside says h = ∥∥₁_elim says.1 (one_stood bytes inside) (λ s. let i = h says.0 s in (i.0, ∣ i.2 ∣₁))
+
+held_set : IsSet (Option Value21)
+held_set = Coded-set (Prim.hlevel (codes, row.the_row.coded))
+
+pub held_told : (bytes : List ℕ) (at inside : ℕ) (says : Stood bytes at) (made : Value21) → ((v : Value21) → Stands bytes at v → HeldAt bytes inside v)
+    → ((w : Value21) → Stands bytes inside w → made ≡ w) → Some made ≡ typed_of says.0
+held_told bytes at inside says made h k =
+    ∥∥₁_elim says.1 (held_set (Some made) (typed_of says.0)) (λ s. let i = h says.0 s in ap (λ (w : Value21). Some w) (k i.0 i.2) ∙ sym i.1)
+
+pub none_held_told : (bytes : List ℕ) (at : ℕ) (says : Stood bytes at) → ((v : Value21) → Stands bytes at v → typed_of v ≡ None) → None ≡ typed_of says.0
+none_held_told bytes at says h = ∥∥₁_elim says.1 (held_set None (typed_of says.0)) (λ s. sym (h says.0 s))
 
 -- The next of a list.
 

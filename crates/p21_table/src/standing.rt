@@ -3,7 +3,7 @@ ghost use Rattle.std.specs.Prelude.{◌≡◌, ◌<◌, ◌≤◌, ◌+◌, ◌-
 ghost use Rattle.p21_lexer.specs.Cutting.{CutsFrom};
 ghost use Rattle.p21_values.specs.declared.value.Value21.{Value21};
 ghost use Rattle.p21_values.specs.Pieces.{IsPiece};
-ghost use Rattle.p21_values.specs.Values.{number_of, words_of, enumeration_of, reference_of, items_of, is_absent};
+ghost use Rattle.p21_values.specs.Values.{number_of, words_of, enumeration_of, reference_of, items_of, typed_of, is_absent};
 ghost use Rattle.p21_values.specs.Lexemes.{Lexeme, Cuts};
 ghost use Rattle.p21_values.specs.Standing.{Stands, Begins, StandInside, StandBehind, Closes, Waits, Leaves};
 
@@ -89,6 +89,22 @@ pub fn inside_there(bytes: &[u8], first: Piece) -> Option<usize>
         Kind::Open => Some(first.token.end),
         _ => None,
     }
+}
+
+/// The place of the value that a typed value holds whose first token is given.
+pub fn typed_there(bytes: &[u8], first: Piece) -> Option<usize>
+    requires { IsPiece bytes.now first }
+    ensures held { (v : Value21) → Begins bytes.now first.token v → MatchOption result (typed_of v ≡ None)
+        (λ at. (w : Value21) × (typed_of v ≡ Some w) × Stands bytes.now at w) }
+    ensures within { IfSome result (λ at. at ≤ length bytes.now) }
+{
+    if first.kind == Kind::Word {
+        return match take(bytes, first.token.end) {
+            Ok(open) => Some(open.token.end),
+            Err(_) => None,
+        };
+    }
+    None
 }
 
 /// The first token of the next value of a list; none where the list ends.

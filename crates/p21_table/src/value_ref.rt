@@ -11,7 +11,7 @@ use crate::first_byte::{
 };
 use crate::standing::{
     absent_there, enumeration_there, first_token, inside_there, number_there, reference_there,
-    words_there,
+    typed_there, words_there,
 };
 use crate::value_list::Values;
 use p21_lexer::TokenKind;
@@ -62,7 +62,7 @@ impl<'a> ValueRef<'a> {
     ghost use Rattle.p21_values.specs.declared.value.Value21.{Value21};
     ghost use Rattle.p21_values.specs.Standing.{Stands};
     ghost use Rattle.p21_table.specs.Stood.{Stood};
-    ghost use Rattle.p21_values.specs.Values.{number_of, words_of, enumeration_of, reference_of, items_of, is_enumeration, is_absent};
+    ghost use Rattle.p21_values.specs.Values.{number_of, words_of, enumeration_of, reference_of, items_of, typed_of, measure_of, is_enumeration, is_absent};
     ghost use Rattle.p21_values.specs.Attributes.{items_in};
 
     /// The value that stands there.
@@ -149,6 +149,27 @@ impl<'a> ValueRef<'a> {
         match inside_of(self.bytes, self.at) {
             Some(at) => Some(Values::of(self.bytes, at)),
             None => None,
+        }
+    }
+
+    /// The value that a typed value holds, behind its keyword (ISO 10303-21, section 10).
+    pub fn typed(&self) -> Option<ValueRef<'a>>
+        ensures { result ≡ typed_of self.now }
+    {
+        let first = first_token(self.bytes, self.at)?;
+        match typed_there(self.bytes, first) {
+            Some(at) => Some(ValueRef::of(self.bytes, at)),
+            None => None,
+        }
+    }
+
+    /// The bytes of the number that it is, or that it holds behind a keyword (IFC4 ADD2 TC1, IfcValue).
+    pub fn measure(&self) -> Option<&'a [u8]>
+        ensures { option_copied result ≡ measure_of self.now }
+    {
+        match self.typed() {
+            Some(held) => held.number(),
+            None => self.number(),
         }
     }
 

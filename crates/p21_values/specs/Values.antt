@@ -25,6 +25,11 @@ abbrev pub items_in : Value21-F Value21 → Option (List Value21)
 items_in (layer.List vs) = Some vs
 items_in _ = None
 
+-- the value that a typed value holds
+abbrev pub typed_in : Value21-F Value21 → Option Value21
+typed_in (layer.Typed word v) = Some v
+typed_in _ = None
+
 -- the letters of an enumeration
 abbrev pub letters_in : Value21-F Value21 → Option (List ℕ)
 letters_in (layer.Enumeration bs) = Some bs
@@ -56,6 +61,18 @@ reference_of v = reference_in (out-Value21 v)
 -- the items of a list
 abbrev pub items_of : Value21 → Option (List Value21)
 items_of v = items_in (out-Value21 v)
+
+-- the value that a typed value holds, behind its keyword
+abbrev pub typed_of : Value21 → Option Value21
+typed_of v = typed_in (out-Value21 v)
+
+-- the number that a value is, or that a typed value holds
+abbrev pub measure_in : Option Value21 → Value21 → Option (List ℕ)
+measure_in None v = number_of v
+measure_in (Some held) v = number_of held
+
+abbrev pub measure_of : Value21 → Option (List ℕ)
+measure_of v = measure_in (typed_of v) v
 
 -- the letters of an enumeration, without its points
 abbrev pub enumeration_of : Value21 → Option (List ℕ)

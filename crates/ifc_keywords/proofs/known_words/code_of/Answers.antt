@@ -15,10 +15,10 @@ returns-then-eq c =
     let word : c.as_bytes-known.result.now ≡ get_or known c.entry-code.result [] = c.as_bytes-known.ensures.value ∙ c.word_at.ensures in
     let said : map to_ascii_uppercase c.args.word.now ≡ get_or known c.entry-code.result [] = elim c.then-eq.branch [
       | then-eq-via-then-eq w ↦
-          ap (λ (k : List ℕ). map to_ascii_uppercase k) (is_same _ _ (sym c.eq.ensures ∙ w.if-eq.true) ∙ word) ∙ in_upper c.entry-code.result c.if-code-lt75.true
+          ap (λ (k : List ℕ). map to_ascii_uppercase k) (is_same _ _ (sym c.eq.ensures ∙ w.if-eq.true) ∙ word) ∙ in_upper c.entry-code.result c.if-code-lt-KEYWORDS.true
       | then-eq-via-else-eq+then-is_word w ↦ is_same _ _ (sym w.is_word.ensures ∙ w.if-is_word.true) ∙ word
     ] in
-    has_number _ c.entry-code.result c.if-code-lt75.true said
+    has_number _ c.entry-code.result c.if-code-lt-KEYWORDS.true said
 
 pub returns-else-is_word : goal.returns-else-is_word
 returns-else-is_word c = no_number _ (λ j lt e.
@@ -29,5 +29,5 @@ returns-else-is_word c = no_number _ (λ j lt e.
     let told = c.is_word.ensures ∙ yes in
     cc)
 
-pub returns-else-code-lt75 : goal.returns-else-code-lt75
-returns-else-code-lt75 c = no_number _ (λ j lt e. let same = c.entry-code.ensures j lt (sym (ap hash_of e) ∙ sym c.hash.ensures.hash) in omega (arith, same, lt, c.if-code-lt75.false))
+pub returns-else-code-lt-KEYWORDS : goal.returns-else-code-lt-KEYWORDS
+returns-else-code-lt-KEYWORDS c = no_number _ (λ j lt e. let same = c.entry-code.ensures j lt (sym (ap hash_of e) ∙ sym c.hash.ensures.hash) in omega (arith, same, lt, c.if-code-lt-KEYWORDS.false))
