@@ -5,8 +5,7 @@ use Rattle.std.specs.Option.{unwrap_or}
 use Rattle.serde_json.specs.Data.{Data, Items}
 use Rattle.serde_json.specs.Find.{get, as_array}
 use Rattle.serde_json.specs.Events.{items_len}
-use Rattle.bim_model.specs.declared.limits.TheConstants.{MOST_TITLE}
-use Rattle.bcf_topics.specs.declared.limits.TheConstants.{MOST_WORDS, MOST_LABELS, MOST_LABEL}
+use Rattle.bcf_topics.specs.declared.limits.TheConstants.{MOST_TITLE, MOST_WORDS, MOST_LABELS, MOST_LABEL}
 use Rattle.bcf_topics.specs.declared.topic_body.TopicBody.{TopicBody}
 use Rattle.bcf_bodies.specs.declared.body_fault.BodyFault.{BodyFault}
 use Rattle.bcf_bodies.specs.declared.body_fault.BodyFault.TheVariants.{Title, BadMember}

@@ -7,8 +7,8 @@ ghost use Rattle.bcf_bodies.specs.TopicBodies.{labels_of, labels_in, member_or, 
 
 use crate::body_fault::{BodyError, BodyFault, refuse};
 use crate::members::{due_in, filled_in, index_in, text_in};
-use bcf_topics::{MOST_LABEL, MOST_LABELS, MOST_WORDS, TopicBody};
-use bim_model::{Items, MOST_TITLE, Text};
+use bcf_topics::{MOST_LABEL, MOST_LABELS, MOST_TITLE, MOST_WORDS, TopicBody};
+use bim_model::{Items, Text};
 use serde_json::Value;
 use std::alloc::{AllocError, Global};
 

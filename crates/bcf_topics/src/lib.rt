@@ -12,7 +12,7 @@ mod topics;
 
 pub use bim_model::Author;
 pub use comment::{Comment, CommentBody, CommentIn};
-pub use limits::{MOST_COMMENT, MOST_LABEL, MOST_LABELS, MOST_WORDS};
+pub use limits::{MOST_COMMENT, MOST_LABEL, MOST_LABELS, MOST_TITLE, MOST_WORDS};
 pub use optional::copy_text;
 pub use topic::Topic;
 pub use topic_body::TopicBody;

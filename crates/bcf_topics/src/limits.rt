@@ -1,4 +1,7 @@
-//! The bounds of topics and comments. That of a title stands in `bim_model`.
+//! The bounds of topics and comments.
+
+/// The most bytes of a topic's title. It has at least one.
+pub const MOST_TITLE: usize = 1_024;
 
 /// The most bytes of a topic's type, status, priority, assignee, stage and description.
 pub const MOST_WORDS: usize = 4_096;

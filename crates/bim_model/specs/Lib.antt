@@ -1,6 +1,7 @@
 pub mod Kept
 pub mod Guids
 pub mod Moments
+pub mod Distances
 pub mod Identifiers
 pub mod Boxes
 pub mod Points

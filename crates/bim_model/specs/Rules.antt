@@ -15,6 +15,7 @@ use Rattle.bim_model.specs.declared.rules.RuleKind.{RuleKind}
 use Rattle.bim_model.specs.declared.rules.RuleKind.TheVariants.{Clash, Ignore}
 use Rattle.bim_model.specs.declared.rules.Rule.{Rule}
 use Rattle.bim_model.specs.declared.rules.Found.{Found}
+use Rattle.bim_model.specs.declared.rules.Meeting.TheVariants.{Within}
 
 -- any class passes, or the one that is named
 abbrev pub passes_class : ClassTest → List ℕ → Bool
@@ -68,7 +69,8 @@ fits rule a b same =
 
 -- what the rule of that number decides
 abbrev pub decided : RuleKind → ℕ → Option Found
-decided (Clash distance) number = Some (record { rule = number; distance = distance })
+decided (Clash distance) number =
+    Some (record { rule = number; meeting = Within; distance = distance })
 decided Ignore number = None
 
 -- the first rule that fits decides; the first of the list has the number n

@@ -36,7 +36,7 @@ impl Duplicate for ElementKey {
 }
 
 /// Two elements of a version that clash, the one with the lower key first, and the rule by which they do. Pairs are ordered by the first
-/// element, then by the second.
+/// element, then by the second, then by the rule.
 #[derive(Debug, Drop, PartialEq, Eq, PartialOrd, Ord)]
 pub struct Pair {
     pub a: ElementKey,

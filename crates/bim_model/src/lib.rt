@@ -3,6 +3,7 @@
 
 mod author;
 mod bytes;
+mod distance;
 mod element;
 mod geometry;
 mod guid;
@@ -24,6 +25,7 @@ mod validity;
 
 pub use author::Author;
 pub use bytes::Bytes;
+pub use distance::Distance;
 pub use element::Element;
 pub use geometry::{Extent, FARTHEST, GRID_LIMIT, PER_MM, Point, Triangle, extent_of};
 pub use guid::Guid;
@@ -32,14 +34,14 @@ pub use items::{Duplicate, Items};
 pub use keys::{ElementKey, Pair};
 pub use laws::{keys_rise, names_tell_models, smallest_boxes_are_unique};
 pub use limits::{
-    MOST_CLASS, MOST_DISTANCE, MOST_LEVEL, MOST_NAME, MOST_RULES, MOST_TITLE, MOST_TRIANGLES,
-    MOST_UPLOAD,
+    MOST_CLASS, MOST_DISTANCE, MOST_LEVEL, MOST_NAME, MOST_RULES, MOST_TRIANGLES, MOST_UPLOAD,
 };
 pub use model::Model;
 pub use moment::Moment;
 pub use named_model::NamedModel;
 pub use rules::{
-    ClassTest, Found, ModelTest, Rule, RuleKind, Rules, StoreyTest, greatest_distance, rule_of,
+    ClassTest, Found, Meeting, ModelTest, Rule, RuleKind, Rules, StoreyTest, greatest_distance,
+    rule_of,
 };
 pub use shared::Shared;
 pub use snapshot::Snapshot;

@@ -10,9 +10,6 @@ pub const MOST_TRIANGLES: u64 = 1_000_000;
 /// The most characters of a model's name, each of one byte. It has at least one.
 pub const MOST_NAME: usize = 64;
 
-/// The most bytes of a topic's title. It has at least one.
-pub const MOST_TITLE: usize = 1_024;
-
 /// The most clash rules of a project.
 pub const MOST_RULES: usize = 200;
 

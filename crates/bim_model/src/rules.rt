@@ -2,8 +2,8 @@
 ghost use Rattle.std.specs.Prelude.{◌≡◌, ◌≤◌, []};
 ghost use Rattle.bim_model.specs.Rules.{passes_class, passes_classes, same_storey, other_storey, passes_storeys, is_at, passes_level, passes_models, fits, rule_of, greatest_distance, IsRules};
 
+use crate::distance::Distance;
 use crate::element::Element;
-use crate::limits::MOST_DISTANCE;
 use crate::text::Text;
 use std::alloc::Global;
 
@@ -40,8 +40,8 @@ pub enum ModelTest {
 /// What a rule says of the pairs that it fits.
 #[derive(Clone, Copy, Debug, PartialEq, Eq)]
 pub enum RuleKind {
-    /// They clash where they come within so many millimetres, at most 1,000.
-    Clash { distance: u32 },
+    /// They clash where their surfaces come within the distance.
+    Clash { distance: Distance },
     /// They never clash.
     Ignore,
 }
@@ -60,13 +60,22 @@ pub struct Rule {
     pub kind: RuleKind,
 }
 
+/// How two elements have to meet, for them to clash under the rule that decides them.
+#[derive(Clone, Copy, Debug, PartialEq, Eq)]
+pub enum Meeting {
+    /// Their surfaces come within the rule's distance.
+    Within,
+}
+
 /// The rule of a pair.
 #[derive(Clone, Copy, Debug, PartialEq, Eq)]
 pub struct Found {
     /// Its number in the list, from 0.
     pub rule: u32,
-    /// Its distance in millimetres.
-    pub distance: u32,
+    /// What it asks of the pair.
+    pub meeting: Meeting,
+    /// Its distance.
+    pub distance: Distance,
 }
 
 /// A project's clash rules in their order. Contracts see their list: at most 200, each within its bounds.
@@ -207,6 +216,7 @@ pub fn rule_of(rules: &Rules, a: &Element, b: &Element, same_model: bool) -> Opt
             return match rule.kind {
                 RuleKind::Clash { distance } => Some(Found {
                     rule: number,
+                    meeting: Meeting::Within,
                     distance,
                 }),
                 RuleKind::Ignore => None,
@@ -217,16 +227,15 @@ pub fn rule_of(rules: &Rules, a: &Element, b: &Element, same_model: bool) -> Opt
     None
 }
 
-/// The greatest distance of the rules in millimetres, 0 where there is none.
-pub fn greatest_distance(rules: &Rules) -> u32
-    ensures is { result ≡ greatest_distance rules.now }
-    ensures small { result ≤ MOST_DISTANCE }
+/// The greatest distance of the rules, 0 where there is none.
+pub fn greatest_distance(rules: &Rules) -> Distance
+    ensures { result ≡ greatest_distance rules.now }
 {
     let mut greatest = 0;
     for rule in rules.list() {
         if let RuleKind::Clash { distance } = rule.kind {
-            greatest = greatest.max(distance);
+            greatest = greatest.max(distance.millimetres());
         }
     }
-    greatest
+    Distance::new(greatest)
 }
