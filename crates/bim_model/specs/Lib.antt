@@ -8,6 +8,7 @@ pub mod Points
 pub mod Polygons
 pub mod Gaps
 pub mod Models
+pub mod Names
 pub mod Snapshots
 pub mod Rules
 pub mod Keys

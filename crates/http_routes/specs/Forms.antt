@@ -2,7 +2,7 @@
 use Rattle.std.specs.Prelude.{ℕ, List, if◌then◌else◌, Option, Some, None, option_map, codes, bytes_eq}
 use Rattle.std.specs.Int.{from_be_bytes, w128}
 use Rattle.uuid.specs.Text.{parsed}
-use Rattle.model_names.specs.Names.{is_model_name}
+use Rattle.bim_model.specs.Names.{is_model_name}
 use Rattle.book_history.specs.declared.requests.Wanted.{Wanted}
 use Rattle.book_history.specs.declared.requests.Wanted.TheVariants.{Newest, Number}
 use Rattle.http_routes.specs.Numbers.{number_in}

@@ -9,9 +9,9 @@ ghost use Rattle.http_routes.specs.Places.{place_lent, parts_of, id_in, name_in,
 use crate::number_forms::number_in;
 use crate::paths::{RoutePath, TopicRow, is_same};
 use crate::resource::{Resource, TopicPlace};
+use bim_model::is_model_name;
 use book_history::Wanted;
 use matchit::Params;
-use model_names::is_model_name;
 use uuid::Uuid;
 
 /// Whether a path has ASCII characters alone.

@@ -1,9 +1,9 @@
-//! The characters and the length of a name.
+//! The form of a model's name, as it stands in an address and in the words of a command.
 ghost use Rattle.std.specs.Prelude.{◌≡◌};
 ghost use Rattle.std.specs.List.{list_all};
-ghost use Rattle.model_names.specs.Names.{is_name_char, is_model_name};
+ghost use Rattle.bim_model.specs.Names.{is_name_char, is_model_name};
 
-use bim_model::MOST_NAME;
+use crate::limits::MOST_NAME;
 
 fn is_name_char(byte: u8) -> bool
     ensures { result ≡ is_name_char byte }
