@@ -9,6 +9,7 @@ ghost use Rattle.ifc_units.specs.Units.{IsConverted};
 use crate::metres::metric_power;
 use crate::scale::Scale;
 use bim_text::Decimal;
+use ifc_instances::Entity;
 use p21_table::{Exchange, InstanceRef};
 use std::cmp::Ordering;
 
@@ -67,13 +68,16 @@ fn tenths_of(length: Measured) -> Option<u64>
     None
 }
 
-// The length in millimetres that a measure is.
+// The length in millimetres that an instance is, where it is a measure in a metre with a prefix.
 fn measured(exchange: &Exchange, measure: &InstanceRef<'_>) -> Option<Measured>
     ensures near { IfSome result (λ m. IsNear m.power) }
     ensures some { IfSome result (λ m. IsMeasure exchange.now measure.now
         (raised (value_of m.number) m.power)) }
     ensures none { IfNone result ((length : Scaled) → IsMeasure exchange.now measure.now length → ⊥) }
 {
+    if !Entity::Measure.includes(measure) {
+        return None;
+    }
     let Some(value) = measure.attribute(0) else {
         return None;
     };

@@ -1,0 +1,76 @@
+-- A unit makes one scale.
+use Rattle.std.proofs.Common.{◌≡◌, ℕ, ◌≤◌, Bool, true, false, ℤ, List, Some, Option, MatchBool, refl, sym, ap, ◌∙◌, subst}
+use Rattle.std.proofs.Math.Bridge.{le_prop}
+use Rattle.std.specs.List.{slice_get}
+use Rattle.bim_text.specs.declared.decimal.Decimal.{Decimal}
+use Rattle.bim_text.specs.Values.{Scaled, raised}
+use Rattle.bim_text.specs.Decimals.{Reads, value_of}
+use Rattle.bim_text.proofs.Unique.{one_decimal}
+use Rattle.p21_values.specs.declared.value.Instance.{Instance}
+use Rattle.p21_values.specs.Attributes.{target_at}
+use Rattle.p21_values.specs.Values.{measure_of}
+use Rattle.ifc_instances.specs.declared.entity.Entity.TheVariants.{ConvertedUnit}
+use Rattle.ifc_instances.specs.Looking.{is_a}
+use Rattle.ifc_units.specs.declared.scale.Scale.{Scale}
+use Rattle.ifc_units.specs.Metres.{metric_power}
+use Rattle.ifc_units.specs.Conversions.{tenths_of, IsMeasure}
+use Rattle.ifc_units.specs.Units.{IsMetric, IsConverted, MakesScale}
+
+-- scales of one factor and one power are one
+
+abbrev scale : (factor : ℕ) → ℤ → factor ≤ 3048 → Scale
+scale factor power small = record { factor = factor; power = power; small = small }
+
+same_scale : (s t : Scale) → s.factor ≡ t.factor → s.power ≡ t.power → s ≡ t
+same_scale s t e f =
+    subst (λ (p : ℤ). s ≡ scale t.factor p t.small) f
+    (subst (λ (n : ℕ). (k : n ≤ 3048) → s ≡ scale n s.power k) e (λ k. ap (scale s.factor s.power) (le_prop s.small k)) t.small)
+
+-- a measure is one length
+
+same_raised : (d e : Decimal) (p q : ℤ) → d.negative ≡ e.negative → d.digits ≡ e.digits → d.exp ≡ e.exp → p ≡ q → raised (value_of d) p ≡ raised (value_of e) q
+same_raised d e p q a b c f = rw (a, b, c, f) refl
+
+one_measure : (world : List Instance) (measure : Instance) (x y : Scaled) → IsMeasure world measure x → IsMeasure world measure y → x ≡ y
+one_measure world measure x y h k =
+    let s = h.said in
+    let t = k.said in
+    let v : h.value ≡ k.value = cc in
+    let m : measure_of k.value ≡ Some h.bytes = subst (λ u. measure_of u ≡ Some h.bytes) v h.number in
+    let n = k.number in
+    let b : h.bytes ≡ k.bytes = cc in
+    let o = one_decimal k.bytes h.decimal k.decimal (subst (λ u. Reads u h.decimal) b h.read) k.read in
+    let f = h.based in
+    let g = k.based in
+    let i : h.base ≡ k.base = cc in
+    let p : metric_power k.base ≡ Some h.power = subst (λ u. metric_power u ≡ Some h.power) i h.reads in
+    let q = k.reads in
+    let r : h.power ≡ k.power = cc in
+    h.is ∙ same_raised h.decimal k.decimal h.power k.power o.0 o.1 o.2 r ∙ sym k.is
+
+-- a unit makes one scale
+
+one_metric : (unit : Instance) (a b : Scale) → IsMetric unit a → IsMetric unit b → a ≡ b
+one_metric unit a b h k =
+    let p = h.power in
+    let q = k.power in
+    let same : a.power ≡ b.power = cc in
+    same_scale a b (h.factor ∙ sym k.factor) same
+
+one_converted : (world : List Instance) (unit : Instance) (a b : Scale) → IsConverted world unit a → IsConverted world unit b → a ≡ b
+one_converted world unit a b h k =
+    let m = h.measured in
+    let n = k.measured in
+    let same : h.measure ≡ k.measure = cc in
+    let l = one_measure world k.measure h.length k.length (subst (λ u. IsMeasure world u h.length) same h.is) k.is in
+    let f : tenths_of k.length ≡ Some a.factor = subst (λ x. tenths_of x ≡ Some a.factor) l h.factor in
+    let g = k.factor in
+    let e : a.factor ≡ b.factor = cc in
+    same_scale a b e (h.power ∙ sym k.power)
+
+pub one_made : (world : List Instance) (unit : Instance) (a b : Scale) → MakesScale world unit a → MakesScale world unit b → a ≡ b
+one_made world unit a b h k = chosen (is_a ConvertedUnit unit) h k
+  where
+    chosen : (t : Bool) → MatchBool t (IsConverted world unit a) (IsMetric unit a) → MatchBool t (IsConverted world unit b) (IsMetric unit b) → a ≡ b
+    chosen true h k = one_converted world unit a b h k
+    chosen false h k = one_metric unit a b h k
