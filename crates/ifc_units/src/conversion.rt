@@ -27,7 +27,6 @@ struct Measured {
 }
 
 // Whether a length in millimetres lies less than a millionth from so many millionths.
-#[tactic(auto, using(crate::proofs::Abouts::abouts), unfolding(crate::specs::Conversions::is_about))]
 fn is_about(millionths: u64, length: Measured) -> bool
     requires some { 0 < millionths }
     requires few { millionths < 1000000000 }
