@@ -1,15 +1,17 @@
 -- A unit makes one scale.
-use Rattle.std.proofs.Common.{◌≡◌, ℕ, ◌≤◌, Bool, true, false, ℤ, List, Some, Option, MatchBool, refl, sym, ap, ◌∙◌, subst}
+use Rattle.std.proofs.Common.{◌≡◌, ℕ, ◌≤◌, Bool, true, false, ℤ, List, Some, None, refl, sym, ap, ◌∙◌, subst}
 use Rattle.std.proofs.Math.Bridge.{le_prop}
+use Rattle.std.specs.Bool.{MatchBool}
 use Rattle.std.specs.List.{slice_get}
 use Rattle.bim_text.specs.declared.decimal.Decimal.{Decimal}
 use Rattle.bim_text.specs.Values.{Scaled, raised}
 use Rattle.bim_text.specs.Decimals.{Reads, value_of}
 use Rattle.bim_text.proofs.Unique.{one_decimal}
+use Rattle.p21_values.specs.declared.value.Value21.{Value21}
 use Rattle.p21_values.specs.declared.value.Instance.{Instance}
 use Rattle.p21_values.specs.Attributes.{target_at}
 use Rattle.p21_values.specs.Values.{measure_of}
-use Rattle.ifc_instances.specs.declared.entity.Entity.TheVariants.{ConvertedUnit}
+use Rattle.ifc_instances.specs.declared.entity.Entity.TheVariants.{ConvertedUnit, Measure}
 use Rattle.ifc_instances.specs.Looking.{is_a}
 use Rattle.ifc_units.specs.declared.scale.Scale.{Scale}
 use Rattle.ifc_units.specs.Metres.{metric_power}
@@ -31,6 +33,23 @@ same_scale s t e f =
 same_raised : (d e : Decimal) (p q : ℤ) → d.negative ≡ e.negative → d.digits ≡ e.digits → d.exp ≡ e.exp → p ≡ q → raised (value_of d) p ≡ raised (value_of e) q
 same_raised d e p q a b c f = rw (a, b, c, f) refl
 
+pub measure_is : (world : List Instance) (measure : Instance) (value : Value21) (bytes : List ℕ) (number : Decimal) (base : Instance) (power read : ℤ) → is_a Measure measure ≡ true → slice_get measure.values 0 ≡ Some value
+    → measure_of value ≡ Some bytes → Reads bytes number → target_at world measure 1 ≡ Some base → metric_power base ≡ Some power → read ≡ power → IsMeasure world measure (raised (value_of number) read)
+measure_is world measure value bytes number base power read kind said is reads based made same = record {
+  kind = kind;
+  value = value;
+  said = said;
+  bytes = bytes;
+  number = is;
+  decimal = number;
+  read = reads;
+  base = base;
+  based = based;
+  power = power;
+  reads = made;
+  is = rw same refl;
+}
+
 one_measure : (world : List Instance) (measure : Instance) (x y : Scaled) → IsMeasure world measure x → IsMeasure world measure y → x ≡ y
 one_measure world measure x y h k =
     let s = h.said in
@@ -48,6 +67,23 @@ one_measure world measure x y h k =
     let r : h.power ≡ k.power = cc in
     h.is ∙ same_raised h.decimal k.decimal h.power k.power o.0 o.1 o.2 r ∙ sym k.is
 
+-- a unit is converted only by its measure
+
+measure_of_unit : (world : List Instance) (unit measure : Instance) (scale : Scale) → target_at world unit 3 ≡ Some measure → (h : IsConverted world unit scale) → IsMeasure world measure h.length
+measure_of_unit world unit measure scale found h =
+    let m = h.measured in
+    let same : h.measure ≡ measure = cc in
+    subst (λ u. IsMeasure world u h.length) same h.is
+
+pub unmeasured : (world : List Instance) (unit measure : Instance) → target_at world unit 3 ≡ Some measure → ((length : Scaled) → IsMeasure world measure length → ⊥) → (scale : Scale) → IsConverted world unit scale → ⊥
+unmeasured world unit measure found none scale h = none h.length (measure_of_unit world unit measure scale found h)
+
+pub unconverted : (world : List Instance) (unit measure : Instance) (length : Scaled) → target_at world unit 3 ≡ Some measure → IsMeasure world measure length → tenths_of length ≡ None → (scale : Scale) → IsConverted world unit scale → ⊥
+unconverted world unit measure length found is none scale h =
+    let l = one_measure world measure h.length length (measure_of_unit world unit measure scale found h) is in
+    let f : tenths_of length ≡ Some scale.factor = subst (λ x. tenths_of x ≡ Some scale.factor) l h.factor in
+    cc
+
 -- a unit makes one scale
 
 one_metric : (unit : Instance) (a b : Scale) → IsMetric unit a → IsMetric unit b → a ≡ b
@@ -59,10 +95,7 @@ one_metric unit a b h k =
 
 one_converted : (world : List Instance) (unit : Instance) (a b : Scale) → IsConverted world unit a → IsConverted world unit b → a ≡ b
 one_converted world unit a b h k =
-    let m = h.measured in
-    let n = k.measured in
-    let same : h.measure ≡ k.measure = cc in
-    let l = one_measure world k.measure h.length k.length (subst (λ u. IsMeasure world u h.length) same h.is) k.is in
+    let l = one_measure world k.measure h.length k.length (measure_of_unit world unit k.measure a k.measured h) k.is in
     let f : tenths_of k.length ≡ Some a.factor = subst (λ x. tenths_of x ≡ Some a.factor) l h.factor in
     let g = k.factor in
     let e : a.factor ≡ b.factor = cc in

@@ -68,7 +68,7 @@ fn tenths_of(length: Measured) -> Option<u64>
 }
 
 // The length in millimetres that an instance is, where it is a measure in a metre with a prefix.
-fn measured(exchange: &Exchange, measure: &InstanceRef<'_>) -> Option<Measured>
+fn measured_length(exchange: &Exchange, measure: &InstanceRef<'_>) -> Option<Measured>
     ensures near { IfSome result (λ m. IsNear m.power) }
     ensures some { IfSome result (λ m. IsMeasure exchange.now measure.now
         (raised (value_of m.number) m.power)) }
@@ -103,7 +103,7 @@ pub fn converted_scale(exchange: &Exchange, unit: &InstanceRef<'_>) -> Option<Sc
     let Some(measure) = exchange.target_at(unit, 3) else {
         return None;
     };
-    let Some(length) = measured(exchange, &measure) else {
+    let Some(length) = measured_length(exchange, &measure) else {
         return None;
     };
     match tenths_of(length) {
