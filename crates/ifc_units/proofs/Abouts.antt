@@ -9,7 +9,7 @@ use Rattle.std.proofs.lemmas.Bool.{lt-ltb, le-ltb}
 use Rattle.bim_text.specs.Values.{Scaled, signed, above, below, size_order}
 use Rattle.ifc_units.specs.Sizes.{distance}
 use Rattle.ifc_units.specs.Conversions.{is_about}
-use Rattle.ifc_units.proofs.Signs.{size_of, gap_same, gap_other}
+use Rattle.ifc_units.proofs.Signs.{gap_same, gap_other}
 
 -- a length, and so many millionths
 abbrev pub length : Bool → ℕ → ℤ → Scaled
