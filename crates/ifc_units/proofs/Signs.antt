@@ -42,7 +42,7 @@ gap_other u b m g p =
     ∙ ap (λ (x : ℤ). unsigned_abs (signed b (u * (m * 10 ^ above p)) -ℤ x)) (signed_times (not b) g (10 ^ below p))
     ∙ other_sign b (u * (m * 10 ^ above p)) (g * 10 ^ below p)
 
-size_of : (b : Bool) (m : ℕ) (p : ℤ) → unsigned_abs (signed b m *ℤ pos (10 ^ above p)) ≡ m * 10 ^ above p
+pub size_of : (b : Bool) (m : ℕ) (p : ℤ) → unsigned_abs (signed b m *ℤ pos (10 ^ above p)) ≡ m * 10 ^ above p
 size_of b m p = ap unsigned_abs (signed_times b m (10 ^ above p)) ∙ signed_size b (m * 10 ^ above p)
 
 -- a size is that of the grid number with the length's sign

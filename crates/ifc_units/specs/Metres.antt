@@ -1,5 +1,5 @@
 -- Metres with a prefix as units of length (IFC4 ADD2 TC1, IfcSIUnit). Only values are looked at, also of instances that lack their own form.
-use Rattle.std.specs.Prelude.{◌&&◌, ◌≤ℤ◌, ℕ, Bool, if◌then◌else◌, ℤ, pos, negsuc, codes, List, [], ◌∷◌, Option, Some, None, option_and_then, option_map}
+use Rattle.std.specs.Prelude.{◌&&◌, ◌≤ℤ◌, ℕ, if◌then◌else◌, ℤ, pos, negsuc, codes, List, [], ◌∷◌, Option, Some, None, option_and_then, option_map}
 use Rattle.std.specs.List.{slice_get, find}
 use Rattle.std.specs.Str.{bytes_eq}
 use Rattle.p21_values.specs.declared.value.Value21.{Value21}

@@ -1,6 +1,6 @@
 -- The length unit of a file (IFC4 ADD2 TC1, IfcProject, IfcUnitAssignment, IfcSIUnit). A world is the list of its instances. Only values are
 -- looked at, also of instances that lack their own form.
-use Rattle.std.specs.Prelude.{◌≡◌, ◌≢◌, ℕ, ◌≤◌, ◌&&◌, ◌||◌, Bool, true, ℤ, negsuc, codes, List, [], ◌∷◌, Option, Some, None, All, Any}
+use Rattle.std.specs.Prelude.{◌≡◌, ◌≢◌, ℕ, ◌≤◌, ◌&&◌, ◌||◌, Bool, true, if◌then◌else◌, negsuc, codes, List, [], ◌∷◌, Option, Some, None, All, Any}
 use Rattle.std.specs.Bool.{MatchBool}
 use Rattle.std.specs.List.{filter}
 use Rattle.bim_model.specs.declared.upload.UploadFault.{UploadFault}
