@@ -12,8 +12,8 @@ use crate::generate_words::{GenerateWords, generate_words};
 use crate::statuses::{NO_MEMORY, print_usage, printed};
 use bim_io::Sink;
 use bim_model::{
-    Bytes, ClassTest, Mode, Model, ModelTest, NamedModel, Rule, RuleKind, Rules, Shared, Snapshot,
-    StoreyTest, Text,
+    Bytes, ClassTest, Distance, Mode, Model, ModelTest, NamedModel, Rule, RuleKind, Rules, Shared,
+    Snapshot, StoreyTest, Text,
 };
 use clash_check::clashes_of;
 use model_build::build_owned;
@@ -76,7 +76,9 @@ fn touching(alloc: Global) -> Result<Rules, AllocError>
         storey: StoreyTest::Any,
         level: None,
         models: ModelTest::Any,
-        kind: RuleKind::Clash { distance: 0 },
+        kind: RuleKind::Clash {
+            distance: Distance::new(0),
+        },
     })?;
     Ok(Rules::from_vec(list))
 }

@@ -21,9 +21,9 @@ pub record Fits32 (box : Extent) : Type 0 where
   pub high_y : FitsSigned w32 box.high.y
   pub high_z : FitsSigned w32 box.high.z
 
--- a coordinate in steps of 32, rounded down, as far as 16 bits go
+-- a coordinate in steps of 256, rounded down, as far as 16 bits go
 abbrev pub coarse : ℤ → ℤ
-coarse x = saturate_signed w16 (int_shr x 5)
+coarse x = saturate_signed w16 (int_shr x 8)
 
 -- a box in such steps
 abbrev pub coarse_box : Extent → Extent

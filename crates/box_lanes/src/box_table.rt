@@ -154,7 +154,7 @@ impl BoxTable {
     }
 
     /// Adds the places of the boxes of a block of eight, from the place `from` on, that meet `reach`, which is `rough`
-    /// in steps of 32. Most blocks have none, and are left after one test.
+    /// in steps of 256. Most blocks have none, and are left after one test.
     #[inline(always)]
     fn add_block(
         &self,
@@ -251,7 +251,7 @@ impl BoxTable {
     }
 
     /// A bit for each of the eight boxes from `at` on, the first the lowest: whether the box meets `reach` in steps
-    /// of 32, in which it is `rough`. Bits of boxes behind the table's may be any.
+    /// of 256, in which it is `rough`. Bits of boxes behind the table's may be any.
     #[inline(always)]
     fn coarse_lanes(&self, at: usize, reach: &Reach, rough: &Rough) -> u64
         requires within { at < length self.now }

@@ -19,7 +19,7 @@ pub struct Reach {
     pub later_z: bool,
 }
 
-/// A reach in steps of 32, and for each axis the number of the list of sides that is compared with its low end.
+/// A reach in steps of 256, and for each axis the number of the list of sides that is compared with its low end.
 #[derive(Clone, Copy)]
 pub struct Rough {
     pub sides: [i16; LANES],

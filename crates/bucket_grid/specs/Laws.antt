@@ -1,12 +1,12 @@
 -- Laws of cells, members and owners.
-use Rattle.std.specs.Prelude.{◌≡◌, ◌↔◌, ◌*◌, ℕ, pos, ◌+ℤ◌, ◌-ℤ◌, ◌*ℤ◌, ◌≤ℤ◌, ◌<ℤ◌, unsigned_abs, true, IsTrue, Bool, List, length, Some, All, Any, AllPairs}
+use Rattle.std.specs.Prelude.{◌≡◌, ◌↔◌, ℕ, pos, ◌+ℤ◌, ◌-ℤ◌, ◌*ℤ◌, ◌≤ℤ◌, ◌<ℤ◌, true, IsTrue, Bool, List, length, Some, All, Any, AllPairs}
 use Rattle.std.specs.declared.cmp.Ordering.TheVariants.{Less}
-use Rattle.bim_model.specs.declared.geometry.TheConstants.{PER_MM}
 use Rattle.bim_model.specs.declared.geometry.Point.{Point}
 use Rattle.bim_model.specs.declared.geometry.Extent.{Extent}
 use Rattle.bim_model.specs.declared.element.Element.{Element}
 use Rattle.bim_model.specs.declared.rules.Rule.{Rule}
 use Rattle.bim_model.specs.declared.rules.Found.{Found}
+use Rattle.bim_model.specs.Distances.{in_grid_numbers}
 use Rattle.bim_model.specs.Rules.{rule_of, IsRules}
 use Rattle.bim_model.specs.Boxes.{IsExtentOf}
 use Rattle.bim_model.specs.Gaps.{is_within}
@@ -68,5 +68,5 @@ CloseBoxesHaveAnOwner =
 abbrev pub NearElementsHaveAnOwner : Type 0
 NearElementsHaveAnOwner =
     (rules : List Rule) (a b : Element) (same : Bool) (found : Found) (k m : Extent) → IsRules rules
-    → rule_of rules a b same ≡ Some found → ElementsNear a b (found.distance * unsigned_abs PER_MM)
+    → rule_of rules a b same ≡ Some found → ElementsNear a b (in_grid_numbers found.distance)
     → IsExtentOf a.triangles k → IsExtentOf b.triangles m → HaveOneOwner k m

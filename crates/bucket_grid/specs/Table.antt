@@ -4,6 +4,7 @@ use Rattle.std.specs.List.{flat_map}
 use Rattle.std.specs.declared.cmp.Ordering.TheVariants.{Less}
 use Rattle.bim_model.specs.declared.geometry.Extent.{Extent}
 use Rattle.bucket_grid.specs.declared.cell.Cell.{Cell}
+use Rattle.bucket_grid.specs.declared.cell.TheConstants.{FARTHEST_CELL}
 use Rattle.bucket_grid.specs.declared.lists.Span.{Span}
 use Rattle.bucket_grid.specs.declared.bucket_table.Bucket.{Bucket}
 use Rattle.bucket_grid.specs.Cells.{cell_cmp, members, IsBucket}
@@ -50,7 +51,7 @@ table xs ys zs low long width depth numbers =
 
 -- a cell's number on an axis, from which others are counted
 abbrev pub IsLow : ℤ → Type 0
-IsLow low = unsigned_abs low ≤ 1000000
+IsLow low = unsigned_abs low ≤ unsigned_abs FARTHEST_CELL
 
 -- the spans of all boxes on an axis, counted from low
 pub record AreSpans (low : ℤ) (first last : ℕ → ℤ) (count : ℕ) (spans : List Span) : Type 0 where

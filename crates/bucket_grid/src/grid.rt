@@ -21,7 +21,7 @@ ghost use Rattle.bucket_grid.specs.declared.grid.GridError.TheVariants.{TooSprea
 
 use crate::axis_cells::{Axis, Range, cells_on, range_on, spans_on};
 use crate::bucket_table::{Axes, Bucket, table_of};
-use crate::cell::Cell;
+use crate::cell::{Cell, MOST_CELLS};
 use crate::owner::shared_cell;
 use crate::search::{place_by, place_of};
 use crate::subjects::{Gathered, Member, gather};
@@ -31,6 +31,9 @@ use std::marker::Model;
 
 /// The most elements of a version that may get a grid.
 pub const MOST_ELEMENTS: usize = 1_000_000;
+
+/// The most cells that hold a box: those of three axes.
+pub const MOST_CELLS_OF_BOX: u64 = MOST_CELLS * MOST_CELLS * MOST_CELLS;
 
 /// The most pairs of a cell and a member of it that a grid may have.
 pub const MOST_MEMBERSHIPS: u64 = 2_000_000;
@@ -98,7 +101,7 @@ fn memberships_of(boxes: &[Extent]) -> u64
 fn cells_of(extent: &Extent) -> u64
     requires { IsGridBox extent.now }
     ensures is { result ≡ cell_count extent.now }
-    ensures small { result ≤ 74140932601 }
+    ensures small { result ≤ MOST_CELLS_OF_BOX }
 {
     cells_on(Axis::X, extent) * cells_on(Axis::Y, extent) * cells_on(Axis::Z, extent)
 }

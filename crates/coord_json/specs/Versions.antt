@@ -2,6 +2,7 @@
 use Rattle.std.specs.Prelude.{◌≡◌, ℕ, ℤ, List, [], ◌∷◌, length, codes}
 use Rattle.serde_json.specs.Data.{Data, number, string, array, object, Items, no_items, item, member, no_members}
 use Rattle.serde_json.specs.Find.{of_integer}
+use Rattle.bim_model.specs.declared.geometry.TheConstants.{PER_MM}
 use Rattle.bim_model.specs.Boxes.{IsExtentOf}
 use Rattle.bim_model.specs.Snapshots.{Version}
 use Rattle.coord_json.specs.Rules.{count_tree, storey_tree, rule_items}
@@ -60,13 +61,15 @@ AreModelTrees [] (item d ds) = ⊥
 AreModelTrees (m ∷ ms) no_items = ⊥
 AreModelTrees (m ∷ ms) (item d ds) = IsModelTree m d × AreModelTrees ms ds
 
--- a version by its models, the number of the newest one, its rules and its number
+-- a version by its models, the number of the newest one, its rules and its number; lengths are in grid numbers,
+-- of which `per_mm` are a millimetre
 unfoldable pub version_tree : Items → ℕ → Items → ℕ → Data
 version_tree models newest rules version =
     object (member (codes "models") (array models)
     (member (codes "newest") (count_tree newest)
+    (member (codes "per_mm") (length_tree PER_MM)
     (member (codes "rules") (array rules)
-    (member (codes "version") (count_tree version) no_members))))
+    (member (codes "version") (count_tree version) no_members)))))
 
 -- a version with its models and its rules
 abbrev pub IsVersionTree : ℕ → ℕ → Version → Data → Type 0

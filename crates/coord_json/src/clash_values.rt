@@ -5,6 +5,7 @@ ghost use Rattle.bim_model.specs.Keys.{subjects_of};
 ghost use Rattle.clash_publish.specs.Listed.{IsClash};
 ghost use Rattle.coord_json.specs.Clashes.{side_tree, element_side, pair_tree, clash_data, pair_items, part_tree, clashes_tree, pending_tree};
 
+use bim_model::Distance;
 use bucket_check::SetPair;
 use clash_publish::Published;
 use serde_json::{Value, json};
@@ -31,12 +32,12 @@ fn pair_tree(
     alloc: Global,
     a: Value,
     b: Value,
-    distance: u32,
+    distance: Distance,
     rule: u32,
 ) -> Result<Value, AllocError>
     ensures { IfOk result (λ v. view v ≡ pair_tree (view a) (view b) distance rule) }
 {
-    json!(in alloc; { "a": a, "b": b, "distance": distance, "rule": rule })
+    json!(in alloc; { "a": a, "b": b, "distance": distance.millimetres(), "rule": rule })
 }
 
 fn pair_out(alloc: Global, set: &Published, pair: SetPair) -> Result<Value, AllocError>

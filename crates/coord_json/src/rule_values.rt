@@ -3,7 +3,7 @@ ghost use Rattle.std.specs.Prelude.{◌≡◌, IfOk};
 ghost use Rattle.serde_json.specs.View.{view, items_view};
 ghost use Rattle.coord_json.specs.Rules.{class_text, storeys_text, models_text, storey_tree, clash_tree, ignore_tree, kind_tree, rule_tree, rule_items};
 
-use bim_model::{ClassTest, ModelTest, Rule, RuleKind, StoreyTest, Text};
+use bim_model::{ClassTest, Distance, ModelTest, Rule, RuleKind, StoreyTest, Text};
 use serde_json::{Value, json};
 use std::alloc::{AllocError, Global};
 
@@ -51,7 +51,7 @@ fn clash_tree(
     alloc: Global,
     a: &str,
     b: &str,
-    distance: u32,
+    distance: Distance,
     level: Value,
     models: &str,
     storey: &str,
@@ -61,7 +61,7 @@ fn clash_tree(
     json!(in alloc; {
         "a": a,
         "b": b,
-        "distance": distance,
+        "distance": distance.millimetres(),
         "kind": "clash",
         "level": level,
         "models": models,

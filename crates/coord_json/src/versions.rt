@@ -5,7 +5,7 @@ ghost use Rattle.bim_model.specs.Models.{IsModel, IsModelled};
 ghost use Rattle.coord_json.specs.Versions.{box_tree, element_tree, model_tree, version_tree, changed_tree, IsElementTree, AreElementTrees, IsModelTree, AreModelTrees, IsVersionTree};
 
 use crate::rule_values::{rules_out, storey_out};
-use bim_model::{Element, Extent, NamedModel, Snapshot, extent_of};
+use bim_model::{Element, Extent, NamedModel, PER_MM, Snapshot, extent_of};
 use serde_json::{Value, json};
 use std::alloc::{AllocError, Global};
 
@@ -121,10 +121,16 @@ fn version_tree(
 {
     let models = Value::Array(models);
     let rules = Value::Array(rules);
-    json!(in alloc; { "models": models, "newest": newest, "rules": rules, "version": version })
+    json!(in alloc; {
+        "models": models,
+        "newest": newest,
+        "per_mm": PER_MM,
+        "rules": rules,
+        "version": version
+    })
 }
 
-/// A version with its models and its rules, as an object.
+/// A version with its models and its rules, and how many grid numbers a millimetre has, as an object.
 pub fn version_out(
     alloc: Global,
     version: u64,
