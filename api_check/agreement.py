@@ -17,6 +17,7 @@ SHOWN = {
     "comment": "Comment",
     "viewpoint": "Viewpoint",
     "element": "Element",
+    "version": "Version",
     "project": "Project",
     "rule": "Rule",
 }

@@ -134,8 +134,9 @@ def _shown_members(api: ApiText, text: str) -> None:
             if "the other members of its body" in match[1]:
                 names |= set(api.bodies.get(kind, {}))
             api.shown[kind] = {it for it in names if re.fullmatch(r"\w+", it)}
-    if element := re.search(r"An element has (.*?)\.(?: |$)", text):
-        api.shown["element"] = set(quoted(element[1]))
+    for kind in ("A version", "An element"):
+        if members := re.search(rf"{kind} has (.*?)\.(?: |$)", text):
+            api.shown[kind.split()[1]] = set(quoted(members[1]))
     for rule in re.findall(r"A (?:clash )?rule has ([^.]*)\.", text):
         api.shown.setdefault("rule", set()).update(quoted(rule))
     if project := re.search(r"an object with (`name` and `project_id`)", text):

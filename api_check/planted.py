@@ -139,6 +139,7 @@ def in_api_md() -> list[tuple[str, str, str]]:
         ("a route more", "| `/topics/T/comments` |", "| `/topics/T/comments`, `/files` |"),
         ("a member more", "`labels` | at most", "`labels`, `tags` | at most"),
         ("a member less", "the members `place` and `total`", "the members `place`"),
+        ("a member of a version less", "`per_mm`, `rules` and", "`rules` and"),
         ("another bound", "texts of up to 64 bytes", "texts of up to 65 bytes"),
         (
             "a field more",
@@ -209,6 +210,9 @@ def of_live_documents() -> list[tuple[str, Change]]:
         _schemas(tree)["Version"]["properties"].pop("newest")
         _schemas(tree)["Version"]["required"].remove("newest")
 
+    def grid_wrong(tree: Tree) -> None:
+        _schemas(tree)["Version"]["properties"]["per_mm"]["const"] = 1
+
     def code_less(tree: Tree) -> None:
         node = tree["components"]["responses"]["VersionNotFound"]["content"]["application/json"]
         node["schema"]["oneOf"].pop(1)
@@ -219,6 +223,7 @@ def of_live_documents() -> list[tuple[str, Change]]:
         ("a turn that isn't promised", turn_wrong),
         ("a member of another type", type_wrong),
         ("a member less", member_less),
+        ("a grid of whole millimetres", grid_wrong),
         ("a code of a response less", code_less),
     ]
 

@@ -89,6 +89,7 @@ counted "words" python3 check/words.py "$converter" "$house" "$work/words"
 counted "broken files" python3 check/broken.py "$converter" "$work/cases" "$count" 1
 counted "hostile" python3 check/hostile.py "$converter" "$work/hostile"
 counted "served" python3 check/served.py "$server" "$work"
+counted "as it is" python3 check/as_it_is.py "$converter" "$server" "$work"
 counted "trip" python3 check/trip.py "$converter" "$server" "$house" "$work/trip"
 step "build mesh2grid" make -C mesh -s
 counted "meshes" python3 check/meshes.py "$here/mesh/mesh2grid" "$server" "$work/meshes"

@@ -3,10 +3,14 @@
 from __future__ import annotations
 
 import io
+import json
 import math
+import re
 import sys
 import time
 import zipfile
+from collections.abc import Callable
+from fractions import Fraction
 from pathlib import Path
 from typing import Any
 
@@ -14,6 +18,7 @@ import pytest
 import requests
 import second_reader
 from conftest import CLIENT, PROJECTS, Runner, Server
+from fakes import Relay, reply
 from house import CLOSE, PIPES, PIPES_AFTER, RULES, THROUGH, WALL, WALLS
 from lxml import etree
 from PIL import Image
@@ -173,6 +178,57 @@ def test_cameras_frame_what_is_selected(run: Runner, server: Server, version: st
     # a viewpoint that selects nothing shows the whole version
     whole = seen_corners(topics[1]["viewpoints"][1]["camera"], [WALL, THROUGH, CLOSE])
     assert all(abs(x) <= 1 and abs(y) <= 1 for x, y in whole)
+
+
+def counted_by(server: Server, grid: int | None) -> Callable[[bytes, int], bytes | None]:
+    """Answers for a version: its boxes in other grid numbers, of which a millimetre has so many.
+
+    None is an older server, which counts millimetres and doesn't say so.
+    """
+
+    def rescaled(request: bytes, _: int) -> bytes | None:
+        target = request.split(b" ", 2)[1].decode()
+        if not re.fullmatch(r".*/versions/(newest|\d+)", target):
+            return None
+        version = requests.get(f"{server.url}{target}", timeout=30).json()
+        own = version.pop("per_mm", 1)
+        for model in version["models"]:
+            for element in model["elements"]:
+                box = [Fraction(number, own) * (grid or 1) for number in element["box"]]
+                assert all(number.denominator == 1 for number in box), element
+                element["box"] = [int(number) for number in box]
+        if grid:
+            version["per_mm"] = grid
+        return reply(200, json.dumps(version).encode())
+
+    return rescaled
+
+
+def test_cameras_and_pictures_are_the_same_on_every_grid(run: Runner, server: Server) -> None:
+    """What a version's `per_mm` says decides how its boxes are read, and nothing else."""
+    fill(run, server)
+    made = set()
+    for grid in (None, 1, 10, 16):
+        with Relay(server.port, counted_by(server, grid)) as relay:
+            words = ("export", "bcf", "a.bcf", "--url", relay.url, "--instance", "office")
+            assert run.ok(*words, "--json").json["snapshots"] == 2
+            assert any("/versions/" in line for line in relay.lines())
+        made.add((run.folder / "a.bcf").read_bytes())
+    view = second_reader.read(run.folder / "a.bcf")["topics"][0]["viewpoints"][0]
+    seen = seen_corners(view["camera"], [WALL, CLOSE])
+    assert all(abs(x) <= 1 and abs(y) <= 1 for x, y in seen) and len(made) == 1
+
+
+def test_boxes_of_tenths() -> None:
+    """Half a millimetre is five numbers of the grid of tenths."""
+    from yulfrets.bcf_export import Scene
+
+    element = {"box": [-5, 0, 8000000, 123, 10, 8000000], "guid": "x"}
+    version: Any = {"models": [{"name": "m", "elements": [element]}], "per_mm": 10}
+    wanted = (-0.5, 0, 800000, 12.3, 1, 800000)
+    assert Scene.of(version).boxes == {"x": [wanted]} and Scene.of(version).all == [wanted]
+    del version["per_mm"]
+    assert Scene.of(version).all == [tuple(element["box"])]
 
 
 @pytest.mark.parametrize(

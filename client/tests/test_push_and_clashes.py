@@ -148,8 +148,15 @@ def test_a_broken_file_is_not_converted(run: Runner) -> None:
     assert not (run.folder / "ran").exists()
     # where it is asked for each file is converted
     words = ("push", "good.ifc", "--converter", program, "--convert", "always", "--json")
-    assert run.ok(*words).json["pushed"][0]["converted"] is True
+    done = run.ok(*words)
+    assert done.json["pushed"][0]["converted"] is True and "as it is" not in done.err
     assert (run.folder / "ran").exists()
+    # where the converter sees no reason for it, that is said
+    for reasons, is_said in (("[]", True), ('["its schema is IFC2X3"]', False)):
+        report = f'{{"why_not_as_it_is": {reasons}}}'
+        stand_in(run, f'cp {run.folder}/good.ifc "$2"; echo \'{report}\' >"$4"\n')
+        said = run.ok("push", "good.ifc", "--converter", program, "--convert", "always").err
+        assert ("good.ifc: the server may take it as it is" in said) is is_said
 
 
 def test_a_model_that_is_converted_into_several(run: Runner) -> None:

@@ -101,7 +101,7 @@ def add_push(build: Builder) -> None:
         "--grid",
         choices=("exact", "snap"),
         default="exact",
-        help="refuse lengths between millimetres, or round them (exact)",
+        help="refuse lengths between tenths of a millimetre, or round them (exact)",
     )
     made.add_argument(
         "--convert",

@@ -16,6 +16,7 @@ from .records import (
     Version,
     ViewpointRecord,
     VisibilityRecord,
+    grid_of,
 )
 from .snapshots import near, snapshot, solids_of
 
@@ -51,21 +52,26 @@ def is_shown(record: VisibilityRecord) -> bool:
     return record["default_visibility"] or not record["exceptions"]
 
 
+def in_millimetres(numbers: list[int], grid: int) -> Box:
+    """A box, of grid numbers of which a millimetre has so many."""
+    low_x, low_y, low_z, high_x, high_y, high_z = (number / grid for number in numbers)
+    return low_x, low_y, low_z, high_x, high_y, high_z
+
+
 @dataclass
 class Scene:
-    """The boxes of a version's elements, by GlobalId."""
+    """The boxes of a version's elements in millimetres, by GlobalId."""
 
     boxes: dict[str, list[Box]] = field(default_factory=dict)
     all: list[Box] = field(default_factory=list)
 
     @classmethod
     def of(cls, version: Version) -> Scene:
-        """The boxes of a version."""
-        scene = cls()
+        """The boxes of a version, from the grid that it says."""
+        scene, grid = cls(), grid_of(version)
         for model in version["models"]:
             for element in model["elements"]:
-                low_x, low_y, low_z, high_x, high_y, high_z = element["box"]
-                box: Box = (low_x, low_y, low_z, high_x, high_y, high_z)
+                box = in_millimetres(element["box"], grid)
                 scene.boxes.setdefault(element["guid"], []).append(box)
                 scene.all.append(box)
         return scene

@@ -14,6 +14,8 @@ FIELD_OF_VIEW = 60.0
 ASPECT_RATIO = 4 / 3
 MARGIN = 1.15
 NEAREST = 1.0
+METRE = 1000
+"""Millimetres of a metre: boxes are in the one, cameras in the other."""
 NOWHERE: Box = (-5000.0, -5000.0, 0.0, 5000.0, 5000.0, 3000.0)
 """Stands for the box of elements that aren't in the version."""
 
@@ -69,8 +71,9 @@ def joined(boxes: Iterable[Box]) -> Box:
 
 def corners(box: Box) -> list[Vector]:
     """The eight corners of a box in metres; the bits of a place say which end of x, y and z."""
+    ends = [value / METRE for value in box]
     return [
-        tuple(box[axis + 3 * (place >> axis & 1)] / 1000 for axis in range(3))  # type: ignore[misc]
+        (ends[3 * (place & 1)], ends[1 + 3 * (place >> 1 & 1)], ends[2 + 3 * (place >> 2)])
         for place in range(8)
     ]
 
@@ -82,7 +85,8 @@ def size(box: Box) -> float:
 
 def middle_of(box: Box) -> Vector:
     """The middle of a box in metres."""
-    return (box[0] + box[3]) / 2000, (box[1] + box[4]) / 2000, (box[2] + box[5]) / 2000
+    x, y, z = ((box[axis] + box[axis + 3]) / 2 / METRE for axis in range(3))
+    return x, y, z
 
 
 def side_of(boxes: list[Box]) -> Vector:

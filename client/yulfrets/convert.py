@@ -107,6 +107,11 @@ def parts_of(target: Path) -> dict[str, Path]:
     return {f".{number}": found[number] for number in sorted(found)}
 
 
+def is_needless(report: dict[str, Any]) -> bool:
+    """Whether the converter saw nothing for which the server wouldn't take the file itself."""
+    return report.get("why_not_as_it_is") == []
+
+
 def left_out(report: dict[str, Any]) -> list[str]:
     """What the converter left out or doubts, in lines, from the lists of its report."""
     lines: list[str] = []

@@ -37,12 +37,18 @@ class Rule(TypedDict):
 
 
 class Version(TypedDict):
-    """A version of a project."""
+    """A version of a project. Its boxes are in grid numbers, of which a millimetre has `per_mm`."""
 
     models: list[Model]
     newest: int
+    per_mm: NotRequired[int]
     rules: list[Rule]
     version: int
+
+
+def grid_of(version: Version) -> int:
+    """How many grid numbers a millimetre has; a server that doesn't say so counts millimetres."""
+    return version.get("per_mm", 1)
 
 
 class End(TypedDict):

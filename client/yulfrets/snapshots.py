@@ -8,7 +8,7 @@ from collections.abc import Sequence
 from dataclasses import dataclass
 
 from .bcf_topics import Box
-from .cameras import Camera, corners, joined, size
+from .cameras import METRE, Camera, corners, joined, size
 
 WIDTH, HEIGHT, FINE, MOST_COLORS = 640, 480, 2, 128
 Color = tuple[int, int, int]
@@ -22,6 +22,8 @@ COLORS: list[Color] = [(200, 60, 50), (50, 100, 190), (60, 150, 80), (200, 150, 
 SHADES = {0: 0.80, 1: 0.92, 2: 1.08}
 """How bright a face is, by the axis that it stands on."""
 MOST_NEAR = 300
+LEAST_REACH = 3.0 * METRE
+"""How far around the chosen boxes others are drawn at least, in millimetres."""
 FACES = [
     (0, 0, (0, 2, 6, 4)),
     (0, 1, (1, 3, 7, 5)),
@@ -64,7 +66,7 @@ def shaded(color: Color, axis: int) -> Color:
 def near(boxes: Sequence[Box], chosen: Sequence[Box]) -> list[Box]:
     """The boxes around the chosen ones, as far as these are large, and three metres at least."""
     box = joined(chosen)
-    reach = max(3000.0, *(box[axis + 3] - box[axis] for axis in range(3)))
+    reach = max(LEAST_REACH, *(box[axis + 3] - box[axis] for axis in range(3)))
     low = [box[axis] - reach for axis in range(3)]
     high = [box[axis + 3] + reach for axis in range(3)]
     left_out = set(chosen)
@@ -98,7 +100,7 @@ def faces_of(solid: Solid, camera: Camera) -> list[Face]:
         return []
     found: list[Face] = []
     for axis, end, places in FACES:
-        level = solid.box[axis + 3 * end] / 1000
+        level = solid.box[axis + 3 * end] / METRE
         if (camera.eye[axis] - level) * (1 if end else -1) <= 0:
             continue
         depth = sum(seen[place][2] for place in places) / 4

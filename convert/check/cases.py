@@ -13,8 +13,12 @@ Box = Optional[Sequence[float]]
 WALL = [0, 0, 0, 4000, 200, 3000]
 WALL_VOLUME = 2.4
 CUBE = [0, 0, 0, 1000, 1000, 1000]
-EXACT = 0.002
+# How far a volume may be off, as a part of it: by rounding, and by chords of round shapes.
+EXACT = 0.0002
 ROUND = 0.012
+# How far a chord lies from its arc, and a corner from its grid point on an axis, with some room for doubles: in mm.
+CHORD = 0.5
+HALF = 0.0501
 RADIAN = "IFCSIUNIT(*,.PLANEANGLEUNIT.,$,.RADIAN.)"
 
 
@@ -27,7 +31,17 @@ class Case:
     off: float = EXACT
     status: int = 0
     keyword: str = "IFCWALL"
-    box_off: float = 1.5
+    box_off: float = -1
+
+    def __post_init__(self) -> None:
+        if self.box_off < 0:
+            self.box_off = HALF if self.off == EXACT else CHORD + HALF
+
+
+def chords_of(radius: float) -> float:
+    """The greatest part of a circle's area (radius in mm) that is lost by chords: by the least number of corners."""
+    angle = 2 * math.acos(1 - CHORD / radius)
+    return 1 - math.sin(angle) / angle
 
 
 CASES: list[Callable[[], Case]] = []
@@ -379,7 +393,7 @@ def disk(
     def make() -> Case:
         model = Model()
         solid = model.add(f"{kind}({model.polyline(points)},50.,{rest})")
-        return of_items(name, model, [solid], area * length, box, ROUND)
+        return of_items(name, model, [solid], area * length, box, chords_of(50))
 
     CASES.append(make)
 

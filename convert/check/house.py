@@ -76,10 +76,10 @@ def check_tree(elements: dict[str, Element], text: str) -> None:
     assert found == len(elements) == 109, f"{found} of {len(elements)} elements are known"
 
 
-def check_volumes(elements: dict[str, Element]) -> None:
+def check_volumes(elements: dict[str, Element], most: float) -> None:
     for guid, volume in VOLUMES.items():
         made = elements[guid].volume()
-        assert abs(made - volume) < 0.002, f"the volume of {guid} is {made}, not {volume}"
+        assert abs(made - volume) < most, f"the volume of {guid} is {made}, not {volume}"
 
 
 def check_bytes(program: str, source: Path, folder: Path, first: Path) -> None:
@@ -111,13 +111,13 @@ def main() -> int:
     folder.mkdir(parents=True, exist_ok=True)
     text = source.read_bytes().decode("latin1")
     whole = run(program, source, folder / "house.ifc")
-    fine = run(program, source, folder / "house.fine.ifc", "--grid", "0.1")
+    coarse = run(program, source, folder / "house.coarse.ifc", "--grid", "1")
     checks: dict[str, Callable[[], None]] = {
-        "boxes at 1 mm": lambda: check_boxes(whole, 0.502),
-        "boxes at 0.1 mm": lambda: check_boxes(fine, 0.052),
+        "boxes at 0.1 mm": lambda: check_boxes(whole, 0.052),
+        "boxes at 1 mm": lambda: check_boxes(coarse, 0.502),
         "classes and storeys": lambda: check_tree(whole, text),
-        "volumes": lambda: check_volumes(whole),
-        "volumes at 0.1 mm": lambda: check_volumes(fine),
+        "volumes at 0.1 mm": lambda: check_volumes(whole, 0.0002),
+        "volumes at 1 mm": lambda: check_volumes(coarse, 0.002),
         "bytes": lambda: check_bytes(program, source, folder, folder / "house.ifc"),
         "split": lambda: check_split(program, source, folder, whole),
     }

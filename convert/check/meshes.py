@@ -10,7 +10,7 @@ import subprocess
 import sys
 from pathlib import Path
 
-from served import answers
+from served import answers, boxes_of
 from written import Element, read
 
 CORNERS = [(x, y, z) for z in (0, 3) for y in (0, 2) for x in (0, 1)]
@@ -82,14 +82,16 @@ def check_format(program: str, server: str, source: Path) -> None:
     turned = source.suffix == ".dxf"
     words = ("--up", "y" if turned else "z", "--unit", "25.4", "--class", "IFCPIPESEGMENT", "--storey", "O'G")
     element = convert(program, source, *words)
-    assert element.box == [0, 0, 0, 25, 51, 76], element.box
+    assert element.box == [0, 0, 0, 25.4, 50.8, 76.2], element.box
     assert (element.keyword, element.storey) == ("IFCPIPESEGMENT", "O''G")
     element = convert(program, source)
     wanted = [0, 0, 0, 1000, 2000, 3000] if turned else [0, -3000, 0, 1000, 0, 2000]
     assert element.box == wanted, element.box
     assert abs(abs(element.volume()) - 6) < 1e-6, element.volume()
-    ((status, body),) = answers(server, [source.with_suffix(source.suffix + ".ifc")])
-    assert status == 201 and body["elements"] == 1 and body["triangles"] == 12, f"{status} {body}"
+    (answer,) = answers(server, [source.with_suffix(source.suffix + ".ifc")])
+    body = answer.body
+    assert answer.status == 201 and body["elements"] == 1 and body["triangles"] == 12, f"{answer.status} {body}"
+    assert list(boxes_of(answer.version).values()) == [wanted], answer.version
 
 
 def check_words(program: str, folder: Path) -> None:

@@ -11,6 +11,8 @@ from model import METRE, Model
 from written import read
 
 EAST, NORTH, HEIGHT = 458123456, 5427123456, 112000
+# A grid number in mm, with some room for doubles.
+STEP = 0.1001
 
 
 def local_trade() -> str:
@@ -45,11 +47,11 @@ def check_order(program: str, folder: Path, order: tuple[str, str]) -> None:
     boxes = [box(program, folder, trade, origin) for trade in order]
     assert origin.exists(), "no origin file was written"
     off = max(abs(a - b) for a, b in zip(*boxes))
-    assert off <= 1, f"{order[0]} first: the boxes are {boxes[0]} and {boxes[1]}"
+    assert off <= STEP, f"{order[0]} first: the boxes are {boxes[0]} and {boxes[1]}"
     size = [boxes[0][k + 3] - boxes[0][k] for k in range(3)]
     # With the map conversion first its angle is taken too, so that the wall lies along x.
     wanted = [4000, 200, 3000] if order[0] == "local" else [3320, 2560, 3000]
-    assert all(abs(a - b) <= 1 for a, b in zip(size, wanted)), f"{order[0]} first: the wall is {size}"
+    assert all(abs(a - b) <= STEP for a, b in zip(size, wanted)), f"{order[0]} first: the wall is {size}"
 
 
 def main() -> int:

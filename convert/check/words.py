@@ -76,6 +76,24 @@ class Words:
         text = Path(source).read_bytes()
         assert text[: said["partly"][0]["byte"]].endswith(b"=IFCGEOMETRICCURVESET")
 
+    def rounding(self) -> None:
+        """To tenths of a millimetre, or to whole ones; the report says to which, and how far corners went."""
+        model = Model()
+        model.element([model.block((1000.04, 100, 100))])
+        source, out, report = (self.path(name) for name in ("grid.ifc", "grid.out.ifc", "grid.json"))
+        Path(source).write_text(model.text())
+        for words, box, grid in (((), 1000, 0.1), (("--grid", "0.1"), 1000, 0.1), (("--grid", "1"), 1000, 1)):
+            assert self.run(source, out, "--report", report, *words).returncode == 0
+            (element,) = read(Path(out)).values()
+            said = json.loads(Path(report).read_text())["rounding"]
+            assert element.box[3] == box and said["grid_mm"] == grid, f"{words}: {element.box} {said}"
+            assert said["greatest_mm"] == 0.04 and said["mean_mm"] == 0.02, said
+        Path(source).write_text(model.text().replace("1000.04", "1000.36").replace("500.02", "500.18"))
+        for words, end in (((), 1000.4), (("--grid", "1"), 1000)):
+            assert self.run(source, out, *words).returncode == 0
+            (element,) = read(Path(out)).values()
+            assert element.box[3] == end, f"{words}: {element.box}"
+
     def same_identifier(self) -> None:
         model = Model()
         first = model.element([model.block((1000, 1000, 1000))])
@@ -140,6 +158,7 @@ def main() -> int:
         words.not_writable,
         words.help,
         words.left_out,
+        words.rounding,
         words.same_identifier,
         words.classes_by_type,
         words.storeys,

@@ -1,8 +1,8 @@
 // mesh2grid IN OUT.ifc [--unit MM] [--up y|z] [--class KEYWORD] [--storey NAME]
 //
 // Meshes that assimp reads (DXF, OBJ, STL, glTF) become a file that bim_server takes: one element for each node that
-// has meshes, its corners rounded to whole millimetres. Identifiers hang on the node's path alone, so that a second
-// run gives the same ones.
+// has meshes, its corners rounded to tenths of a millimetre. Identifiers hang on the node's path alone, so that a
+// second run gives the same ones.
 #include <assimp/Importer.hpp>
 #include <assimp/postprocess.h>
 #include <assimp/scene.h>
@@ -22,7 +22,8 @@
 
 namespace {
 
-constexpr double farthest = 800000.0;  // millimetres on either side of zero, as the server takes them
+constexpr int per_millimetre = 10;  // grid numbers, as the server has them
+constexpr double farthest = 800000.0 * per_millimetre;  // grid numbers on either side of zero, as the server takes them
 constexpr int most_depth = 500;
 
 const char usage[] =
@@ -95,6 +96,15 @@ std::string text_of(const std::string &words) {
     return text + "'";
 }
 
+// A grid number in millimetres, as Part 21 spells a real: without a digit behind the point where it is whole.
+std::string length_of(int number) {
+    const int size = std::abs(number);
+    std::string text = number < 0 ? "-" : "";
+    text += std::to_string(size / per_millimetre) + ".";
+    if (size % per_millimetre != 0) text += std::to_string(size % per_millimetre);
+    return text;
+}
+
 class Writer {
 public:
     explicit Writer(const Options &options) : options_(options) {}
@@ -158,7 +168,7 @@ private:
                                    (options_.y_is_up ? at.y : at.z) * options_.unit};
         GridPoint point{};
         for (int axis = 0; axis < 3; ++axis) {
-            const double rounded = std::floor(lengths[axis] + 0.5);
+            const double rounded = std::floor(lengths[axis] * per_millimetre + 0.5);
             if (!std::isfinite(rounded) || std::abs(rounded) > farthest) {
                 element.too_far = true;
             } else {
@@ -175,9 +185,9 @@ private:
         for (int again = 2; !guids_.insert(guid).second; ++again) guid = guid_of(path + "#" + std::to_string(again));
         const long first = 100 + 5 * static_cast<long>(elements_.size());
         body_ << "#" << first << "=IFCCARTESIANPOINTLIST3D(";
-        write_rows(element.points, 0, ".");
+        write_rows(element.points, length_of);
         body_ << ");\n#" << first + 1 << "=IFCTRIANGULATEDFACESET(#" << first << ",$,$,";
-        write_rows(element.triangles, 1, "");
+        write_rows(element.triangles, [](int place) { return std::to_string(place + 1); });
         body_ << ",$);\n#" << first + 2 << "=IFCSHAPEREPRESENTATION($,'Body','Tessellation',(#" << first + 1
               << "));\n#" << first + 3 << "=IFCPRODUCTDEFINITIONSHAPE($,$,(#" << first + 2 << "));\n#" << first + 4
               << "=" << options_.keyword << "('" << guid << "',$," << text_of(name) << ",$,$,$,#" << first + 3
@@ -186,11 +196,12 @@ private:
         triangles_ += element.triangles.size();
     }
 
-    void write_rows(const std::vector<std::array<int, 3>> &rows, int more, const char *behind) {
+    template <typename Spell>
+    void write_rows(const std::vector<std::array<int, 3>> &rows, Spell spell) {
         body_ << "(";
         for (std::size_t k = 0; k < rows.size(); ++k) {
-            body_ << (k > 0 ? ",(" : "(") << rows[k][0] + more << behind << "," << rows[k][1] + more << behind << ","
-                  << rows[k][2] + more << behind << ")";
+            body_ << (k > 0 ? ",(" : "(") << spell(rows[k][0]) << "," << spell(rows[k][1]) << "," << spell(rows[k][2])
+                  << ")";
         }
         body_ << ")";
     }

@@ -1,5 +1,6 @@
 //! The whole way of a file: read, elements, files, report.
 
+use crate::as_it_is::reasons;
 use crate::element::{Body, Note, NoteKind, Outcome, Setting};
 use crate::fault::Fault;
 use crate::jobs::in_order;
@@ -243,6 +244,9 @@ impl<'a> Conversions<'a> {
         for (keyword, count) in outcome.items {
             *report.items.entry(keyword).or_default() += count as u64;
         }
+        report.of_other_items += usize::from(outcome.beyond.items);
+        report.placed_otherwise += usize::from(outcome.beyond.placed);
+        report.projections += outcome.projections;
         report.openings_cut += outcome.openings_cut;
         report.openings_left += outcome.openings_left;
         report.notes.extend(outcome.notes);
@@ -412,6 +416,9 @@ impl<'a> Conversions<'a> {
             ));
         }
         if let Some(path) = &options.report {
+            let moved = self.frame != Frame::IDENTITY;
+            let (file, project) = (self.file, self.tree.project);
+            let why = reasons(file, project, &self.report, moved, files.len());
             let facts = Facts {
                 file: self.file,
                 units: self.units,
@@ -420,6 +427,7 @@ impl<'a> Conversions<'a> {
                 storeys: self.tree.storeys.len(),
                 per_millimetre: options.per_millimetre,
                 files: &files,
+                why_not_as_it_is: why,
             };
             let text = self.report.json(&facts);
             fs::write(path, text).map_err(|error| not_written(path, &error))?;

@@ -1,5 +1,6 @@
 //! One element: its shape with openings cut, on the grid, as text.
 
+use crate::as_it_is::Beyond;
 use crate::booleans::{difference, outside_out, union};
 use crate::fault::{fail, Fault, Result};
 use crate::grid::{to_grid, Counts, Gridded};
@@ -40,8 +41,11 @@ pub struct Outcome {
     pub items: BTreeMap<String, usize>,
     pub openings_cut: usize,
     pub openings_left: usize,
+    /// Projections that were added.
+    pub projections: usize,
     /// Whether its parts have the shapes.
     pub whole: bool,
+    pub beyond: Beyond,
 }
 
 /// An element's body as it is written.
@@ -160,6 +164,8 @@ impl<'a> Shaper<'a> {
         if shape.surface.is_empty() {
             return Err(outcome.last_reason("it has a shape without faces"));
         }
+        outcome.beyond = shape.beyond;
+        outcome.beyond.items |= body.other;
         Ok(Some(shape))
     }
 
@@ -196,6 +202,8 @@ impl<'a> Shaper<'a> {
             } else {
                 all.surface.append(&mut frame.place(&shape.surface));
             }
+            all.beyond.add(shape.beyond);
+            all.beyond.placed |= world != Frame::IDENTITY || !placement.is_by_quarter_turns();
             all.crossed += shape.crossed;
             all.cut |= shape.cut;
         }
@@ -294,6 +302,7 @@ impl<'a> Shaper<'a> {
             Ok(surface) => {
                 shape.surface = surface;
                 shape.cut = true;
+                outcome.projections += 1;
             }
             Err(fault) => {
                 let reason = format!("a projection isn't added: {}", fault.reason);

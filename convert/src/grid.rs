@@ -10,6 +10,8 @@ const FARTHEST: f64 = 800_000.0;
 /// How near below a half a number still counts as a half, in grid units: so that where the file says a half, the noise
 /// of computing doesn't decide to which side it goes.
 const NOISE: f64 = 1e-6;
+/// Grid numbers of a millimetre in the server.
+const SERVER: f64 = 10.0;
 
 /// A quick hash of a few whole numbers.
 #[derive(Default)]
@@ -64,6 +66,8 @@ pub struct Counts {
     /// The greatest way of a corner in millimetres, the sum of all, and how many there are.
     pub farthest: f64,
     pub way: f64,
+    /// How far a corner lies off the server's grid at most, in millimetres.
+    pub off_server: f64,
     pub corners: u64,
     pub shrunk: u64,
     pub repeated: u64,
@@ -79,6 +83,7 @@ pub struct Counts {
 impl Counts {
     pub fn add(&mut self, other: &Counts) {
         self.farthest = self.farthest.max(other.farthest);
+        self.off_server = self.off_server.max(other.off_server);
         self.way += other.way;
         self.corners += other.corners;
         self.shrunk += other.shrunk;
@@ -91,6 +96,14 @@ impl Counts {
     }
 }
 
+/// The nearest point of a grid, in grid numbers, and how far it is in millimetres.
+fn nearest(p: Point3, per: f64) -> (Point3, f64) {
+    let round = |value: f64| (value * per + 0.5 + NOISE).floor();
+    let (x, y, z) = (round(p.x), round(p.y), round(p.z));
+    let way = Point3::new(x / per, y / per, z / per).distance(p);
+    (Point3::new(x, y, z), way)
+}
+
 /// Rounds one element's surface.
 struct Rounder {
     per_millimetre: f64,
@@ -100,15 +113,18 @@ struct Rounder {
 
 impl Rounder {
     fn place(&mut self, p: Point3) -> u32 {
-        let per = self.per_millimetre;
-        let round = |value: f64| (value * per + 0.5 + NOISE).floor();
-        let (x, y, z) = (round(p.x), round(p.y), round(p.z));
-        let way = Point3::new(x / per, y / per, z / per).distance(p);
+        let (near, way) = nearest(p, self.per_millimetre);
+        let off_server = if self.per_millimetre == SERVER {
+            way
+        } else {
+            nearest(p, SERVER).1
+        };
         let counts = &mut self.out.counts;
         counts.farthest = counts.farthest.max(way);
+        counts.off_server = counts.off_server.max(off_server);
         counts.way += way;
         counts.corners += 1;
-        let point = (x as i32, y as i32, z as i32);
+        let point = (near.x as i32, near.y as i32, near.z as i32);
         let next = self.out.points.len() as u32;
         let place = *self.places.entry(point).or_insert(next);
         if place == next {
@@ -321,6 +337,22 @@ mod tests {
         }
         assert_eq!(grid_of(&[p(-12.5)]).points[0].0, -12);
         assert_eq!(grid_of(&[p(12.49)]).points[0].0, 12);
+    }
+
+    #[test]
+    fn tenths_are_rounded_as_millimetres_are() {
+        // A quarter of an inch is 6.35 mm; as the 48th part of a foot it has the noise of computing.
+        for x in [6.35, 1.0 / 48.0 * 304.8, 0.25 * 25.4] {
+            let corner = |x: f64, y: f64| Point3::new(x, y, -x);
+            let triangle = vec![corner(x, 0.0), corner(x, 9.0), corner(9.0, 9.04)];
+            let gridded = to_grid(&[triangle], &Frame::IDENTITY, 10.0).unwrap();
+            assert_eq!(gridded.points, [(64, 0, -63), (64, 90, -63), (90, 90, -90)]);
+            let farthest = gridded.counts.farthest;
+            assert!((farthest - 0.005_f64.sqrt()).abs() < 1e-9, "{farthest}");
+        }
+        let far = |x: f64| to_grid(&[vec![Point3::new(x, 0.0, 0.0)]], &Frame::IDENTITY, 10.0);
+        assert_eq!(far(-799_998.96).unwrap().counts.corners, 1);
+        assert!(far(799_999.1).is_err());
     }
 
     #[test]

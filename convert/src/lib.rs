@@ -1,6 +1,7 @@
 //! Converts a building model of any office (IFC2X3, IFC4, IFC4X3) to the profile of IFC4 that `bim_server` takes.
 #![forbid(unsafe_code)]
 
+pub mod as_it_is;
 pub mod booleans;
 pub mod breps;
 pub mod convert;

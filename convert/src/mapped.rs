@@ -3,6 +3,7 @@
 use crate::fault::{fail, Result};
 use crate::part21::Arguments;
 use crate::shaper::{Shape, Shaper, MOST_WORK};
+use crate::vector::Frame;
 use std::sync::Arc;
 
 /// How deep mapped shapes may lie within one another.
@@ -16,6 +17,8 @@ impl<'a> Shaper<'a> {
         self.work.spend(shape.surface.len())?;
         out.surface.append(&mut frame.place(&shape.surface));
         out.crossed += shape.crossed;
+        out.beyond.add(shape.beyond);
+        out.beyond.placed |= !frame.is_by_quarter_turns();
         out.cut |= shape.cut;
         self.check_size(&out.surface)
     }
@@ -49,7 +52,9 @@ impl<'a> Shaper<'a> {
         let mut shape = Shape::default();
         for item in representation.references(3) {
             self.item(item, &mut shape)?;
+            shape.beyond.items |= self.keyword(item) == "IFCMAPPEDITEM";
         }
+        shape.beyond.placed |= origin != Frame::IDENTITY;
         // The standard says the inverse of the origin. Readers in use place by the origin itself, and real files have
         // the identity.
         shape.surface = origin.place(&shape.surface);

@@ -9,7 +9,7 @@ usage: ifc2grid IN.ifc OUT.ifc [options]
 Converts a building model (IFC2X3, IFC4, IFC4X3) to a file that bim_server takes. A model beyond the server's limits
 becomes OUT.1.ifc, OUT.2.ifc and so on.
 
-  --grid 1|0.1           round to 1 mm (as without it) or to 0.1 mm; today's server takes files of --grid 1
+  --grid 0.1|1           round to 0.1 mm (the server's grid, as without it) or to 1 mm
   --chord MM             how far a chord may lie from its arc: 0.01 to 100, 0.5 without it
   --origin-file FILE     one origin for all trades: written by the first run, used by the others
   --split storey|class   by what a model beyond the limits is split (storey without it)
@@ -45,7 +45,7 @@ pub fn parse(words: &[String]) -> Result<Options, String> {
     let mut options = Options {
         input: PathBuf::new(),
         output: PathBuf::new(),
-        per_millimetre: 1,
+        per_millimetre: 10,
         chord: 0.5,
         origin_file: None,
         split: Split::Storey,
@@ -148,13 +148,16 @@ mod tests {
     #[test]
     fn words_that_are_understood() {
         let options = parse(&words(
-            "a.ifc b.ifc --grid 0.1 --jobs 4 --split class --report r",
+            "a.ifc b.ifc --grid 1 --jobs 4 --split class --report r",
         ))
         .unwrap();
-        assert_eq!(options.per_millimetre, 10);
+        assert_eq!(options.per_millimetre, 1);
         assert_eq!(options.jobs, 4);
         assert_eq!(options.split, Split::Class);
         assert_eq!(options.report, Some(PathBuf::from("r")));
+        for text in ["a.ifc b.ifc", "a.ifc b.ifc --grid 0.1"] {
+            assert_eq!(parse(&words(text)).unwrap().per_millimetre, 10);
+        }
     }
 
     #[test]

@@ -16,6 +16,10 @@ pub struct Report {
     pub points: u64,
     pub memberships: u64,
     pub without_storey: usize,
+    /// Elements of items that the server doesn't read, and elements that are placed as it doesn't read.
+    pub of_other_items: usize,
+    pub placed_otherwise: usize,
+    pub projections: usize,
     pub openings_cut: usize,
     pub openings_left: usize,
     pub counts: Counts,
@@ -40,6 +44,8 @@ pub struct Facts<'a> {
     pub storeys: usize,
     pub per_millimetre: i32,
     pub files: &'a [Written],
+    /// Why the server doesn't take the file that was read as it is.
+    pub why_not_as_it_is: Vec<String>,
 }
 
 impl Report {
@@ -78,6 +84,11 @@ impl Report {
         self.write_tables(&mut out);
         self.write_rounding(facts, &mut out);
         write_origin(facts, &mut out);
+        out.list(
+            "why_not_as_it_is",
+            &facts.why_not_as_it_is,
+            |out, reason| out.item(reason),
+        );
         out.list("files", facts.files, |out, written| {
             out.open("");
             let name = written.path.file_name().unwrap_or_default();

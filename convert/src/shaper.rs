@@ -1,5 +1,6 @@
 //! What all kinds of shapes need: the file, its units, placements that were found, and bounds on the work.
 
+use crate::as_it_is::Beyond;
 use crate::booleans::Work;
 use crate::fault::{fail, Fault, Result};
 use crate::part21::{Arguments, File, Value};
@@ -26,6 +27,7 @@ pub struct Shape {
     pub crossed: usize,
     /// Whether a boolean operation made it, so that flat pieces can be joined.
     pub cut: bool,
+    pub beyond: Beyond,
 }
 
 /// Mapped shapes that were made, for all threads.

@@ -1,5 +1,6 @@
 //! Representation items: each to its kind; half spaces, boolean results and primitives of solids.
 
+use crate::as_it_is::is_read;
 use crate::booleans::{difference, intersection, outside_out, union};
 use crate::fault::{fail, Result};
 use crate::part21::Arguments;
@@ -17,6 +18,7 @@ impl<'a> Shaper<'a> {
 
     fn item_of(&mut self, id: u64, out: &mut Shape) -> Result<()> {
         let values = self.arguments(id)?;
+        out.beyond.items |= !is_read(self.keyword(id));
         match self.keyword(id) {
             "IFCMAPPEDITEM" => self.mapped_item(&values, out),
             "IFCFACETEDBREP" | "IFCADVANCEDBREP" | "IFCMANIFOLDSOLIDBREP" => {

@@ -200,6 +200,16 @@ impl Frame {
         }
     }
 
+    /// Whether each axis lies along one of space's own, with length one.
+    pub fn is_by_quarter_turns(&self) -> bool {
+        [self.x, self.y, self.z].iter().all(|axis| {
+            let sizes = [axis.x.abs(), axis.y.abs(), axis.z.abs()];
+            let near = |size: f64, to: f64| (size - to).abs() < 1e-9;
+            sizes.iter().filter(|&&size| near(size, 1.0)).count() == 1
+                && sizes.iter().filter(|&&size| near(size, 0.0)).count() == 2
+        })
+    }
+
     pub fn determinant(&self) -> f64 {
         self.x.dot(self.y.cross(self.z))
     }

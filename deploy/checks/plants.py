@@ -77,6 +77,8 @@ FRONT: dict[str, list[tuple[str, str, str]]] = {
     "what of a request reaches": [
         (PROXY, "proxy_pass_request_headers off", "proxy_pass_request_headers on")
     ],
+    "no triangles: 204": [(QUEUE, "[^/]+/triangles$", "[^/]+/triangle$")],
+    "triangles come through": [(QUEUE, "is_not_found !has_turn", "is_not_found")],
     "slow readers hold no lane": [(PROXY, "proxy_buffering on", "proxy_buffering off")],
     "a user's requests are bounded": [(QUEUE, "if is_fast", "if is_fast FALSE")],
     "an address's requests": [

@@ -49,6 +49,7 @@ GROUPS: dict[str, Group] = {
             "HEAD as GET without the body": browsers.head,
             "long replies come compressed": browsers.compressed,
             "errors of the server come through": browsers.errors_of_the_server,
+            "no triangles: 204": browsers.no_triangles,
             "a body of 32 MiB reaches the server": limits.body_of_32_mib,
             "a body of one byte more: 413": limits.body_of_32_mib_and_one,
             "bodies in chunks have the same limit": limits.body_in_chunks,
@@ -83,6 +84,7 @@ GROUPS: dict[str, Group] = {
         {
             "what of a request reaches the server": browsers.what_reaches_the_server,
             "slow readers hold no lane": browsers.slow_readers,
+            "triangles come through": browsers.triangles,
         },
         server=False,
     ),

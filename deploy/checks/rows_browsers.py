@@ -141,6 +141,20 @@ def errors_of_the_server(front: Front) -> None:
     is_answer(ask(front, "PATCH", f"{BCF}/topics"), 405, "H8")
 
 
+TRIANGLES = f"{COORD}/versions/newest/models/m/triangles"
+
+
+def no_triangles(front: Front) -> None:
+    """A server without triangles: 204 for them, and no other route is less unknown for that."""
+    for method in ("GET", "HEAD"):
+        answer = ask(front, method, f"{TRIANGLES}?first=0&count=9")
+        must((answer.status, answer.body) == (204, b""), f"{method}: {answer.said()}")
+        must(answer.field("Cache-Control") == "no-store", f"{answer.fields.items()}")
+    is_answer(ask(front, "GET", f"{TRIANGLES}/all"), 404, "H7")
+    is_answer(ask(front, "POST", TRIANGLES, {}), 404, "H7")
+    is_answer(ask(front, "GET", TRIANGLES, user=""), 401, "F3")
+
+
 class Echo(BaseHTTPRequestHandler):
     """In the server's place: keeps what comes, and answers with a turn."""
 
@@ -160,6 +174,40 @@ class Echo(BaseHTTPRequestHandler):
 
     def log_message(self, *_: object) -> None:  # pylint: disable=arguments-differ
         return
+
+
+class Triangles(Echo):
+    """In the place of a server that has triangles, of one model."""
+
+    def answer(self) -> None:
+        """Bytes, or 404 with a turn: the server looked, and the model isn't there."""
+        is_there = "/models/m/" in self.path
+        body = bytes(range(256)) if is_there else b'{"code":"K2"}'
+        self.send_response(200 if is_there else 404)
+        self.send_header("X-Book-Turn", "77")
+        self.send_header("Content-Type", "application/octet-stream" if is_there else "text/json")
+        self.send_header("Content-Length", str(len(body)))
+        self.end_headers()
+        self.wfile.write(body)
+
+    do_GET = answer
+
+
+def triangles(front: Front) -> None:
+    """A server with triangles: they come through, and so does its 404."""
+    served = ThreadingHTTPServer(("127.0.0.1", front.ports["server"]), Triangles)
+    Thread(target=served.serve_forever, daemon=True).start()
+    try:
+        there = ask(front, "GET", TRIANGLES)
+        missing = ask(front, "GET", TRIANGLES.replace("/m/", "/none/"))
+    finally:
+        served.shutdown()
+        served.server_close()
+    must(there.body == bytes(range(256)), f"{there.status} {there.body!r}")
+    kind = there.field("Content-Type")
+    must(kind == "application/octet-stream", f"the triangles are of the type {kind!r}")
+    is_404 = (missing.status, missing.code(), missing.field("X-Book-Turn")) == (404, "K2", "77")
+    must(is_404, f"{missing.said()} {missing.fields.items()}")
 
 
 class Large(Echo):

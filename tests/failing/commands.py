@@ -167,7 +167,7 @@ def cut_house(tool: Tool) -> int:
     refused = re.compile(rb'HTTP/1\.1 422 [^\x00]*\r\n\r\n\{("at":\d+,)?"code":"U[123]"')
     for length, reply in enumerate(replies[:-2]):
         expect(refused.match(reply), f"cut at {length}: {reply!r}")
-    empty = b'{"models":[],"newest":0,"rules":[],"version":0}'
+    empty = b'{"models":[],"newest":0,"per_mm":10,"rules":[],"version":0}'
     expect(replies[-2].endswith(empty), f"{replies[-2]!r}")
     expect(replies[-1].startswith(b"HTTP/1.1 201 "), f"{replies[-1]!r}")
     return len(prefixes)

@@ -18,7 +18,7 @@ from tests.support.http import (
 )
 
 PROJECT, TOPICS = coord_of(), topics_of()
-PIPES, MOVED = list(oracle.FILES)[1:3]
+PIPES, MOVED = oracle.FILES[1:3]
 
 # two pairs of pipes of which one moves, read as its buckets are checked; a topic; the model goes,
 # and the newest version

@@ -1,9 +1,10 @@
-"""What `replay --at N` must write for the bytes of one connection: the HTTP profile read anew, in
-plain Python, from its own text (docs/API.md) and not from the program. Cases of heads, chunks,
-clients and bodies are worked out with it. It knows topics, comments and viewpoints, versions, and
-uploads of four small files; where a stream asks for more it stops (Beyond).
+"""What the program must print: the HTTP profile, the files of models and the clashes read anew, in
+plain Python, from their own text (docs/API.md) and not from the program. Cases are worked out with
+it. Where a stream asks for what it doesn't know it stops (Beyond): fields folded over lines, notes
+behind a date.
 
     python3 -m tests.oracle --at N [--projects N] [--buckets N] <input >output
+    python3 -m tests.oracle check .. | generate ..    the words of these commands
     python3 -m tests.oracle --cases [GROUP ..]        compares with the cases that it can follow
     python3 -m tests.cases tests/oracle.sh clients    runs cases over it, in place of the program
 """

@@ -1,4 +1,4 @@
-"""Runs the reference over one connection's bytes, or over the cases: python3 -m tests.oracle (the
+"""Runs the reference in place of the program, or over the cases: python3 -m tests.oracle (the
 package says how)."""
 
 import argparse
@@ -7,6 +7,7 @@ import sys
 
 from tests import oracle
 from tests.case_files import HERE, all_cases, chosen, input_of, read
+from tests.oracle.commands import check, generate
 
 
 def replay_words(words: list[str]) -> argparse.Namespace:
@@ -23,9 +24,21 @@ def replay(data: bytes, words: list[str]) -> tuple[bytes, int]:
     return oracle.replay(data, given.projects, given.at, given.buckets)
 
 
-def is_session(folder: str) -> bool:
-    """Whether a case is a session of `replay` at a fixed time, by words of the grammar."""
+def run(words: list[str], data: bytes, folder: str) -> tuple[bytes, int]:
+    """What a command prints, and its status; the files that it names are in the folder."""
+    if words[:1] == ["check"]:
+        return check(words[1:], folder)
+    if words[:1] == ["generate"]:
+        return generate(words[1:])
+    return replay(data, words[1:] if words[:1] == ["replay"] else words)
+
+
+def is_known(folder: str) -> bool:
+    """Whether a case is a session of `replay` at a fixed time, by words of the grammar, or a call
+    of `check` or `generate`."""
     words = read(folder, "args").decode().splitlines()
+    if words[:1] in (["check"], ["generate"]):
+        return True
     has_time = any(word.partition("=")[0] == "--at" for word in words)
     return (
         words[:1] == ["replay"]
@@ -35,16 +48,23 @@ def is_session(folder: str) -> bool:
     )
 
 
+def answered(path: str) -> tuple[bytes, int]:
+    """What the reference prints in place of the program in a case, and the status."""
+    folder = os.path.join(HERE, path)
+    words = read(folder, "args").decode().splitlines()
+    return run(words, input_of(folder), os.path.join(folder, "files"))
+
+
 def compare(groups: list[str]) -> int:
     """Compares the reference with the cases that it can follow."""
     agree = beyond = differ = 0
     for path in chosen(all_cases(), groups):
         folder = os.path.join(HERE, path)
-        if not is_session(folder):
+        if not is_known(folder):
             continue
         wanted = read(folder, "stdout")
         try:
-            got = replay(input_of(folder), read(folder, "args").decode().splitlines()[1:])
+            got = answered(path)
         except oracle.Beyond:
             beyond += 1
             continue
@@ -63,10 +83,9 @@ def main() -> int:
     words = sys.argv[1:]
     if words[:1] == ["--cases"]:
         return compare(words[1:])
+    has_input = words[:1] not in (["check"], ["generate"])
     try:
-        written, status = replay(
-            sys.stdin.buffer.read(), words[1:] if words[:1] == ["replay"] else words
-        )
+        written, status = run(words, sys.stdin.buffer.read() if has_input else b"", ".")
     except oracle.Beyond as reason:
         sys.exit(f"the stream asks for what this program doesn't know: {reason}")
     sys.stdout.buffer.write(written)

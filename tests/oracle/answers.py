@@ -8,10 +8,11 @@ from typing import Any
 from tests.oracle.board import on_comments, on_topics, on_views
 from tests.oracle.bodies import comment_in, identifier_in, object_in, rules_in, topic_in, view_in
 from tests.oracle.book import Book
-from tests.oracle.faults import Answer, Beyond, Refused, Tree, error
-from tests.oracle.files import FILES
+from tests.oracle.faults import Answer, Refused, Tree, error
 from tests.oracle.framing import Request
-from tests.oracle.versions import Version
+from tests.oracle.model_file import build
+from tests.oracle.model_file.lengths import PER_MM
+from tests.oracle.versions import MOST_ELEMENTS, MOST_MEMBERSHIPS, Models, Version, memberships_of
 
 PART = r"([^/]+)"
 TOPIC = f"/bcf/3.0/projects/{PART}/topics/{PART}"
@@ -67,7 +68,6 @@ class Asked:
     user: str
     body: Any
     query: dict[bytes, bytes]
-    file: bytes
 
 
 def path_of(target: str) -> str | None:
@@ -136,10 +136,11 @@ def query_of(kind: str, target: str) -> dict[bytes, bytes]:
     return given
 
 
-def body_of(kind: str, method: str, body: bytes) -> Any:
-    """What a body says, where the request has one that is read."""
-    if kind == "model" and method == "PUT" and body not in FILES:
-        raise Beyond("another file")
+def body_of(kind: str, method: str, body: bytes, query: dict[bytes, bytes]) -> Any:
+    """What a body says, where the request has one that is read: the model of an upload, or the
+    members of an object."""
+    if kind == "model" and method == "PUT":
+        return build(body, query.get(b"grid") == b"snap")
     if method not in ("POST", "PUT") or kind not in READERS:
         return None
     try:
@@ -160,10 +161,10 @@ def answer(book: Book, request: Request) -> Answer:
         return Refused("H12", "Encoding", 415).answer()
     try:
         query = query_of(resource.kind, target)
-        body = body_of(resource.kind, method, request.body)
+        body = body_of(resource.kind, method, request.body, query)
     except Refused as fault:
         return fault.answer()
-    return in_turn(book, Asked(resource, method, request.user, body, query, request.body))
+    return in_turn(book, Asked(resource, method, request.user, body, query))
 
 
 def project_tree(number: int) -> Tree:
@@ -200,12 +201,40 @@ def on_models(book: Book, number: int, asked: Asked) -> Answer:
         return book.changed(200, number, last.models, asked.body)
     name = asked.resource.pieces[1]
     if asked.method == "PUT":
-        model = FILES[asked.file]
-        return book.changed(201, number, dict(last.models, **{name: model}), last.rules, model)
+        models = dict(last.models, **{name: asked.body})
+        fault = too_large(models)
+        if fault:
+            return book.booked(507, fault)
+        return book.changed(201, number, models, last.rules, asked.body)
     if name not in last.models:
         return book.booked(404, error("K2", "NoModel"))
     left = {other: model for other, model in last.models.items() if other != name}
     return book.changed(200, number, left, last.rules)
+
+
+def too_large(models: Models) -> Tree | None:
+    """Why a version may not have these models, if it may not."""
+    count, spread = sum(map(len, models.values())), memberships_of(models)
+    if count > MOST_ELEMENTS:
+        return error("K7", "ElementsFull", count=count, limit=MOST_ELEMENTS)
+    if spread > MOST_MEMBERSHIPS:
+        return error("K8", "TooSpread", count=spread, limit=MOST_MEMBERSHIPS)
+    return None
+
+
+def version_tree(version: Version, number: int, newest: int) -> Tree:
+    """A version as it is printed, its boxes in grid numbers."""
+    models = [
+        {"elements": [it.tree() for it in model], "name": name}
+        for name, model in version.models.items()
+    ]
+    return {
+        "models": models,
+        "newest": newest,
+        "per_mm": PER_MM,
+        "rules": version.rules,
+        "version": number,
+    }
 
 
 def on_versions(book: Book, number: int, asked: Asked) -> Answer:
@@ -218,9 +247,7 @@ def on_versions(book: Book, number: int, asked: Asked) -> Answer:
         return book.booked(410, error("K4", "VersionDropped", newest=newest, version=wanted))
     version = book.versions[number][wanted]
     if asked.resource.kind == "version":
-        models = [{"elements": model, "name": name} for name, model in version.models.items()]
-        tree = {"models": models, "newest": newest, "rules": version.rules, "version": wanted}
-        return book.booked(200, tree)
+        return book.booked(200, version_tree(version, wanted, newest))
     if version.undone:
         return book.booked(202, {"left": len(version.undone), "version": wanted})
     if asked.resource.kind == "clash topic":
@@ -234,14 +261,14 @@ def on_versions(book: Book, number: int, asked: Asked) -> Answer:
 
 def page(version: Version, number: int, query: dict[bytes, bytes]) -> Tree:
     """A page of a version's clashes."""
-    pairs, first = version.clashes(), int(query.get(b"first", b"0"))
+    pairs, first = version.clashes, int(query.get(b"first", b"0"))
     some = pairs[first : first + int(query.get(b"count", b"1000"))]
     return {"clashes": some, "first": first, "total": len(pairs), "version": number}
 
 
 def clash_topic(book: Book, number: int, version: Version, asked: Asked) -> Answer:
     """Makes a topic of a clash, and its viewpoint."""
-    board, pairs, place = book.boards[number], version.clashes(), int(asked.resource.pieces[2])
+    board, pairs, place = book.boards[number], version.clashes, int(asked.resource.pieces[2])
     if place >= len(pairs):
         return book.booked(404, error("K12", "NoClash", place=place, total=len(pairs)))
     a, b = pairs[place]["a"]["guid"], pairs[place]["b"]["guid"]

@@ -6,7 +6,7 @@ from collections.abc import Callable, Mapping
 from typing import Any
 
 from tests.oracle.dates import date_of, seconds_of
-from tests.oracle.faults import Beyond, Refused, Tree
+from tests.oracle.faults import Refused, Tree
 
 WORDS = ("topic_type", "topic_status", "priority", "assigned_to", "stage", "description")
 
@@ -223,8 +223,6 @@ def rule_in(item: Tree, index: int) -> Tree:
     if not is_rule(item):
         raise Refused("C1", "BadRule", index=index)
     distance = item.get("distance")
-    if distance is not None and (distance.bit_length() > 63 or distance == 0):
-        raise Beyond("how a number is spelled")
     if distance is not None and not 0 <= distance <= 1000:
         raise Refused("C3", "Distance", index=index)
     kind = item.get("kind", "clash")

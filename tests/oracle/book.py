@@ -1,8 +1,10 @@
 """The state of all projects: their boards, their versions, and the turn."""
 
+from collections.abc import Sequence
+
 from tests.oracle.board import Board
 from tests.oracle.faults import Answer, Tree
-from tests.oracle.files import Element
+from tests.oracle.model_file import Element
 from tests.oracle.versions import Models, Version
 
 
@@ -33,19 +35,21 @@ class Book:
         number: int,
         models: Models,
         rules: list[Tree],
-        uploaded: list[Element] | None = None,
+        uploaded: Sequence[Element] | None = None,
     ) -> Answer:
         """The reply to a change that makes a version: it counts the model that was uploaded, or the
         version."""
         versions = self.versions[number]
         versions.append(Version(models, rules, versions[-1]))
-        elements = len(versions[-1].elements) if uploaded is None else len(uploaded)
+        counted = uploaded
+        if counted is None:
+            counted = [element for _, element in versions[-1].elements]
         return self.booked(
             status,
             {
-                "elements": elements,
+                "elements": len(counted),
                 "left": len(versions[-1].undone),
-                "triangles": elements,
+                "triangles": sum(len(it.triangles) for it in counted),
                 "version": len(versions) - 1,
             },
         )

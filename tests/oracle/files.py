@@ -1,29 +1,6 @@
-"""The four small files that the reference knows, and the elements that a version lists of them."""
-
-from typing import TypedDict
+"""Four small files, by which other scripts speak of models."""
 
 from tests.ifc.basics import Block, Corner, small_pipes
-
-# An element as a version lists it.
-Element = TypedDict(
-    "Element",
-    {"box": list[int], "class": str, "guid": str, "name": str, "storey": None, "triangles": int},
-)
-
-
-def elements_of(*blocks: Block) -> list[Element]:
-    """The elements of such a file, as a version lists them."""
-    return [
-        {
-            "box": [x, y, z, x + 100, y + 100, z],
-            "class": "IFCPIPESEGMENT",
-            "guid": guid,
-            "name": name,
-            "storey": None,
-            "triangles": 1,
-        }
-        for _, guid, name, (x, y, z) in blocks
-    ]
 
 
 def pipes(*corners: Corner) -> list[Block]:
@@ -40,5 +17,5 @@ BLOCKS: list[list[Block]] = [
     pipes((1500, 1500, 1500), (1500, 1500, 1550), (9500, 1500, 1500), (9500, 1500, 1640)),
     pipes((3950, 3950, 1500), (3950, 3950, 1510)),
 ]
-FILES = {small_pipes(*blocks): elements_of(*blocks) for blocks in BLOCKS}
-SMALL_FILE = small_pipes(*BLOCKS[0])
+FILES = [small_pipes(*blocks) for blocks in BLOCKS]
+SMALL_FILE = FILES[0]

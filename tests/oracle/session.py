@@ -24,6 +24,7 @@ PHRASES = {
     422: "Unprocessable Entity",
     431: "Request Header Fields Too Large",
     505: "HTTP Version Not Supported",
+    507: "Insufficient Storage",
 }
 
 

@@ -1,6 +1,7 @@
 """A small server with triangles, as a later server gives them: the page, one project, one model, nothing else.
 
-Each element is a hilly piece of ground of 9 by 9 fields, so 162 triangles: replies end within an element. What it answers is worked out here alone.
+Each element is a hilly piece of ground of 9 by 9 fields, so 162 triangles: replies end within an element. What it answers is worked out here alone,
+in grid numbers: a millimetre has `per_mm` of them, and of an older server's one, which doesn't say so.
 """
 import array
 import json
@@ -19,7 +20,7 @@ KINDS = {".html": "text/html", ".js": "text/javascript", ".css": "text/css", ".s
 
 
 def ground() -> list[int]:
-    """The corners of one element's triangles, from its own corner."""
+    """The corners of one element's triangles in millimetres, from its own corner."""
 
     def point(i: int, j: int) -> list[int]:
         return [i * STEP, j * STEP, (i * 7 + j * 13) % 11 * 20 + (200 if i == j else 0)]
@@ -38,18 +39,20 @@ def ground() -> list[int]:
 
 
 class Model:
-    """Some elements side by side, with their reply as JSON and their triangles as bytes."""
+    """Some elements side by side, with their reply as JSON and their triangles as bytes. `apart` is in millimetres."""
 
-    def __init__(self, elements: int) -> None:
+    def __init__(self, elements: int, per_mm: int | None = None, apart: float = APART) -> None:
         wide = max(1, round(elements**0.5))
-        base = ground()
+        per = per_mm or 1
+        base = [v * per for v in ground()]
+        side = FIELDS * STEP * per
         corners = array.array("i")
         listed = []
         for n in range(elements):
-            x, y = n % wide * APART, n // wide * APART
+            x, y = (round(v * apart * per) for v in (n % wide, n // wide))
             move = (x, y, 0)
             corners.extend([v + move[k % 3] for k, v in enumerate(base)])
-            box = [x, y, 0, x + FIELDS * STEP, y + FIELDS * STEP, max(base[2::3])]
+            box = [x, y, 0, x + side, y + side, max(base[2::3])]
             listed.append(
                 {
                     "box": box,
@@ -65,6 +68,7 @@ class Model:
         version = {
             "models": [{"elements": listed, "name": "ground"}],
             "newest": 1,
+            **({"per_mm": per_mm} if per_mm else {}),
             "rules": [],
             "version": 1,
         }
@@ -86,16 +90,21 @@ class Model:
 
 
 class Fake(ThreadingHTTPServer):
-    """Serves the page and a model on a free port. `triangles` is the status of their request: 200, 204 or 404."""
+    """
+    Serves the page and a model on a free port. `triangles` is the status of their request: 200, 204 or 404. `user` is who has signed in, as a
+    front says it; `named` are the names that the page sends.
+    """
 
     daemon_threads = True
     request_queue_size = 64
 
-    def __init__(self, page: Path, elements: int, triangles: int = 200) -> None:
+    def __init__(self, page: Path, model: Model, triangles: int = 200, user: str = "") -> None:
         super().__init__(("127.0.0.1", 0), Handler)
         self.page = page
-        self.model = Model(elements)
+        self.model = model
         self.triangles = triangles
+        self.user = user
+        self.named: set[str | None] = set()
         self.asked = 0
         self.address = f"http://127.0.0.1:{self.server_address[1]}/"
         threading.Thread(target=self.serve_forever, daemon=True).start()
@@ -139,6 +148,11 @@ class Handler(BaseHTTPRequestHandler):
         model = self.server.model
         if not parts.path.startswith(("/coord/", "/bcf/")):
             self.file(parts.path)
+            return
+        self.server.named.add(self.headers["X-User"])
+        if parts.path == "/bcf/3.0/current-user":
+            who = {"id": "7", "name": self.server.user}
+            self.send(200 if self.server.user else 204, "application/json", json.dumps(who).encode())
         elif parts.path.endswith("/triangles"):
             self.server.asked += 1
             query = parse_qs(parts.query)

@@ -4,6 +4,7 @@ from collections import Counter
 from stage import PROJECT, SECOND
 
 from .case import Case, Rows, same
+from .facts import boxes
 from .pictures import alike
 
 
@@ -38,10 +39,10 @@ def changes(case: Case) -> None:
     """What changed between two versions, in words."""
     b = case.browser
     before = case.stage.call("GET", f"/coord/1/projects/{PROJECT}/versions/3")
-    old = {e["guid"]: e for m in before["models"] if m["name"] == "mep" for e in m["elements"]}
+    old = boxes(before, "mep")
     now = {e.guid: e for e in case.facts if e.model == "mep"}
     new, gone = len(set(now) - set(old)), len(set(old) - set(now))
-    other = sum(1 for g in set(now) & set(old) if list(now[g].box) != old[g]["box"])
+    other = sum(1 for g in set(now) & set(old) if list(now[g].box) != old[g])
     b.click("#tab-versions")
     same(b.all("#change-list li")[0], f"mep: {new} elements new, {gone} gone, {other} changed")
     b.click("#tab-clashes")
@@ -138,7 +139,9 @@ def sections(case: Case) -> None:
             b.click(f"{row} input[type=checkbox]")
     b.click("#sections .section:nth-child(3) button")
     low, high = min(e.box[2] for e in case.facts), max(e.box[5] for e in case.facts)
-    same(b.text("#sections .section:nth-child(3) output"), f"{round(low + 0.4 * (high - low)):,} mm")
+    per = case.newest().get("per_mm", 1)
+    at = round((low + 0.4 * (high - low)) * per) / per
+    same(b.text("#sections .section:nth-child(3) output"), f"{at:,.10g} mm")
     case.looks_like("section")
     b.click("#sections .section:nth-child(3) input[type=checkbox]")
     if not alike(whole, b.picture()):

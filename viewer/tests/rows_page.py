@@ -2,7 +2,7 @@
 import http.client
 
 from .case import Case, Rows, same
-from .fake import Fake
+from .fake import Fake, Model
 
 
 def languages(case: Case) -> None:
@@ -173,7 +173,7 @@ def policy(case: Case) -> None:
 
 def own_policy(case: Case) -> None:
     """The page keeps its policy also where the front sends none."""
-    fake = Fake(case.page, 1, 204)
+    fake = Fake(case.page, Model(1), 204)
     try:
         case.browser.open(fake.address)
         case.ready()
@@ -183,6 +183,35 @@ def own_policy(case: Case) -> None:
     finally:
         fake.stop()
     case.browser.open(case.address)
+    case.ready()
+
+
+def signed_in(case: Case) -> None:
+    """Where a front says who has signed in, the page shows that name and sends none; else it sends the one of its field."""
+    b = case.browser
+    field = """const f = document.getElementById('user');
+        return [f.previousElementSibling.textContent, f.value, f.readOnly, f.labels[0].textContent.trim()]"""
+    for user, wanted, named in (
+        ("Jörg Ω", ["Signed in as", "Jörg Ω", True, "Signed in as"], {None}),
+        ("", ["Your name", "eva", False, "Your name"], {None, "eva"}),
+    ):
+        fake = Fake(case.page, Model(1), 204, user)
+        try:
+            b.open(fake.address)
+            case.ready()
+            b.js("localStorage.setItem('user', 'eva')")
+            fake.named.clear()
+            b.open(fake.address)
+            case.ready()
+            same(b.js(field), wanted)
+            same(fake.named, named)
+            b.choose("#language", "de")
+            same(b.js(field)[0], "Angemeldet als" if user else "Ihr Name")
+            b.choose("#language", "en")
+            same(b.console(), [])
+        finally:
+            fake.stop()
+    b.open(case.address)
     case.ready()
 
 
@@ -208,6 +237,7 @@ ROWS: Rows = [
     ("light and dark", dark),
     ("a strict content policy", policy),
     ("the page's own policy", own_policy),
+    ("who has signed in", signed_in),
     ("a newer version is offered", newer),
     ("no line on the console", console),
 ]

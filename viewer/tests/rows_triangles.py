@@ -4,7 +4,7 @@ import time
 from pathlib import Path
 
 from .case import Case, Rows, same
-from .fake import EACH, Fake
+from .fake import EACH, Fake, Model
 
 TURN = """
     const { scene, camera } = page.view, start = performance.now(), frames = scene.frames;
@@ -56,7 +56,7 @@ def opened(case: Case, fake: Fake) -> None:
 def boxes_stay(case: Case) -> None:
     """Where the server answers 404 or 204, boxes are drawn, and it isn't asked for more."""
     for status in (404, 204):
-        fake = Fake(case.page, 30, status)
+        fake = Fake(case.page, Model(30), status)
         try:
             opened(case, fake)
             case.browser.js("return 0")
@@ -73,7 +73,7 @@ def boxes_stay(case: Case) -> None:
 def drawn(case: Case) -> None:
     """Triangles in place of boxes, each with its element: a click names it, a measure meets its corners."""
     b = case.browser
-    fake = Fake(case.page, 186)
+    fake = Fake(case.page, Model(186, per_mm=10))
     try:
         opened(case, fake)
         b.until("page.view.scene.triangles")
@@ -97,15 +97,49 @@ def drawn(case: Case) -> None:
         fake.stop()
 
 
+SEEN = """return [page.state.boxes, [...page.view.scene.triangles.at], page.view.camera.distance]"""
+
+
+def grids(case: Case) -> None:
+    """A version's `per_mm` says how its boxes and triangles are read; without it they are millimetres. Tenths are measured and cut at."""
+    b = case.browser
+    seen = []
+    for per_mm in (None, 1, 10, 16):
+        fake = Fake(case.page, Model(9, per_mm))
+        try:
+            opened(case, fake)
+            b.until("page.view.scene.triangles")
+            seen.append(b.js(SEEN))
+        finally:
+            fake.stop()
+    same([one == seen[0] for one in seen], [True] * 4)
+    least, most = (f(box[k] for box in seen[0][0]) for f, k in ((min, 0), (max, 3)))
+    same([least, most], [0, 3300])
+    fake = Fake(case.page, Model(4, 10, apart=1200.3))
+    try:
+        opened(case, fake)
+        b.until("page.view.scene.triangles")
+        b.click("#top")
+        b.click("#measure")
+        for x in (0, 1200.3):
+            b.click_at(*b.place_of([x + 25, 10, 190]))
+        same(b.all("#card dd"), ["1,200.3 mm", "X 1,200.3, Y 0, Z 0 mm"])
+        at_end = "const e = document.querySelector('#sections input[type=range]'); e.value = e.max; e.dispatchEvent(new Event('input'))"
+        b.js(at_end)
+        same(b.text("#sections .section:nth-child(1) output"), "2,100.3 mm")
+    finally:
+        fake.stop()
+
+
 def million(case: Case) -> None:
     """A million triangles: how long they take, how much memory, and fewer are drawn while turning."""
     b = case.browser
-    fake = Fake(case.page, 30)
+    fake = Fake(case.page, Model(30))
     opened(case, fake)
     b.until("page.view.scene.triangles")
     before = memory_after(case)
     fake.stop()
-    fake = Fake(case.page, 6173)
+    fake = Fake(case.page, Model(6173, per_mm=10))
     try:
         opened(case, fake)
         b.until("page.view.scene.triangles", 60)
@@ -134,5 +168,6 @@ def million(case: Case) -> None:
 ROWS: Rows = [
     ("boxes where there are no triangles", boxes_stay),
     ("triangles with their elements", drawn),
+    ("grids of other numbers", grids),
     ("a million triangles", million),
 ]

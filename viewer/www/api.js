@@ -14,10 +14,13 @@ export class ApiError extends Error {
   }
 }
 
+/** Whether the front has said who this is: it names the user itself then, whatever the page sends. */
+let signedIn = false;
+
 /** The name as the bytes of a header field: UTF-8, since fetch sends one byte a character. */
 function userHeader() {
   const name = localStorage.getItem('user');
-  if (!name) return {};
+  if (!name || signedIn) return {};
   return { 'X-User': String.fromCharCode(...new TextEncoder().encode(name)) };
 }
 
@@ -46,8 +49,26 @@ async function request(method, path, body) {
 const get = async path => (await request('GET', path)).json;
 const wait = time => new Promise(done => setTimeout(done, time));
 
+/** Who the front says that this is, or null if nobody signs in here. */
+export async function currentUser() {
+  const reply = await fetch('/bcf/3.0/current-user', { cache: 'no-store' }).catch(() => null);
+  const name = reply && reply.status === 200 ? read(await reply.text()).name : null;
+  signedIn = !!name;
+  return name || null;
+}
+
 export const projects = () => get('/bcf/3.0/projects');
-export const version = (project, number) => get(`${COORD}${project}/versions/${number}`);
+
+/**
+ * A version with its boxes in millimetres. The server gives them in grid numbers, of which a millimetre has `per_mm`; a
+ * server that doesn't say so counts millimetres.
+ */
+export async function version(project, number) {
+  const reply = await get(`${COORD}${project}/versions/${number}`);
+  reply.per_mm = reply.per_mm || 1;
+  for (const model of reply.models) for (const element of model.elements) element.box = element.box.map(v => v / reply.per_mm);
+  return reply;
+}
 
 /** The newest version's number, by the smallest reply that has it. */
 export const newest = async project => (await get(`${COORD}${project}/versions/newest/clashes?count=1`)).version;

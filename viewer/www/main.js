@@ -54,8 +54,13 @@ function languages() {
   });
 }
 
-function user() {
-  $('user').value = localStorage.getItem('user') || '';
+/** The name that is sent with each request, or the one that was signed in with, which can't be changed here. */
+async function user() {
+  const signedIn = await api.currentUser();
+  $('user').value = signedIn || localStorage.getItem('user') || '';
+  $('user').readOnly = signedIn !== null;
+  $('user').previousElementSibling.dataset.text = signedIn ? 'signedInAs' : 'yourName';
+  translate();
   $('user').addEventListener('change', () => localStorage.setItem('user', $('user').value.trim()));
 }
 
@@ -70,7 +75,7 @@ async function projects() {
 async function begin() {
   languages();
   tabs();
-  user();
+  await user();
   try {
     view.start();
   } catch (fault) {

@@ -12,6 +12,9 @@ export const unit = a => times(a, 1 / (length(a) || 1));
 export const centre = box => [0, 1, 2].map(k => (box[k] + box[k + 3]) / 2);
 export const diagonal = box => Math.hypot(box[3] - box[0], box[4] - box[1], box[5] - box[2]);
 
+/** The nearest point of a grid that has so many numbers in a millimetre, in millimetres. */
+export const onGrid = (at, grid) => at.map(v => Math.round(v * grid) / grid);
+
 export const corners = box => Array.from({ length: 8 }, (_, n) => [0, 1, 2].map(k => box[(n >> k) & 1 ? k + 3 : k]));
 
 /** The least box around boxes, or null around none. */

@@ -1,5 +1,5 @@
 /** What is under the pointer: the nearest shown element that a ray meets, the point, and the corner that is near it. */
-import { add, minus, times, dot, cross, length, corners } from './matrix.js';
+import { add, minus, times, dot, cross, length, corners, onGrid } from './matrix.js';
 
 /** Where the ray comes into a box, as a length, or Infinity. */
 export function meetsBox(ray, low, high) {
@@ -47,7 +47,7 @@ function inRun(ray, at, run, cut, best) {
 }
 
 /**
- * Gives `{ place, at, corners }` in the building's millimetres, or null. `shown` says by place whether an element can
+ * Gives `{ place, at, corners }` in the building's millimetres and on its grid, or null. `shown` says by place whether an element can
  * be picked. Boxes are cut to the part that the sections leave.
  */
 export function pick(ray, scene, boxes, shown) {
@@ -67,11 +67,11 @@ export function pick(ray, scene, boxes, shown) {
     if (found) best = Object.assign(found, { place });
   });
   if (!best) return null;
-  const world = at => add(at, scene.origin).map(Math.round);
+  const world = at => onGrid(add(at, scene.origin), scene.grid);
   return { place: best.place, at: world(add(ray.from, times(ray.to, best.t))), corners: best.corners.map(world) };
 }
 
-/** The corner that is within some millimetres of the point that was met, else that point: whole millimetres. */
+/** The corner that is within some millimetres of the point that was met, else that point. */
 export function snap(hit, reach) {
   let best = hit.at;
   for (const corner of hit.corners) {

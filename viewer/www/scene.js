@@ -20,7 +20,7 @@ export class Scene {
   constructor(canvas, camera) {
     const gl = canvas.getContext('webgl2', { alpha: false, antialias: false });
     if (!gl) throw new Error('noWebGL');
-    Object.assign(this, { canvas, camera, gl, programs: programs(gl), origin: [0, 0, 0], count: 0, bytes: 0, frames: 0 });
+    Object.assign(this, { canvas, camera, gl, programs: programs(gl), origin: [0, 0, 0], grid: 1, count: 0, bytes: 0, frames: 0 });
     this.low = [-1e9, -1e9, -1e9];
     this.high = [1e9, 1e9, 1e9];
     this.look = gl.createTexture();
@@ -37,9 +37,13 @@ export class Scene {
     requestAnimationFrame(turn);
   }
 
-  /** The elements, the greatest first: `boxes` has six whole numbers each. None has triangles yet. */
-  setElements(boxes, origin) {
+  /**
+   * The elements, the greatest first: `boxes` has six lengths each, in millimetres, of which each has `grid` grid numbers.
+   * None has triangles yet.
+   */
+  setElements(boxes, origin, grid) {
     this.origin = origin;
+    this.grid = grid;
     this.count = boxes.length;
     this.triangles = null;
     this.makeBoxes(boxes, boxes.map((_, place) => place));

@@ -1,16 +1,20 @@
 /** Three planes that cut the building: for each axis a place, which side is left, and whether it cuts. */
 import { state, on, changed } from './state.js';
-import { text, number } from './texts.js';
+import { text, millimetres } from './texts.js';
 import { $, make, button } from './dom.js';
+import { onGrid } from './matrix.js';
 
 const AXES = ['x', 'y', 'z'];
 const planes = AXES.map(() => ({ on: false, above: false, part: 0.5 }));
 
-/** The millimetre at which a plane cuts. */
+/** Where a plane cuts, in millimetres: on the grid, so that at its ends nothing is lost. */
 function placeOf(k) {
   const box = state.whole || [0, 0, 0, 1, 1, 1];
-  return Math.round(box[k] + planes[k].part * (box[k + 3] - box[k]));
+  return onGrid([box[k] + planes[k].part * (box[k + 3] - box[k])], state.grid)[0];
 }
+
+/** What is said of a plane beside its slider. */
+const said = k => (planes[k].on ? millimetres(placeOf(k), state.grid) + ' mm' : text('off'));
 
 /** The least and the greatest corner of what the planes leave. */
 export function cut() {
@@ -24,7 +28,7 @@ function row(axis, k) {
   const label = text('section-' + axis);
   const output = make('output', '');
   const show = () => {
-    output.textContent = plane.on ? number(placeOf(k)) + ' mm' : text('off');
+    output.textContent = said(k);
     changed('cut');
   };
   const check = make('input', null, { type: 'checkbox', checked: plane.on, 'aria-label': label });
@@ -34,7 +38,7 @@ function row(axis, k) {
   slider.addEventListener('input', () => { plane.part = slider.value / 1000; set(true); });
   const flip = button('⇄', () => { plane.above = !plane.above; set(true); }, { title: text('flip'), 'aria-label': `${text('flip')}: ${label}` });
   const out = make('div', [make('label', [check, ' ' + axis.toUpperCase()]), slider, output, flip], { className: 'section' });
-  output.textContent = plane.on ? number(placeOf(k)) + ' mm' : text('off');
+  output.textContent = said(k);
   return out;
 }
 

@@ -1,8 +1,8 @@
-/** What the page knows, in one object, and who wants to hear of a change. */
+/** What the page knows, in one object, and who wants to hear of a change. `grid` is how many grid numbers a millimetre has. */
 
 export const state = {
   projects: [], project: null,
-  newest: 0, version: 0, rules: [], models: [],
+  newest: 0, version: 0, grid: 1, rules: [], models: [],
   elements: [], boxes: [], byKey: new Map(), byGuid: new Map(), whole: null,
   hidden: new Set(), ghost: new Set(), marked: new Map(), picked: -1,
   by: 'class',

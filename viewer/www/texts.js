@@ -17,6 +17,7 @@ export const TEXTS = {
   'open': ['Open', 'Öffnen'],
   'close': ['Close', 'Schließen'],
   'yourName': ['Your name', 'Ihr Name'],
+  'signedInAs': ['Signed in as', 'Angemeldet als'],
   'language': ['Language', 'Sprache'],
   'summary': ['{0} elements, {1} triangles, {2} rules', '{0} Bauteile, {1} Dreiecke, {2} Regeln'],
   'loading': ['Loading …', 'Wird geladen …'],
@@ -40,8 +41,8 @@ export const TEXTS = {
     'IFC-Dateien irgendwo auf dieser Seite ablegen. Eine Datei, die wie ein Modell heißt, ersetzt es.'],
   'chooseFiles': ['Choose files …', 'Dateien wählen …'],
   'lengths': ['Lengths of files', 'Längen der Dateien'],
-  'gridSnap': ['round to millimetres', 'auf Millimeter runden'],
-  'gridExact': ['whole millimetres only', 'nur ganze Millimeter'],
+  'gridSnap': ['round to tenths of a millimetre', 'auf Zehntelmillimeter runden'],
+  'gridExact': ['tenths of a millimetre only', 'nur Zehntelmillimeter'],
   'putDone': ['Uploaded as {0}: {1} elements, {2} triangles, version {3}.', 'Hochgeladen als {0}: {1} Bauteile, {2} Dreiecke, Version {3}.'],
   'madeVersion': ['Version {0} was made.', 'Version {0} ist entstanden.'],
   'tooLong': ['The file has {0} bytes; the server takes 33,554,432. Split it by storey.',
@@ -192,8 +193,8 @@ export const TEXTS = {
   'fault-U5': ['Two instances have the same number.', 'Zwei Instanzen haben dieselbe Nummer.'],
   'fault-U6': ['An instance refers to one that isn\'t there.', 'Eine Instanz verweist auf eine, die es nicht gibt.'],
   'fault-U7': ['An attribute hasn\'t the form that IFC4 gives it.', 'Ein Attribut hat nicht die Form, die IFC4 vorgibt.'],
-  'fault-U8': ['The file needs one project with one length unit of the metre.', 'Die Datei braucht ein Projekt mit einer Längeneinheit des Meters.'],
-  'fault-U9': ['A length isn\'t a whole number of millimetres. Choose "round to millimetres", or use the converter.', 'Eine Länge ist keine ganze Zahl von Millimetern. Wählen Sie „auf Millimeter runden“, oder nehmen Sie den Konverter.'],
+  'fault-U8': ['The file needs one project with one length unit: the metre, also with a prefix, the inch or the foot.', 'Die Datei braucht ein Projekt mit einer Längeneinheit: Meter, auch mit Vorsatz, Zoll oder Fuß.'],
+  'fault-U9': ['A length is no whole number of tenths of a millimetre. Choose "round to tenths of a millimetre", or use the converter.', 'Eine Länge ist keine ganze Zahl von Zehntelmillimetern. Wählen Sie „auf Zehntelmillimeter runden“, oder nehmen Sie den Konverter.'],
   'fault-U10': ['A point is farther than 800 m from zero.', 'Ein Punkt liegt weiter als 800 m von null.'],
   'fault-U11': ['A placement is turned by other than quarter turns.', 'Eine Platzierung ist anders als um Vierteldrehungen gedreht.'],
   'fault-U12': ['Placements refer to each other in a circle.', 'Platzierungen verweisen im Kreis aufeinander.'],
@@ -240,6 +241,9 @@ export const known = key => key in TEXTS;
 
 /** A number as the language writes it. */
 export const number = (value, digits = 0) => value.toLocaleString(chosen, { minimumFractionDigits: digits, maximumFractionDigits: digits });
+
+/** A length in millimetres, with as many digits as the grid has. */
+export const millimetres = (value, grid) => value.toLocaleString(chosen, { maximumFractionDigits: Math.ceil(Math.log10(grid)) });
 
 /** A moment as the language writes it, or the text itself if it is none. */
 export function date(value) {

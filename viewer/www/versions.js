@@ -40,7 +40,7 @@ function take(reply) {
   const byName = new Map(models.map(model => [model.name, model]));
   elements.forEach((e, n) => { byName.get(e.model).places[e.place] = n; });
   Object.assign(state, {
-    reply, elements, models, version: reply.version, newest: reply.newest, rules: reply.rules,
+    reply, elements, models, version: reply.version, newest: reply.newest, grid: reply.per_mm, rules: reply.rules,
     boxes: elements.map(e => e.box), byKey: new Map(elements.map((e, n) => [e.model + ' ' + e.guid, n])),
     byGuid: placesByGuid(elements), whole: hull(elements.map(e => e.box)), hidden: new Set(), ghost: new Set(), marked: new Map(), picked: -1,
   });

@@ -1,6 +1,6 @@
 /** The middle: the picture, what is picked, measuring, and the frame of a clash. */
 import { state, on, changed } from './state.js';
-import { text, number } from './texts.js';
+import { text, number, millimetres } from './texts.js';
 import { $, make, button, swatch, say, complain } from './dom.js';
 import { Camera, control } from './camera.js';
 import { Scene } from './scene.js';
@@ -93,8 +93,8 @@ function facts(rows) {
 function measured() {
   if (measuring.length < 2) return [make('p', text(measuring.length ? 'measureSecond' : 'measureFirst'))];
   const [a, b] = measuring;
-  const by = minus(b, a).map(v => number(Math.abs(v)));
-  return [facts([['distance', number(length(minus(b, a)), 1) + ' mm'], ['axes', `X ${by[0]}, Y ${by[1]}, Z ${by[2]} mm`]])];
+  const [x, y, z] = minus(b, a).map(v => millimetres(Math.abs(v), state.grid));
+  return [facts([['distance', number(length(minus(b, a)), 1) + ' mm'], ['axes', `X ${x}, Y ${y}, Z ${z} mm`]])];
 }
 
 function pickedCard() {
@@ -139,14 +139,14 @@ async function showVersion() {
   place = null;
   scene.clear();
   const origin = state.whole ? centre(state.whole).map(Math.round) : [0, 0, 0];
-  scene.setElements(state.boxes, origin);
+  scene.setElements(state.boxes, origin, state.grid);
   camera.radius = state.whole ? diagonal(state.whole) / 2 : 20000;
   scene.setCut(cut().low, cut().high);
   marks();
   const started = performance.now();
   const names = state.models.filter(model => model.count).map(model => model.name);
   const placesOf = (name, n) => state.models.find(model => model.name === name).places[n];
-  const got = await loadTriangles(state.project, state.version, names, placesOf, origin, () => mine !== ticket);
+  const got = await loadTriangles(state.project, state.version, names, placesOf, { origin, grid: state.grid }, () => mine !== ticket);
   if (!got || mine !== ticket) return;
   scene.setTriangles(got.at, got.runs, state.boxes);
   inside.loaded = performance.now() - started;

@@ -12,7 +12,7 @@ from typing import Any
 from ..compare import Difference, difference, elements_of
 from ..console import counted
 from ..context import Context
-from ..convert import MENDED, Converted, convert, converter, left_out
+from ..convert import MENDED, Converted, convert, converter, is_needless, left_out
 from ..errors import ExitStatus, Failure, FileFault, Refused
 from ..hints import with_hint
 from ..names import MOST_NAME, Source, sources_of
@@ -109,6 +109,11 @@ def push_one(context: Context, source: Source, pushed: list[Pushed]) -> None:
         raise FileFault("the converter ifc2grid isn't there", "install it, or see --converter")
     if mode == "always" and program:
         convert_and_upload(context, source, program, pushed)
+        made = pushed[-1].converted
+        if made and is_needless(made.report):
+            context.console.note(
+                f"{source.path}: the server may take it as it is: leave --convert always out"
+            )
         return
     try:
         add(context, pushed, Pushed(source, upload(context, source, source.path), None))

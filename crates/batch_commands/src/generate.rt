@@ -1,11 +1,11 @@
 //! The command `generate`.
 ghost use Rattle.std.specs.Prelude.{◌≡◌, ◌≤◌, string_bytes, Some, IfOk};
 ghost use Rattle.bim_io.specs.Causes.{Rose};
-ghost use Rattle.model_generator.specs.Files.{generated};
+ghost use Rattle.model_generator.specs.GeneratedFiles.{generated};
 ghost use Rattle.model_generator.specs.declared.pieces.TheConstants.{MOST_GENERATED};
 ghost use Rattle.batch_commands.specs.GenerateWords.{generate_words};
-ghost use Rattle.batch_commands.specs.Commands.{touching, version_of, numbers_text, summary_of, IsSummary, Generates};
-ghost use Rattle.batch_commands.specs.Writes.{Flushes, Prints, Puts};
+ghost use Rattle.batch_commands.specs.BatchCommands.{touching, version_of, numbers_text, summary_of, IsSummary, Generates};
+ghost use Rattle.batch_commands.specs.PrintedOutput.{Flushes, Prints, Puts};
 
 use crate::block::{Stop, flush, put, write_bytes};
 use crate::generate_words::{GenerateWords, generate_words};

@@ -1,4 +1,4 @@
-pub mod Kept
+pub mod KeptBytes
 pub mod Guids
 pub mod Moments
 pub mod Distances

@@ -10,7 +10,7 @@ use mir.Syntax.{w16, w32}
 use mir.Val.{SFits, to_z, of_z}
 use Rattle.bim_model.specs.declared.geometry.Extent.{Extent}
 use Rattle.box_lanes.specs.declared.reach.Reach.{Reach}
-use Rattle.box_lanes.specs.Lanes.{meets, coarse, may_meet}
+use Rattle.box_lanes.specs.CoarseBoxes.{meets, coarse, may_meet}
 use Rattle.box_lanes.proofs.Vectors.{Fit}
 use Rattle.box_lanes.proofs.Eights.{read_sides}
 

@@ -6,7 +6,7 @@ use lib.Lanes.{top}
 use lib.Signed.{lt_z, shr_z}
 use mir.Syntax.{w16, w32}
 use mir.Val.{SFits}
-use Rattle.box_lanes.specs.Lanes.{coarse}
+use Rattle.box_lanes.specs.CoarseBoxes.{coarse}
 use Rattle.box_lanes.proofs.Coarse.{coarse_fits}
 
 -- the lane of the greater and of the lesser of two numbers

@@ -4,8 +4,8 @@ use Rattle.std.specs.List.{flat_map}
 use Rattle.bim_model.specs.declared.geometry.Extent.{Extent}
 use Rattle.box_lanes.specs.declared.blocks.Block.{Block}
 use Rattle.box_lanes.specs.declared.box_table.BoxTable.TheInside.{Inside}
-use Rattle.box_lanes.specs.Lanes.{Fits32, coarse}
-use Rattle.box_lanes.specs.Places.{nowhere}
+use Rattle.box_lanes.specs.CoarseBoxes.{Fits32, coarse}
+use Rattle.box_lanes.specs.BoxPlaces.{nowhere}
 
 -- the boxes whose sides stand in the lists, as far as the lists reach
 abbrev pub boxes_of : (low_x low_y low_z high_x high_y high_z : List ℤ) → List Extent

@@ -1,8 +1,8 @@
 //! Boxes in blocks of eight.
 ghost use Rattle.std.specs.Prelude.{◌≡◌, ◌+◌, ◌*◌, ◌<◌, ◌≤◌, ◌^◌, ◌∷◌, [], length, map, All, OnOk};
 ghost use Rattle.box_lanes.specs.Blocks.{IsBlock, HasBlocks};
-ghost use Rattle.box_lanes.specs.Lanes.{coarse};
-ghost use Rattle.box_lanes.specs.Places.{nowhere, box_at};
+ghost use Rattle.box_lanes.specs.CoarseBoxes.{coarse};
+ghost use Rattle.box_lanes.specs.BoxPlaces.{nowhere, box_at};
 
 use bim_model::{Extent, Point};
 use std::alloc::AllocError;

@@ -4,8 +4,8 @@ ghost use Rattle.std.specs.Int.{saturate_signed, w32};
 ghost use Rattle.std.specs.Simd.Lanes.{mask_l, chunk};
 ghost use Rattle.bim_model.specs.declared.geometry.Extent.{Extent};
 ghost use Rattle.bim_model.specs.Gaps.{is_within};
-ghost use Rattle.box_lanes.specs.Places.{box_at, places_from, part, places_within, later_within};
-ghost use Rattle.box_lanes.specs.Lanes.{meets, may_meet, IsRough, Fits32};
+ghost use Rattle.box_lanes.specs.BoxPlaces.{box_at, places_from, part, places_within, later_within};
+ghost use Rattle.box_lanes.specs.CoarseBoxes.{meets, may_meet, IsRough, Fits32};
 
 use crate::blocks::{Block, LANES, fill, fill_by};
 use crate::reach::{Reach, Rough, reach_of, rough_of};

@@ -2,8 +2,8 @@
 ghost use Rattle.std.specs.Prelude.{◌≡◌, cond, ◌+ℤ◌, ◌-ℤ◌, pos, int_lt};
 ghost use Rattle.std.specs.Int.{saturate_signed, w32};
 ghost use Rattle.bim_model.specs.declared.geometry.Extent.{Extent};
-ghost use Rattle.box_lanes.specs.Places.{is_within_from};
-ghost use Rattle.box_lanes.specs.Lanes.{meets, IsRough, Fits32};
+ghost use Rattle.box_lanes.specs.BoxPlaces.{is_within_from};
+ghost use Rattle.box_lanes.specs.CoarseBoxes.{meets, IsRough, Fits32};
 
 use crate::blocks::{LANES, coarse_of};
 use bim_model::{Extent, Point};

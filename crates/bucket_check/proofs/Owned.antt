@@ -13,7 +13,7 @@ use Rattle.bim_model.specs.Rules.{IsRules}
 use Rattle.bim_model.specs.Keys.{Subject}
 use Rattle.clearance.specs.Near.{ElementsNear}
 use Rattle.clearance.proofs.Decided.{elements_decided}
-use Rattle.box_lanes.specs.Places.{box_at, nowhere}
+use Rattle.box_lanes.specs.BoxPlaces.{box_at, nowhere}
 use Rattle.bucket_grid.specs.declared.cell.Cell.{Cell}
 use Rattle.bucket_grid.specs.Cells.{holds, members, IsOwner, IsBucket}
 use Rattle.bucket_grid.specs.Subjects.{subject_at, nobody, IsBoxOf, AreBoxes}

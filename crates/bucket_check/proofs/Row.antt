@@ -19,20 +19,20 @@ use Rattle.bim_model.specs.Gaps.{gap, is_within}
 use Rattle.bim_model.specs.Snapshots.{Version}
 use Rattle.bim_model.specs.Keys.{Subject, subjects_of}
 use Rattle.clearance.proofs.Surfaces.{elements_within}
-use Rattle.box_lanes.specs.Places.{places_from, part, later_within, is_close_from, is_within_from, box_at, nowhere}
+use Rattle.box_lanes.specs.BoxPlaces.{places_from, part, later_within, is_close_from, is_within_from, box_at, nowhere}
 use Rattle.box_lanes.proofs.Places.{places-cons}
 use Rattle.box_lanes.proofs.Bits.{part_more, part_all, part_none}
 use Rattle.bucket_grid.specs.declared.cell.Cell.{Cell}
 use Rattle.bucket_grid.specs.Cells.{owner_of, first_cell, first_low, start_of}
-use Rattle.bucket_grid.specs.Places.{IsGridBox}
+use Rattle.bucket_grid.specs.ElementPlaces.{IsGridBox}
 use Rattle.bucket_grid.proofs.Points.{first_low_at_most}
 use Rattle.bucket_grid.specs.Subjects.{subject_at, nobody, IsBoxOf, AreBoxes}
 use Rattle.bucket_grid.proofs.Zips.{zip_at, zip_length}
-use Rattle.bucket_grid.specs.Table.{upto}
+use Rattle.bucket_grid.specs.BucketTable.{upto}
 use Rattle.bucket_grid.proofs.Parts.{all_upto}
 use Rattle.bucket_check.specs.declared.pair.SetPair.{SetPair}
 use Rattle.bucket_check.specs.Clashes.{rule_between, clash_of, is_cell, pair_if, row_by}
-use Rattle.bucket_check.specs.Sets.{own_rule, number_at, rule_at}
+use Rattle.bucket_check.specs.ClashSets.{own_rule, number_at, rule_at}
 use Rattle.bucket_check.proofs.Lists.{flat_same}
 use Rattle.bucket_check.proofs.Merged.{one_cell}
 use Rattle.bucket_check.proofs.Owned.{why, met_near}

@@ -7,7 +7,7 @@ use Rattle.bim_model.specs.declared.rules.Rule.{Rule}
 use Rattle.bim_model.specs.declared.rules.Found.{Found}
 use Rattle.bim_model.specs.Rules.{rule_of}
 use Rattle.bim_model.specs.Keys.{Subject}
-use Rattle.box_lanes.specs.Places.{box_at}
+use Rattle.box_lanes.specs.BoxPlaces.{box_at}
 use Rattle.bucket_grid.specs.declared.cell.Cell.{Cell}
 use Rattle.bucket_grid.specs.Cells.{owner_of}
 use Rattle.bucket_check.specs.declared.pair.SetPair.{SetPair}

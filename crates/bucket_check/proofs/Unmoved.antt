@@ -17,18 +17,18 @@ use Rattle.bim_model.specs.Keys.{Subject, subjects_of}
 use Rattle.bim_model.specs.declared.geometry.Triangle.{Triangle}
 use Rattle.bim_model.proofs.Unique.{extent_same}
 use Rattle.clearance.specs.Decided.{is_near_lists, is_near}
-use Rattle.box_lanes.specs.Places.{box_at, nowhere}
+use Rattle.box_lanes.specs.BoxPlaces.{box_at, nowhere}
 use Rattle.bucket_grid.specs.declared.cell.Cell.{Cell}
 use Rattle.bucket_grid.specs.Cells.{holds, members, owner_of}
 use Rattle.bucket_grid.specs.Subjects.{subject_at, nobody, IsBoxOf, AreBoxes}
 use Rattle.bucket_grid.specs.Grids.{GridValue}
-use Rattle.bucket_grid.specs.Table.{upto}
+use Rattle.bucket_grid.specs.BucketTable.{upto}
 use Rattle.bucket_grid.proofs.Zips.{zip_at, zip_length}
 use Rattle.bucket_grid.proofs.Parts.{all_upto}
 use Rattle.bucket_grid.proofs.Rising.{places_within}
 use Rattle.bucket_check.proofs.Lists.{flat_same}
 use Rattle.bucket_check.specs.Clashes.{meet_by, rule_between, clash_by, clash_of, is_cell, pair_if, pairs_by}
-use Rattle.bucket_check.specs.Sets.{rule_at, number_at, own_places, IsSame, subjects_at, IsUnmoved}
+use Rattle.bucket_check.specs.ClashSets.{rule_at, number_at, own_places, IsSame, subjects_at, IsUnmoved}
 
 -- rules that agree below n list the same pairs
 pairs_like : (n : ℕ) (f g : ℕ → ℕ → Option ℕ) → ((a b : ℕ) → a < n → b < n → f a b ≡ g a b) → pairs_by n f ≡ pairs_by n g

@@ -20,8 +20,8 @@ use Rattle.clearance.specs.Decided.{is_near}
 use Rattle.bucket_grid.specs.declared.cell.Cell.{Cell}
 use Rattle.bucket_grid.specs.Cells.{owner_of}
 use Rattle.bucket_grid.specs.Subjects.{subject_at}
-use Rattle.box_lanes.specs.Places.{box_at}
-use Rattle.bucket_grid.specs.Table.{upto}
+use Rattle.box_lanes.specs.BoxPlaces.{box_at}
+use Rattle.bucket_grid.specs.BucketTable.{upto}
 use Rattle.bucket_check.specs.declared.pair.SetPair.{SetPair}
 
 -- the rule of two elements of a version, which are of one model where the names of their models agree

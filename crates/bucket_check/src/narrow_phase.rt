@@ -5,12 +5,12 @@ ghost use Rattle.bim_model.specs.Models.{IsModelled};
 ghost use Rattle.bim_model.specs.Distances.{in_grid_numbers};
 ghost use Rattle.bim_model.specs.Rules.{greatest_distance};
 ghost use Rattle.bim_model.specs.Keys.{subjects_of};
-ghost use Rattle.box_lanes.specs.Places.{box_at};
+ghost use Rattle.box_lanes.specs.BoxPlaces.{box_at};
 ghost use Rattle.bucket_grid.specs.Cells.{owner_of, start_of, members};
 ghost use Rattle.bucket_grid.specs.Subjects.{subject_at};
 ghost use Rattle.bucket_grid.specs.declared.grid.TheConstants.{MOST_ELEMENTS};
 ghost use Rattle.bucket_check.specs.Clashes.{meet_by, clash_by, clash_of, is_cell, pair_if, row_by};
-ghost use Rattle.bucket_check.specs.Sets.{own_rule, rule_at, found_among, own_places};
+ghost use Rattle.bucket_check.specs.ClashSets.{own_rule, rule_at, found_among, own_places};
 
 use crate::bucket_work::BucketWork;
 use crate::pair::SetPair;

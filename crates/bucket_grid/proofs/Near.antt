@@ -19,8 +19,8 @@ use Rattle.clearance.specs.Near.{ListsNear, ElementsNear}
 use Rattle.clearance.proofs.Surfaces.{elements_within}
 use Rattle.bucket_grid.specs.declared.cell.TheConstants.{GROWTH}
 use Rattle.bucket_grid.specs.Cells.{owner_of}
-use Rattle.bucket_grid.specs.Places.{IsInOrder}
-use Rattle.bucket_grid.specs.Laws.{HaveOneOwner}
+use Rattle.bucket_grid.specs.ElementPlaces.{IsInOrder}
+use Rattle.bucket_grid.specs.GridLaws.{HaveOneOwner}
 use Rattle.bucket_grid.proofs.Owners.{Close, CloseBoxes, owner_is_least}
 use Rattle.bucket_grid.proofs.OneOwner.{one_owner}
 use Rattle.bucket_grid.proofs.Reach.{in_order}

@@ -6,9 +6,9 @@ use Rattle.bucket_grid.specs.declared.cell.TheConstants.{MOST_CELLS}
 use Rattle.bucket_grid.specs.declared.lists.Span.{Span}
 use Rattle.bucket_grid.specs.declared.bucket_table.Bucket.{Bucket}
 use Rattle.bucket_grid.specs.Cells.{first_cell, last_cell}
-use Rattle.box_lanes.specs.Places.{box_at}
+use Rattle.box_lanes.specs.BoxPlaces.{box_at}
 use Rattle.bucket_grid.specs.Dealt.{span_at, IsSpan, IsAmong}
-use Rattle.bucket_grid.specs.Table.{upto, table, AreSpans, IsTable}
+use Rattle.bucket_grid.specs.BucketTable.{upto, table, AreSpans, IsTable}
 use Rattle.bucket_grid.proofs.Parts.{all_upto}
 use Rattle.bucket_grid.proofs.Tables.{table_is}
 

@@ -3,7 +3,7 @@ ghost use Rattle.std.specs.Prelude.{◌≡◌, ◌≤◌, ◌≤ℤ◌, pos, ◌
 ghost use Rattle.bim_model.specs.Points.{grid_limit};
 ghost use Rattle.bucket_grid.specs.declared.cell.TheConstants.{FARTHEST_CELL, MOST_CELLS};
 ghost use Rattle.bucket_grid.specs.Cells.{first_cell, last_cell};
-ghost use Rattle.bucket_grid.specs.Places.{IsGridBox};
+ghost use Rattle.bucket_grid.specs.ElementPlaces.{IsGridBox};
 ghost use Rattle.bucket_grid.specs.Axes.{low_on, high_on, LieIn, span_on, AreSpansOn};
 ghost use Rattle.bucket_grid.specs.Dealt.{IsSpan};
 

@@ -2,7 +2,7 @@
 ghost use Rattle.std.specs.Prelude.{◌≡◌, ◌+◌, ◌<◌, ◌≤◌, ◌++◌, length, IfOk, OnOk, All};
 ghost use Rattle.bucket_grid.specs.declared.cell.TheConstants.{MOST_CELLS};
 ghost use Rattle.bucket_grid.specs.Dealt.{IsAmong};
-ghost use Rattle.bucket_grid.specs.Table.{if_bucket, with_x, with_y, with_z, column, slab, table, IsLow};
+ghost use Rattle.bucket_grid.specs.BucketTable.{if_bucket, with_x, with_y, with_z, column, slab, table, IsLow};
 
 use crate::bucket_part::Part;
 use crate::buckets::Buckets;

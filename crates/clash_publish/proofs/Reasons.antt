@@ -19,7 +19,7 @@ use Rattle.bucket_check.proofs.Lists.{Lists, lists_one}
 use Rattle.bucket_check.proofs.Pairs.{once}
 use Rattle.bucket_check.proofs.Owned.{IsClash as IsFound, why, clashes_list}
 use Rattle.clash_publish.specs.Listed.{element_of, distance_at, Meet, ClashBy, IsClash}
-use Rattle.clash_publish.specs.Laws.{ClashesAreListed}
+use Rattle.clash_publish.specs.ClashListLaws.{ClashesAreListed}
 
 -- a list of all that has a property is one of all that has another with the same members
 lists_same : {X : Type 0} (R : X → X → Type 0) (P Q : X → Type 0) (xs : List X) → ((x : X) → P x → Q x) → ((x : X) → Q x → P x) → Lists R P xs → Lists R Q xs

@@ -3,7 +3,7 @@ ghost use Rattle.std.specs.Prelude.{◌≡◌, ◌<◌, All, length, IfOk};
 ghost use Rattle.serde_json.specs.View.{view, items_view};
 ghost use Rattle.bim_model.specs.Keys.{subjects_of};
 ghost use Rattle.clash_publish.specs.Listed.{IsClash};
-ghost use Rattle.coord_json.specs.Clashes.{side_tree, element_side, pair_tree, clash_data, pair_items, part_tree, clashes_tree, pending_tree};
+ghost use Rattle.coord_json.specs.ClashTrees.{side_tree, element_side, pair_tree, clash_data, pair_items, part_tree, clashes_tree, pending_tree};
 
 use bim_model::Distance;
 use bucket_check::SetPair;
@@ -11,7 +11,7 @@ use clash_publish::Published;
 use serde_json::{Value, json};
 use std::alloc::{AllocError, Global};
 
-#[tactic(auto, unfolding(crate::specs::Clashes::side_tree))]
+#[tactic(auto, unfolding(crate::specs::ClashTrees::side_tree))]
 fn side_tree(alloc: Global, guid: &str, model: &str) -> Result<Value, AllocError>
     ensures { IfOk result (λ v. view v ≡ side_tree guid.now model.now) }
 {
@@ -27,7 +27,7 @@ fn side_out(alloc: Global, set: &Published, number: u32) -> Result<Value, AllocE
     side_tree(alloc, element.guid.as_str(), set.model_name(number))
 }
 
-#[tactic(auto, unfolding(crate::specs::Clashes::pair_tree))]
+#[tactic(auto, unfolding(crate::specs::ClashTrees::pair_tree))]
 fn pair_tree(
     alloc: Global,
     a: Value,
@@ -61,7 +61,7 @@ fn pairs_out(alloc: Global, set: &Published, pairs: &[SetPair]) -> Result<Vec<Va
     Ok(trees)
 }
 
-#[tactic(auto, unfolding(crate::specs::Clashes::part_tree))]
+#[tactic(auto, unfolding(crate::specs::ClashTrees::part_tree))]
 fn part_tree(
     alloc: Global,
     pairs: Vec<Value>,
@@ -90,7 +90,7 @@ pub fn clashes_out(
 }
 
 /// How many buckets of a version are still to be checked, as an object.
-#[tactic(auto, unfolding(crate::specs::Clashes::pending_tree))]
+#[tactic(auto, unfolding(crate::specs::ClashTrees::pending_tree))]
 pub fn pending_out(alloc: Global, left: u64, version: u64) -> Result<Value, AllocError>
     ensures { IfOk result (λ v. view v ≡ pending_tree left version) }
 {

@@ -4,7 +4,7 @@ use Rattle.std.proofs.Math.Bridge.{le_prop}
 use Rattle.std.specs.Bool.{MatchBool}
 use Rattle.std.specs.List.{slice_get}
 use Rattle.bim_text.specs.declared.decimal.Decimal.{Decimal}
-use Rattle.bim_text.specs.Values.{Scaled, raised}
+use Rattle.bim_text.specs.ScaledNumbers.{Scaled, raised}
 use Rattle.bim_text.specs.Decimals.{Reads, value_of}
 use Rattle.bim_text.proofs.Unique.{one_decimal}
 use Rattle.p21_values.specs.declared.value.Value21.{Value21}
@@ -12,7 +12,7 @@ use Rattle.p21_values.specs.declared.value.Instance.{Instance}
 use Rattle.p21_values.specs.Attributes.{target_at}
 use Rattle.p21_values.specs.Values.{measure_of}
 use Rattle.ifc_instances.specs.declared.entity.Entity.TheVariants.{ConvertedUnit, Measure}
-use Rattle.ifc_instances.specs.Looking.{is_a}
+use Rattle.ifc_instances.specs.EntityLookup.{is_a}
 use Rattle.ifc_units.specs.declared.scale.Scale.{Scale}
 use Rattle.ifc_units.specs.Metres.{metric_power}
 use Rattle.ifc_units.specs.Conversions.{tenths_of, IsMeasure}

@@ -3,12 +3,12 @@
 use Rattle.std.specs.Prelude.{◌≡◌, ℕ, ◌*◌, nat_lt, Bool, true, if◌then◌else◌, ℤ, pos, List, Option, Some, None}
 use Rattle.std.specs.List.{slice_get}
 use Rattle.bim_text.specs.declared.decimal.Decimal.{Decimal}
-use Rattle.bim_text.specs.Values.{Scaled, denominator, raised}
+use Rattle.bim_text.specs.ScaledNumbers.{Scaled, denominator, raised}
 use Rattle.bim_text.specs.Decimals.{Reads, value_of}
 use Rattle.p21_values.specs.declared.value.Value21.{Value21}
 use Rattle.p21_values.specs.declared.value.Instance.{Instance}
 use Rattle.ifc_instances.specs.declared.entity.Entity.TheVariants as entity
-use Rattle.ifc_instances.specs.Looking.{is_a}
+use Rattle.ifc_instances.specs.EntityLookup.{is_a}
 use Rattle.p21_values.specs.Attributes.{target_at}
 use Rattle.p21_values.specs.Values.{measure_of}
 use Rattle.ifc_units.specs.declared.conversion.TheConstants.{INCH, FOOT}

@@ -5,7 +5,7 @@ use Rattle.std.specs.Str.{bytes_eq}
 use Rattle.p21_values.specs.declared.value.Value21.{Value21}
 use Rattle.p21_values.specs.declared.value.Instance.{Instance}
 use Rattle.ifc_instances.specs.declared.entity.Entity.TheVariants as entity
-use Rattle.ifc_instances.specs.Looking.{is_a, says}
+use Rattle.ifc_instances.specs.EntityLookup.{is_a, says}
 use Rattle.p21_values.specs.Values.{enumeration_of, is_absent}
 
 -- the prefixes, each with the power of ten of a millimetre that a metre is with it

@@ -1,6 +1,6 @@
 //! Units that are converted to one of the international system.
 ghost use Rattle.std.specs.Prelude.{◌≡◌, ◌*◌, ◌%◌, ◌<◌, ◌≤◌, ◌≤ℤ◌, pos, negsuc, Some, None, IfSome, IfNone, MatchOption};
-ghost use Rattle.bim_text.specs.Values.{Scaled, raised};
+ghost use Rattle.bim_text.specs.ScaledNumbers.{Scaled, raised};
 ghost use Rattle.bim_text.specs.Decimals.{value_of};
 ghost use Rattle.ifc_units.specs.Metres.{IsNear};
 ghost use Rattle.ifc_units.specs.Conversions.{is_about, tenths_of, IsMeasure};

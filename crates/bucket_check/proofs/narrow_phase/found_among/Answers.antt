@@ -3,11 +3,11 @@ use Rattle.std.specs.List.{flat_map}
 use Rattle.bim_model.specs.Distances.{in_grid_numbers}
 use Rattle.bim_model.specs.Rules.{greatest_distance}
 use Rattle.bim_model.specs.declared.geometry.Extent.{Extent}
-use Rattle.box_lanes.specs.Places.{box_at}
-use Rattle.bucket_grid.specs.Table.{upto}
+use Rattle.box_lanes.specs.BoxPlaces.{box_at}
+use Rattle.bucket_grid.specs.BucketTable.{upto}
 use Rattle.bucket_grid.proofs.Upto.{upto_more}
 use Rattle.bucket_check.specs.Clashes.{row_by}
-use Rattle.bucket_check.specs.Sets.{rule_at}
+use Rattle.bucket_check.specs.ClashSets.{rule_at}
 use Rattle.bucket_check.proofs.Steps.{no_row, fewer, stopped}
 use Rattle.bucket_check.proofs.narrow_phase.found_among.Goals as goal
 

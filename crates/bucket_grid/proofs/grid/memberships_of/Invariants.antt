@@ -1,7 +1,7 @@
 use Rattle.std.proofs.Common.{◌≡◌, ◌≤◌, ◌*◌, take, All}
 use Rattle.bucket_grid.specs.declared.grid.TheConstants.{MOST_CELLS_OF_BOX}
 use Rattle.bucket_grid.specs.Cells.{memberships}
-use Rattle.bucket_grid.specs.Places.{IsGridBox}
+use Rattle.bucket_grid.specs.ElementPlaces.{IsGridBox}
 use Rattle.bucket_grid.proofs.grid.memberships_of.Given as goal
 
 abbrev pub invariant-loop-extent : goal.invariant-loop-extent

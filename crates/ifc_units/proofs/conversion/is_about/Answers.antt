@@ -1,6 +1,6 @@
 use Rattle.std.proofs.Common.{◌≡◌, ◌+◌, ◌-◌, ℤ, ◌+ℤ◌, subst, sym, ◌∙◌, arith, to_z, of_z, w32}
 use Rattle.std.proofs.lemmas.Int.{ints}
-use Rattle.bim_text.specs.Values.{size_order}
+use Rattle.bim_text.specs.ScaledNumbers.{size_order}
 use Rattle.ifc_units.proofs.Abouts.{length, millionths, never_about, not_about, about_below}
 use Rattle.ifc_units.proofs.conversion.is_about.Goals as goal
 
