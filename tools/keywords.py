@@ -1,11 +1,12 @@
 #!/usr/bin/env python3
 """Makes the tables of ifc_keywords anew: python3 tools/keywords.py [--search].
 
-The keywords are listed in crates/ifc_keywords/specs/Codes.antt, in the order of their numbers. The list and the table
-of hashes in src/known_words.rt are written from it. A word's hash is (A * its length + B * its fourth byte + C * its
-middle byte + D * its last byte) modulo 512; A to D are those of `hash_of` in Codes.antt, so that no two keywords share
-a hash. Where two do, --search looks for other factors, by rising sums, and prints the first that serve: they are then
-written into `hash_of` and into `hash` by hand, and the script is run again.
+The keywords are listed in crates/ifc_keywords/specs/Codes.antt, in the order of their numbers. The
+list and the table of hashes in src/known_words.rt are written from it. A word's hash is (A * its
+length + B * its fourth byte + C * its middle byte + D * its last byte) modulo 512; A to D are those
+of `hash_of` in Codes.antt, so that no two keywords share a hash. Where two do, --search looks for
+other factors, by rising sums, and prints the first that serve: they are then written into `hash_of`
+and into `hash` by hand, and the script is run again.
 """
 
 import itertools
@@ -37,7 +38,9 @@ def table_of(words: list[str], factors: tuple[int, ...]) -> list[int]:
     table = [NONE] * SIZE
     for number, word in enumerate(words):
         if table[hash_of(word, factors)] != NONE:
-            sys.exit(f"{word} and {words[table[hash_of(word, factors)]]} share a hash: run with --search")
+            sys.exit(
+                f"{word} and {words[table[hash_of(word, factors)]]} share a hash: run with --search"
+            )
         table[hash_of(word, factors)] = number
     return table
 
@@ -56,7 +59,9 @@ def rows(table: list[int]) -> str:
 def main() -> int:
     said = CODES.read_text()
     words = re.findall(r'codes "(\w+)"', said)
-    found = re.search(r"\((\d+) \* length k \+ (\d+) \* .*? \+ (\d+) \* .*?\n?.*?\+ (\d+) \* ", said, re.S)
+    found = re.search(
+        r"\((\d+) \* length k \+ (\d+) \* .*? \+ (\d+) \* .*?\n?.*?\+ (\d+) \* ", said, re.S
+    )
     assert found
     factors = tuple(int(it) for it in found.groups())
     if "--search" in sys.argv[1:]:
@@ -64,8 +69,20 @@ def main() -> int:
         return 0
     text = WORDS.read_text()
     listed = "".join(f'    "{it}",\n' for it in words)
-    text = re.sub(r"(const KNOWN: \[&str; )[^\]]*(\] = \[\n).*?(\];)", rf"\g<1>KEYWORDS as usize\g<2>{listed}\g<3>", text, count=1, flags=re.S)
-    text = re.sub(r"(const TABLE: \[u8; 512\] = \[\n).*?\n(\];)", rf"\g<1>{rows(table_of(words, factors))}\n\g<2>", text, count=1, flags=re.S)
+    text = re.sub(
+        r"(const KNOWN: \[&str; )[^\]]*(\] = \[\n).*?(\];)",
+        rf"\g<1>KEYWORDS as usize\g<2>{listed}\g<3>",
+        text,
+        count=1,
+        flags=re.S,
+    )
+    text = re.sub(
+        r"(const TABLE: \[u8; 512\] = \[\n).*?\n(\];)",
+        rf"\g<1>{rows(table_of(words, factors))}\n\g<2>",
+        text,
+        count=1,
+        flags=re.S,
+    )
     WORDS.write_text(text)
     return 0
 
